@@ -1,0 +1,9 @@
+pub mod Faults
+pub mod Twice
+pub mod Times
+pub mod Made
+pub mod Within
+pub mod Addresses
+pub mod Values
+pub mod Files
+pub mod Parts

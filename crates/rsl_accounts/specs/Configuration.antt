@@ -1,0 +1,73 @@
+-- The configuration of some settings, clients and accounts: the checks that they have to pass, and what is looked up in it.
+use Rattle.std.specs.Prelude.{ℕ, Bool, false, ◌||◌, if◌then◌else◌, nat_lt, nat_eq, List, [], ◌∷◌, ◌++◌, map, length, position, Option, None, Some, Result, Ok, Err}
+use Rattle.std.specs.Cmp.Lexicographic.{pointwise}
+use Rattle.std.specs.List.{list_any}
+use Rattle.rsl_accounts.specs.declared.client.Client.{Client}
+use Rattle.rsl_accounts.specs.declared.entry.Entry.{Entry}
+use Rattle.rsl_accounts.specs.declared.fault.ConfigFault.{ConfigFault}
+use Rattle.rsl_accounts.specs.declared.fault.ConfigFault.TheVariants.{TwiceClient, TwiceAccount, KeepTooLong}
+use Rattle.rsl_accounts.specs.declared.settings.Settings.{Settings}
+use Rattle.rsl_accounts.specs.Client.{given_in_client}
+use Rattle.rsl_accounts.specs.Entry.{given_in_entry}
+use Rattle.rsl_accounts.specs.Settings.{given_in_head, rules_with_times}
+use Rattle.rsl_accounts.specs.Walk.{walk, first_fault}
+
+-- clients and accounts stand in the order of the file, in which they are numbered from 0
+pub record Configuration : Type 0 where
+  pub settings : Settings
+  pub clients : List Client
+  pub accounts : List Entry
+
+abbrev pub same_octets : List ℕ → List ℕ → Bool
+same_octets = pointwise nat_eq
+
+-- whether an element stands in the list twice
+abbrev pub comes_twice : List (List ℕ) → Bool
+comes_twice [] = false
+comes_twice (x ∷ xs) = list_any (λ later. same_octets later x) xs || comes_twice xs
+
+abbrev pub addresses : List Client → List (List ℕ)
+addresses clients = map (λ client. client.address) clients
+
+abbrev pub names : List Entry → List (List ℕ)
+names accounts = map (λ account. account.name) accounts
+
+abbrev pub fault_if : Bool → ConfigFault → Option ConfigFault
+fault_if wrong fault = if wrong then Some fault else None
+
+-- the walk over settings, clients and accounts
+abbrev pub walk_over : Settings → List Client → List Entry → List (Option ConfigFault)
+walk_over settings clients accounts =
+    walk (given_in_head settings (length clients) (length accounts)) (map given_in_client clients) (map given_in_entry accounts)
+
+-- the checks of a configuration, in their order
+unfoldable pub checks_of : Settings → List Client → List Entry → List (Option ConfigFault)
+checks_of settings clients accounts =
+    walk_over settings clients accounts
+    ++ fault_if (comes_twice (addresses clients)) TwiceClient
+    ∷ fault_if (comes_twice (names accounts)) TwiceAccount
+    ∷ fault_if (nat_lt settings.reserve settings.keep) KeepTooLong
+    ∷ []
+
+-- the account, with the times of the settings
+abbrev pub with_times : Settings → Entry → Entry
+with_times settings entry = record entry { rules = rules_with_times settings entry.rules }
+
+-- the fault, if there is one
+abbrev pub fault_or : {T : Type 0} → Option ConfigFault → Result T ConfigFault → Result T ConfigFault
+fault_or None result = result
+fault_or (Some fault) result = Err fault
+
+-- the first fault, or the configuration
+unfoldable pub configuration_of : Settings → List Client → List Entry → Result Configuration ConfigFault
+configuration_of settings clients accounts =
+    fault_or (first_fault (checks_of settings clients accounts))
+    (Ok (record { settings = settings; clients = clients; accounts = map (with_times settings) accounts }))
+
+-- the number of the client with the address
+abbrev pub client_number : Configuration → List ℕ → Option ℕ
+client_number config address = position (λ client. same_octets address client.address) config.clients
+
+-- the number of the account with the name
+abbrev pub account_number : Configuration → List ℕ → Option ℕ
+account_number config name = position (λ account. same_octets name account.name) config.accounts

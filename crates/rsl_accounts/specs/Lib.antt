@@ -1,0 +1,10 @@
+pub mod Limits
+pub mod Address
+pub mod Field
+pub mod Walk
+pub mod Settings
+pub mod Client
+pub mod Entry
+pub mod Configuration
+pub mod Inside
+pub mod File

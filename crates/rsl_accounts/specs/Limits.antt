@@ -1,0 +1,71 @@
+-- The limits of an account's rules, and of a whole configuration.
+use Rattle.std.specs.Prelude.{◌≡◌, ◌≢◌, ℕ, ◌≤◌, List, All, IfSome, length as length_of, false}
+use Rattle.rsl_accounts.specs.declared.entry.Entry.{Entry}
+use Rattle.rsl_accounts.specs.declared.rules.Rules.{Rules}
+use Rattle.rsl_accounts.specs.declared.settings.Settings.{Settings}
+use Rattle.rsl_accounts.specs.Configuration.{Configuration, addresses, names, comes_twice}
+use Rattle.rsl_accounts.specs.Settings.{rules_with_times}
+
+-- a number of seconds that a rule may have
+pub record IsTime (seconds : ℕ) : Type 0 where
+  pub some : 1 ≤ seconds
+  pub within_a_day : seconds ≤ 86400
+
+-- every number of the rules is within its limits
+pub record RulesFit (rules : Rules) : Type 0 where
+  pub places : rules.places ≤ 64
+  pub a_port : 1 ≤ rules.ports
+  pub ports : rules.ports ≤ 16
+  pub reserve : IsTime rules.reserve
+  pub live : IsTime rules.live
+  pub grace : IsTime rules.grace
+  pub closed : IsTime rules.closed
+  pub keep : IsTime rules.keep
+  pub keep_within_reserve : rules.keep ≤ rules.reserve
+
+-- every number of the settings is within its limits
+pub record SettingsFit (settings : Settings) : Type 0 where
+  pub version : settings.version ≡ 1
+  pub a_shard : 1 ≤ settings.shards
+  pub shards : settings.shards ≤ 4
+  pub reserve : IsTime settings.reserve
+  pub live : IsTime settings.live
+  pub grace : IsTime settings.grace
+  pub closed : IsTime settings.closed
+  pub keep : IsTime settings.keep
+  pub keep_within_reserve : settings.keep ≤ settings.reserve
+
+-- 1 to 128 octets without NUL, as a secret or a password has
+pub record IsSecret (text : List ℕ) : Type 0 where
+  pub some : 1 ≤ length_of text
+  pub length : length_of text ≤ 128
+  pub no_nul : All (λ octet. octet ≢ 0) text
+
+-- 1 to 64 octets that are visible characters of ASCII
+pub record IsName (text : List ℕ) : Type 0 where
+  pub some : 1 ≤ length_of text
+  pub length : length_of text ≤ 64
+  pub visible : All (λ octet. (33 ≤ octet) × (octet ≤ 126)) text
+
+-- the account is within its limits, and has the times of the settings
+pub record IsAccount (settings : Settings) (entry : Entry) : Type 0 where
+  pub name : IsName entry.name
+  pub password : IsSecret entry.password
+  pub rules : RulesFit entry.rules
+  pub times : entry.rules ≡ rules_with_times settings entry.rules
+  pub service_type : IfSome entry.service_type (λ number. 1 ≤ number)
+  pub framed_protocol : IfSome entry.framed_protocol (λ number. 1 ≤ number)
+  pub session_timeout : IfSome entry.session_timeout (λ number. 1 ≤ number)
+  pub idle_timeout : IfSome entry.idle_timeout (λ number. 1 ≤ number)
+
+-- all of the configuration is within its limits, no address is that of two clients, and no name that of two accounts
+pub record IsConfiguration (config : Configuration) : Type 0 where
+  pub settings : SettingsFit config.settings
+  pub a_client : 1 ≤ length_of config.clients
+  pub clients : length_of config.clients ≤ 256
+  pub an_account : 1 ≤ length_of config.accounts
+  pub accounts : length_of config.accounts ≤ 16384
+  pub secrets : All (λ client. IsSecret client.secret) config.clients
+  pub each_account : All (IsAccount config.settings) config.accounts
+  pub addresses_differ : comes_twice (addresses config.clients) ≡ false
+  pub names_differ : comes_twice (names config.accounts) ≡ false

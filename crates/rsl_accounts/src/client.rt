@@ -1,0 +1,26 @@
+use crate::field::Field;
+use crate::given::{Fields, Given};
+use crate::text::Text;
+
+/// An access server that may send packets.
+#[derive(Debug, PartialEq, Eq, Drop)]
+pub struct Client {
+    /// Its IPv4 address.
+    pub address: [u8; 4],
+    /// The secret shared with it: 1 to 128 octets of UTF-8 without NUL.
+    pub secret: Text,
+}
+
+impl Fields for Client {
+    ghost use Rattle.rsl_accounts.specs.Client.{given_in_client};
+
+    ghost given_of = { given_in_client };
+
+    fn given(&self, field: Field) -> Given {
+        match field {
+            Field::Address => Given::Right,
+            Field::Secret => Given::text(field, self.secret.as_bytes()),
+            _ => Given::Absent,
+        }
+    }
+}

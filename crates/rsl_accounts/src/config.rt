@@ -1,0 +1,221 @@
+ghost use Rattle.std.specs.Prelude.{◌≡◌, ◌≢◌, ◌<◌, ◌%◌, false, true, None, IfOk, IfErr, IfSome, position, length, slice_get, map};
+ghost use Rattle.std.specs.List.{list_any};
+ghost use Rattle.std.specs.Result.{result_err};
+ghost use Rattle.rsl_accounts.specs.Configuration.{same_octets, walk_over, configuration_of, client_number, account_number, comes_twice, addresses, names, with_times};
+ghost use Rattle.rsl_accounts.specs.Walk.{first_fault};
+ghost use Rattle.rsl_accounts.specs.Limits.{IsConfiguration, IsAccount, IsSecret};
+
+use crate::client::Client;
+use crate::entry::Entry;
+use crate::fault::ConfigFault;
+use crate::settings::{Head, Settings};
+use crate::walk::walk;
+use indexmap::IndexSet;
+use std::alloc::Global;
+use std::marker::Model;
+
+/// Settings, clients and accounts that are within their limits. Clients and accounts are numbered from 0
+/// in the order of the file.
+#[derive(Drop)]
+pub struct Config {
+    settings: Settings,
+    clients: Vec<Client>,
+    accounts: Vec<Entry>,
+    names: IndexSet<Vec<u8>>,
+}
+
+impl Model for Config {
+    ghost use Rattle.rsl_accounts.specs.Configuration.{Configuration};
+
+    ghost Value = { Configuration };
+
+    ghost use Rattle.rsl_accounts.specs.Inside.{configuration_in, IsKept};
+
+    ghost view = { configuration_in };
+
+    ghost invariant = { IsKept };
+}
+
+impl Config {
+    /// The configuration of these settings, clients and accounts, each account with the times of the
+    /// settings. The faults come in this order: `BadValue` of the first field of the walk with a wrong
+    /// value, `TwiceClient`, `TwiceAccount`, `KeepTooLong`. `NoMemory` comes where memory is refused,
+    /// before the checks that follow.
+    pub fn make(
+        alloc: Global,
+        settings: Settings,
+        clients: Vec<Client>,
+        accounts: Vec<Entry>,
+    ) -> Result<Config, ConfigFault>
+        ensures ok { IfOk result (λ config. configuration_of settings clients.items accounts.items ≡ Ok config) }
+        ensures fault { IfErr result (λ fault. fault ≢ ConfigFault.NoMemory →
+            configuration_of settings clients.items accounts.items ≡ Err fault) }
+    {
+        walk_over(settings, clients.as_slice(), accounts.as_slice())?;
+        Config::assemble(alloc, settings, clients, accounts)
+    }
+
+    /// The configuration of what has passed the walk: `make` from `TwiceClient` on.
+    pub(crate) fn assemble(
+        alloc: Global,
+        settings: Settings,
+        clients: Vec<Client>,
+        accounts: Vec<Entry>,
+    ) -> Result<Config, ConfigFault>
+        requires { first_fault (walk_over settings clients.items accounts.items) ≡ None }
+        ensures ok { IfOk result (λ config. configuration_of settings clients.items accounts.items ≡ Ok config) }
+        ensures fault { IfErr result (λ fault. fault ≢ ConfigFault.NoMemory →
+            configuration_of settings clients.items accounts.items ≡ Err fault) }
+    {
+        if has_twice(clients.as_slice()) {
+            return Err(ConfigFault::TwiceClient);
+        }
+        let names = index_names(alloc, accounts.as_slice())?;
+        if settings.keep > settings.reserve {
+            return Err(ConfigFault::KeepTooLong);
+        }
+        Ok(Config {
+            settings,
+            clients,
+            accounts: fill_times(&settings, accounts),
+            names,
+        })
+    }
+
+    /// The number of the client with the address, if there is one.
+    pub fn client(&self, address: [u8; 4]) -> Option<u32>
+        ensures number { result ≡ client_number self.now address }
+        ensures limits { IsConfiguration self.now }
+    {
+        let number = position_of(self.clients.as_slice(), address)?;
+        Some(number as u32)
+    }
+
+    /// The client with the number.
+    pub fn client_at(&self, number: u32) -> &Client
+        requires { number < length self.now.clients }
+        ensures client { slice_get self.now.clients number ≡ Some result.now }
+        ensures limits { IsSecret result.now.secret }
+    {
+        &self.clients[number as usize]
+    }
+
+    /// The number of the account with the name, if there is one.
+    pub fn account(&self, name: &[u8]) -> Option<u32>
+        ensures number { result ≡ account_number self.now name.now }
+        ensures limits { IsConfiguration self.now }
+    {
+        let number = self.names.get_index_of(name)?;
+        Some(number as u32)
+    }
+
+    /// The account with the number.
+    pub fn entry(&self, number: u32) -> &Entry
+        requires { number < length self.now.accounts }
+        ensures entry { slice_get self.now.accounts number ≡ Some result.now }
+        ensures limits { IsAccount self.now.settings result.now }
+    {
+        &self.accounts[number as usize]
+    }
+
+    /// How many clients there are: 1 to 256.
+    pub fn clients(&self) -> u32
+        ensures number { result ≡ length self.now.clients }
+        ensures limits { IsConfiguration self.now }
+    {
+        self.clients.len() as u32
+    }
+
+    /// How many accounts there are: 1 to 16,384.
+    pub fn accounts(&self) -> u32
+        ensures number { result ≡ length self.now.accounts }
+        ensures limits { IsConfiguration self.now }
+    {
+        self.accounts.len() as u32
+    }
+
+    /// How many shards the accounts are spread over: 1 to 4.
+    pub fn shards(&self) -> u32
+        ensures number { result ≡ self.now.settings.shards }
+        ensures limits { IsConfiguration self.now }
+    {
+        self.settings.shards as u32
+    }
+
+    /// The number of the shard that an account belongs to.
+    pub fn shard_of(&self, account: u32) -> u32
+        ensures number { result ≡ account % self.now.settings.shards }
+        ensures shard { result < self.now.settings.shards }
+    {
+        account % self.shards()
+    }
+}
+
+/// Walks over the settings, the clients and the accounts, and gives the first fault.
+fn walk_over(settings: Settings, clients: &[Client], accounts: &[Entry]) -> Result<(), ConfigFault>
+    ensures { result_err result ≡ first_fault (walk_over settings clients.now accounts.now) }
+{
+    let head = Head {
+        settings,
+        clients: clients.len(),
+        accounts: accounts.len(),
+    };
+    walk(&head, clients, accounts)
+}
+
+/// The place of the first client with the address.
+fn position_of(clients: &[Client], address: [u8; 4]) -> Option<usize>
+    ensures place { result ≡ position (λ client. same_octets address client.address) clients.now }
+    ensures within { IfSome result (λ place. place < length clients.now) }
+{
+    clients.iter().position(|client| address == client.address)
+}
+
+/// Whether a client has the address.
+fn has_address(clients: &[Client], address: [u8; 4]) -> bool
+    ensures { result ≡ list_any (λ client. same_octets address client.address) clients.now }
+{
+    clients.iter().any(|client| address == client.address)
+}
+
+/// Whether two clients have one address.
+fn has_twice(clients: &[Client]) -> bool
+    ensures { result ≡ comes_twice (addresses clients.now) }
+{
+    for (number, client) in clients.iter().enumerate() {
+        if has_address(&clients[..number], client.address) {
+            return true;
+        }
+    }
+    false
+}
+
+/// The names of the accounts, in their order. `TwiceAccount` if a name comes twice.
+fn index_names(alloc: Global, accounts: &[Entry]) -> Result<IndexSet<Vec<u8>>, ConfigFault>
+    ensures index { IfOk result (λ index. map (λ name. name.items) index.keys ≡ names accounts.now) }
+    ensures differ { IfOk result (λ _. comes_twice (names accounts.now) ≡ false) }
+    ensures fault { IfErr result (λ fault. fault ≢ ConfigFault.NoMemory →
+        (fault ≡ ConfigFault.TwiceAccount) × (comes_twice (names accounts.now) ≡ true)) }
+{
+    let mut index = IndexSet::with_capacity(alloc, accounts.len())?;
+    for account in accounts {
+        let name = Vec::from_slice(alloc, account.name.as_bytes())?;
+        if !index.insert(name)? {
+            return Err(ConfigFault::TwiceAccount);
+        }
+    }
+    Ok(index)
+}
+
+/// The accounts with the times of the settings.
+fn fill_times(settings: &Settings, mut accounts: Vec<Entry>) -> Vec<Entry>
+    ensures { result.items ≡ map (with_times settings.now) accounts.items }
+{
+    for account in accounts.iter_mut() {
+        account.rules = settings.with_times(account.rules);
+    }
+    accounts
+}
+
+#[cfg(test)]
+mod tests;

@@ -1,0 +1,55 @@
+ghost use Rattle.std.specs.Prelude.{◌≡◌};
+ghost use Rattle.rsl_accounts.specs.Entry.{given_option};
+
+use crate::field::Field;
+use crate::given::{Fields, Given};
+use crate::rules::Rules;
+use crate::text::Text;
+
+/// An account.
+#[derive(Debug, PartialEq, Eq, Drop)]
+pub struct Entry {
+    /// The User-Name: 1 to 64 octets, each 0x21 to 0x7E.
+    pub name: Text,
+    /// The password: 1 to 128 octets of UTF-8 without NUL.
+    pub password: Text,
+    /// The session limit.
+    pub rules: Rules,
+    /// The Service-Type of the account's accepts (RFC 2865 section 5.6), at least 1.
+    pub service_type: Option<u32>,
+    /// The Framed-Protocol of the account's accepts (RFC 2865 section 5.7), at least 1.
+    pub framed_protocol: Option<u32>,
+    /// The Session-Timeout of the account's accepts in seconds (RFC 2865 section 5.27), at least 1.
+    pub session_timeout: Option<u32>,
+    /// The Idle-Timeout of the account's accepts in seconds (RFC 2865 section 5.28), at least 1.
+    pub idle_timeout: Option<u32>,
+}
+
+impl Fields for Entry {
+    ghost use Rattle.rsl_accounts.specs.Entry.{given_in_entry};
+
+    ghost given_of = { given_in_entry };
+
+    fn given(&self, field: Field) -> Given {
+        match field {
+            Field::Name => Given::text(field, self.name.as_bytes()),
+            Field::Password => Given::text(field, self.password.as_bytes()),
+            Field::Places => Given::number(field, self.rules.places),
+            Field::Ports => Given::number(field, self.rules.ports),
+            Field::ServiceType => optional(field, self.service_type),
+            Field::FramedProtocol => optional(field, self.framed_protocol),
+            Field::SessionTimeout => optional(field, self.session_timeout),
+            Field::IdleTimeout => optional(field, self.idle_timeout),
+            _ => Given::Absent,
+        }
+    }
+}
+
+fn optional(field: Field, number: Option<u32>) -> Given
+    ensures { result ≡ given_option field number }
+{
+    match number {
+        None => Given::Absent,
+        Some(number) => Given::number(field, number as u64),
+    }
+}

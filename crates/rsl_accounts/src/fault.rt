@@ -1,0 +1,58 @@
+ghost use Rattle.std.specs.Prelude.{◌≡◌};
+ghost use Rattle.rsl_accounts.specs.declared.fault.ConfigFault.TheVariants.{NoMemory as no_memory};
+
+use crate::field::Field;
+use rsl_wire::NoMemory;
+use std::alloc::{AllocError, AllocFailed};
+use thiserror::Error;
+
+/// Why there is no configuration. It prints as its name, followed by the key of the field if it has
+/// one: `BadValue keep_secs`.
+#[derive(Clone, Copy, Debug, PartialEq, Eq, Error)]
+pub enum ConfigFault {
+    /// The file is not UTF-8 or not TOML.
+    #[error("NotToml")]
+    NotToml,
+    /// The field is absent.
+    #[error("Missing {0}")]
+    Missing(Field),
+    /// The value of the field is of another type, or outside its limits.
+    #[error("BadValue {0}")]
+    BadValue(Field),
+    /// Two clients have one address.
+    #[error("TwiceClient")]
+    TwiceClient,
+    /// Two accounts have one name.
+    #[error("TwiceAccount")]
+    TwiceAccount,
+    /// `keep_secs` is more than `reserve_secs`.
+    #[error("KeepTooLong")]
+    KeepTooLong,
+    /// Memory was refused.
+    #[error("NoMemory")]
+    NoMemory,
+}
+
+impl From<AllocError> for ConfigFault {
+    ghost from_gives = { λ _ fault. fault ≡ no_memory };
+
+    fn from(_refused: AllocError) -> ConfigFault {
+        ConfigFault::NoMemory
+    }
+}
+
+impl<T: Drop> From<AllocFailed<T>> for ConfigFault {
+    ghost from_gives = { λ _ fault. fault ≡ no_memory };
+
+    fn from(_refused: AllocFailed<T>) -> ConfigFault {
+        ConfigFault::NoMemory
+    }
+}
+
+impl From<NoMemory> for ConfigFault {
+    ghost from_gives = { λ _ fault. fault ≡ no_memory };
+
+    fn from(_refused: NoMemory) -> ConfigFault {
+        ConfigFault::NoMemory
+    }
+}

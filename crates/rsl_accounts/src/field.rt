@@ -1,0 +1,174 @@
+ghost use Rattle.std.specs.Prelude.{◌≡◌, Some};
+ghost use Rattle.rsl_accounts.specs.Field.{key_of, is_optional, is_between, is_secret, is_name, has_no_nul, is_visible, takes_number, takes_count, takes_text};
+
+use crate::address::address_of;
+use std::fmt;
+
+/// A field of an account file.
+#[derive(Clone, Copy, Debug, PartialEq, Eq)]
+pub enum Field {
+    /// The version of the file's format.
+    Version,
+    /// How many shards the accounts are spread over.
+    Shards,
+    /// Seconds for which an accept reserves a place.
+    ReserveSecs,
+    /// Seconds from its last packet for which a session counts as live.
+    LiveSecs,
+    /// Seconds for which a session that is no longer live keeps its place.
+    GraceSecs,
+    /// Seconds for which a stopped session stays closed.
+    ClosedSecs,
+    /// Seconds for which an answer is given again to the repeats of its ask.
+    KeepSecs,
+    /// The clients, as an array of tables.
+    Client,
+    /// The accounts, as an array of tables.
+    Account,
+    /// The IPv4 address of a client.
+    Address,
+    /// The secret shared with a client.
+    Secret,
+    /// The User-Name of an account.
+    Name,
+    /// The password of an account.
+    Password,
+    /// Places that an account's sessions may hold at once.
+    Places,
+    /// The Port-Limit of an account.
+    Ports,
+    /// The Service-Type of an account's accepts.
+    ServiceType,
+    /// The Framed-Protocol of an account's accepts.
+    FramedProtocol,
+    /// The Session-Timeout of an account's accepts, in seconds.
+    SessionTimeout,
+    /// The Idle-Timeout of an account's accepts, in seconds.
+    IdleTimeout,
+}
+
+impl Field {
+    /// The key under which the field stands in the file, as `keep_secs`.
+    pub fn key(&self) -> &'static str
+        ensures { result.now ≡ key_of self.now }
+    {
+        match self {
+            Field::Version => "version",
+            Field::Shards => "shards",
+            Field::ReserveSecs => "reserve_secs",
+            Field::LiveSecs => "live_secs",
+            Field::GraceSecs => "grace_secs",
+            Field::ClosedSecs => "closed_secs",
+            Field::KeepSecs => "keep_secs",
+            Field::Client => "client",
+            Field::Account => "account",
+            Field::Address => "address",
+            Field::Secret => "secret",
+            Field::Name => "name",
+            Field::Password => "password",
+            Field::Places => "places",
+            Field::Ports => "ports",
+            Field::ServiceType => "service_type",
+            Field::FramedProtocol => "framed_protocol",
+            Field::SessionTimeout => "session_timeout",
+            Field::IdleTimeout => "idle_timeout",
+        }
+    }
+
+    pub(crate) fn is_optional(self) -> bool
+        ensures { result ≡ is_optional self }
+    {
+        match self {
+            Field::ServiceType
+            | Field::FramedProtocol
+            | Field::SessionTimeout
+            | Field::IdleTimeout => true,
+            _ => false,
+        }
+    }
+
+    /// Whether the field may have the number.
+    pub(crate) fn takes_number(self, number: u64) -> bool
+        ensures { result ≡ takes_number self number }
+    {
+        match self {
+            Field::Version => number == 1,
+            Field::Shards => is_between(1, 4, number),
+            Field::ReserveSecs
+            | Field::LiveSecs
+            | Field::GraceSecs
+            | Field::ClosedSecs
+            | Field::KeepSecs => is_between(1, 86_400, number),
+            Field::Places => is_between(0, 64, number),
+            Field::Ports => is_between(1, 16, number),
+            Field::ServiceType
+            | Field::FramedProtocol
+            | Field::SessionTimeout
+            | Field::IdleTimeout => is_between(1, 4_294_967_295, number),
+            _ => false,
+        }
+    }
+
+    /// Whether the field may have this many tables.
+    pub(crate) fn takes_count(self, count: usize) -> bool
+        ensures { result ≡ takes_count self count }
+    {
+        match self {
+            Field::Client => is_between(1, 256, count as u64),
+            Field::Account => is_between(1, 16_384, count as u64),
+            _ => false,
+        }
+    }
+
+    /// Whether the field may have the text.
+    pub(crate) fn takes_text(self, text: &[u8]) -> bool
+        ensures { result ≡ takes_text self text.now }
+    {
+        match self {
+            Field::Secret | Field::Password => is_secret(text),
+            Field::Name => is_name(text),
+            Field::Address => address_of(text).is_some(),
+            _ => false,
+        }
+    }
+}
+
+impl fmt::Display for Field {
+    ghost output = { λ field. Some (key_of field) };
+
+    fn fmt<W: fmt::Write>(&self, f: &mut fmt::Formatter<W>) -> fmt::Result {
+        f.write_str(self.key())
+    }
+}
+
+fn is_between(least: u64, most: u64, number: u64) -> bool
+    ensures { result ≡ is_between least most number }
+{
+    least <= number && number <= most
+}
+
+/// Whether the text has 1 to 128 octets, none of them NUL.
+fn is_secret(text: &[u8]) -> bool
+    ensures { result ≡ is_secret text.now }
+{
+    is_between(1, 128, text.len() as u64) && has_no_nul(text)
+}
+
+/// Whether the text has 1 to 64 octets, each a visible character of ASCII.
+fn is_name(text: &[u8]) -> bool
+    ensures { result ≡ is_name text.now }
+{
+    is_between(1, 64, text.len() as u64) && is_visible(text)
+}
+
+fn has_no_nul(text: &[u8]) -> bool
+    ensures { result ≡ has_no_nul text.now }
+{
+    text.iter().all(|octet| *octet != 0)
+}
+
+fn is_visible(text: &[u8]) -> bool
+    ensures { result ≡ is_visible text.now }
+{
+    text.iter().all(|octet| is_between(33, 126, *octet as u64))
+}

@@ -1,0 +1,254 @@
+//! The account file: TOML with the settings at its head, an array of tables `client` and one `account`.
+ghost use Rattle.std.specs.Prelude.{◌≡◌, ◌≢◌, Some, None, [], map, is_some, option_copied, option_map, unwrap_or, IfOk, IfErr};
+ghost use Rattle.std.specs.List.{list_all};
+ghost use Rattle.toml.specs.Data.{as_table};
+ghost use Rattle.toml.specs.View.{view};
+ghost use Rattle.rsl_accounts.specs.File.{file_of, member_in, natural, given_value, given_items, given_in, number_in, short_number_in, text_in, tables_in, settings_in, address_in, client_in, rules_in, entry_in, configuration_of_text};
+
+use crate::address::address_of;
+use crate::client::Client;
+use crate::config::Config;
+use crate::entry::Entry;
+use crate::fault::ConfigFault;
+use crate::field::Field;
+use crate::given::{Fields, Given};
+use crate::rules::Rules;
+use crate::settings::Settings;
+use crate::text::Text;
+use crate::walk::walk;
+use rsl_wire::NoMemory;
+use std::alloc::Global;
+use toml::Value;
+
+impl Config {
+    /// The configuration of the text of an account file. The faults come in this order: `NotToml`; then
+    /// `Missing` or `BadValue` of the first field of the walk that is absent or has a wrong value; then
+    /// `TwiceClient`, `TwiceAccount` and `KeepTooLong`. `NoMemory` comes where memory is refused, before
+    /// the checks that follow. Keys that are not those of a field are ignored.
+    pub fn read(alloc: Global, text: &[u8]) -> Result<Config, ConfigFault>
+        ensures ok { IfOk result (λ config. configuration_of_text text.now ≡ Ok config) }
+        ensures fault { IfErr result (λ fault. fault ≢ ConfigFault.NoMemory →
+            configuration_of_text text.now ≡ Err fault) }
+    {
+        let file = parse(alloc, text)?;
+        let clients = tables(&file, Field::Client);
+        let accounts = tables(&file, Field::Account);
+        walk(&file, clients, accounts)?;
+        let settings = settings(&file);
+        let clients = read_clients(alloc, clients)?;
+        let accounts = read_entries(alloc, accounts)?;
+        Config::assemble(alloc, settings, clients, accounts)
+    }
+}
+
+/// The table that the text is.
+fn parse(alloc: Global, text: &[u8]) -> Result<Value, ConfigFault>
+    ensures ok { IfOk result (λ file. file_of text.now ≡ Some (view file)) }
+    ensures fault { IfErr result (λ fault. fault ≢ ConfigFault.NoMemory →
+        (fault ≡ ConfigFault.NotToml) × (file_of text.now ≡ None)) }
+{
+    match toml::table_from_slice(alloc, text) {
+        Ok(table) => Ok(Value::Table(table)),
+        Err(error) if error.is_memory() => Err(ConfigFault::NoMemory),
+        Err(_) => Err(ConfigFault::NotToml),
+    }
+}
+
+impl Fields for Value {
+    ghost given_of = { λ value. given_in (view value) };
+
+    fn given(&self, field: Field) -> Given {
+        match member(self, field) {
+            None => Given::Absent,
+            Some(value) => given(value, field),
+        }
+    }
+}
+
+/// What a table has under the key of a field.
+fn member(table: &Value, field: Field) -> Option<&Value>
+    ensures { option_map (λ value. view value.now) result ≡ member_in (view table.now) field }
+{
+    table.get(field.key())
+}
+
+/// What a value is for a field.
+fn given(value: &Value, field: Field) -> Given
+    ensures { result ≡ given_value field (view value.now) }
+{
+    if let Some(number) = value.as_integer() {
+        match natural(number) {
+            Some(number) => Given::number(field, number),
+            None => Given::Wrong,
+        }
+    } else if let Some(text) = value.as_str() {
+        Given::text(field, text.as_bytes())
+    } else if let Some(items) = value.as_array() {
+        given_items(items.as_slice(), field)
+    } else {
+        Given::Wrong
+    }
+}
+
+/// The number, if it is not negative.
+fn natural(number: i64) -> Option<u64>
+    ensures { result ≡ natural number }
+{
+    if 0 <= number {
+        Some(number.unsigned_abs())
+    } else {
+        None
+    }
+}
+
+fn given_items(items: &[Value], field: Field) -> Given
+    ensures { result ≡ given_items field (map view items.now) }
+{
+    if are_tables(items) {
+        Given::count(field, items.len())
+    } else {
+        Given::Wrong
+    }
+}
+
+fn are_tables(items: &[Value]) -> bool
+    ensures { result ≡ list_all (λ item. is_some (as_table (view item))) items.now }
+{
+    items.iter().all(|item| item.is_table())
+}
+
+/// The number of a field, if it is a number that is not negative.
+fn number(table: &Value, field: Field) -> Option<u64>
+    ensures { result ≡ number_in (view table.now) field }
+{
+    natural(member(table, field)?.as_integer()?)
+}
+
+/// The number of a field, if it is one of 32 bits.
+fn short_number(table: &Value, field: Field) -> Option<u32>
+    ensures { result ≡ short_number_in (view table.now) field }
+{
+    let number = number(table, field)?;
+    if number <= u32::MAX as u64 {
+        Some(number as u32)
+    } else {
+        None
+    }
+}
+
+/// The text of a field, if it is a text.
+fn text(table: &Value, field: Field) -> Option<&str>
+    ensures { option_copied result ≡ text_in (view table.now) field }
+{
+    member(table, field)?.as_str()
+}
+
+/// The tables of a field, or none if it is no array.
+fn tables(table: &Value, field: Field) -> &[Value]
+    ensures { map view result.now ≡ tables_in (view table.now) field }
+{
+    match member(table, field) {
+        Some(value) => match value.as_array() {
+            Some(items) => items.as_slice(),
+            None => &[],
+        },
+        None => &[],
+    }
+}
+
+/// The settings at the head of a file that has passed the walk.
+#[tactic(auto, unfolding(crate::specs::File::settings_in))]
+fn settings(file: &Value) -> Settings
+    ensures { result ≡ settings_in (view file.now) }
+{
+    Settings {
+        version: number(file, Field::Version).unwrap_or(0),
+        shards: number(file, Field::Shards).unwrap_or(0),
+        reserve: number(file, Field::ReserveSecs).unwrap_or(0),
+        live: number(file, Field::LiveSecs).unwrap_or(0),
+        grace: number(file, Field::GraceSecs).unwrap_or(0),
+        closed: number(file, Field::ClosedSecs).unwrap_or(0),
+        keep: number(file, Field::KeepSecs).unwrap_or(0),
+    }
+}
+
+/// The text of a field as a text of its own, empty if it is no text.
+fn owned_text(alloc: Global, table: &Value, field: Field) -> Result<Text, NoMemory>
+    ensures { IfOk result (λ copy. copy ≡ unwrap_or (text_in (view table.now) field) []) }
+{
+    Text::from_str(alloc, text(table, field).unwrap_or(""))
+}
+
+/// The octets of the address of a client, all zero if it has none.
+fn address(table: &Value) -> [u8; 4]
+    ensures { result ≡ address_in (view table.now) }
+{
+    match text(table, Field::Address) {
+        Some(text) => address_of(text.as_bytes()).unwrap_or([0; 4]),
+        None => [0; 4],
+    }
+}
+
+#[tactic(auto, unfolding(crate::specs::File::client_in))]
+fn read_client(alloc: Global, table: &Value) -> Result<Client, NoMemory>
+    ensures { IfOk result (λ client. client ≡ client_in (view table.now)) }
+{
+    Ok(Client {
+        address: address(table),
+        secret: owned_text(alloc, table, Field::Secret)?,
+    })
+}
+
+fn read_clients(alloc: Global, tables: &[Value]) -> Result<Vec<Client>, NoMemory>
+    ensures { IfOk result (λ clients. clients.items ≡ map client_in (map view tables.now)) }
+{
+    let mut clients = Vec::with_capacity(alloc, tables.len())?;
+    for table in tables {
+        clients.push(read_client(alloc, table)?)?;
+    }
+    Ok(clients)
+}
+
+/// The session limit of an account, whose times are those of the settings.
+#[tactic(auto, unfolding(crate::specs::File::rules_in))]
+fn rules(table: &Value) -> Rules
+    ensures { result ≡ rules_in (view table.now) }
+{
+    Rules {
+        places: number(table, Field::Places).unwrap_or(0),
+        ports: number(table, Field::Ports).unwrap_or(0),
+        reserve: 0,
+        live: 0,
+        grace: 0,
+        closed: 0,
+        keep: 0,
+    }
+}
+
+#[tactic(auto, unfolding(crate::specs::File::entry_in))]
+fn read_entry(alloc: Global, table: &Value) -> Result<Entry, NoMemory>
+    ensures { IfOk result (λ entry. entry ≡ entry_in (view table.now)) }
+{
+    Ok(Entry {
+        name: owned_text(alloc, table, Field::Name)?,
+        password: owned_text(alloc, table, Field::Password)?,
+        rules: rules(table),
+        service_type: short_number(table, Field::ServiceType),
+        framed_protocol: short_number(table, Field::FramedProtocol),
+        session_timeout: short_number(table, Field::SessionTimeout),
+        idle_timeout: short_number(table, Field::IdleTimeout),
+    })
+}
+
+fn read_entries(alloc: Global, tables: &[Value]) -> Result<Vec<Entry>, NoMemory>
+    ensures { IfOk result (λ entries. entries.items ≡ map entry_in (map view tables.now)) }
+{
+    let mut entries = Vec::with_capacity(alloc, tables.len())?;
+    for table in tables {
+        entries.push(read_entry(alloc, table)?)?;
+    }
+    Ok(entries)
+}
+
+#[cfg(test)]
+mod tests;

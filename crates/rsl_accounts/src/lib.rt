@@ -1,0 +1,31 @@
+//! The accounts that a RADIUS server serves: clients with their secrets, accounts with their passwords
+//! and session limits, and the settings that hold for all of them.
+//!
+//! A `Config` is read from an account file by `Config::read`, or made from its parts by `Config::make`.
+//! Each answers exactly what its definition says, `configuration_of_text` of `specs/File.antt` and
+//! `configuration_of` of `specs/Configuration.antt`, or that memory was refused. Every `Config` is within
+//! the limits of `specs/Limits.antt`. The order of the checks stands in `specs/Walk.antt`, and the values
+//! that a field may have in `specs/Field.antt`.
+#![tactic(auto)]
+
+mod address;
+mod client;
+mod config;
+mod entry;
+mod fault;
+mod field;
+mod file;
+mod given;
+mod rules;
+mod settings;
+mod text;
+mod walk;
+
+pub use client::Client;
+pub use config::Config;
+pub use entry::Entry;
+pub use fault::ConfigFault;
+pub use field::Field;
+pub use rules::Rules;
+pub use settings::Settings;
+pub use text::Text;

@@ -1,0 +1,45 @@
+ghost use Rattle.std.specs.Prelude.{◌↔◌, IsTrue};
+ghost use Rattle.rsl_accounts.specs.Limits.{IsTime, RulesFit};
+
+/// The session limit of one account: how many places it has, and for how long a place is kept.
+#[derive(Clone, Copy, Debug, PartialEq, Eq)]
+pub struct Rules {
+    /// Places that the account's sessions may hold at once: 0 to 64.
+    pub places: u64,
+    /// Links of one multilink bundle that share a place, the Port-Limit: 1 to 16.
+    pub ports: u64,
+    /// Seconds for which an accept reserves a place.
+    pub reserve: u64,
+    /// Seconds from its last packet for which a session counts as live.
+    pub live: u64,
+    /// Seconds for which a session that is no longer live keeps its place.
+    pub grace: u64,
+    /// Seconds for which a stopped session stays closed.
+    pub closed: u64,
+    /// Seconds for which the answer to an ask is given again to its repeats: at most `reserve`.
+    pub keep: u64,
+}
+
+impl Rules {
+    /// Whether every number is within its limits: at most 64 places, 1 to 16 ports, each time 1 to
+    /// 86,400 seconds, and `keep` at most `reserve`.
+    pub fn fits(&self) -> bool
+        ensures { IsTrue result ↔ RulesFit self.now }
+    {
+        self.places <= 64
+            && 1 <= self.ports
+            && self.ports <= 16
+            && is_time(self.reserve)
+            && is_time(self.live)
+            && is_time(self.grace)
+            && is_time(self.closed)
+            && is_time(self.keep)
+            && self.keep <= self.reserve
+    }
+}
+
+fn is_time(seconds: u64) -> bool
+    ensures { IsTrue result ↔ IsTime seconds }
+{
+    1 <= seconds && seconds <= 86_400
+}

@@ -1,0 +1,4 @@
+mod HiddenLemmas
+mod PrintedLemmas
+pub mod Counting
+pub mod Snoc

@@ -1,0 +1,51 @@
+ghost use Rattle.std.specs.Prelude.{◌≡◌, ◌<◌, ◌≤◌, ◌+◌, ◌++◌, ◌↔◌, IfOk, IsErrOf, OnOk, length, vec_len};
+
+use crate::fault::ReplayFault;
+use std::alloc::Global;
+use std::io::{ErrorKind, Read};
+
+/// The most octets that a script may have.
+const MAX_SCRIPT_LEN: usize = 1_048_576;
+
+/// The most reads after which a reader must have come to its end: enough for the longest script an octet
+/// at a time, each read interrupted once.
+const MAX_READS: u32 = 2_097_152;
+
+/// Octets of one read.
+const READ_LEN: usize = 4096;
+
+/// The octets of a script. `TooLong` comes as soon as there are over 1,048,576 of them, `InputOutput`
+/// where a read fails or 2,097,152 reads have come to no end, and `NoMemory` where memory is refused. A
+/// read that is interrupted is tried again, and counts as a read.
+pub(crate) fn read_text<R: Read>(alloc: Global, reader: &mut R) -> Result<Vec<u8>, ReplayFault>
+    ensures { IfOk result (λ text. vec_len text ≤ MAX_SCRIPT_LEN) }
+{
+    let mut text = Vec::new(alloc);
+    let mut piece = [0u8; READ_LEN];
+    for _ in 0..MAX_READS {
+        match reader.read(&mut piece) {
+            Ok(0) => return Ok(text),
+            Ok(len) => append(&mut text, &piece[..len])?,
+            Err(error) => {
+                if error.kind() != ErrorKind::Interrupted {
+                    return Err(ReplayFault::InputOutput);
+                }
+            }
+        }
+    }
+    Err(ReplayFault::InputOutput)
+}
+
+/// Puts a piece at the end of a text, unless the text would be too long.
+fn append(text: &mut Vec<u8>, piece: &[u8]) -> Result<(), ReplayFault>
+    requires { vec_len text.old ≤ MAX_SCRIPT_LEN }
+    ensures short { vec_len text.new ≤ MAX_SCRIPT_LEN }
+    ensures appended { OnOk result (text.new.items ≡ text.old.items ++ piece.now) }
+    ensures too_long { IsErrOf result ReplayFault.TooLong ↔ (MAX_SCRIPT_LEN < vec_len text.old + length piece.now) }
+{
+    if MAX_SCRIPT_LEN - text.len() < piece.len() {
+        return Err(ReplayFault::TooLong);
+    }
+    text.extend_from_slice(piece)?;
+    Ok(())
+}

@@ -1,0 +1,59 @@
+//! The program `radlimit`: `radlimit replay` reads a script of datagrams from standard input, gives them
+//! to the server one after the other, and prints what it answered to each.
+//!
+//! This crate has the edges: the script, the packets that a script's lines stand for, and what is
+//! printed. `replay` is the whole program over any reader and writer, and returns whatever they do. What
+//! is answered is the business of `run`, over the crates below.
+#![tactic(auto)]
+
+mod event_line;
+mod fault;
+mod input;
+mod line;
+mod printing;
+mod replaying;
+mod request;
+mod run;
+mod script;
+mod step;
+#[cfg(test)]
+mod tests;
+mod words;
+
+use replaying::replay;
+use std::env::{Env, FillError};
+use std::fmt::Display;
+use std::process::ExitCode;
+
+/// What is printed on standard error where the arguments are wrong.
+const USAGE: &str = "usage: radlimit replay or radlimit serve FILE ADDRESS AUTHPORT ACCTPORT TURNS";
+
+/// The status of a process whose arguments are wrong.
+const WRONG_ARGUMENTS: u8 = 1;
+
+fn main(rt: HostRuntime) -> ExitCode {
+    if !is_replay(&rt) {
+        return failed(&rt, USAGE, WRONG_ARGUMENTS);
+    }
+    match replay(rt.alloc(), &mut rt.stdin(), &mut rt.stdout()) {
+        Ok(()) => ExitCode::SUCCESS,
+        Err(fault) => failed(&rt, fault, fault.status()),
+    }
+}
+
+/// Whether the arguments are the word `replay` alone.
+fn is_replay(rt: &impl Env) -> bool {
+    let mut word = [0u8; 16];
+    let is_first = match rt.arg(1, &mut word) {
+        Ok(len) => &word[..len] == b"replay".as_slice(),
+        Err(_) => false,
+    };
+    is_first && matches!(rt.arg(2, &mut word), Err(FillError::NotPresent))
+}
+
+/// Says what failed on standard error, and gives the status. Where standard error takes nothing, the
+/// status still tells.
+fn failed<D: Display + Drop>(rt: &impl Eprint, what: D, status: u8) -> ExitCode {
+    let _ = rt.eprintln(what);
+    ExitCode::from(status)
+}

@@ -1,0 +1,4 @@
+pub mod AuthenticatorLemmas
+pub mod ChapLemmas
+pub mod DigestLemmas
+pub mod PasswordLemmas

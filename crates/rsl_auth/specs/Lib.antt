@@ -1,0 +1,3 @@
+pub mod Authenticator
+pub mod Chap
+pub mod Password

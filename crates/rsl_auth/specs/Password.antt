@@ -1,0 +1,65 @@
+-- User-Password (RFC 2865 section 5.2). The password p1, p2, .. of 16 octets each is hidden as c(1), c(2), .. with
+-- c(1) = p1 xor MD5(S, RA) and c(i) = pi xor MD5(S, c(i-1)), where S is the secret and RA the Request Authenticator.
+use Rattle.std.specs.Prelude.{◌≡◌, ℕ, zero, suc, ◌-◌, ◌/◌, ◌%◌, ◌≤◌, ◌==◌, nat_eq, nat_le, Bool, ◌&&◌, List, [], ◌∷◌, ◌++◌, length, take, drop, replicate, bit_xor}
+use Rattle.std.specs.List.{starts_with, list_all}
+use Rattle.md5.specs.Md5.{md5}
+
+-- the password, padded at its end with NULs to a multiple of 16 octets
+abbrev pub padded : List ℕ → List ℕ
+padded password = password ++ replicate ((16 - length password % 16) % 16) 0
+
+-- each octet xor the other's at its place
+abbrev pub xor_octets : List ℕ → List ℕ → List ℕ
+xor_octets [] others = []
+xor_octets (x ∷ octets) [] = []
+xor_octets (x ∷ octets) (y ∷ others) = bit_xor x y ∷ xor_octets octets others
+
+-- a block xor MD5(S, before): `before` is RA at the first block and then the hidden block before
+unfoldable pub masked : (block secret before : List ℕ) → List ℕ
+masked block secret before = xor_octets block (md5 (secret ++ before))
+
+-- c(1), c(2), .. of the first blocks of octets, joined
+unfoldable pub hidden_blocks : (blocks : ℕ) (octets secret before : List ℕ) → List ℕ
+hidden_blocks zero octets secret before = []
+hidden_blocks (suc blocks) octets secret before =
+    masked (take 16 octets) secret before
+    ++ hidden_blocks blocks (drop 16 octets) secret (masked (take 16 octets) secret before)
+
+-- p1, p2, .. of the first hidden blocks of a value, joined
+unfoldable pub revealed_blocks : (blocks : ℕ) (value secret before : List ℕ) → List ℕ
+revealed_blocks zero value secret before = []
+revealed_blocks (suc blocks) value secret before =
+    masked (take 16 value) secret before ++ revealed_blocks blocks (drop 16 value) secret (take 16 value)
+
+-- the value that hides a password
+unfoldable pub hidden : (password secret request_auth : List ℕ) → List ℕ
+hidden password secret request_auth = hidden_blocks (length (padded password) / 16) (padded password) secret request_auth
+
+-- the octets that a value hides
+unfoldable pub revealed : (value secret request_auth : List ℕ) → List ℕ
+revealed value secret request_auth = revealed_blocks (length value / 16) value secret request_auth
+
+-- a value has 16, 32, .. or 128 octets
+abbrev pub IsPasswordLength : ℕ → Type 0
+IsPasswordLength n = (n % 16 ≡ 0) × (16 ≤ n) × (n ≤ 128)
+
+-- the same as a test
+abbrev pub is_password_length : ℕ → Bool
+is_password_length n = n % 16 == 0 && nat_le 16 n && nat_le n 128
+
+-- whether each octet is NUL
+abbrev pub are_nuls : List ℕ → Bool
+are_nuls octets = list_all (λ octet. octet == 0) octets
+
+-- octets are the password and NULs alone after it
+abbrev pub IsPadded : (octets password : List ℕ) → Type 0
+IsPadded octets password = (zeros : ℕ) × (octets ≡ password ++ replicate zeros 0)
+
+-- the same as a test
+abbrev pub is_padded : (octets password : List ℕ) → Bool
+is_padded octets password = starts_with nat_eq octets password && are_nuls (drop (length password) octets)
+
+-- whether a value hides this password
+unfoldable pub matches_password : (value secret request_auth password : List ℕ) → Bool
+matches_password value secret request_auth password =
+    is_password_length (length value) && is_padded (revealed value secret request_auth) password

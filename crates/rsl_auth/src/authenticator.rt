@@ -1,0 +1,56 @@
+ghost use Rattle.std.specs.Prelude.{◌≡◌, ◌↔◌, ◌≤◌, IsTrue, length, replicate};
+ghost use Rattle.rsl_auth.specs.Authenticator.{
+  accounting_authenticator,
+  authenticator,
+  is_accounting_authentic,
+  response_authenticator,
+  sealed,
+};
+
+use md5::{Digest, Md5};
+
+/// Octets of Code, Identifier and Length (RFC 2865 section 3).
+const AUTHENTICATOR_START: usize = 4;
+
+/// Octets before the Attributes.
+const ATTRIBUTES_START: usize = 20;
+
+/// Writes the Response Authenticator, MD5(Code, Identifier, Length, Request Authenticator,
+/// Attributes, Secret), into octets 4 to 19 of a packet (RFC 2865 section 3). The other octets
+/// stay. With sixteen zero octets for `request_auth` it is the Request Authenticator of an
+/// Accounting-Request, which `accounting_ok` finds right (RFC 2866 section 3).
+#[tactic(auto, unfolding(crate::specs::Authenticator::sealed))]
+pub fn seal(packet: &mut [u8], request_auth: &[u8; 16], secret: &[u8])
+    requires { 20 ≤ length packet.old }
+    ensures sealed { packet.new ≡ sealed packet.old request_auth.now secret.now }
+    ensures accounting { request_auth.now ≡ replicate 16 0 → IsTrue (is_accounting_authentic packet.new secret.now) }
+{
+    let digest = authenticator_of(packet, request_auth, secret);
+    packet[AUTHENTICATOR_START..ATTRIBUTES_START].copy_from_slice(&digest);
+}
+
+/// Whether octets 4 to 19 of an Accounting-Request are its Request Authenticator, MD5(Code,
+/// Identifier, Length, sixteen zero octets, Attributes, Secret) (RFC 2866 section 3).
+#[tactic(auto, unfolding(crate::specs::Authenticator::is_accounting_authentic))]
+pub fn accounting_ok(packet: &[u8], secret: &[u8]) -> bool
+    requires { 20 ≤ length packet.now }
+    ensures test { result ≡ is_accounting_authentic packet.now secret.now }
+    ensures authentic { IsTrue result ↔ (authenticator packet.now ≡ accounting_authenticator packet.now secret.now) }
+{
+    let digest = authenticator_of(packet, &[0; 16], secret);
+    &packet[AUTHENTICATOR_START..ATTRIBUTES_START] == digest.as_slice()
+}
+
+// The Response Authenticator of a packet.
+#[tactic(auto, unfolding(crate::specs::Authenticator::response_authenticator))]
+fn authenticator_of(packet: &[u8], request_auth: &[u8; 16], secret: &[u8]) -> [u8; 16]
+    requires { 20 ≤ length packet.now }
+    ensures { result ≡ response_authenticator packet.now request_auth.now secret.now }
+{
+    let mut hasher = Md5::new();
+    hasher.update(&packet[..AUTHENTICATOR_START]);
+    hasher.update(request_auth);
+    hasher.update(&packet[ATTRIBUTES_START..]);
+    hasher.update(secret);
+    hasher.finalize()
+}

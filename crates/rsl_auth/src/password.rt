@@ -1,0 +1,141 @@
+ghost use Rattle.std.specs.Prelude.{◌≡◌, ◌↔◌, ◌≤◌, ◌-◌, ◌/◌, ◌++◌, IsTrue, IfOk, length, take, replicate};
+ghost use Rattle.rsl_auth.specs.Password.{
+  are_nuls,
+  hidden,
+  hidden_blocks,
+  is_padded,
+  is_password_length,
+  IsPadded,
+  IsPasswordLength,
+  masked,
+  matches_password,
+  padded,
+  revealed,
+};
+
+use md5::{Digest, Md5};
+use rsl_wire::NoMemory;
+use std::alloc::Global;
+
+/// Octets of a block (RFC 2865 section 5.2).
+const BLOCK_LEN: usize = 16;
+
+/// The longest password, and the longest value.
+const MAX_LEN: usize = 128;
+
+/// The User-Password value that hides a password of 1 to 128 octets: padded with NULs to blocks of
+/// 16, each xor MD5(Secret, the hidden block before), the first xor MD5(Secret, Request
+/// Authenticator) (RFC 2865 section 5.2). It fails only where memory is refused.
+pub fn hide(
+    alloc: Global,
+    password: &[u8],
+    secret: &[u8],
+    request_auth: &[u8; 16],
+) -> Result<Vec<u8>, NoMemory>
+    requires not_empty { 1 ≤ length password.now }
+    requires not_long { length password.now ≤ 128 }
+    ensures value { IfOk result (λ value. value.items ≡ hidden password.now secret.now request_auth.now) }
+    ensures reveals { IfOk result (λ value. IsTrue (matches_password value.items secret.now request_auth.now password.now)) }
+{
+    let buffer = pad(password);
+    let octets = &buffer[..password.len().next_multiple_of(BLOCK_LEN)];
+    hide_blocks(alloc, octets, secret, request_auth)
+}
+
+/// Whether a User-Password value hides this password: it has 16, 32, .. or 128 octets, and those
+/// that it hides are the password and NULs alone after it (RFC 2865 section 5.2). A value of
+/// another length gives false.
+#[tactic(auto, unfolding(crate::specs::Password::matches_password))]
+pub fn pap_ok(value: &[u8], secret: &[u8], request_auth: &[u8; 16], password: &[u8]) -> bool
+    ensures test { result ≡ matches_password value.now secret.now request_auth.now password.now }
+    ensures matches { IsTrue result ↔ (IsPasswordLength (length value.now) × IsPadded (revealed value.now secret.now request_auth.now) password.now) }
+{
+    if !has_password_len(value) {
+        return false;
+    }
+    let buffer = reveal(value, secret, request_auth);
+    is_followed_by_nuls(&buffer[..value.len()], password)
+}
+
+// The password, and NULs after it.
+fn pad(password: &[u8]) -> [u8; MAX_LEN]
+    requires { length password.now ≤ 128 }
+    ensures { result ≡ password.now ++ replicate (128 - length password.now) 0 }
+{
+    let mut buffer = [0u8; MAX_LEN];
+    buffer[..password.len()].copy_from_slice(password);
+    buffer
+}
+
+// The hidden blocks of octets, joined.
+fn hide_blocks(
+    alloc: Global,
+    octets: &[u8],
+    secret: &[u8],
+    request_auth: &[u8; 16],
+) -> Result<Vec<u8>, NoMemory>
+    ensures { IfOk result (λ value. value.items ≡ hidden_blocks (length octets.now / 16) octets.now secret.now request_auth.now) }
+{
+    let mut value = Vec::with_capacity(alloc, octets.len())?;
+    let mut before = *request_auth;
+    for k in 0..octets.len() / BLOCK_LEN {
+        let at = BLOCK_LEN * k;
+        before = mask(&octets[at..at + BLOCK_LEN], secret, &before);
+        value.extend_from_slice(&before)?;
+    }
+    Ok(value)
+}
+
+// Whether a value has 16, 32, .. or 128 octets.
+fn has_password_len(value: &[u8]) -> bool
+    ensures { result ≡ is_password_length (length value.now) }
+{
+    let len = value.len();
+    len % BLOCK_LEN == 0 && BLOCK_LEN <= len && len <= MAX_LEN
+}
+
+// The octets that a value hides, at the start of a buffer.
+fn reveal(value: &[u8], secret: &[u8], request_auth: &[u8; 16]) -> [u8; MAX_LEN]
+    requires { IsPasswordLength (length value.now) }
+    ensures { take (length value.now) result ≡ revealed value.now secret.now request_auth.now }
+{
+    let mut buffer = [0u8; MAX_LEN];
+    let mut before: &[u8] = request_auth;
+    for k in 0..value.len() / BLOCK_LEN {
+        let at = BLOCK_LEN * k;
+        let block = &value[at..at + BLOCK_LEN];
+        buffer[at..at + BLOCK_LEN].copy_from_slice(&mask(block, secret, before));
+        before = block;
+    }
+    buffer
+}
+
+// A block xor MD5(secret, before).
+#[tactic(auto, using(crate::proofs::PasswordLemmas::masked_from_reads))]
+fn mask(block: &[u8], secret: &[u8], before: &[u8]) -> [u8; BLOCK_LEN]
+    requires { length block.now ≡ 16 }
+    ensures { result ≡ masked block.now secret.now before.now }
+{
+    let mut hasher = Md5::new();
+    hasher.update(secret);
+    hasher.update(before);
+    let digest = hasher.finalize();
+    let mut octets = [0u8; BLOCK_LEN];
+    for i in 0..BLOCK_LEN {
+        octets[i] = block[i] ^ digest[i];
+    }
+    octets
+}
+
+// Whether octets are the password and NULs alone after it.
+fn is_followed_by_nuls(octets: &[u8], password: &[u8]) -> bool
+    ensures { result ≡ is_padded octets.now password.now }
+{
+    octets.starts_with(password) && are_nuls(&octets[password.len()..])
+}
+
+fn are_nuls(octets: &[u8]) -> bool
+    ensures { result ≡ are_nuls octets.now }
+{
+    octets.iter().all(|octet| *octet == 0)
+}

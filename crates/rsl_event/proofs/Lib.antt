@@ -1,0 +1,2 @@
+pub mod PreparedLaws
+pub mod WritingLaws

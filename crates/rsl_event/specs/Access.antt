@@ -1,0 +1,71 @@
+-- What an Access-Request means (RFC 2865 section 4.1).
+use Rattle.std.specs.Prelude.{ℕ, ◌+◌, ◌==◌, ◌&&◌, nat_le, nat_lt, Bool, false, List, count_by, unwrap_or, option_and_then, if◌then◌else◌, Option, Some, None, Result, Ok, Err}
+use Rattle.std.specs.Option.{option_map_or}
+use Rattle.rsl_accounts.specs.Configuration.{Configuration}
+use Rattle.rsl_auth.specs.Chap.{matches_chap}
+use Rattle.rsl_auth.specs.Password.{matches_password}
+use Rattle.rsl_wire.specs.Attributes.{Attribute, is_kind, first_of, attribute_list}
+use Rattle.rsl_wire.specs.Packet.{Fields}
+use Rattle.rsl_event.specs.Request.{nas_of, named_account, proxy_len, secret_of, password_of}
+use Rattle.rsl_event.specs.declared.event.Source.{Source}
+use Rattle.rsl_event.specs.declared.event.Act.TheVariants.{Ask}
+use Rattle.rsl_event.specs.declared.meaning.Meaning.{Meaning}
+use Rattle.rsl_event.specs.declared.meaning.Meaning.TheVariants.{Bare, Reject, Own}
+use Rattle.rsl_event.specs.declared.meaning.Dropped.{Dropped}
+use Rattle.rsl_event.specs.declared.meaning.Dropped.TheVariants.{WrongCode, ProxyTooLong}
+use Rattle.rsl_event.specs.declared.codes.TheConstants.{ACCESS_REQUEST, USER_NAME, USER_PASSWORD, CHAP_PASSWORD, CHAP_CHALLENGE, MAX_PROXY_STATE_LEN}
+
+-- how many attributes of a Type there are
+abbrev pub count_of : ℕ → List Attribute → ℕ
+count_of kind attributes = count_by (is_kind kind) attributes
+
+-- exactly one User-Name, exactly one password, of either kind, and at most one CHAP-Challenge
+abbrev pub asks_once : List Attribute → Bool
+asks_once attributes =
+    count_of USER_NAME attributes == 1
+    && count_of USER_PASSWORD attributes + count_of CHAP_PASSWORD attributes == 1
+    && nat_le (count_of CHAP_CHALLENGE attributes) 1
+
+-- the CHAP challenge: the CHAP-Challenge where there is one, else the Request Authenticator (RFC 2865 section 5.3)
+abbrev pub challenge_of : List ℕ → List Attribute → List ℕ
+challenge_of authenticator attributes = unwrap_or (first_of CHAP_CHALLENGE attributes) authenticator
+
+-- a User-Password or a CHAP-Password shows that the password is known
+abbrev pub shows : (secret authenticator challenge password : List ℕ) (pap chap : Option (List ℕ)) → Bool
+shows secret authenticator challenge password (Some value) chap = matches_password value secret authenticator password
+shows secret authenticator challenge password None (Some value) = matches_chap value challenge password
+shows secret authenticator challenge password None None = false
+
+-- the attributes show that the password is known
+abbrev pub shows_password : (secret authenticator : List ℕ) → List Attribute → (password : List ℕ) → Bool
+shows_password secret authenticator attributes password =
+    shows secret authenticator (challenge_of authenticator attributes) password (first_of USER_PASSWORD attributes) (first_of CHAP_PASSWORD attributes)
+
+-- the account, if its password is shown
+abbrev pub if_shown : Configuration → (secret authenticator : List ℕ) → List Attribute → (account : ℕ) → Option ℕ
+if_shown config secret authenticator attributes account =
+    if shows_password secret authenticator attributes (password_of config account) then Some account else None
+
+-- the account that the request asks for, with its password
+unfoldable pub asker : Configuration → (client : ℕ) → (authenticator : List ℕ) → List Attribute → Option ℕ
+asker config client authenticator attributes =
+    if asks_once attributes then option_and_then (if_shown config (secret_of config client) authenticator attributes) (named_account config attributes)
+    else None
+
+-- an ask of that account, or a reject
+abbrev pub ask_or_reject : Source → (client : ℕ) → Fields → List Attribute → (account : Option ℕ) → Meaning
+ask_or_reject source client fields attributes None = Reject
+ask_or_reject source client fields attributes (Some account) =
+    Own account (Ask (record { source = source; id = fields.id; authenticator = fields.authenticator }) (nas_of client attributes))
+
+-- by the attributes, or the fault in their list
+abbrev pub access_by : Configuration → Source → (client : ℕ) → Fields → Result (List Attribute) ℕ → Result Meaning Dropped
+access_by config source client fields (Err at) = Ok Bare
+access_by config source client fields (Ok attributes) =
+    if nat_lt MAX_PROXY_STATE_LEN (proxy_len attributes) then Err ProxyTooLong
+    else Ok (ask_or_reject source client fields attributes (asker config client fields.authenticator attributes))
+
+-- what a packet on the authentication port means
+unfoldable pub access_meaning : Configuration → Source → (client : ℕ) → Fields → Result Meaning Dropped
+access_meaning config source client fields =
+    if fields.code == ACCESS_REQUEST then access_by config source client fields (attribute_list fields.attributes) else Err WrongCode

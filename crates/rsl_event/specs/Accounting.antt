@@ -1,0 +1,100 @@
+-- What an Accounting-Request means (RFC 2866 section 4.1).
+use Rattle.std.specs.Prelude.{ℕ, ◌==◌, ◌&&◌, ◌||◌, nat_lt, Bool, List, [], ◌∷◌, length, take, drop, unwrap_or, if◌then◌else◌, Option, Some, None, Result, Ok, Err}
+use Rattle.std.specs.Int.{w64, from_be_bytes}
+use Rattle.std.specs.Option.{option_or}
+use Rattle.rsl_accounts.specs.Configuration.{Configuration}
+use Rattle.rsl_auth.specs.Authenticator.{is_accounting_authentic}
+use Rattle.rsl_wire.specs.Attributes.{Attribute, first_of, number_in, attribute_list}
+use Rattle.rsl_wire.specs.Packet.{Fields, packet_octets}
+use Rattle.rsl_event.specs.Request.{nas_of, named_account, proxy_len, secret_of}
+use Rattle.rsl_event.specs.declared.event.Act.{Act}
+use Rattle.rsl_event.specs.declared.event.Act.TheVariants.{Alive, Stop}
+use Rattle.rsl_event.specs.declared.meaning.Note.{Note}
+use Rattle.rsl_event.specs.declared.meaning.Meaning.{Meaning}
+use Rattle.rsl_event.specs.declared.meaning.Meaning.TheVariants.{Own, Restart, Stray}
+use Rattle.rsl_event.specs.declared.meaning.Dropped.{Dropped}
+use Rattle.rsl_event.specs.declared.meaning.Dropped.TheVariants.{WrongCode, BadAuthenticator, Malformed, ProxyTooLong, NoStatus, NoSession}
+use Rattle.rsl_event.specs.declared.codes.TheConstants as codes
+use Rattle.rsl_event.specs.declared.codes.TheConstants.{ACCOUNTING_REQUEST, USER_NAME, CLASS, ACCT_STATUS_TYPE, ACCT_SESSION_ID, ACCT_MULTI_SESSION_ID, MAX_PROXY_STATE_LEN}
+
+-- the accept number in a Class value of this server: 8 octets of its boot number, and 8 of the number
+abbrev pub class_number : (boot : ℕ) → List ℕ → Option ℕ
+class_number boot value =
+    if length value == 16 && from_be_bytes w64 (take 8 value) == boot then Some (from_be_bytes w64 (drop 8 value)) else None
+
+-- the accept number of the first Class that is this server's; others are passed over
+abbrev pub class_of : (boot : ℕ) → List Attribute → Option ℕ
+class_of boot [] = None
+class_of boot (attribute ∷ attributes) =
+    if attribute.kind == CLASS then option_or (class_number boot attribute.value) (class_of boot attributes) else class_of boot attributes
+
+-- a bundle's id; an empty one is none
+abbrev pub unless_empty : Option (List ℕ) → Option (List ℕ)
+unless_empty None = None
+unless_empty (Some []) = None
+unless_empty (Some (octet ∷ id)) = Some (octet ∷ id)
+
+-- the first value of a Type, or no octets
+abbrev pub text_of : ℕ → List Attribute → List ℕ
+text_of kind attributes = unwrap_or (first_of kind attributes) []
+
+-- a session goes on: Start and Interim-Update
+abbrev pub is_alive : ℕ → Bool
+is_alive status = status == codes.START || status == codes.INTERIM_UPDATE
+
+-- a session has ended
+abbrev pub is_stop : ℕ → Bool
+is_stop status = status == codes.STOP
+
+-- an access server has restarted: Accounting-On and Accounting-Off
+abbrev pub is_restart : ℕ → Bool
+is_restart status = status == codes.ACCOUNTING_ON || status == codes.ACCOUNTING_OFF
+
+-- what is noted of a packet
+abbrev pub note_of : (client status : ℕ) → List Attribute → Note
+note_of client status attributes = record {
+  nas = nas_of client attributes;
+  status = status;
+  name = text_of USER_NAME attributes;
+  session = text_of ACCT_SESSION_ID attributes;
+}
+
+-- the session of a packet has ended, or goes on
+abbrev pub session_act : (boot client status : ℕ) → List Attribute → Act
+session_act boot client status attributes =
+    if is_stop status then Stop (nas_of client attributes) (text_of ACCT_SESSION_ID attributes)
+    else Alive (nas_of client attributes) (text_of ACCT_SESSION_ID attributes) (unless_empty (first_of ACCT_MULTI_SESSION_ID attributes)) (class_of boot attributes)
+
+-- that is the act of the account that the packet names, if there is one
+abbrev pub session_meaning : (boot client status : ℕ) → List Attribute → (account : Option ℕ) → Meaning
+session_meaning boot client status attributes None = Stray (note_of client status attributes)
+session_meaning boot client status attributes (Some account) = Own account (session_act boot client status attributes)
+
+-- by the status; a session's packet names the session
+unfoldable pub status_meaning : Configuration → (boot client status : ℕ) → List Attribute → Result Meaning Dropped
+status_meaning config boot client status attributes =
+    if is_restart status then Ok (Restart (nas_of client attributes))
+    else if is_alive status || is_stop status then
+    (if length (text_of ACCT_SESSION_ID attributes) == 0 then Err NoSession
+    else Ok (session_meaning boot client status attributes (named_account config attributes)))
+    else Ok (Stray (note_of client status attributes))
+
+-- by the Acct-Status-Type, if there is one
+abbrev pub if_status : Configuration → (boot client : ℕ) → List Attribute → Option ℕ → Result Meaning Dropped
+if_status config boot client attributes None = Err NoStatus
+if_status config boot client attributes (Some status) = status_meaning config boot client status attributes
+
+-- by the attributes, or the fault in their list
+abbrev pub accounting_by : Configuration → (boot client : ℕ) → Result (List Attribute) ℕ → Result Meaning Dropped
+accounting_by config boot client (Err at) = Err Malformed
+accounting_by config boot client (Ok attributes) =
+    if nat_lt MAX_PROXY_STATE_LEN (proxy_len attributes) then Err ProxyTooLong
+    else if_status config boot client attributes (number_in (first_of ACCT_STATUS_TYPE attributes))
+
+-- what a packet on the accounting port means
+unfoldable pub accounting_meaning : Configuration → (boot client : ℕ) → Fields → Result Meaning Dropped
+accounting_meaning config boot client fields =
+    if fields.code == ACCOUNTING_REQUEST then
+    (if is_accounting_authentic (packet_octets fields) (secret_of config client) then accounting_by config boot client (attribute_list fields.attributes)
+    else Err BadAuthenticator)
+    else Err WrongCode

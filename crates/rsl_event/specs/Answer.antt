@@ -1,0 +1,109 @@
+-- What is answered: the octets of a reply (RFC 2865 sections 4.2 and 4.3, RFC 2866 section 4.2), and its word.
+use Rattle.std.specs.Prelude.{ℕ, List, [], ◌∷◌, ◌++◌, replicate, codes, slice_get, Option, Some, None}
+use Rattle.std.specs.Option.{option_map_or}
+use Rattle.std.specs.Int.{w32, w64, to_be_bytes}
+use Rattle.rsl_accounts.specs.Configuration.{Configuration}
+use Rattle.rsl_accounts.specs.declared.entry.Entry.{Entry}
+use Rattle.rsl_auth.specs.Authenticator.{sealed}
+use Rattle.rsl_wire.specs.Attributes.{Attribute, attribute_of, attributes_in, list_octets}
+use Rattle.rsl_wire.specs.Packet.{Fields, packet_octets}
+use Rattle.rsl_event.specs.Request.{proxy_states, secret_of}
+use Rattle.rsl_event.specs.declared.event.Act.{Act}
+use Rattle.rsl_event.specs.declared.event.Act.TheVariants.{Ask}
+use Rattle.rsl_event.specs.declared.event.Decision.{Decision}
+use Rattle.rsl_event.specs.declared.event.Decision.TheVariants as decisions
+use Rattle.rsl_event.specs.declared.meaning.Meaning.{Meaning}
+use Rattle.rsl_event.specs.declared.meaning.Meaning.TheVariants.{Bare, Reject, Own, Restart, Stray}
+use Rattle.rsl_event.specs.declared.words.Said.{Said}
+use Rattle.rsl_event.specs.declared.words.Said.TheVariants as words
+use Rattle.rsl_event.specs.declared.codes.TheConstants.{ACCESS_ACCEPT, ACCESS_REJECT, ACCOUNTING_RESPONSE, CLASS, PORT_LIMIT, SERVICE_TYPE, FRAMED_PROTOCOL, SESSION_TIMEOUT, IDLE_TIMEOUT, REPLY_MESSAGE}
+
+-- the word for a decision on an ask; one that is merely done was not accepted
+abbrev pub said_of : Decision → Said
+said_of (decisions.Accept number) = words.Accept number
+said_of decisions.LimitReject = words.LimitReject
+said_of decisions.Done = words.LimitReject
+
+-- the word for an act of an account: only an ask is decided
+abbrev pub said_of_act : Act → Decision → Said
+said_of_act (Ask key nas) decision = said_of decision
+said_of_act _ decision = words.Account
+
+-- the word for what is answered; the decision tells of an ask alone
+abbrev pub said : Meaning → Decision → Said
+said Bare decision = words.Reject
+said Reject decision = words.Reject
+said (Own account act) decision = said_of_act act decision
+said (Restart nas) decision = words.Account
+said (Stray note) decision = words.Account
+
+-- the Code of a reply
+abbrev pub code_of : Said → ℕ
+code_of (words.Accept number) = ACCESS_ACCEPT
+code_of words.LimitReject = ACCESS_REJECT
+code_of words.Reject = ACCESS_REJECT
+code_of words.Account = ACCOUNTING_RESPONSE
+
+-- an attribute whose value is a number of four octets
+abbrev pub number_attribute : (kind number : ℕ) → Attribute
+number_attribute kind number = attribute_of kind (to_be_bytes w32 number)
+
+-- such an attribute if there is a number
+abbrev pub optional_attribute : (kind : ℕ) → Option ℕ → List Attribute
+optional_attribute kind None = []
+optional_attribute kind (Some number) = number_attribute kind number ∷ []
+
+-- the Class of an accept: the boot number and the accept number, eight octets each
+abbrev pub class_attribute : (boot number : ℕ) → Attribute
+class_attribute boot number = attribute_of CLASS (to_be_bytes w64 boot ++ to_be_bytes w64 number)
+
+-- the attributes of an accept of an account
+unfoldable pub accept_attributes : (boot number : ℕ) → Entry → List Attribute
+accept_attributes boot number entry =
+    class_attribute boot number
+    ∷ number_attribute PORT_LIMIT entry.rules.ports
+    ∷ optional_attribute SERVICE_TYPE entry.service_type
+    ++ optional_attribute FRAMED_PROTOCOL entry.framed_protocol
+    ++ optional_attribute SESSION_TIMEOUT entry.session_timeout
+    ++ optional_attribute IDLE_TIMEOUT entry.idle_timeout
+
+-- what a limit reject says
+abbrev pub limit_attributes : List Attribute
+limit_attributes = attribute_of REPLY_MESSAGE (codes "Session limit reached") ∷ []
+
+-- what a decision on an ask says
+abbrev pub decided_attributes : Configuration → (boot account : ℕ) → Decision → List Attribute
+decided_attributes config boot account (decisions.Accept number) = option_map_or (accept_attributes boot number) (slice_get config.accounts account) []
+decided_attributes config boot account decisions.LimitReject = limit_attributes
+decided_attributes config boot account decisions.Done = limit_attributes
+
+-- what is said to an act of an account
+abbrev pub own_attributes : Configuration → (boot account : ℕ) → Act → Decision → List Attribute
+own_attributes config boot account (Ask key nas) decision = decided_attributes config boot account decision
+own_attributes config boot account _ decision = []
+
+-- what the server says in a reply
+abbrev pub said_attributes : Configuration → (boot : ℕ) → Meaning → Decision → List Attribute
+said_attributes config boot (Own account act) decision = own_attributes config boot account act decision
+said_attributes config boot _ decision = []
+
+-- what a reply repeats of the request's attributes
+abbrev pub repeated_attributes : List Attribute → Meaning → List Attribute
+repeated_attributes attributes Bare = []
+repeated_attributes attributes _ = proxy_states attributes
+
+-- the attributes of a reply: Proxy-States stand last, as they came
+abbrev pub reply_attributes : Configuration → (boot : ℕ) → List Attribute → Meaning → Decision → List Attribute
+reply_attributes config boot attributes meaning decision = said_attributes config boot meaning decision ++ repeated_attributes attributes meaning
+
+-- the octets of the reply to a packet of a client, sealed with the client's secret
+unfoldable pub answer : Configuration → (boot client : ℕ) → Fields → Meaning → Decision → List ℕ
+answer config boot client fields meaning decision =
+    sealed
+    (packet_octets (record {
+      code = code_of (said meaning decision);
+      id = fields.id;
+      authenticator = replicate 16 0;
+      attributes = list_octets (reply_attributes config boot (attributes_in fields.attributes) meaning decision);
+    }))
+    fields.authenticator (secret_of config client)

@@ -1,0 +1,6 @@
+pub mod Request
+pub mod Access
+pub mod Accounting
+pub mod Meaning
+pub mod Prepared
+pub mod Answer

@@ -1,0 +1,50 @@
+-- A datagram that was understood.
+use Rattle.std.specs.Prelude.{◌≡◌, ℕ, ◌<◌, ◌≤◌, List, length, Result, Ok, Err}
+use Rattle.rsl_accounts.specs.Configuration.{Configuration}
+use Rattle.rsl_wire.specs.Attributes.{Attribute, attribute_list, attributes_in}
+use Rattle.rsl_event.specs.Meaning.{Fails}
+use Rattle.rsl_event.specs.Request.{proxy_len}
+use Rattle.rsl_event.specs.declared.event.Act.{Act}
+use Rattle.rsl_event.specs.declared.event.Act.TheVariants.{Sweep, Tick}
+use Rattle.rsl_event.specs.declared.meaning.Dropped.{Dropped}
+use Rattle.rsl_event.specs.declared.meaning.Meaning.{Meaning}
+use Rattle.rsl_event.specs.declared.meaning.Meaning.TheVariants.{Bare, Reject, Own, Restart, Stray}
+use Rattle.rsl_event.specs.declared.meaning.Prepared.{Prepared}
+use Rattle.rsl_event.specs.declared.codes.TheConstants.{MAX_PROXY_STATE_LEN}
+
+-- what `prepare` answered is as it is defined
+abbrev pub GivesPrepared : Result Prepared Dropped → Result Meaning Dropped → Type 0
+GivesPrepared (Ok prepared) defined = defined ≡ Ok prepared.meaning
+GivesPrepared (Err dropped) defined = Fails dropped defined
+
+-- the attributes of a request are well formed, and its Proxy-States have room in a reply
+pub record HasProxyStates (attributes : List ℕ) : Type 0 where
+  pub formed : attribute_list attributes ≡ Ok (attributes_in attributes)
+  pub short : proxy_len (attributes_in attributes) ≤ MAX_PROXY_STATE_LEN
+
+-- an account that something is said of is one of the configuration
+abbrev pub HasAccount : Configuration → Meaning → Type 0
+HasAccount config (Own account act) = account < length config.accounts
+HasAccount config _ = Unit {0}
+
+-- a reply that repeats Proxy-States has room for them
+abbrev pub HasRoom : (attributes : List ℕ) → Meaning → Type 0
+HasRoom attributes Bare = Unit {0}
+HasRoom attributes _ = HasProxyStates attributes
+
+-- an act of one account: an ask, an alive or a stop
+abbrev pub IsOfOneAccount : Act → Type 0
+IsOfOneAccount (Sweep nas) = ⊥
+IsOfOneAccount Tick = ⊥
+IsOfOneAccount _ = Unit {0}
+
+-- what is an account's own is an act of one account
+abbrev pub HasOwnAct : Meaning → Type 0
+HasOwnAct (Own account act) = IsOfOneAccount act
+HasOwnAct _ = Unit {0}
+
+-- a `Prepared` that `prepare` gives for this configuration
+pub record IsPrepared (config : Configuration) (prepared : Prepared) : Type 0 where
+  pub client : prepared.client < length config.clients
+  pub account : HasAccount config prepared.meaning
+  pub room : HasRoom prepared.packet.attrs.now prepared.meaning

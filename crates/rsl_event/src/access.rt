@@ -1,0 +1,116 @@
+ghost use Rattle.std.specs.Prelude.{◌≡◌, ◌==◌, ◌+◌, ◌<◌, IfSome, length};
+ghost use Rattle.rsl_wire.specs.Seen.{fields_of};
+ghost use Rattle.rsl_event.specs.Access.{asks_once, shows_password, asker, access_meaning};
+ghost use Rattle.rsl_event.specs.Meaning.{Gives};
+ghost use Rattle.rsl_event.specs.Request.{secret_of};
+
+use crate::codes::{ACCESS_REQUEST, CHAP_CHALLENGE, CHAP_PASSWORD, USER_NAME, USER_PASSWORD};
+use crate::event::{Act, Key, Source};
+use crate::meaning::{Dropped, Meaning};
+use crate::request::{account_named, has_long_proxy_states, nas_of};
+use rsl_accounts::Config;
+use rsl_auth::{chap_ok, pap_ok};
+use rsl_wire::{Attrs, Packet};
+use std::alloc::Global;
+
+/// What a packet of this client on the authentication port means.
+#[tactic(auto, unfolding(crate::specs::Access::access_meaning))]
+pub(crate) fn access_meaning(
+    alloc: Global,
+    config: &Config,
+    client: u32,
+    source: Source,
+    packet: &Packet<'_>,
+) -> Result<Meaning, Dropped>
+    requires { client < length config.now.clients }
+    ensures { Gives result (access_meaning config.now source client (fields_of packet.now)) }
+{
+    if packet.code != ACCESS_REQUEST {
+        return Err(Dropped::WrongCode);
+    }
+    let Ok(attributes) = packet.attributes() else {
+        return Ok(Meaning::Bare);
+    };
+    if has_long_proxy_states(&attributes) {
+        return Err(Dropped::ProxyTooLong);
+    }
+    let Some(account) = asker(config, client, &packet.authenticator, &attributes) else {
+        return Ok(Meaning::Reject);
+    };
+    let key = Key {
+        source,
+        id: packet.id,
+        authenticator: packet.authenticator,
+    };
+    let nas = nas_of(alloc, client, &attributes)?;
+    Ok(Meaning::Own {
+        account,
+        act: Act::Ask { key, nas },
+    })
+}
+
+/// The account that a request asks for, with its password.
+#[tactic(auto, unfolding(crate::specs::Access::asker))]
+fn asker(
+    config: &Config,
+    client: u32,
+    authenticator: &[u8; 16],
+    attributes: &Attrs<'_>,
+) -> Option<u32>
+    requires { client < length config.now.clients }
+    ensures account { result ≡ asker config.now client authenticator.now attributes.now }
+    ensures within { IfSome result (λ account. account < length config.now.accounts) }
+{
+    if !asks_once(attributes) {
+        return None;
+    }
+    let account = account_named(config, attributes)?;
+    let secret = config.client_at(client).secret.as_bytes();
+    let password = config.entry(account).password.as_bytes();
+    if shows_password(secret, authenticator, attributes, password) {
+        Some(account)
+    } else {
+        None
+    }
+}
+
+/// Whether there is exactly one User-Name, exactly one password, of either kind, and at most one
+/// CHAP-Challenge.
+fn asks_once(attributes: &Attrs<'_>) -> bool
+    ensures { result ≡ asks_once attributes.now }
+{
+    attributes.count(USER_NAME) == 1
+        && one_of_two(
+            attributes.count(USER_PASSWORD),
+            attributes.count(CHAP_PASSWORD),
+        )
+        && attributes.count(CHAP_CHALLENGE) <= 1
+}
+
+/// Whether the sum of two counts is one.
+fn one_of_two(first: usize, second: usize) -> bool
+    ensures { result ≡ (first + second == 1) }
+{
+    (first == 1 && second == 0) || (first == 0 && second == 1)
+}
+
+/// Whether the User-Password or the CHAP-Password is right for this password.
+fn shows_password(
+    secret: &[u8],
+    authenticator: &[u8; 16],
+    attributes: &Attrs<'_>,
+    password: &[u8],
+) -> bool
+    ensures { result ≡ shows_password secret.now authenticator.now attributes.now password.now }
+{
+    if let Some(value) = attributes.first(USER_PASSWORD) {
+        return pap_ok(value, secret, authenticator, password);
+    }
+    match attributes.first(CHAP_PASSWORD) {
+        Some(value) => {
+            let challenge = attributes.first(CHAP_CHALLENGE).unwrap_or(authenticator);
+            chap_ok(value, challenge, password)
+        }
+        None => false,
+    }
+}

@@ -1,0 +1,179 @@
+ghost use Rattle.std.specs.Prelude.{◌≡◌, ◌<◌, IfOk, length};
+ghost use Rattle.std.specs.Int.{w64, from_be_bytes};
+ghost use Rattle.rsl_wire.specs.Attributes.{first_of};
+ghost use Rattle.rsl_wire.specs.Seen.{fields_of};
+ghost use Rattle.rsl_event.specs.Accounting.{class_number, class_of, unless_empty, text_of, note_of, session_act, status_meaning, accounting_meaning};
+ghost use Rattle.rsl_event.specs.Meaning.{Gives};
+
+use crate::codes::{
+    ACCOUNTING_OFF, ACCOUNTING_ON, ACCOUNTING_REQUEST, ACCT_MULTI_SESSION_ID, ACCT_SESSION_ID,
+    ACCT_STATUS_TYPE, CLASS, INTERIM_UPDATE, START, STOP, USER_NAME,
+};
+use crate::event::Act;
+use crate::meaning::{Dropped, Meaning, Note};
+use crate::request::{account_named, has_long_proxy_states, nas_of};
+use rsl_accounts::Config;
+use rsl_auth::accounting_ok;
+use rsl_wire::{Attrs, NoMemory, Octets, Packet};
+use std::alloc::Global;
+
+/// What a packet of this client on the accounting port means.
+#[tactic(auto, unfolding(crate::specs::Accounting::accounting_meaning))]
+pub(crate) fn accounting_meaning(
+    alloc: Global,
+    config: &Config,
+    boot: u64,
+    client: u32,
+    packet: &Packet<'_>,
+) -> Result<Meaning, Dropped>
+    requires { client < length config.now.clients }
+    ensures { Gives result (accounting_meaning config.now boot client (fields_of packet.now)) }
+{
+    if packet.code != ACCOUNTING_REQUEST {
+        return Err(Dropped::WrongCode);
+    }
+    let secret = config.client_at(client).secret.as_bytes();
+    if !accounting_ok(packet.octets(), secret) {
+        return Err(Dropped::BadAuthenticator);
+    }
+    let Ok(attributes) = packet.attributes() else {
+        return Err(Dropped::Malformed);
+    };
+    if has_long_proxy_states(&attributes) {
+        return Err(Dropped::ProxyTooLong);
+    }
+    let Some(status) = attributes.number(ACCT_STATUS_TYPE) else {
+        return Err(Dropped::NoStatus);
+    };
+    status_meaning(alloc, config, boot, client, status, &attributes)
+}
+
+/// What an accounting packet of this status means.
+#[tactic(auto, unfolding(crate::specs::Accounting::status_meaning))]
+fn status_meaning(
+    alloc: Global,
+    config: &Config,
+    boot: u64,
+    client: u32,
+    status: u32,
+    attributes: &Attrs<'_>,
+) -> Result<Meaning, Dropped>
+    ensures { Gives result (status_meaning config.now boot client status attributes.now) }
+{
+    match status {
+        ACCOUNTING_ON | ACCOUNTING_OFF => Ok(Meaning::Restart {
+            nas: nas_of(alloc, client, attributes)?,
+        }),
+        START | INTERIM_UPDATE | STOP => {
+            if text_of(attributes, ACCT_SESSION_ID).is_empty() {
+                return Err(Dropped::NoSession);
+            }
+            Ok(match account_named(config, attributes) {
+                Some(account) => Meaning::Own {
+                    account,
+                    act: session_act(alloc, boot, client, status, attributes)?,
+                },
+                None => Meaning::Stray(note_of(alloc, client, status, attributes)?),
+            })
+        }
+        _ => Ok(Meaning::Stray(note_of(alloc, client, status, attributes)?)),
+    }
+}
+
+/// A session of an account has ended, or goes on.
+fn session_act(
+    alloc: Global,
+    boot: u64,
+    client: u32,
+    status: u32,
+    attributes: &Attrs<'_>,
+) -> Result<Act, NoMemory>
+    ensures { IfOk result (λ act. act ≡ session_act boot client status attributes.now) }
+{
+    let nas = nas_of(alloc, client, attributes)?;
+    let session = Octets::from_slice(alloc, text_of(attributes, ACCT_SESSION_ID))?;
+    if status == STOP {
+        return Ok(Act::Stop { nas, session });
+    }
+    let bundle = bundle_of(alloc, attributes)?;
+    let class = class_of(boot, attributes);
+    Ok(Act::Alive {
+        nas,
+        session,
+        bundle,
+        class,
+    })
+}
+
+/// The first Acct-Multi-Session-Id, if it is not empty.
+fn bundle_of(alloc: Global, attributes: &Attrs<'_>) -> Result<Option<Octets>, NoMemory>
+    ensures { IfOk result (λ bundle. bundle ≡ unless_empty (first_of ACCT_MULTI_SESSION_ID attributes.now)) }
+{
+    match attributes.first(ACCT_MULTI_SESSION_ID) {
+        None | Some([]) => Ok(None),
+        Some(id) => Ok(Some(Octets::from_slice(alloc, id)?)),
+    }
+}
+
+/// The accept number of the first Class that is this server's.
+fn class_of(boot: u64, attributes: &Attrs<'_>) -> Option<u64>
+    ensures { result ≡ class_of boot attributes.now }
+{
+    for (kind, value) in attributes.iter() {
+        if kind == CLASS {
+            if let Some(number) = class_number(boot, value) {
+                return Some(number);
+            }
+        }
+    }
+    None
+}
+
+/// The accept number in a Class value, if it is this server's.
+fn class_number(boot: u64, value: &[u8]) -> Option<u64>
+    ensures { result ≡ class_number boot value.now }
+{
+    if value.len() != 16 {
+        return None;
+    }
+    let (theirs, number) = value.split_at(8);
+    if number_of(theirs) == boot {
+        Some(number_of(number))
+    } else {
+        None
+    }
+}
+
+/// Eight octets as a number, the high octet first.
+fn number_of(octets: &[u8]) -> u64
+    requires { length octets.now ≡ 8 }
+    ensures { result ≡ from_be_bytes w64 octets.now }
+{
+    u64::from_be_bytes([
+        octets[0], octets[1], octets[2], octets[3], octets[4], octets[5], octets[6], octets[7],
+    ])
+}
+
+/// What is noted of a packet.
+fn note_of(
+    alloc: Global,
+    client: u32,
+    status: u32,
+    attributes: &Attrs<'_>,
+) -> Result<Note, NoMemory>
+    ensures { IfOk result (λ note. note ≡ note_of client status attributes.now) }
+{
+    Ok(Note {
+        nas: nas_of(alloc, client, attributes)?,
+        status,
+        name: Octets::from_slice(alloc, text_of(attributes, USER_NAME))?,
+        session: Octets::from_slice(alloc, text_of(attributes, ACCT_SESSION_ID))?,
+    })
+}
+
+/// The first value of a Type, or no octets.
+fn text_of<'a>(attributes: &Attrs<'a>, kind: u8) -> &'a [u8]
+    ensures { result.now ≡ text_of kind attributes.now }
+{
+    attributes.first(kind).unwrap_or(&[])
+}

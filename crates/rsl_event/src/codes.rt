@@ -1,0 +1,62 @@
+//! The numbers of the RFCs.
+
+/// Access-Request (RFC 2865 section 4.1).
+pub const ACCESS_REQUEST: u8 = 1;
+/// Access-Accept (RFC 2865 section 4.2).
+pub const ACCESS_ACCEPT: u8 = 2;
+/// Access-Reject (RFC 2865 section 4.3).
+pub const ACCESS_REJECT: u8 = 3;
+/// Accounting-Request (RFC 2866 section 4.1).
+pub const ACCOUNTING_REQUEST: u8 = 4;
+/// Accounting-Response (RFC 2866 section 4.2).
+pub const ACCOUNTING_RESPONSE: u8 = 5;
+
+/// User-Name (RFC 2865 section 5.1).
+pub const USER_NAME: u8 = 1;
+/// User-Password (RFC 2865 section 5.2).
+pub const USER_PASSWORD: u8 = 2;
+/// CHAP-Password (RFC 2865 section 5.3).
+pub const CHAP_PASSWORD: u8 = 3;
+/// NAS-IP-Address (RFC 2865 section 5.4).
+pub const NAS_IP_ADDRESS: u8 = 4;
+/// Service-Type (RFC 2865 section 5.6).
+pub const SERVICE_TYPE: u8 = 6;
+/// Framed-Protocol (RFC 2865 section 5.7).
+pub const FRAMED_PROTOCOL: u8 = 7;
+/// Reply-Message (RFC 2865 section 5.18).
+pub const REPLY_MESSAGE: u8 = 18;
+/// Class (RFC 2865 section 5.25).
+pub const CLASS: u8 = 25;
+/// Session-Timeout (RFC 2865 section 5.27).
+pub const SESSION_TIMEOUT: u8 = 27;
+/// Idle-Timeout (RFC 2865 section 5.28).
+pub const IDLE_TIMEOUT: u8 = 28;
+/// NAS-Identifier (RFC 2865 section 5.32).
+pub const NAS_IDENTIFIER: u8 = 32;
+/// Proxy-State (RFC 2865 section 5.33).
+pub const PROXY_STATE: u8 = 33;
+/// Acct-Status-Type (RFC 2866 section 5.1).
+pub const ACCT_STATUS_TYPE: u8 = 40;
+/// Acct-Session-Id (RFC 2866 section 5.5).
+pub const ACCT_SESSION_ID: u8 = 44;
+/// Acct-Multi-Session-Id (RFC 2866 section 5.11).
+pub const ACCT_MULTI_SESSION_ID: u8 = 50;
+/// CHAP-Challenge (RFC 2865 section 5.40).
+pub const CHAP_CHALLENGE: u8 = 60;
+/// Port-Limit (RFC 2865 section 5.42).
+pub const PORT_LIMIT: u8 = 62;
+
+/// Acct-Status-Type Start: the session begins (RFC 2866 section 5.1).
+pub const START: u32 = 1;
+/// Acct-Status-Type Stop: the session has ended.
+pub const STOP: u32 = 2;
+/// Acct-Status-Type Interim-Update: the session goes on.
+pub const INTERIM_UPDATE: u32 = 3;
+/// Acct-Status-Type Accounting-On: the access server has started.
+pub const ACCOUNTING_ON: u32 = 7;
+/// Acct-Status-Type Accounting-Off: the access server is about to stop.
+pub const ACCOUNTING_OFF: u32 = 8;
+
+/// The most octets of Proxy-State attributes, with their headers, that a request may have: so a reply
+/// has room for them.
+pub const MAX_PROXY_STATE_LEN: usize = 3900;

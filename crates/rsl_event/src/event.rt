@@ -1,0 +1,135 @@
+ghost use Rattle.std.specs.Prelude.{◌≡◌, ◌↔◌, IsTrue, IfOk};
+
+use crate::nas::Nas;
+use rsl_wire::{NoMemory, Octets};
+use std::alloc::Global;
+
+/// Where a datagram came from: an IPv4 address and a UDP port.
+#[derive(Clone, Copy, Debug, PartialEq, Eq)]
+pub struct Source {
+    /// The IPv4 address, its first octet first.
+    pub address: [u8; 4],
+    /// The UDP port.
+    pub port: u16,
+}
+
+/// What tells one Access-Request from another. A packet that is sent again has the same key
+/// (RFC 2865 section 2.5).
+#[derive(Clone, Copy, Debug, PartialEq, Eq)]
+pub struct Key {
+    /// Where it came from.
+    pub source: Source,
+    /// Its Identifier.
+    pub id: u8,
+    /// Its Request Authenticator.
+    pub authenticator: [u8; 16],
+}
+
+/// What happens to an account.
+#[derive(Debug, PartialEq, Eq, Drop)]
+pub enum Act {
+    /// An Access-Request whose password is right.
+    Ask {
+        /// What tells it from other requests.
+        key: Key,
+        /// The access server that asks.
+        nas: Nas,
+    },
+    /// An Accounting-Request of status Start or Interim-Update: the session goes on.
+    Alive {
+        /// The access server that the session is at.
+        nas: Nas,
+        /// The Acct-Session-Id.
+        session: Octets,
+        /// The Acct-Multi-Session-Id, which links of one multilink bundle share, where there is one.
+        bundle: Option<Octets>,
+        /// The accept number of this server's Class attribute, where there is one.
+        class: Option<u64>,
+    },
+    /// An Accounting-Request of status Stop: the session has ended.
+    Stop {
+        /// The access server that the session was at.
+        nas: Nas,
+        /// The Acct-Session-Id.
+        session: Octets,
+    },
+    /// The access server has restarted: each session at it has ended.
+    Sweep {
+        /// The access server.
+        nas: Nas,
+    },
+    /// Time has passed.
+    Tick,
+}
+
+/// An act, and the moment at which it happened.
+#[derive(Debug, PartialEq, Eq, Drop)]
+pub struct Event {
+    /// Seconds, by the clock of whoever hands them in. A later event may have a lower moment.
+    pub moment: u64,
+    /// What happened.
+    pub act: Act,
+}
+
+/// What the session rule decides on an event.
+#[derive(Clone, Copy, Debug, PartialEq, Eq)]
+pub enum Decision {
+    /// The ask is accepted, with this accept number.
+    Accept(u64),
+    /// The ask is rejected, since the account has no free place.
+    LimitReject,
+    /// The event is no ask: there is nothing to decide.
+    Done,
+}
+
+impl Key {
+    /// Whether the two are the same key.
+    pub fn is_same(&self, other: &Key) -> bool
+        ensures { IsTrue result ↔ (self.now ≡ other.now) }
+    {
+        self == other
+    }
+}
+
+impl Act {
+    /// An equal act. It fails only where memory is refused.
+    pub fn try_copy(&self, alloc: Global) -> Result<Act, NoMemory>
+        ensures { IfOk result (λ copy. copy ≡ self.now) }
+    {
+        Ok(match self {
+            Act::Ask { key, nas } => Act::Ask {
+                key: *key,
+                nas: nas.try_copy(alloc)?,
+            },
+            Act::Alive {
+                nas,
+                session,
+                bundle,
+                class,
+            } => Act::Alive {
+                nas: nas.try_copy(alloc)?,
+                session: session.try_copy(alloc)?,
+                bundle: copy_of_bundle(alloc, bundle)?,
+                class: *class,
+            },
+            Act::Stop { nas, session } => Act::Stop {
+                nas: nas.try_copy(alloc)?,
+                session: session.try_copy(alloc)?,
+            },
+            Act::Sweep { nas } => Act::Sweep {
+                nas: nas.try_copy(alloc)?,
+            },
+            Act::Tick => Act::Tick,
+        })
+    }
+}
+
+/// An equal Acct-Multi-Session-Id, if there is one.
+fn copy_of_bundle(alloc: Global, bundle: &Option<Octets>) -> Result<Option<Octets>, NoMemory>
+    ensures { IfOk result (λ copy. copy ≡ bundle.now) }
+{
+    match bundle {
+        Some(id) => Ok(Some(id.try_copy(alloc)?)),
+        None => Ok(None),
+    }
+}

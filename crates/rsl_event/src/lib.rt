@@ -1,0 +1,28 @@
+//! From a datagram to its meaning, and from a decision to the reply.
+//!
+//! The promise: `prepare` gives the meaning of a datagram that `specs/Meaning.antt` defines, or the
+//! first cause in order for which it is dropped; `reply` gives the octets that `specs/Answer.antt`
+//! defines. Both are functions of the octets and the configuration alone. Read those two files first,
+//! and `specs/Access.antt` and `specs/Accounting.antt` for the two ports.
+#![tactic(auto)]
+
+mod access;
+mod accounting;
+pub mod codes;
+mod event;
+mod meaning;
+mod nas;
+mod preparing;
+mod replying;
+mod request;
+#[cfg(test)]
+mod tests;
+mod words;
+mod writing;
+
+pub use event::{Act, Decision, Event, Key, Source};
+pub use meaning::{Dropped, Meaning, Note, Port, Prepared};
+pub use nas::{Nas, NasName};
+pub use preparing::prepare;
+pub use replying::{reply, room, said};
+pub use words::Said;

@@ -1,0 +1,125 @@
+ghost use Rattle.std.specs.Prelude.{◌≡◌, IfOk};
+ghost use Rattle.rsl_event.specs.declared.meaning.Dropped.TheVariants as Dropped;
+
+use crate::event::Act;
+use crate::nas::Nas;
+use rsl_wire::{NoMemory, Octets, Packet};
+use std::alloc::Global;
+use thiserror::Error;
+
+/// Which of the server's two ports a datagram came to.
+#[derive(Clone, Copy, Debug, PartialEq, Eq)]
+pub enum Port {
+    /// The authentication port, usually 1812 (RFC 2865 section 3).
+    Auth,
+    /// The accounting port, usually 1813 (RFC 2866 section 3).
+    Acct,
+}
+
+/// What is noted of an accounting packet that is no account's business: of another status, or of a
+/// name that no account has. What the packet does not have is empty.
+#[derive(Debug, PartialEq, Eq, Drop)]
+pub struct Note {
+    /// The access server.
+    pub nas: Nas,
+    /// The Acct-Status-Type.
+    pub status: u32,
+    /// The first User-Name.
+    pub name: Octets,
+    /// The first Acct-Session-Id.
+    pub session: Octets,
+}
+
+/// What a datagram means.
+#[derive(Debug, PartialEq, Eq, Drop)]
+pub enum Meaning {
+    /// A request on the authentication port whose attributes are malformed: it is rejected, and nothing
+    /// of it is repeated.
+    Bare,
+    /// An Access-Request that asks for no account with the right password: it is rejected.
+    Reject,
+    /// An act of one account: an ask, an alive or a stop.
+    Own {
+        /// The account's number, in the order of the configuration.
+        account: u32,
+        /// What happens to it.
+        act: Act,
+    },
+    /// Accounting-On or Accounting-Off: the access server has restarted.
+    Restart {
+        /// The access server.
+        nas: Nas,
+    },
+    /// Any other accounting packet: it is answered and noted, and changes no count.
+    Stray(Note),
+}
+
+/// Why a datagram is dropped without an answer. The first cause in this order that is there is named.
+#[derive(Clone, Copy, Debug, PartialEq, Eq, Error)]
+pub enum Dropped {
+    /// It has fewer than 20 octets.
+    #[error("Short")]
+    Short,
+    /// Its Length is under 20, over 4,096 or over the datagram.
+    #[error("BadLength")]
+    BadLength,
+    /// No client has the source's address.
+    #[error("UnknownClient")]
+    UnknownClient,
+    /// It is no Access-Request on the authentication port, or no Accounting-Request on the accounting
+    /// port.
+    #[error("WrongCode")]
+    WrongCode,
+    /// Accounting: the Request Authenticator is wrong (RFC 2866 section 3).
+    #[error("BadAuthenticator")]
+    BadAuthenticator,
+    /// Accounting: the attributes are malformed.
+    #[error("Malformed")]
+    Malformed,
+    /// The Proxy-State attributes have over 3,900 octets.
+    #[error("ProxyTooLong")]
+    ProxyTooLong,
+    /// Accounting: there is no Acct-Status-Type, or the first does not have 4 octets.
+    #[error("NoStatus")]
+    NoStatus,
+    /// Accounting, of status Start, Stop or Interim-Update: there is no Acct-Session-Id, or the first is
+    /// empty.
+    #[error("NoSession")]
+    NoSession,
+    /// Memory was refused.
+    #[error("NoMemory")]
+    NoMemory,
+}
+
+/// A datagram that was understood.
+#[derive(Debug, Drop)]
+pub struct Prepared<'a> {
+    /// Its packet.
+    pub packet: Packet<'a>,
+    /// The number of the client that sent it.
+    pub client: u32,
+    /// What it means.
+    pub meaning: Meaning,
+}
+
+impl Note {
+    /// An equal note. It fails only where memory is refused.
+    pub fn try_copy(&self, alloc: Global) -> Result<Note, NoMemory>
+        ensures { IfOk result (λ copy. copy ≡ self.now) }
+    {
+        Ok(Note {
+            nas: self.nas.try_copy(alloc)?,
+            status: self.status,
+            name: self.name.try_copy(alloc)?,
+            session: self.session.try_copy(alloc)?,
+        })
+    }
+}
+
+impl From<NoMemory> for Dropped {
+    ghost from_gives = { λ _ dropped. dropped ≡ Dropped.NoMemory };
+
+    fn from(_refused: NoMemory) -> Dropped {
+        Dropped::NoMemory
+    }
+}

@@ -1,0 +1,56 @@
+ghost use Rattle.std.specs.Prelude.{◌≡◌, IfOk, Ok, Some};
+ghost use Rattle.rsl_accounts.specs.Configuration.{client_number};
+ghost use Rattle.rsl_wire.specs.Packet.{packet_of};
+ghost use Rattle.rsl_wire.specs.Seen.{fields_of};
+ghost use Rattle.rsl_event.specs.Meaning.{meaning};
+ghost use Rattle.rsl_event.specs.Prepared.{GivesPrepared, HasOwnAct, IsPrepared};
+
+use crate::access::access_meaning;
+use crate::accounting::accounting_meaning;
+use crate::event::Source;
+use crate::meaning::{Dropped, Port, Prepared};
+use rsl_accounts::Config;
+use rsl_wire::{WireFault, read};
+use std::alloc::Global;
+
+/// What a datagram means that came from `source` to `port` of the server with this boot number, or why
+/// it is dropped. The first cause in the order of `Dropped` that is there is named, and `NoMemory` comes
+/// only where a growth is refused, after every other check has passed.
+#[tactic(auto, unfolding(crate::specs::Meaning::meaning))]
+pub fn prepare<'a>(
+    alloc: Global,
+    config: &Config,
+    boot: u64,
+    port: Port,
+    source: Source,
+    datagram: &'a [u8],
+) -> Result<Prepared<'a>, Dropped>
+    // The meaning, or the drop, is that of the definition.
+    ensures meaning { GivesPrepared result (meaning config.now boot port source datagram.now) }
+    // The packet is the datagram's.
+    ensures packet { IfOk result (λ prepared. packet_of datagram.now ≡ Ok (fields_of prepared.packet)) }
+    // The client is the source's.
+    ensures client { IfOk result (λ prepared. client_number config.now source.address ≡ Some prepared.client) }
+    // What is an account's own is an ask, an alive or a stop.
+    ensures own { IfOk result (λ prepared. HasOwnAct prepared.meaning) }
+    // What `reply` asks for.
+    ensures prepared { IfOk result (λ prepared. IsPrepared config.now prepared) }
+{
+    let packet = match read(datagram) {
+        Ok(packet) => packet,
+        Err(WireFault::Short) => return Err(Dropped::Short),
+        Err(WireFault::BadLength) => return Err(Dropped::BadLength),
+    };
+    let Some(client) = config.client(source.address) else {
+        return Err(Dropped::UnknownClient);
+    };
+    let meaning = match port {
+        Port::Auth => access_meaning(alloc, config, client, source, &packet)?,
+        Port::Acct => accounting_meaning(alloc, config, boot, client, &packet)?,
+    };
+    Ok(Prepared {
+        packet,
+        client,
+        meaning,
+    })
+}

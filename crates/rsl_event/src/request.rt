@@ -1,0 +1,50 @@
+ghost use Rattle.std.specs.Prelude.{◌≡◌, ◌<◌, IfOk, IfSome, length, nat_lt};
+ghost use Rattle.rsl_event.specs.Request.{nas_of, named_account, proxy_len};
+
+use crate::codes::{MAX_PROXY_STATE_LEN, NAS_IDENTIFIER, NAS_IP_ADDRESS, PROXY_STATE, USER_NAME};
+use crate::nas::{Nas, NasName};
+use rsl_accounts::Config;
+use rsl_wire::{Attrs, NoMemory, Octets};
+use std::alloc::Global;
+
+/// The access server of a packet of this client: its first NAS-Identifier, else its first
+/// NAS-IP-Address, else unnamed.
+pub(crate) fn nas_of(alloc: Global, client: u32, attributes: &Attrs<'_>) -> Result<Nas, NoMemory>
+    ensures { IfOk result (λ nas. nas ≡ nas_of client attributes.now) }
+{
+    let name = if let Some(identifier) = attributes.first(NAS_IDENTIFIER) {
+        NasName::Identifier(Octets::from_slice(alloc, identifier)?)
+    } else if let Some(address) = attributes.first(NAS_IP_ADDRESS) {
+        NasName::Address(Octets::from_slice(alloc, address)?)
+    } else {
+        NasName::Unnamed
+    };
+    Ok(Nas { client, name })
+}
+
+/// The number of the account that has the first User-Name.
+pub(crate) fn account_named(config: &Config, attributes: &Attrs<'_>) -> Option<u32>
+    ensures number { result ≡ named_account config.now attributes.now }
+    ensures within { IfSome result (λ account. account < length config.now.accounts) }
+{
+    match attributes.first(USER_NAME) {
+        Some(name) => config.account(name),
+        None => None,
+    }
+}
+
+/// Whether the Proxy-State attributes have over 3,900 octets, with their headers.
+pub(crate) fn has_long_proxy_states(attributes: &Attrs<'_>) -> bool
+    ensures { result ≡ nat_lt MAX_PROXY_STATE_LEN (proxy_len attributes.now) }
+{
+    let mut len = 0usize;
+    for (kind, value) in attributes.iter() {
+        if kind == PROXY_STATE {
+            len += 2 + value.len();
+            if len > MAX_PROXY_STATE_LEN {
+                return true;
+            }
+        }
+    }
+    false
+}

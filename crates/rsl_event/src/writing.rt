@@ -1,0 +1,82 @@
+ghost use Rattle.std.specs.Prelude.{◌≡◌, ◌+◌, ◌≤◌, ◌++◌, [], length};
+ghost use Rattle.std.specs.List.{AllByRecursion};
+ghost use Rattle.rsl_accounts.specs.Limits.{RulesFit};
+ghost use Rattle.rsl_wire.specs.Attributes.{IsAttribute, attribute_octets, list_octets};
+ghost use Rattle.rsl_event.specs.Answer.{number_attribute, optional_attribute, class_attribute, accept_attributes, limit_attributes};
+ghost use Rattle.rsl_event.specs.Request.{proxy_states, proxy_len};
+
+use crate::codes::{
+    CLASS, FRAMED_PROTOCOL, IDLE_TIMEOUT, PORT_LIMIT, PROXY_STATE, REPLY_MESSAGE, SERVICE_TYPE,
+    SESSION_TIMEOUT,
+};
+use rsl_accounts::Entry;
+use rsl_wire::{Attrs, Draft};
+
+/// Writes the attributes of an accept of this account.
+pub(crate) fn push_accept(draft: &mut Draft, boot: u64, number: u64, entry: &Entry)
+    requires empty { draft.old.attributes ≡ [] }
+    requires limits { RulesFit entry.now.rules }
+    ensures written { draft.new ≡ record draft.old { attributes = list_octets (accept_attributes boot number entry.now) } }
+    ensures short { length draft.new.attributes ≤ 48 }
+{
+    push_class(draft, boot, number);
+    push_number(draft, PORT_LIMIT, entry.rules.ports as u32);
+    push_optional(draft, SERVICE_TYPE, entry.service_type);
+    push_optional(draft, FRAMED_PROTOCOL, entry.framed_protocol);
+    push_optional(draft, SESSION_TIMEOUT, entry.session_timeout);
+    push_optional(draft, IDLE_TIMEOUT, entry.idle_timeout);
+}
+
+/// Writes what a limit reject says.
+pub(crate) fn push_limit_message(draft: &mut Draft)
+    requires empty { draft.old.attributes ≡ [] }
+    ensures written { draft.new ≡ record draft.old { attributes = list_octets limit_attributes } }
+    ensures short { length draft.new.attributes ≤ 48 }
+{
+    draft.push(REPLY_MESSAGE, b"Session limit reached").unwrap();
+}
+
+/// Writes the Proxy-State attributes among these, in order.
+pub(crate) fn push_proxy_states(draft: &mut Draft, attributes: &Attrs<'_>)
+    requires each { AllByRecursion IsAttribute attributes.now }
+    requires room { 20 + (length draft.old.attributes + proxy_len attributes.now) ≤ 4096 }
+    ensures { draft.new ≡ record draft.old { attributes = draft.old.attributes ++ list_octets (proxy_states attributes.now) } }
+{
+    for (kind, value) in attributes.iter() {
+        if kind == PROXY_STATE {
+            draft.push(PROXY_STATE, value).unwrap();
+        }
+    }
+}
+
+/// Writes the Class of an accept: the boot number and the accept number, eight octets each.
+fn push_class(draft: &mut Draft, boot: u64, number: u64)
+    requires { length draft.old.attributes ≤ 48 }
+    ensures written { draft.new ≡ record draft.old { attributes = draft.old.attributes ++ attribute_octets (class_attribute boot number) } }
+    ensures length { length draft.new.attributes ≡ length draft.old.attributes + 18 }
+{
+    let mut value = [0u8; 16];
+    value[..8].copy_from_slice(&boot.to_be_bytes());
+    value[8..].copy_from_slice(&number.to_be_bytes());
+    draft.push(CLASS, &value).unwrap();
+}
+
+/// Writes an attribute whose value is a number of four octets, the high octet first.
+fn push_number(draft: &mut Draft, kind: u8, number: u32)
+    requires { length draft.old.attributes ≤ 48 }
+    ensures written { draft.new ≡ record draft.old { attributes = draft.old.attributes ++ attribute_octets (number_attribute kind number) } }
+    ensures length { length draft.new.attributes ≡ length draft.old.attributes + 6 }
+{
+    draft.push(kind, &number.to_be_bytes()).unwrap();
+}
+
+/// Writes such an attribute if there is a number.
+fn push_optional(draft: &mut Draft, kind: u8, number: Option<u32>)
+    requires { length draft.old.attributes ≤ 48 }
+    ensures written { draft.new ≡ record draft.old { attributes = draft.old.attributes ++ list_octets (optional_attribute kind number) } }
+    ensures length { length draft.new.attributes ≤ length draft.old.attributes + 6 }
+{
+    if let Some(number) = number {
+        push_number(draft, kind, number);
+    }
+}

@@ -1,0 +1,10 @@
+pub mod Lists
+pub mod Looking
+pub mod Counted
+pub mod Kept
+pub mod Whole
+pub mod Numbers
+pub mod Repeats
+pub mod Shift
+pub mod EarlyTick
+pub mod Lowest

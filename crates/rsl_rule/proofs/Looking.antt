@@ -1,0 +1,271 @@
+-- The definitions one entry further on, for loops that go over the entries in the order in which they came.
+use Rattle.std.proofs.Common.{◌≡◌, ℕ, zero, suc, ◌+◌, ◌-◌, ◌<◌, ◌≤◌, max, List, [], ◌∷◌, ◌++◌, reverse, take, drop, get_or, length, Bool, true, false, cond, ◌&&◌, ◌||◌, not, refl, ap, sym, ◌∙◌, subst, inl, inr, arith, add-one, eqb, leb, ltb, append-nil}
+use Rattle.std.specs.Prelude.{Option, Some, None, is_some, IfSome, filter, nat_le, count_by}
+use Rattle.std.specs.Borrow.{Bor}
+use Rattle.std.specs.List.{slice_get}
+use Rattle.std.specs.Option.{option_or, option_copied}
+use Rattle.std.proofs.lemmas.Option.{slice_get-get_or}
+use Rattle.std.proofs.lemmas.Bool.{cases_eq, ltb-true, ltb-false, le-leb, lt-leb, eq-eqb, ne_eqb, or_left, false≢true}
+use Rattle.std.proofs.lemmas.List.{get_or_default, take_more, reverse-append, length-reverse, length-take-le, take_all, take-append-drop}
+use Rattle.std.proofs.lemmas.List.Elements.{filter-append}
+use Rattle.std.proofs.lemmas.List.Sums.{sum_by-cons}
+use Rattle.rsl_accounts.specs.declared.rules.Rules.{Rules}
+use Rattle.rsl_session.specs.declared.entry.Entry.{Entry}
+use Rattle.rsl_session.specs.declared.session.Session.{Session}
+use Rattle.rsl_session.specs.declared.bundle.Bundle.{Bundle}
+use Rattle.rsl_session.specs.Past.{Past, looking_back, entry_at}
+use Rattle.rsl_session.specs.Clock.{clock}
+use Rattle.rsl_session.specs.Link.{links, opens, number_of}
+use Rattle.rsl_session.specs.Binding.{touches, bound, bound_by, bundle_at, bundled_by}
+use Rattle.rsl_session.specs.Touch.{touched}
+use Rattle.rsl_session.specs.Held.{ends, freed, held}
+use Rattle.rsl_session.specs.Ask.{accepts}
+
+pub looking_back-more : (xs : List Entry) (i : ℕ) (x : Entry) → i < length xs → x ≡ get_or xs i x → looking_back (take (i + 1) xs) ≡ x ∷ looking_back (take i xs)
+unfolding looking_back
+looking_back-more xs i x within is =
+    ap reverse (take_more xs i x within ∙ ap (λ y. take i xs ++ y ∷ []) (sym is)) ∙ reverse-append (take i xs) (x ∷ [])
+
+pub length-looking_back : (xs : List Entry) (i : ℕ) → i ≤ length xs → length (looking_back (take i xs)) ≡ i
+unfolding looking_back
+length-looking_back xs i within = length-reverse (take i xs) ∙ length-take-le i xs within
+
+pub looking_back_all : (xs : List Entry) (i : ℕ) → length xs ≤ i → looking_back (take i xs) ≡ looking_back xs
+looking_back_all xs i all = ap looking_back (take_all i xs all)
+
+length_all : (xs : List Entry) → length (looking_back xs) ≡ length xs
+unfolding looking_back
+length_all xs = length-reverse xs
+
+pub looking_back-none : looking_back [] ≡ []
+unfolding looking_back
+looking_back-none = refl
+
+-- the clock
+pub clock_none : clock (looking_back []) ≡ 0
+unfolding clock
+clock_none = ap clock looking_back-none
+
+pub clock_more : (xs : List Entry) (i : ℕ) (x : Entry) → i < length xs → x ≡ get_or xs i x → clock (looking_back (take (i + 1) xs)) ≡ max (clock (looking_back (take i xs))) x.event.moment
+unfolding clock
+clock_more xs i x within is = ap clock (looking_back-more xs i x within is)
+
+pub ruleset clock_steps = (clock_none, clock_more, looking_back_all)
+
+-- the last touch
+pub touched_none : (link : ℕ) → touched link (looking_back []) ≡ 0
+unfolding touched
+touched_none link = ap (touched link) looking_back-none
+
+pub touched_more : (link : ℕ) (xs : List Entry) (i : ℕ) (x : Entry) → i < length xs → x ≡ get_or xs i x
+    → touched link (looking_back (take (i + 1) xs)) ≡ cond (touches link (i + 1) x.outcome) (clock (looking_back (take (i + 1) xs))) (touched link (looking_back (take i xs)))
+unfolding touched
+touched_more link xs i x within is =
+    rw (looking_back-more xs i x within is, length-looking_back xs i (omega arith), add-one) refl
+
+pub touched_yes : (link : ℕ) (xs : List Entry) (i : ℕ) (x : Entry) → i < length xs → x ≡ get_or xs i x → touches link (i + 1) x.outcome ≡ true
+    → touched link (looking_back (take (i + 1) xs)) ≡ clock (looking_back (take (i + 1) xs))
+touched_yes link xs i x within is here = touched_more link xs i x within is ∙ rw here refl
+
+pub touched_no : (link : ℕ) (xs : List Entry) (i : ℕ) (x : Entry) → i < length xs → x ≡ get_or xs i x → touches link (i + 1) x.outcome ≡ false
+    → touched link (looking_back (take (i + 1) xs)) ≡ touched link (looking_back (take i xs))
+touched_no link xs i x within is other = touched_more link xs i x within is ∙ rw other refl
+
+pub ruleset touched_steps = (touched_none, touched_yes, touched_no, looking_back_all)
+
+-- the entry at a place
+pub entry_at_none : (past : Past) → entry_at 0 past ≡ None
+unfolding entry_at
+entry_at_none [] = refl
+entry_at_none (entry ∷ past) = rw (ne_eqb 0 (suc (length past)) (λ same. omega arith)) (entry_at_none past)
+
+entry_at-cons : (place : ℕ) (entry : Entry) (past : Past) → entry_at place (entry ∷ past) ≡ cond (eqb place (suc (length past))) (Some entry) (entry_at place past)
+unfolding entry_at
+entry_at-cons place entry past = refl
+
+entry_at_newer : (past : Past) (place : ℕ) → length past < place → entry_at place past ≡ None
+unfolding entry_at
+entry_at_newer [] place newer = refl
+entry_at_newer (entry ∷ past) place newer =
+    rw (ne_eqb place (suc (length past)) (λ same. omega arith)) (entry_at_newer past place (omega arith))
+
+entry_at-slice_get : (x : Entry) (xs : List Entry) (i : ℕ) → i ≤ length (x ∷ xs) → (place : ℕ) → 0 < place → place ≤ i → entry_at place (looking_back (take i (x ∷ xs))) ≡ slice_get (x ∷ xs) (place - 1)
+entry_at-slice_get x xs zero within place some at = absurd (omega arith)
+entry_at-slice_get x xs (suc i) within place some at =
+    let last : Entry = get_or (x ∷ xs) i x in
+    let same : last ≡ get_or (x ∷ xs) i last = get_or_default (x ∷ xs) i x last (omega arith) in
+    let more : looking_back (take (suc i) (x ∷ xs)) ≡ last ∷ looking_back (take i (x ∷ xs)) =
+    ap (λ n. looking_back (take n (x ∷ xs))) (sym (add-one i)) ∙ looking_back-more (x ∷ xs) i last (omega arith) same in
+    ap (entry_at place) more ∙ entry_at_last x xs i last place (omega arith) some at (slice_get-get_or (x ∷ xs) i x (omega arith)) (entry_at-slice_get x xs i (omega arith) place some) where
+      entry_at_last : (x : Entry) (xs : List Entry) (i : ℕ) (last : Entry) (place : ℕ) → i < length (x ∷ xs) → 0 < place → place ≤ suc i → slice_get (x ∷ xs) i ≡ Some last
+          → (place ≤ i → entry_at place (looking_back (take i (x ∷ xs))) ≡ slice_get (x ∷ xs) (place - 1))
+          → entry_at place (last ∷ looking_back (take i (x ∷ xs))) ≡ slice_get (x ∷ xs) (place - 1)
+      entry_at_last x xs i last place within some at is older =
+          entry_at-cons place last (looking_back (take i (x ∷ xs))) ∙ ap (λ n. cond (eqb place (suc n)) (Some last) (entry_at place (looking_back (take i (x ∷ xs))))) (length-looking_back (x ∷ xs) i (omega arith))
+          ∙ elim (cases_eq place (suc i)) [
+            | inl same ↦
+                let before : place - 1 ≡ i = omega arith in
+                rw (eq-eqb place (suc i) same, before) (sym is)
+            | inr other ↦ rw (ne_eqb place (suc i) other) (older (omega (arith, other)))
+          ]
+
+pub entry_at_place : (xs : List Entry) (place : ℕ) → 0 < place → place ≤ length xs → entry_at place (looking_back xs) ≡ slice_get xs (place - 1)
+entry_at_place [] place some at = absurd (omega arith)
+entry_at_place (x ∷ xs) place some at =
+    sym (ap (entry_at place) (looking_back_all (x ∷ xs) (length (x ∷ xs)) (omega arith))) ∙ entry_at-slice_get x xs (length (x ∷ xs)) (omega arith) place some at
+
+pub entry_at_past : (xs : List Entry) (place : ℕ) → length xs < place → entry_at place (looking_back xs) ≡ None
+entry_at_past xs place past = entry_at_newer (looking_back xs) place (omega (arith, length_all xs))
+
+pub entry_read : (xs : List Entry) (place : ℕ) (got : Option (Bor Entry)) → (place ≡ 0 → ⊥) → is_some got ≡ ltb (place - 1) (length xs) → IfSome got (λ x. x.now ≡ get_or xs (place - 1) x.now)
+    → option_copied got ≡ entry_at place (looking_back xs)
+entry_read xs place None some within is =
+    let past = ltb-false (place - 1) (length xs) (sym within) in
+    sym (entry_at_past xs place (omega (arith, some)))
+entry_read xs place (Some x) some within is =
+    let inside = ltb-true (place - 1) (length xs) (sym within) in
+    ap Some is ∙ sym (slice_get-get_or xs (place - 1) x.now inside) ∙ sym (entry_at_place xs place (omega (arith, some)) (omega (arith, some)))
+
+pub ruleset entry_steps = (entry_at_none)
+
+-- the session that a link is bound to
+bound_stays : (link : ℕ) (newer past : Past) (session : Session) → bound link past ≡ Some session → bound link (newer ++ past) ≡ Some session
+unfolding bound
+bound_stays link [] past session is = is
+bound_stays link (entry ∷ newer) past session is = rw (bound_stays link newer past session is) refl
+
+looking_back-split : (xs : List Entry) (i : ℕ) → looking_back xs ≡ looking_back (drop i xs) ++ looking_back (take i xs)
+unfolding looking_back
+looking_back-split xs i = ap reverse (sym (take-append-drop i xs)) ∙ reverse-append (take i xs) (drop i xs)
+
+pub bound_none : (link : ℕ) → bound link (looking_back []) ≡ None
+unfolding bound
+bound_none link = ap (bound link) looking_back-none
+
+bound_more : (link : ℕ) (xs : List Entry) (i : ℕ) (x : Entry) → i < length xs → x ≡ get_or xs i x
+    → bound link (looking_back (take (i + 1) xs)) ≡ option_or (bound link (looking_back (take i xs))) (bound_by link (i + 1) x)
+unfolding bound
+bound_more link xs i x within is =
+    rw (looking_back-more xs i x within is, length-looking_back xs i (omega arith), add-one) refl
+
+pub bound_next : (link : ℕ) (xs : List Entry) (i : ℕ) (x : Entry) (found : Option Session) → i < length xs → x ≡ get_or xs i x
+    → bound link (looking_back (take i xs)) ≡ None → found ≡ bound_by link (i + 1) x → is_some found ≡ false → bound link (looking_back (take (i + 1) xs)) ≡ None
+bound_next link xs i x None within is before found none = bound_more link xs i x within is ∙ rw before (sym found)
+bound_next link xs i x (Some session) within is before found none = cc
+
+pub bound_first : (link : ℕ) (xs : List Entry) (i : ℕ) (x : Entry) (found : Option Session) → i < length xs → x ≡ get_or xs i x
+    → bound link (looking_back (take i xs)) ≡ None → found ≡ bound_by link (i + 1) x → is_some found ≡ true → bound link (looking_back xs) ≡ found
+bound_first link xs i x None within is before found some = cc
+bound_first link xs i x (Some session) within is before found some =
+    let here : bound link (looking_back (take (i + 1) xs)) ≡ Some session = bound_more link xs i x within is ∙ rw before (sym found) in
+    ap (bound link) (looking_back-split xs (i + 1)) ∙ bound_stays link (looking_back (drop (i + 1) xs)) (looking_back (take (i + 1) xs)) session here
+
+pub ruleset bound_steps = (bound_none, bound_next, bound_first, looking_back_all)
+
+-- the bundle of a link
+bundle_stays : (link : ℕ) (newer past : Past) (bundle : Bundle) → bundle_at link past ≡ Some bundle → bundle_at link (newer ++ past) ≡ Some bundle
+unfolding bundle_at
+bundle_stays link [] past bundle is = is
+bundle_stays link (entry ∷ newer) past bundle is = rw (bundle_stays link newer past bundle is) refl
+
+pub bundle_none : (link : ℕ) → bundle_at link (looking_back []) ≡ None
+unfolding bundle_at
+bundle_none link = ap (bundle_at link) looking_back-none
+
+bundle_more : (link : ℕ) (xs : List Entry) (i : ℕ) (x : Entry) → i < length xs → x ≡ get_or xs i x
+    → bundle_at link (looking_back (take (i + 1) xs)) ≡ option_or (bundle_at link (looking_back (take i xs))) (bundled_by link (i + 1) x)
+unfolding bundle_at
+bundle_more link xs i x within is =
+    rw (looking_back-more xs i x within is, length-looking_back xs i (omega arith), add-one) refl
+
+pub bundle_next : (link : ℕ) (xs : List Entry) (i : ℕ) (x : Entry) (found : Option Bundle) → i < length xs → x ≡ get_or xs i x
+    → bundle_at link (looking_back (take i xs)) ≡ None → found ≡ bundled_by link (i + 1) x → is_some found ≡ false → bundle_at link (looking_back (take (i + 1) xs)) ≡ None
+bundle_next link xs i x None within is before found none = bundle_more link xs i x within is ∙ rw before (sym found)
+bundle_next link xs i x (Some bundle) within is before found none = cc
+
+pub bundle_first : (link : ℕ) (xs : List Entry) (i : ℕ) (x : Entry) (found : Option Bundle) → i < length xs → x ≡ get_or xs i x
+    → bundle_at link (looking_back (take i xs)) ≡ None → found ≡ bundled_by link (i + 1) x → is_some found ≡ true → bundle_at link (looking_back xs) ≡ found
+bundle_first link xs i x None within is before found some = cc
+bundle_first link xs i x (Some bundle) within is before found some =
+    let here : bundle_at link (looking_back (take (i + 1) xs)) ≡ Some bundle = bundle_more link xs i x within is ∙ rw before (sym found) in
+    ap (bundle_at link) (looking_back-split xs (i + 1)) ∙ bundle_stays link (looking_back (drop (i + 1) xs)) (looking_back (take (i + 1) xs)) bundle here
+
+pub ruleset bundle_steps = (bundle_none, bundle_next, bundle_first, looking_back_all)
+
+-- what has ended
+freed_stays : (rules : Rules) (link : ℕ) (newer past : Past) → freed rules link past ≡ true → freed rules link (newer ++ past) ≡ true
+unfolding freed
+freed_stays rules link [] past is = is
+freed_stays rules link (entry ∷ newer) past is = rw (freed_stays rules link newer past is) refl
+
+pub freed_none : (rules : Rules) (link : ℕ) → freed rules link (looking_back []) ≡ false
+unfolding freed
+freed_none rules link = ap (freed rules link) looking_back-none
+
+freed_more : (rules : Rules) (link : ℕ) (xs : List Entry) (i : ℕ) (x : Entry) → i < length xs → x ≡ get_or xs i x
+    → freed rules link (looking_back (take (i + 1) xs)) ≡ (freed rules link (looking_back (take i xs)) || (leb link i && ends rules (looking_back (take i xs)) x.event link))
+unfolding freed
+freed_more rules link xs i x within is =
+    rw (looking_back-more xs i x within is, length-looking_back xs i (omega arith)) refl
+
+pub freed_young : (rules : Rules) (link : ℕ) (xs : List Entry) (i : ℕ) (x : Entry) → i < length xs → x ≡ get_or xs i x
+    → freed rules link (looking_back (take i xs)) ≡ false → i < link → freed rules link (looking_back (take (i + 1) xs)) ≡ false
+freed_young rules link xs i x within is before young = freed_more rules link xs i x within is ∙ rw (before, lt-leb link i young) refl
+
+pub freed_next : (rules : Rules) (link : ℕ) (xs : List Entry) (i : ℕ) (x : Entry) → i < length xs → x ≡ get_or xs i x
+    → freed rules link (looking_back (take i xs)) ≡ false → link ≤ i → ends rules (looking_back (take i xs)) x.event link ≡ false → freed rules link (looking_back (take (i + 1) xs)) ≡ false
+freed_next rules link xs i x within is before old stands = freed_more rules link xs i x within is ∙ rw (before, le-leb link i old, stands) refl
+
+pub freed_first : (rules : Rules) (link : ℕ) (xs : List Entry) (i : ℕ) (x : Entry) → i < length xs → x ≡ get_or xs i x
+    → freed rules link (looking_back (take i xs)) ≡ false → link ≤ i → ends rules (looking_back (take i xs)) x.event link ≡ true → freed rules link (looking_back xs) ≡ true
+freed_first rules link xs i x within is before old ended =
+    let here : freed rules link (looking_back (take (i + 1) xs)) ≡ true = freed_more rules link xs i x within is ∙ rw (before, le-leb link i old, ended) refl in
+    ap (freed rules link) (looking_back-split xs (i + 1)) ∙ freed_stays rules link (looking_back (drop (i + 1) xs)) (looking_back (take (i + 1) xs)) here
+
+pub ruleset freed_steps = (freed_none, freed_young, freed_next, freed_first, looking_back_all)
+
+-- the held links among those that opened so far
+unfoldable pub held_so_far : Rules → List Entry → ℕ → List ℕ
+held_so_far rules xs i = filter (λ link. not (freed rules link (looking_back xs))) (links (looking_back (take i xs)))
+
+pub held_none : (rules : Rules) (xs : List Entry) → held_so_far rules xs 0 ≡ []
+unfolding held_so_far links
+held_none rules xs = ap (λ past. filter (λ link. not (freed rules link (looking_back xs))) (links past)) looking_back-none
+
+pub held_quiet : (rules : Rules) (xs : List Entry) (i : ℕ) (x : Entry) → i < length xs → x ≡ get_or xs i x → opens x.outcome ≡ false → held_so_far rules xs (i + 1) ≡ held_so_far rules xs i
+unfolding held_so_far links
+held_quiet rules xs i x within is quiet = rw (looking_back-more xs i x within is, quiet) refl
+
+held_opened : (rules : Rules) (xs : List Entry) (i : ℕ) (x : Entry) → i < length xs → x ≡ get_or xs i x → opens x.outcome ≡ true
+    → held_so_far rules xs (i + 1) ≡ held_so_far rules xs i ++ cond (not (freed rules (i + 1) (looking_back xs))) ((i + 1) ∷ []) []
+unfolding held_so_far links
+held_opened rules xs i x within is opened =
+    rw (looking_back-more xs i x within is, opened, length-looking_back xs i (omega arith), sym (add-one i))
+    (filter-append (λ link. not (freed rules link (looking_back xs))) (links (looking_back (take i xs))) ((i + 1) ∷ []))
+
+pub held_yes : (rules : Rules) (xs : List Entry) (i : ℕ) (x : Entry) → i < length xs → x ≡ get_or xs i x → opens x.outcome ≡ true
+    → freed rules (i + 1) (looking_back xs) ≡ false → held_so_far rules xs (i + 1) ≡ held_so_far rules xs i ++ (i + 1) ∷ []
+held_yes rules xs i x within is opened held = held_opened rules xs i x within is opened ∙ rw held refl
+
+pub held_no : (rules : Rules) (xs : List Entry) (i : ℕ) (x : Entry) → i < length xs → x ≡ get_or xs i x → opens x.outcome ≡ true
+    → freed rules (i + 1) (looking_back xs) ≡ true → held_so_far rules xs (i + 1) ≡ held_so_far rules xs i
+held_no rules xs i x within is opened gone = held_opened rules xs i x within is opened ∙ rw gone (append-nil (held_so_far rules xs i))
+
+pub held_all : (rules : Rules) (xs : List Entry) (i : ℕ) → length xs ≤ i → held_so_far rules xs i ≡ held rules (looking_back xs)
+unfolding held_so_far held
+held_all rules xs i all = rw (looking_back_all xs i all) refl
+
+pub ruleset held_steps = (held_none, held_quiet, held_yes, held_no, held_all)
+
+-- how many asks were accepted
+pub accepts_none : accepts (looking_back []) ≡ 0
+unfolding accepts
+accepts_none = ap accepts looking_back-none
+
+pub accepts_more : (xs : List Entry) (i : ℕ) (x : Entry) → i < length xs → x ≡ get_or xs i x
+    → accepts (looking_back (take (i + 1) xs)) ≡ accepts (looking_back (take i xs)) + cond (is_some (number_of x.outcome)) 1 0
+unfolding accepts
+accepts_more xs i x within is =
+    ap accepts (looking_back-more xs i x within is) ∙ (omega (arith, sum_by-cons (λ (e : Entry). cond (is_some (number_of e.outcome)) 1 0) x (looking_back (take i xs))))
+
+pub ruleset accepts_steps = (accepts_none, accepts_more, looking_back_all)

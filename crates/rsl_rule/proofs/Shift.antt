@@ -1,0 +1,323 @@
+-- A tick that is put into a past moves the place of each later event up by one, and so the name of each
+-- link that opens later; all else that the rule looks back for stays as it is.
+use Rattle.std.proofs.Common.{◌≡◌, ℕ, zero, suc, ◌+◌, ◌-◌, ◌<◌, ◌≤◌, max, List, [], ◌∷◌, ◌++◌, length, map, Bool, true, false, cond, ◌&&◌, ◌||◌, not, refl, ap, sym, ◌∙◌, subst, ◌⊎◌, inl, inr, arith, eqb, leb, append-nil}
+use Rattle.std.specs.Prelude.{Option, Some, None, filter, find, is_some, nat_le, nat_lt, take}
+use Rattle.std.specs.List.{list_all, cons_option, AllByRecursion}
+use Rattle.std.specs.Option.{option_map, option_or, option_and_then}
+use Rattle.std.proofs.lemmas.Bool.{cases_lt, cases_eq, le-leb, lt-leb, leb-true, eq-eqb, ne_eqb, and_parts}
+use Rattle.std.proofs.lemmas.List.{map-append}
+use Rattle.rsl_accounts.specs.declared.rules.Rules.{Rules}
+use Rattle.rsl_event.specs.declared.event.Event.{Event}
+use Rattle.rsl_event.specs.declared.event.Act.{Act}
+use Rattle.rsl_event.specs.declared.event.Act.TheVariants.{Ask, Alive, Stop, Sweep, Tick}
+use Rattle.rsl_event.specs.declared.nas.Nas.{Nas}
+use Rattle.rsl_event.specs.declared.event.Decision.{Decision}
+use Rattle.rsl_session.specs.declared.entry.Entry.{Entry}
+use Rattle.rsl_session.specs.declared.entry.Outcome.{Outcome}
+use Rattle.rsl_session.specs.declared.entry.Outcome.TheVariants.{Accepted, Refused, Repeated, Opened, Took, Renewed, Ignored, Over, Passed}
+use Rattle.rsl_session.specs.declared.session.Session.{Session}
+use Rattle.rsl_session.specs.declared.bundle.Bundle.{Bundle}
+use Rattle.rsl_session.specs.Past.{Past, entry_at}
+use Rattle.rsl_session.specs.Clock.{clock, clock_at}
+use Rattle.rsl_session.specs.Link.{links, opens, nas_of, nas_at, number_of, number_at}
+use Rattle.rsl_session.specs.Binding.{binds, touches, session_of, bundle_of, bound_by, bundled_by, bound, bundle_at, is_reserved, is_bound_to}
+use Rattle.rsl_session.specs.Touch.{touched}
+use Rattle.rsl_session.specs.Lapse.{lapses}
+use Rattle.rsl_session.specs.Held.{is_at, ended_by, ends, freed, held, held_before}
+use Rattle.rsl_session.specs.Places.{bundles}
+use Rattle.rsl_session.specs.Rule.{IsRuled}
+use Rattle.rsl_session.proofs.Ruled.{bound-later, bundle_at-later, touched-later, is_in, is_in-true, links-in}
+use Rattle.rsl_session.proofs.Ending.{freed_later, freed_older, filter-filter, any_link, list_all_any, not-or}
+
+-- the new name of a link, where the tick has the place after n events
+pub shift : ℕ → ℕ → ℕ
+shift n link = cond (leb link n) link (suc link)
+
+pub shift-old : (n link : ℕ) → link ≤ n → shift n link ≡ link
+unfolding shift
+shift-old n link old = rw (le-leb link n old) refl
+
+pub shift-new : (n link : ℕ) → n < link → shift n link ≡ suc link
+unfolding shift
+shift-new n link new = rw (lt-leb link n new) refl
+
+shift-injective : (n a b : ℕ) → shift n a ≡ shift n b → a ≡ b
+shift-injective n a b same =
+    elim (cases_lt n a) [
+      | inl new_a ↦ elim (cases_lt n b) [
+        | inl new_b ↦ omega (arith, shift-new n a new_a, shift-new n b new_b)
+        | inr old_b ↦ omega (arith, shift-new n a new_a, shift-old n b old_b)
+      ]
+      | inr old_a ↦ elim (cases_lt n b) [
+        | inl new_b ↦ omega (arith, shift-old n a old_a, shift-new n b new_b)
+        | inr old_b ↦ omega (arith, shift-old n a old_a, shift-old n b old_b)
+      ]
+    ]
+
+eqb-shift : (n a b : ℕ) → eqb (shift n a) (shift n b) ≡ eqb a b
+eqb-shift n a b =
+    elim (cases_eq a b) [
+      | inl same ↦ eq-eqb (shift n a) (shift n b) (ap (shift n) same) ∙ sym (eq-eqb a b same)
+      | inr other ↦ ne_eqb (shift n a) (shift n b) (λ e. other (shift-injective n a b e)) ∙ sym (ne_eqb a b other)
+    ]
+
+-- the place k of a later event becomes the next
+eqb_next : (n k link : ℕ) → n < k → eqb (shift n link) (suc k) ≡ eqb link k
+eqb_next n k link new = ap (eqb (shift n link)) (sym (shift-new n k new)) ∙ eqb-shift n link k
+
+-- what holds of each link that has not opened holds of its new name
+shift_later : {A : Type 0} (f : ℕ → A) (d : A) (n link : ℕ) → ((later : ℕ) → n < later → f later ≡ d) → f (shift n link) ≡ f link
+shift_later f d n link none =
+    elim (cases_lt n link) [
+      | inl new ↦ ap f (shift-new n link new) ∙ none (suc link) (omega arith) ∙ sym (none link new)
+      | inr old ↦ ap f (shift-old n link old)
+    ]
+
+unfoldable pub shift_outcome : ℕ → Outcome → Outcome
+shift_outcome n (Accepted number) = Accepted number
+shift_outcome n Refused = Refused
+shift_outcome n (Repeated decision) = Repeated decision
+shift_outcome n Opened = Opened
+shift_outcome n (Took link) = Took (shift n link)
+shift_outcome n (Renewed link) = Renewed (shift n link)
+shift_outcome n Ignored = Ignored
+shift_outcome n Over = Over
+shift_outcome n Passed = Passed
+
+unfoldable pub shift_entry : ℕ → Entry → Entry
+shift_entry n entry = record { event = entry.event; outcome = shift_outcome n entry.outcome }
+
+pub shift_event : (n : ℕ) (entry : Entry) → (shift_entry n entry).event ≡ entry.event
+unfolding shift_entry
+shift_event n entry = refl
+
+unfoldable pub tick_event : ℕ → Event
+tick_event moment = record { moment = moment; act = Tick }
+
+unfoldable pub tick_entry : ℕ → Entry
+tick_entry moment = record { event = tick_event moment; outcome = Passed }
+
+-- a past with the tick between what is older and what is newer
+unfoldable pub after_tick : ℕ → Past → Past → Past
+after_tick moment older [] = tick_entry moment ∷ older
+after_tick moment older (entry ∷ newer) = shift_entry (length older) entry ∷ after_tick moment older newer
+
+pub length-after_tick : (moment : ℕ) (older newer : Past) → length (after_tick moment older newer) ≡ suc (length (newer ++ older))
+unfolding after_tick
+length-after_tick moment older [] = refl
+length-after_tick moment older (entry ∷ newer) = ap suc (length-after_tick moment older newer)
+
+pub older-le : (older newer : Past) → length older ≤ length (newer ++ older)
+older-le older [] = omega arith
+older-le older (entry ∷ newer) = omega (arith, older-le older newer)
+
+-- the clock
+pub clock-after_tick : (moment : ℕ) (older newer : Past) → clock (after_tick moment older newer) ≡ max (clock (newer ++ older)) moment
+unfolding clock after_tick tick_entry tick_event shift_entry
+clock-after_tick moment older [] = refl
+clock-after_tick moment older (entry ∷ newer) =
+    ap (λ now. max now entry.event.moment) (clock-after_tick moment older newer) ∙ (omega arith)
+
+pub clock_at-after_tick : (moment : ℕ) (older newer : Past) (event : Event) → moment ≤ event.moment → clock_at (after_tick moment older newer) event ≡ clock_at (newer ++ older) event
+unfolding clock_at
+clock_at-after_tick moment older newer event early =
+    ap (λ now. max now event.moment) (clock-after_tick moment older newer) ∙ (omega arith)
+
+pub clock_next : (moment : ℕ) (older newer : Past) (entry : Entry) → moment ≤ entry.event.moment → clock (after_tick moment older (entry ∷ newer)) ≡ clock (entry ∷ newer ++ older)
+unfolding clock after_tick shift_entry
+clock_next moment older newer entry early =
+    ap (λ now. max now entry.event.moment) (clock-after_tick moment older newer) ∙ (omega arith)
+
+-- what an event binds and touches
+binds-shift : (n k link : ℕ) (outcome : Outcome) → n < k → binds (shift n link) (suc k) (shift_outcome n outcome) ≡ binds link k outcome
+unfolding binds shift_outcome
+binds-shift n k link (Accepted number) new = refl
+binds-shift n k link Refused new = refl
+binds-shift n k link (Repeated decision) new = refl
+binds-shift n k link Opened new = eqb_next n k link new
+binds-shift n k link (Took taken) new = eqb-shift n link taken
+binds-shift n k link (Renewed renewed) new = refl
+binds-shift n k link Ignored new = refl
+binds-shift n k link Over new = refl
+binds-shift n k link Passed new = refl
+
+touches-shift : (n k link : ℕ) (outcome : Outcome) → n < k → touches (shift n link) (suc k) (shift_outcome n outcome) ≡ touches link k outcome
+unfolding touches shift_outcome
+touches-shift n k link (Accepted number) new = eqb_next n k link new
+touches-shift n k link Refused new = refl
+touches-shift n k link (Repeated decision) new = refl
+touches-shift n k link Opened new = eqb_next n k link new
+touches-shift n k link (Took taken) new = eqb-shift n link taken
+touches-shift n k link (Renewed renewed) new = eqb-shift n link renewed
+touches-shift n k link Ignored new = refl
+touches-shift n k link Over new = refl
+touches-shift n k link Passed new = refl
+
+-- the entry at a place: its access server and number
+nas_cons : (place : ℕ) (entry : Entry) (past : Past) → nas_at place (entry ∷ past) ≡ cond (eqb place (suc (length past))) (nas_of entry.event.act) (nas_at place past)
+unfolding nas_at entry_at
+nas_cons place entry past = by_cases (eqb place (suc (length past))) where
+  by_cases : (here : Bool) → option_and_then (λ (e : Entry). nas_of e.event.act) (cond here (Some entry) (entry_at place past)) ≡ cond here (nas_of entry.event.act) (option_and_then (λ (e : Entry). nas_of e.event.act) (entry_at place past))
+  by_cases true = refl
+  by_cases false = refl
+
+pub number_cons : (place : ℕ) (entry : Entry) (past : Past) → number_at place (entry ∷ past) ≡ cond (eqb place (suc (length past))) (number_of entry.outcome) (number_at place past)
+unfolding number_at entry_at
+number_cons place entry past = by_cases (eqb place (suc (length past))) where
+  by_cases : (here : Bool) → option_and_then (λ (e : Entry). number_of e.outcome) (cond here (Some entry) (entry_at place past)) ≡ cond here (number_of entry.outcome) (option_and_then (λ (e : Entry). number_of e.outcome) (entry_at place past))
+  by_cases true = refl
+  by_cases false = refl
+
+nas_nil : (place : ℕ) → nas_at place [] ≡ None
+unfolding nas_at entry_at
+nas_nil place = refl
+
+pub number_nil : (place : ℕ) → number_at place [] ≡ None
+unfolding number_at entry_at
+number_nil place = refl
+
+nas_later : (past : Past) (place : ℕ) → length past < place → nas_at place past ≡ None
+nas_later [] place later = nas_nil place
+nas_later (entry ∷ past) place later =
+    nas_cons place entry past ∙ rw (ne_eqb place (suc (length past)) (λ same. omega arith)) (nas_later past place (omega arith))
+
+pub number_later : (past : Past) (place : ℕ) → length past < place → number_at place past ≡ None
+number_later [] place later = number_nil place
+number_later (entry ∷ past) place later =
+    number_cons place entry past ∙ rw (ne_eqb place (suc (length past)) (λ same. omega arith)) (number_later past place (omega arith))
+
+pub number_of-shift : (n : ℕ) (outcome : Outcome) → number_of (shift_outcome n outcome) ≡ number_of outcome
+unfolding number_of shift_outcome
+number_of-shift n (Accepted number) = refl
+number_of-shift n Refused = refl
+number_of-shift n (Repeated decision) = refl
+number_of-shift n Opened = refl
+number_of-shift n (Took taken) = refl
+number_of-shift n (Renewed renewed) = refl
+number_of-shift n Ignored = refl
+number_of-shift n Over = refl
+number_of-shift n Passed = refl
+
+opens-shift : (n : ℕ) (outcome : Outcome) → opens (shift_outcome n outcome) ≡ opens outcome
+unfolding opens shift_outcome
+opens-shift n (Accepted number) = refl
+opens-shift n Refused = refl
+opens-shift n (Repeated decision) = refl
+opens-shift n Opened = refl
+opens-shift n (Took taken) = refl
+opens-shift n (Renewed renewed) = refl
+opens-shift n Ignored = refl
+opens-shift n Over = refl
+opens-shift n Passed = refl
+
+pub nas_at-after_tick : (moment : ℕ) (older newer : Past) (link : ℕ) → nas_at (shift (length older) link) (after_tick moment older newer) ≡ nas_at link (newer ++ older)
+unfolding after_tick shift_entry
+nas_at-after_tick moment older [] link =
+    nas_cons (shift (length older) link) (tick_entry moment) older
+    ∙ by_cases link (cases_lt (length older) link)
+  where
+    by_cases : (link : ℕ) → (length older < link) ⊎ (link ≤ length older)
+        → cond (eqb (shift (length older) link) (suc (length older))) (nas_of (tick_entry moment).event.act) (nas_at (shift (length older) link) older) ≡ nas_at link older
+    by_cases link (inl new) =
+        rw (shift-new (length older) link new, ne_eqb (suc link) (suc (length older)) (λ same. omega arith)) (nas_later older (suc link) (omega arith) ∙ sym (nas_later older link new))
+    by_cases link (inr old) =
+        rw (shift-old (length older) link old, ne_eqb link (suc (length older)) (λ same. omega arith)) refl
+nas_at-after_tick moment older (entry ∷ newer) link =
+    nas_cons (shift (length older) link) (shift_entry (length older) entry) (after_tick moment older newer)
+    ∙ rw (length-after_tick moment older newer, eqb_next (length older) (suc (length (newer ++ older))) link (omega (arith, older-le older newer)), nas_at-after_tick moment older newer link) refl
+    ∙ sym (nas_cons link entry (newer ++ older))
+
+pub number_at-after_tick : (moment : ℕ) (older newer : Past) (link : ℕ) → number_at (shift (length older) link) (after_tick moment older newer) ≡ number_at link (newer ++ older)
+unfolding after_tick shift_entry
+number_at-after_tick moment older [] link =
+    number_cons (shift (length older) link) (tick_entry moment) older
+    ∙ by_cases link (cases_lt (length older) link)
+  where
+    by_cases : (link : ℕ) → (length older < link) ⊎ (link ≤ length older)
+        → cond (eqb (shift (length older) link) (suc (length older))) (number_of (tick_entry moment).outcome) (number_at (shift (length older) link) older) ≡ number_at link older
+    by_cases link (inl new) =
+        rw (shift-new (length older) link new, ne_eqb (suc link) (suc (length older)) (λ same. omega arith)) (number_later older (suc link) (omega arith) ∙ sym (number_later older link new))
+    by_cases link (inr old) =
+        rw (shift-old (length older) link old, ne_eqb link (suc (length older)) (λ same. omega arith)) refl
+number_at-after_tick moment older (entry ∷ newer) link =
+    number_cons (shift (length older) link) (shift_entry (length older) entry) (after_tick moment older newer)
+    ∙ rw (length-after_tick moment older newer, eqb_next (length older) (suc (length (newer ++ older))) link (omega (arith, older-le older newer)), number_of-shift (length older) entry.outcome, number_at-after_tick moment older newer link) refl
+    ∙ sym (number_cons link entry (newer ++ older))
+
+-- the links
+map_same : (f : ℕ → ℕ) (t : ℕ → Bool) → ((x : ℕ) → t x ≡ true → f x ≡ x) → (xs : List ℕ) → list_all t xs ≡ true → map f xs ≡ xs
+map_same f t same [] all = refl
+map_same f t same (x ∷ xs) all =
+    let parts = and_parts (t x) (list_all t xs) all in
+    rw (same x parts.0, map_same f t same xs parts.1) refl
+
+pub links-after_tick : (moment : ℕ) (older newer : Past) → links (after_tick moment older newer) ≡ map (shift (length older)) (links (newer ++ older))
+unfolding links after_tick tick_entry shift_entry opens
+links-after_tick moment older [] =
+    sym (map_same (shift (length older)) (is_in older) (λ link within. shift-old (length older) link (is_in-true older link within)) (links older) (links-in older))
+links-after_tick moment older (entry ∷ newer) =
+    rw (opens-shift (length older) entry.outcome, links-after_tick moment older newer, length-after_tick moment older newer)
+    (by_cases (opens entry.outcome))
+  where
+    by_cases : (new : Bool) → cond new (map (shift (length older)) (links (newer ++ older)) ++ suc (suc (length (newer ++ older))) ∷ []) (map (shift (length older)) (links (newer ++ older)))
+        ≡ map (shift (length older)) (cond new (links (newer ++ older) ++ suc (length (newer ++ older)) ∷ []) (links (newer ++ older)))
+    by_cases true =
+        let name = shift-new (length older) (suc (length (newer ++ older))) (omega (arith, older-le older newer)) in
+        sym (map-append (shift (length older)) (links (newer ++ older)) (suc (length (newer ++ older)) ∷ []) ∙ rw name refl)
+    by_cases false = refl
+
+module _ (rules : Rules) (moment : ℕ) (older : Past) (ruled : IsRuled rules older) where
+  pub bound-after_tick : (newer : Past) (link : ℕ) → bound (shift (length older) link) (after_tick moment older newer) ≡ bound link (newer ++ older)
+  unfolding bound bound_by after_tick tick_entry shift_entry binds
+  bound-after_tick [] link = by_cases (bound (shift (length older) link) older) ∙ shift_later (λ l. bound l older) None (length older) link (λ later new. bound-later rules older later ruled new) where
+    by_cases : (o : Option Session) → option_or o None ≡ o
+    by_cases None = refl
+    by_cases (Some session) = refl
+  bound-after_tick (entry ∷ newer) link =
+      rw (bound-after_tick newer link, length-after_tick moment older newer, binds-shift (length older) (suc (length (newer ++ older))) link entry.outcome (omega (arith, older-le older newer))) refl
+
+  pub bundle_at-after_tick : (newer : Past) (link : ℕ) → bundle_at (shift (length older) link) (after_tick moment older newer) ≡ bundle_at link (newer ++ older)
+  unfolding bundle_at bundled_by after_tick tick_entry shift_entry touches
+  bundle_at-after_tick [] link = by_cases (bundle_at (shift (length older) link) older) ∙ shift_later (λ l. bundle_at l older) None (length older) link (λ later new. bundle_at-later rules older later ruled new) where
+    by_cases : (o : Option Bundle) → option_or o None ≡ o
+    by_cases None = refl
+    by_cases (Some bundle) = refl
+  bundle_at-after_tick (entry ∷ newer) link =
+      rw (bundle_at-after_tick newer link, length-after_tick moment older newer, touches-shift (length older) (suc (length (newer ++ older))) link entry.outcome (omega (arith, older-le older newer))) refl
+
+  pub touched-after_tick : (newer : Past) → AllByRecursion (λ (entry : Entry). moment ≤ entry.event.moment) newer → (link : ℕ) → touched (shift (length older) link) (after_tick moment older newer) ≡ touched link (newer ++ older)
+  unfolding touched after_tick tick_entry shift_entry touches
+  touched-after_tick [] early link = shift_later (λ l. touched l older) 0 (length older) link (λ later new. touched-later rules older later ruled new)
+  touched-after_tick (entry ∷ newer) early link =
+      rw (
+        touched-after_tick newer early.1 link,
+        length-after_tick moment older newer,
+        touches-shift (length older) (suc (length (newer ++ older))) link entry.outcome (omega (arith, older-le older newer)),
+        clock_next moment older newer entry early.0,
+      ) refl
+
+  pub lapses-after_tick : (newer : Past) → AllByRecursion (λ (entry : Entry). moment ≤ entry.event.moment) newer → (event : Event) → moment ≤ event.moment → (link : ℕ)
+      → lapses rules (after_tick moment older newer) event (shift (length older) link) ≡ lapses rules (newer ++ older) event link
+  unfolding lapses
+  lapses-after_tick newer early event at link =
+      rw (bound-after_tick newer link, clock_at-after_tick moment older newer event at, touched-after_tick newer early link) refl
+
+  pub is_bound_to-after_tick : (newer : Past) (session : Session) (link : ℕ) → is_bound_to (after_tick moment older newer) session (shift (length older) link) ≡ is_bound_to (newer ++ older) session link
+  unfolding is_bound_to
+  is_bound_to-after_tick newer session link = rw (bound-after_tick newer link) refl
+
+  pub is_reserved-after_tick : (newer : Past) (link : ℕ) → is_reserved (after_tick moment older newer) (shift (length older) link) ≡ is_reserved (newer ++ older) link
+  unfolding is_reserved
+  is_reserved-after_tick newer link = rw (bound-after_tick newer link) refl
+
+  pub is_at-after_tick : (newer : Past) (nas : Nas) (link : ℕ) → is_at (after_tick moment older newer) nas (shift (length older) link) ≡ is_at (newer ++ older) nas link
+  unfolding is_at
+  is_at-after_tick newer nas link = rw (nas_at-after_tick moment older newer link) refl
+
+  pub ended_by-after_tick : (newer : Past) (act : Act) (link : ℕ) → ended_by (after_tick moment older newer) act (shift (length older) link) ≡ ended_by (newer ++ older) act link
+  unfolding ended_by
+  ended_by-after_tick newer (Ask key nas) link = refl
+  ended_by-after_tick newer (Alive nas session bundle class) link = refl
+  ended_by-after_tick newer (Stop nas session) link = is_bound_to-after_tick newer (record { nas = nas; id = session }) link
+  ended_by-after_tick newer (Sweep nas) link = is_at-after_tick newer nas link
+  ended_by-after_tick newer Tick link = refl

@@ -1,0 +1,12 @@
+use Rattle.std.proofs.Common.{◌≡◌, map, ap, sym, ◌∙◌}
+use Rattle.std.proofs.lemmas.List.{take_all}
+use Rattle.rsl_session.specs.declared.entry.Entry.{Entry}
+use Rattle.rsl_session.specs.Rule.{decision_of}
+use Rattle.rsl_rule.proofs.Whole.{noted_all}
+use Rattle.rsl_rule.proofs.decisions.decide.Goals as goal
+
+pub returns : goal.returns
+returns c =
+    c.loop-entry.invariant
+    ∙ ap (map (λ (entry : Entry). decision_of entry.outcome)) (take_all c.loop-entry.entry-index c.deref-entry-items.result.now c.loop-entry-test.false ∙ c.deref-entry-items.ensures.value)
+    ∙ noted_all c.args.rules.now c.in_ok-past.past.items c.args.events.now c.in_ok-past.ensures

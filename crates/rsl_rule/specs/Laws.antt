@@ -1,0 +1,80 @@
+-- Laws of the session rule, each the contract of a function of `laws`.
+use Rattle.std.specs.Prelude.{◌≡◌, ℕ, suc, ◌+◌, ◌<◌, ◌≤◌, List, [], ◌∷◌, ◌++◌, length, take, drop, map, reverse, insert, slice_index, All, Any, EachIndex, Option, Some, None}
+use Rattle.std.specs.Option.{option_to_list}
+use Rattle.rsl_accounts.specs.Limits.{RulesFit}
+use Rattle.rsl_accounts.specs.declared.rules.Rules.{Rules}
+use Rattle.rsl_event.specs.declared.event.Act.{Act}
+use Rattle.rsl_event.specs.declared.event.Act.TheVariants.{Ask, Alive, Stop, Sweep, Tick}
+use Rattle.rsl_event.specs.declared.event.Decision.{Decision}
+use Rattle.rsl_event.specs.declared.event.Decision.TheVariants.{Done}
+use Rattle.rsl_event.specs.declared.event.Event.{Event}
+use Rattle.rsl_event.specs.declared.event.Key.{Key}
+use Rattle.rsl_event.specs.declared.nas.Nas.{Nas}
+use Rattle.rsl_session.specs.declared.entry.Entry.{Entry}
+use Rattle.rsl_session.specs.declared.entry.Outcome.TheVariants.{Repeated}
+use Rattle.rsl_session.specs.Past.{Past}
+use Rattle.rsl_session.specs.Alive.{reservation_of}
+use Rattle.rsl_session.specs.Ask.{fresh_decision}
+use Rattle.rsl_session.specs.Link.{number_at, number_of}
+use Rattle.rsl_session.specs.Rule.{IsRuled, decisions, outcome_of, past_of, places_after}
+
+-- after each event of a list, the places are at most the account's
+abbrev pub PlacesStayWithinTheLimit : Type 0
+PlacesStayWithinTheLimit = (rules : Rules) (events : List Event) (n : ℕ) → RulesFit rules → places_after rules (take n events) ≤ rules.places
+
+-- the past of a list of events has its events, newest first, and each did what the rule says by what came before it
+abbrev pub PastsFollowTheRule : Type 0
+PastsFollowTheRule = (rules : Rules) (events : List Event)
+    → IsRuled rules (past_of rules events) × (map (λ (entry : Entry). entry.event) (past_of rules events) ≡ reverse events)
+
+-- two pasts of the same events that follow the rule are equal
+abbrev pub OnePastFollowsTheRule : Type 0
+OnePastFollowsTheRule = (rules : Rules) (one other : Past) → IsRuled rules one → IsRuled rules other
+    → map (λ (entry : Entry). entry.event) one ≡ map (λ (entry : Entry). entry.event) other → one ≡ other
+
+-- an alive with no class takes the reservation at its access server that has the lowest number: no class
+-- names a lower one
+abbrev pub LowestReservationIsTaken : Type 0
+LowestReservationIsTaken = (rules : Rules) (events : List Event) (event : Event) (nas : Nas) (link other a b : ℕ)
+    → reservation_of rules (past_of rules events) event nas None ≡ Some link → number_at link (past_of rules events) ≡ Some a
+    → reservation_of rules (past_of rules events) event nas (Some b) ≡ Some other → a ≤ b
+
+-- equal lists of events have equal decisions and places
+abbrev pub EqualListsAreDecidedAlike : Type 0
+EqualListsAreDecidedAlike = (rules : Rules) (one other : List Event) → one ≡ other
+    → (decisions rules one ≡ decisions rules other) × (places_after rules one ≡ places_after rules other)
+
+-- the accept numbers of the fresh asks that were accepted, in the order in which they were given
+unfoldable pub accept_numbers : Past → List ℕ
+accept_numbers [] = []
+accept_numbers (entry ∷ past) = accept_numbers past ++ option_to_list (number_of entry.outcome)
+
+-- they count up from 0 without a gap
+abbrev pub AcceptNumbersCountUp : Type 0
+AcceptNumbersCountUp = (rules : Rules) (events : List Event)
+    → EachIndex (accept_numbers (past_of rules events)) (λ k. slice_index (accept_numbers (past_of rules events)) k ≡ k)
+
+-- the key of an ask
+abbrev pub key_of : Act → Option Key
+key_of (Ask key nas) = Some key
+key_of _ = None
+
+-- a fresh ask of a key was decided so
+pub record IsDecided (key : Option Key) (decision : Decision) (entry : Entry) : Type 0 where
+  pub same_key : key_of entry.event.act ≡ key
+  pub decided : fresh_decision entry.outcome ≡ Some decision
+
+-- what a repeat is answered was decided on a fresh ask of its key before it
+abbrev pub RepeatsAreDecidedAsAFreshAsk : Type 0
+RepeatsAreDecidedAsAFreshAsk = (rules : Rules) (events : List Event) (event : Event) (decision : Decision)
+    → outcome_of rules (past_of rules events) event ≡ Repeated decision
+    → Any (IsDecided (key_of event.act) decision) (past_of rules events)
+
+-- a tick before further events, with a moment not later than any of theirs, changes no decision, and no
+-- places after the next event
+abbrev pub EarlyTicksChangeNothing : Type 0
+EarlyTicksChangeNothing = (rules : Rules) (events : List Event) (n moment : ℕ) → n ≤ length events
+    → All (λ (event : Event). moment ≤ event.moment) (drop n events)
+    → (decisions rules (insert events n (record { moment = moment; act = Tick })) ≡ insert (decisions rules events) n Done)
+    × ((k : ℕ) → n < k → k ≤ length events
+    → places_after rules (take (suc k) (insert events n (record { moment = moment; act = Tick }))) ≡ places_after rules (take k events))

@@ -1,0 +1,167 @@
+ghost use Rattle.std.specs.Prelude.{◌≡◌, [], ◌<◌, IfOk, length};
+ghost use Rattle.std.specs.Option.{option_map};
+ghost use Rattle.rsl_accounts.specs.Limits.{RulesFit};
+ghost use Rattle.rsl_session.specs.Past.{looking_back};
+ghost use Rattle.rsl_session.specs.Ask.{accepts, ask_outcome, fresh_asks, fresh_decision, has_a_place, is_sweep_of, kept_ask, repeated, repeats, swept_in};
+ghost use Rattle.rsl_session.specs.Clock.{clock};
+
+use crate::clock::{clock_of, clock_with};
+use crate::count::{bundles_of, places_taken};
+use crate::held::links_before;
+use crate::link::accept_number;
+use crate::same::{is_same_key, is_same_nas};
+use rsl_accounts::Rules;
+use rsl_event::{Act, Decision, Event, Key, Nas};
+use rsl_session::{Entry, KeptAsk, Outcome};
+use rsl_wire::NoMemory;
+use std::alloc::Global;
+
+/// How many of the last fresh asks can be repeated.
+const KEPT_ASKS: usize = 8;
+
+/// Whether an act is a sweep of an access server.
+fn sweeps(nas: &Nas, act: &Act) -> bool
+    ensures { result ≡ is_sweep_of nas.now act.now }
+{
+    match act {
+        Act::Sweep { nas: other } => is_same_nas(other, nas),
+        _ => false,
+    }
+}
+
+/// Whether there is a sweep of an access server among some entries.
+#[tactic(auto, unfolding(rsl_session::specs::Ask::swept_in))]
+pub(crate) fn is_swept_in(entries: &[Entry], nas: &Nas) -> bool
+    ensures { result ≡ swept_in entries.now nas.now }
+{
+    entries.iter().any(|entry| sweeps(nas, &entry.event.act))
+}
+
+/// The decision on a fresh ask.
+#[tactic(auto, unfolding(rsl_session::specs::Ask::fresh_decision))]
+fn decision_of_fresh(outcome: Outcome) -> Option<Decision>
+    ensures { result ≡ fresh_decision outcome }
+{
+    match outcome {
+        Outcome::Accepted(number) => Some(Decision::Accept(number)),
+        Outcome::Refused => Some(Decision::LimitReject),
+        _ => None,
+    }
+}
+
+/// A fresh ask as it is kept, with the clock at it and the entries since.
+fn keep_ask(
+    alloc: Global,
+    now: u64,
+    since: &[Entry],
+    act: &Act,
+    decision: Option<Decision>,
+) -> Result<Option<KeptAsk>, NoMemory>
+    ensures { IfOk result (λ ask. ask ≡ kept_ask now since.now act.now decision) }
+{
+    match (act, decision) {
+        (Act::Ask { key, nas }, Some(decision)) => Ok(Some(KeptAsk {
+            key: *key,
+            nas: nas.try_copy(alloc)?,
+            decision,
+            at: now,
+            swept: is_swept_in(since, nas),
+        })),
+        _ => Ok(None),
+    }
+}
+
+/// The fresh asks of a past, newest first.
+#[tactic(auto, using(crate::proofs::Kept::asks_steps))]
+fn asks_of(alloc: Global, past: &[Entry]) -> Result<Vec<KeptAsk>, NoMemory>
+    ensures { IfOk result (λ asks. asks.items ≡ fresh_asks [] (looking_back past.now)) }
+{
+    let mut asks = Vec::new(alloc);
+    let mut at = past.len();
+    while at > 0 {
+        at -= 1;
+        let entry = &past[at];
+        let now = clock_of(&past[..at + 1]);
+        let decision = decision_of_fresh(entry.outcome);
+        if let Some(ask) = keep_ask(alloc, now, &past[at + 1..], &entry.event.act, decision)? {
+            asks.push(ask)?;
+        }
+    }
+    Ok(asks)
+}
+
+/// Whether an ask of this key, at this clock, repeats a fresh ask.
+#[tactic(auto, unfolding(rsl_session::specs::Ask::repeats))]
+fn is_repeat_of(rules: &Rules, key: &Key, now: u64, ask: &KeptAsk) -> bool
+    ensures { result ≡ repeats rules.now key.now now ask.now }
+{
+    is_same_key(&ask.key, key) && now.saturating_sub(ask.at) < rules.keep && !ask.swept
+}
+
+/// The decision of the latest fresh ask that an ask of this key repeats.
+#[tactic(auto, using(crate::proofs::Lists::find_steps), unfolding(rsl_session::specs::Ask::repeated))]
+fn repeated_decision(
+    alloc: Global,
+    rules: &Rules,
+    past: &[Entry],
+    event: &Event,
+    key: &Key,
+) -> Result<Option<Decision>, NoMemory>
+    ensures { IfOk result (λ decision. decision ≡ option_map (λ ask. ask.decision) (repeated rules.now (looking_back past.now) event.now key.now)) }
+{
+    let now = clock_with(past, event);
+    let asks = asks_of(alloc, past)?;
+    for ask in &asks[..asks.len().min(KEPT_ASKS)] {
+        if is_repeat_of(rules, key, now, ask) {
+            return Ok(Some(ask.decision));
+        }
+    }
+    Ok(None)
+}
+
+/// How many fresh asks were accepted.
+#[tactic(auto, unfolding(rsl_session::specs::Ask::accepts), using(crate::proofs::Looking::accepts_steps))]
+fn accepted(past: &[Entry]) -> u64
+    ensures { result ≡ accepts (looking_back past.now) }
+{
+    let mut accepted = 0;
+    for entry in past {
+        if accept_number(entry.outcome).is_some() {
+            accepted += 1;
+        }
+    }
+    accepted
+}
+
+/// Whether one more link without a bundle can open.
+#[tactic(auto, unfolding(rsl_session::specs::Ask::has_a_place))]
+fn has_place(alloc: Global, rules: &Rules, past: &[Entry], event: &Event) -> Result<bool, NoMemory>
+    requires { RulesFit rules.now }
+    ensures { IfOk result (λ free. free ≡ has_a_place rules.now (looking_back past.now) event.now) }
+{
+    let links = links_before(alloc, rules, past, event)?;
+    let bundles = bundles_of(alloc, past, &links)?;
+    Ok(places_taken(rules.ports, &bundles) < rules.places)
+}
+
+/// What an ask does.
+pub(crate) fn outcome_of_ask(
+    alloc: Global,
+    rules: &Rules,
+    past: &[Entry],
+    event: &Event,
+    key: &Key,
+) -> Result<Outcome, NoMemory>
+    requires { RulesFit rules.now }
+    ensures { IfOk result (λ outcome. outcome ≡ ask_outcome rules.now (looking_back past.now) event.now (repeated rules.now (looking_back past.now) event.now key.now)) }
+{
+    if let Some(decision) = repeated_decision(alloc, rules, past, event, key)? {
+        return Ok(Outcome::Repeated(decision));
+    }
+    let number = accepted(past);
+    if has_place(alloc, rules, past, event)? && number < u64::MAX {
+        Ok(Outcome::Accepted(number))
+    } else {
+        Ok(Outcome::Refused)
+    }
+}

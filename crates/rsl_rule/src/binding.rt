@@ -1,0 +1,148 @@
+ghost use Rattle.std.specs.Prelude.{◌≡◌, IfOk, is_some};
+ghost use Rattle.rsl_session.specs.Past.{looking_back};
+ghost use Rattle.rsl_session.specs.Binding.{binds, session_of, bundle_of, bound_by, bundled_by, bound, bundle_at, is_bound_to, is_reserved};
+
+use crate::link::touches_link;
+use crate::same::is_same_session;
+use rsl_event::Act;
+use rsl_session::{Bundle, Entry, Outcome, Session};
+use rsl_wire::NoMemory;
+use std::alloc::Global;
+
+/// Whether the event at a place opened or took a link for a session.
+#[tactic(auto, unfolding(rsl_session::specs::Binding::binds))]
+fn binds_link(link: usize, place: usize, outcome: Outcome) -> bool
+    ensures { result ≡ binds link place outcome }
+{
+    match outcome {
+        Outcome::Opened => link == place,
+        Outcome::Took(taken) => link == taken,
+        _ => false,
+    }
+}
+
+/// The session of an alive.
+#[tactic(auto, unfolding(rsl_session::specs::Binding::session_of))]
+fn session_of_act(alloc: Global, act: &Act) -> Result<Option<Session>, NoMemory>
+    ensures { IfOk result (λ session. session ≡ session_of act.now) }
+{
+    match act {
+        Act::Alive { nas, session, .. } => Ok(Some(Session {
+            nas: nas.try_copy(alloc)?,
+            id: session.try_copy(alloc)?,
+        })),
+        _ => Ok(None),
+    }
+}
+
+/// The bundle that an alive carries.
+#[tactic(auto, unfolding(rsl_session::specs::Binding::bundle_of))]
+pub(crate) fn bundle_of_act(alloc: Global, act: &Act) -> Result<Option<Bundle>, NoMemory>
+    ensures { IfOk result (λ bundle. bundle ≡ bundle_of act.now) }
+{
+    match act {
+        Act::Alive {
+            nas,
+            bundle: Some(id),
+            ..
+        } => Ok(Some(Bundle {
+            nas: nas.try_copy(alloc)?,
+            id: id.try_copy(alloc)?,
+        })),
+        _ => Ok(None),
+    }
+}
+
+/// The session for which the entry at a place opened or took a link.
+#[tactic(auto, unfolding(rsl_session::specs::Binding::bound_by))]
+fn session_bound(
+    alloc: Global,
+    link: usize,
+    place: usize,
+    entry: &Entry,
+) -> Result<Option<Session>, NoMemory>
+    ensures { IfOk result (λ session. session ≡ bound_by link place entry.now) }
+{
+    if binds_link(link, place, entry.outcome) {
+        session_of_act(alloc, &entry.event.act)
+    } else {
+        Ok(None)
+    }
+}
+
+/// The bundle with which the entry at a place touched a link.
+#[tactic(auto, unfolding(rsl_session::specs::Binding::bundled_by))]
+fn bundle_touched(
+    alloc: Global,
+    link: usize,
+    place: usize,
+    entry: &Entry,
+) -> Result<Option<Bundle>, NoMemory>
+    ensures { IfOk result (λ bundle. bundle ≡ bundled_by link place entry.now) }
+{
+    if touches_link(link, place, entry.outcome) {
+        bundle_of_act(alloc, &entry.event.act)
+    } else {
+        Ok(None)
+    }
+}
+
+/// The session that a link is bound to, by the first that bound it.
+#[tactic(auto, using(crate::proofs::Looking::bound_steps))]
+pub(crate) fn session_of_link(
+    alloc: Global,
+    link: usize,
+    past: &[Entry],
+) -> Result<Option<Session>, NoMemory>
+    ensures { IfOk result (λ session. session ≡ bound link (looking_back past.now)) }
+{
+    for (at, entry) in past.iter().enumerate() {
+        let session = session_bound(alloc, link, at + 1, entry)?;
+        if session.is_some() {
+            return Ok(session);
+        }
+    }
+    Ok(None)
+}
+
+/// The bundle of a link, by the first that touched it and carried one.
+#[tactic(auto, using(crate::proofs::Looking::bundle_steps))]
+pub(crate) fn bundle_of_link(
+    alloc: Global,
+    link: usize,
+    past: &[Entry],
+) -> Result<Option<Bundle>, NoMemory>
+    ensures { IfOk result (λ bundle. bundle ≡ bundle_at link (looking_back past.now)) }
+{
+    for (at, entry) in past.iter().enumerate() {
+        let bundle = bundle_touched(alloc, link, at + 1, entry)?;
+        if bundle.is_some() {
+            return Ok(bundle);
+        }
+    }
+    Ok(None)
+}
+
+/// Whether a link is reserved: bound to no session yet.
+#[tactic(auto, unfolding(rsl_session::specs::Binding::is_reserved))]
+pub(crate) fn is_link_reserved(alloc: Global, past: &[Entry], link: usize) -> Result<bool, NoMemory>
+    ensures { IfOk result (λ reserved. reserved ≡ is_reserved (looking_back past.now) link) }
+{
+    Ok(session_of_link(alloc, link, past)?.is_none())
+}
+
+/// Whether a link is bound to a session.
+#[tactic(auto, unfolding(rsl_session::specs::Binding::is_bound_to))]
+pub(crate) fn is_link_bound_to(
+    alloc: Global,
+    past: &[Entry],
+    session: &Session,
+    link: usize,
+) -> Result<bool, NoMemory>
+    ensures { IfOk result (λ is_bound. is_bound ≡ is_bound_to (looking_back past.now) session.now link) }
+{
+    match session_of_link(alloc, link, past)? {
+        Some(other) => Ok(is_same_session(&other, session)),
+        None => Ok(false),
+    }
+}

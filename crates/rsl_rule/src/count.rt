@@ -1,0 +1,88 @@
+ghost use Rattle.std.specs.Prelude.{◌≡◌, ◌<◌, IfOk, count_by};
+ghost use Rattle.rsl_session.specs.Past.{looking_back};
+ghost use Rattle.std.specs.Int.{div_ceil};
+ghost use Rattle.rsl_accounts.specs.Limits.{RulesFit};
+ghost use Rattle.rsl_session.specs.Places.{bundles, is_bundle, places, places_of};
+
+use crate::binding::bundle_of_link;
+use crate::held::held_links;
+use crate::same::is_same_bundle;
+use rsl_accounts::Rules;
+use rsl_session::{Bundle, Entry};
+use rsl_wire::NoMemory;
+use std::alloc::Global;
+
+/// The bundle of each of some links.
+#[tactic(auto, using(crate::proofs::Lists::map_steps), unfolding(rsl_session::specs::Places::bundles))]
+pub(crate) fn bundles_of(
+    alloc: Global,
+    past: &[Entry],
+    links: &[usize],
+) -> Result<Vec<Option<Bundle>>, NoMemory>
+    ensures { IfOk result (λ each. each.items ≡ bundles (looking_back past.now) links.now) }
+{
+    let mut each = Vec::new(alloc);
+    for link in links {
+        each.push(bundle_of_link(alloc, *link, past)?)?;
+    }
+    Ok(each)
+}
+
+/// Whether a link's bundle is this one.
+fn is_link_of(bundle: &Bundle, other: &Option<Bundle>) -> bool
+    ensures { result ≡ is_bundle bundle.now other.now }
+{
+    match other {
+        Some(other) => is_same_bundle(other, bundle),
+        None => false,
+    }
+}
+
+/// How many of some links are in a bundle.
+fn links_of(bundle: &Bundle, bundles: &[Option<Bundle>]) -> usize
+    ensures { result ≡ count_by (is_bundle bundle.now) bundles.now }
+{
+    bundles
+        .iter()
+        .filter(|other| is_link_of(bundle, other))
+        .count()
+}
+
+/// The places that a bundle takes.
+fn places_of_bundle(ports: u64, bundle: &Bundle, bundles: &[Option<Bundle>]) -> u64
+    requires { 0 < ports }
+    ensures { result ≡ div_ceil (count_by (is_bundle bundle.now) bundles.now) ports }
+{
+    (links_of(bundle, bundles) as u64).div_ceil(ports)
+}
+
+/// The places of some links, told by the bundle of each: the last of a bundle's links counts the bundle.
+#[tactic(auto, using(crate::proofs::Counted::places_steps))]
+pub(crate) fn places_taken(ports: u64, bundles: &[Option<Bundle>]) -> u64
+    requires { 0 < ports }
+    ensures { result ≡ places_of ports bundles.now }
+{
+    let mut places = 0u64;
+    for (at, bundle) in bundles.iter().enumerate() {
+        match bundle {
+            None => places += 1,
+            Some(bundle) => {
+                if links_of(bundle, &bundles[at + 1..]) == 0 {
+                    places += places_of_bundle(ports, bundle, bundles);
+                }
+            }
+        }
+    }
+    places
+}
+
+/// The places that are held.
+#[tactic(auto, unfolding(rsl_session::specs::Places::places))]
+pub(crate) fn places_held(alloc: Global, rules: &Rules, past: &[Entry]) -> Result<u64, NoMemory>
+    requires { RulesFit rules.now }
+    ensures { IfOk result (λ held. held ≡ places rules.now (looking_back past.now)) }
+{
+    let links = held_links(alloc, rules, past)?;
+    let bundles = bundles_of(alloc, past, &links)?;
+    Ok(places_taken(rules.ports, &bundles))
+}

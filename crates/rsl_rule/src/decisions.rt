@@ -1,0 +1,105 @@
+ghost use Rattle.std.specs.Prelude.{◌≡◌, ◌≤◌, IfOk};
+ghost use Rattle.rsl_accounts.specs.Limits.{RulesFit};
+ghost use Rattle.rsl_session.specs.Past.{looking_back};
+ghost use Rattle.rsl_session.specs.Rule.{decision_of, decisions, outcome_of, past_of, places_after};
+
+use crate::alive::outcome_of_alive;
+use crate::ask::outcome_of_ask;
+use crate::count::places_held;
+use rsl_accounts::Rules;
+use rsl_event::{Act, Decision, Event};
+use rsl_session::{Entry, Outcome, Session};
+use rsl_wire::NoMemory;
+use std::alloc::Global;
+
+/// What an event does.
+#[tactic(auto, unfolding(rsl_session::specs::Rule::outcome_of))]
+fn outcome(alloc: Global, rules: &Rules, past: &[Entry], event: &Event) -> Result<Outcome, NoMemory>
+    requires { RulesFit rules.now }
+    ensures { IfOk result (λ did. did ≡ outcome_of rules.now (looking_back past.now) event.now) }
+{
+    match &event.act {
+        Act::Ask { key, .. } => outcome_of_ask(alloc, rules, past, event, key),
+        Act::Alive {
+            nas,
+            session,
+            class,
+            ..
+        } => {
+            let alive = Session {
+                nas: nas.try_copy(alloc)?,
+                id: session.try_copy(alloc)?,
+            };
+            outcome_of_alive(alloc, rules, past, event, &alive, *class)
+        }
+        Act::Stop { .. } | Act::Sweep { .. } | Act::Tick => Ok(Outcome::Passed),
+    }
+}
+
+/// An equal event.
+fn copy_of(alloc: Global, event: &Event) -> Result<Event, NoMemory>
+    ensures { IfOk result (λ copy. copy ≡ event.now) }
+{
+    Ok(Event {
+        moment: event.moment,
+        act: event.act.try_copy(alloc)?,
+    })
+}
+
+/// The events, oldest first, each with what it did.
+#[tactic(auto, using(crate::proofs::Whole::past_steps))]
+fn past_after(alloc: Global, rules: &Rules, events: &[Event]) -> Result<Vec<Entry>, NoMemory>
+    requires { RulesFit rules.now }
+    ensures { IfOk result (λ past. looking_back past.items ≡ past_of rules.now events.now) }
+{
+    let mut past = Vec::new(alloc);
+    for event in events {
+        let did = outcome(alloc, rules, &past, event)?;
+        past.push(Entry {
+            event: copy_of(alloc, event)?,
+            outcome: did,
+        })?;
+    }
+    Ok(past)
+}
+
+/// The decision on an event, by what it did.
+fn decision(outcome: Outcome) -> Decision
+    ensures { result ≡ decision_of outcome }
+{
+    match outcome {
+        Outcome::Accepted(number) => Decision::Accept(number),
+        Outcome::Refused => Decision::LimitReject,
+        Outcome::Repeated(decision) => decision,
+        _ => Decision::Done,
+    }
+}
+
+/// The decision on each of an account's events, in their order, by the session rule.
+///
+/// It takes memory for the answer and for what it looks up, and fails only where memory is refused.
+#[tactic(auto, using(crate::proofs::Whole::decided_steps))]
+pub fn decide(alloc: Global, rules: &Rules, events: &[Event]) -> Result<Vec<Decision>, NoMemory>
+    requires { RulesFit rules.now }
+    ensures { IfOk result (λ answer. answer.items ≡ decisions rules.now events.now) }
+{
+    let past = past_after(alloc, rules, events)?;
+    let mut decisions = Vec::new(alloc);
+    for entry in &past {
+        decisions.push(decision(entry.outcome))?;
+    }
+    Ok(decisions)
+}
+
+/// The places that an account holds after its events, by the session rule: never more than its rules allow.
+///
+/// It takes memory for what it looks up, and fails only where memory is refused.
+#[tactic(auto, using(crate::proofs::Whole::places_steps))]
+pub fn places(alloc: Global, rules: &Rules, events: &[Event]) -> Result<u32, NoMemory>
+    requires { RulesFit rules.now }
+    ensures exact { IfOk result (λ held. held ≡ places_after rules.now events.now) }
+    ensures limit { IfOk result (λ held. held ≤ rules.now.places) }
+{
+    let past = past_after(alloc, rules, events)?;
+    Ok(places_held(alloc, rules, &past)? as u32)
+}

@@ -1,0 +1,45 @@
+//! Laws of the session rule, over every list of an account's events. Each is the contract of a function
+//! that does nothing.
+
+ghost use Rattle.rsl_rule.specs.Laws.{AcceptNumbersCountUp, EarlyTicksChangeNothing, EqualListsAreDecidedAlike, LowestReservationIsTaken, OnePastFollowsTheRule, PastsFollowTheRule, PlacesStayWithinTheLimit, RepeatsAreDecidedAsAFreshAsk};
+
+/// After each event of a list, and not only after the last, the places held are at most the account's.
+pub fn places_stay_within_the_limit()
+    ensures { PlacesStayWithinTheLimit }
+{}
+
+/// The decisions and the places depend on the account's rules and own events alone.
+pub fn equal_lists_are_decided_alike()
+    ensures { EqualListsAreDecidedAlike }
+{}
+
+/// A tick that is put in before further events, with a moment not later than any of theirs, changes no
+/// decision, and no places after the next event.
+pub fn early_ticks_change_nothing()
+    ensures { EarlyTicksChangeNothing }
+{}
+
+/// The accept numbers of an account's fresh asks count up from 0 without a gap.
+pub fn accept_numbers_count_up()
+    ensures { AcceptNumbersCountUp }
+{}
+
+/// A repeat is answered as a fresh ask of its key before it was.
+pub fn repeats_are_decided_as_a_fresh_ask()
+    ensures { RepeatsAreDecidedAsAFreshAsk }
+{}
+
+/// The past of a list of events has its events, and each did what the rule says by what came before it.
+pub fn pasts_follow_the_rule()
+    ensures { PastsFollowTheRule }
+{}
+
+/// Two pasts of the same events that follow the rule are equal.
+pub fn one_past_follows_the_rule()
+    ensures { OnePastFollowsTheRule }
+{}
+
+/// An alive with no class takes the reservation that has the lowest accept number.
+pub fn lowest_reservation_is_taken()
+    ensures { LowestReservationIsTaken }
+{}

@@ -1,0 +1,19 @@
+//! The session rule as a plain program. It looks back over the events of an account for each of its
+//! questions, and is proved to answer as the definitions of `rsl_session` do.
+#![tactic(auto)]
+
+mod alive;
+mod ask;
+mod binding;
+mod clock;
+mod closed;
+mod count;
+mod decisions;
+mod held;
+pub mod laws;
+mod link;
+mod same;
+#[cfg(test)]
+mod tests;
+
+pub use decisions::{decide, places};

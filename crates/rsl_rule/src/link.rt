@@ -1,0 +1,106 @@
+ghost use Rattle.std.specs.Prelude.{◌≡◌, is_some};
+ghost use Rattle.std.specs.Option.{option_copied};
+ghost use Rattle.rsl_session.specs.Past.{looking_back, entry_at};
+ghost use Rattle.rsl_session.specs.Link.{opens, number_of, number_at};
+ghost use Rattle.rsl_session.specs.Binding.{touches};
+ghost use Rattle.rsl_session.specs.Held.{is_nas, is_at};
+ghost use Rattle.rsl_session.specs.Link.{nas_of};
+ghost use Rattle.rsl_session.specs.Touch.{touched};
+
+use crate::clock::clock_of;
+use crate::same::is_same_nas;
+use rsl_event::{Act, Nas};
+use rsl_session::{Entry, Outcome};
+
+/// Whether an event opened a link.
+#[tactic(auto, unfolding(rsl_session::specs::Link::opens))]
+pub(crate) fn opens_link(outcome: Outcome) -> bool
+    ensures { result ≡ opens outcome }
+{
+    matches!(outcome, Outcome::Accepted(_) | Outcome::Opened)
+}
+
+/// The accept number that an event gave.
+#[tactic(auto, unfolding(rsl_session::specs::Link::number_of))]
+pub(crate) fn accept_number(outcome: Outcome) -> Option<u64>
+    ensures { result ≡ number_of outcome }
+{
+    match outcome {
+        Outcome::Accepted(number) => Some(number),
+        _ => None,
+    }
+}
+
+/// Whether the event at a place opened, took or renewed a link.
+#[tactic(auto, unfolding(rsl_session::specs::Binding::touches))]
+pub(crate) fn touches_link(link: usize, place: usize, outcome: Outcome) -> bool
+    ensures { result ≡ touches link place outcome }
+{
+    match outcome {
+        Outcome::Accepted(_) | Outcome::Opened => link == place,
+        Outcome::Took(touched) | Outcome::Renewed(touched) => link == touched,
+        _ => false,
+    }
+}
+
+/// The clock when a link was last touched.
+#[tactic(auto, using(crate::proofs::Looking::touched_steps))]
+pub(crate) fn last_touch(link: usize, past: &[Entry]) -> u64
+    ensures { result ≡ touched link (looking_back past.now) }
+{
+    let mut touch = 0;
+    for (at, entry) in past.iter().enumerate() {
+        if touches_link(link, at + 1, entry.outcome) {
+            touch = clock_of(&past[..at + 1]);
+        }
+    }
+    touch
+}
+
+/// The entry at a place.
+#[tactic(auto, using(crate::proofs::Looking::entry_steps))]
+pub(crate) fn entry_of(place: usize, past: &[Entry]) -> Option<&Entry>
+    ensures { option_copied result ≡ entry_at place (looking_back past.now) }
+{
+    if place == 0 {
+        None
+    } else {
+        past.get(place - 1)
+    }
+}
+
+/// Whether an act is at an access server.
+#[tactic(auto, unfolding(rsl_session::specs::Link::nas_of))]
+fn is_act_at(act: &Act, nas: &Nas) -> bool
+    ensures { result ≡ is_nas (nas_of act.now) nas.now }
+{
+    match act {
+        Act::Ask { nas: other, .. }
+        | Act::Alive { nas: other, .. }
+        | Act::Stop { nas: other, .. }
+        | Act::Sweep { nas: other } => is_same_nas(other, nas),
+        Act::Tick => false,
+    }
+}
+
+/// Whether a link is at an access server.
+#[tactic(auto, unfolding(rsl_session::specs::Held::is_at, rsl_session::specs::Link::nas_at))]
+pub(crate) fn is_link_at(past: &[Entry], nas: &Nas, link: usize) -> bool
+    ensures { result ≡ is_at (looking_back past.now) nas.now link }
+{
+    match entry_of(link, past) {
+        Some(entry) => is_act_at(&entry.event.act, nas),
+        None => false,
+    }
+}
+
+/// The accept number of a link that an ask opened.
+#[tactic(auto, unfolding(rsl_session::specs::Link::number_at))]
+pub(crate) fn number_of_link(link: usize, past: &[Entry]) -> Option<u64>
+    ensures { result ≡ number_at link (looking_back past.now) }
+{
+    match entry_of(link, past) {
+        Some(entry) => accept_number(entry.outcome),
+        None => None,
+    }
+}

@@ -1,0 +1,214 @@
+-- What a past that follows the rule is: one past for one list of events, and each link in it names a place
+-- at which a link opened.
+use Rattle.std.proofs.Common.{◌≡◌, ℕ, zero, suc, ◌-◌, ◌^◌, ◌<◌, ◌≤◌, List, [], ◌∷◌, ◌++◌, length, Bool, true, false, cond, ◌&&◌, ◌||◌, not, refl, ap, sym, ◌∙◌, subst, ◌⊎◌, inl, inr, arith, map, eqb, leb}
+use Rattle.std.specs.Prelude.{Option, Some, None, filter, find, ⊤, nat_le, nat_lt, is_some}
+use Rattle.std.specs.Option.{option_or, option_map}
+use Rattle.std.specs.List.{list_all}
+use Rattle.std.proofs.lemmas.Bool.{cases_Bool, le-leb, leb-true, lt-leb, and_from, and_parts, false≢true, ne_eqb, eqb-true}
+use Rattle.rsl_accounts.specs.declared.rules.Rules.{Rules}
+use Rattle.rsl_event.specs.declared.event.Event.{Event}
+use Rattle.rsl_event.specs.declared.event.Act.{Act}
+use Rattle.rsl_event.specs.declared.event.Act.TheVariants.{Ask, Alive, Stop, Sweep, Tick}
+use Rattle.rsl_session.specs.declared.entry.Entry.{Entry}
+use Rattle.rsl_session.specs.declared.entry.Outcome.{Outcome}
+use Rattle.rsl_session.specs.declared.entry.Outcome.TheVariants.{Accepted, Refused, Repeated, Opened, Took, Renewed, Ignored, Over, Passed}
+use Rattle.rsl_session.specs.declared.kept.KeptAsk.{KeptAsk}
+use Rattle.rsl_session.specs.declared.session.Session.{Session}
+use Rattle.rsl_session.specs.Past.{Past}
+use Rattle.rsl_session.specs.Link.{links, opens}
+use Rattle.rsl_session.specs.Binding.{bound, bound_by, bundle_at, bundled_by, binds, touches, session_of, bundle_of}
+use Rattle.rsl_session.specs.Touch.{touched}
+use Rattle.rsl_session.specs.Held.{held, held_before, freed}
+use Rattle.rsl_session.specs.Ask.{ask_outcome, repeated, has_a_place, accepts}
+use Rattle.rsl_session.specs.Alive.{alive_outcome, unbound_outcome, link_of, reservation_of, has_room, is_chosen}
+use Rattle.rsl_session.specs.Closed.{is_closed}
+use Rattle.rsl_session.specs.Rule.{IsRuled, outcome_of, outcome_by, past_from, past_of, entry_of}
+
+pub IsRuled-past_from : (rules : Rules) (past : Past) (events : List Event) → IsRuled rules past → IsRuled rules (past_from rules past events)
+unfolding past_from IsRuled entry_of
+IsRuled-past_from rules past [] ruled = ruled
+IsRuled-past_from rules past (event ∷ events) ruled =
+    IsRuled-past_from rules (entry_of rules past event ∷ past) events (refl, ruled)
+
+pub IsRuled-past_of : (rules : Rules) (events : List Event) → IsRuled rules (past_of rules events)
+unfolding past_of IsRuled
+IsRuled-past_of rules events = IsRuled-past_from rules [] events tt
+
+-- two pasts of the same events that follow the rule are equal
+make_entry : Event → Outcome → Entry
+make_entry event outcome = record { event = event; outcome = outcome }
+
+same_entries : (e f : Entry) (p q : Past) → e.event ≡ f.event → e.outcome ≡ f.outcome → p ≡ q → e ∷ p ≡ f ∷ q
+unfolding make_entry
+same_entries e f p q event outcome rest =
+    let entry : make_entry e.event e.outcome ≡ make_entry f.event f.outcome = cc in
+    cons_entries (make_entry e.event e.outcome) (make_entry f.event f.outcome) p q entry rest where
+      cons_entries : (e f : Entry) (p q : Past) → e ≡ f → p ≡ q → e ∷ p ≡ f ∷ q
+      cons_entries e f p q a b = cc
+
+pub same_past : (rules : Rules) (p q : Past) → IsRuled rules p → IsRuled rules q → map (λ (e : Entry). e.event) p ≡ map (λ (e : Entry). e.event) q → p ≡ q
+unfolding IsRuled
+same_past rules [] [] ruled_p ruled_q events = refl
+same_past rules [] (f ∷ q) ruled_p ruled_q events = cc
+same_past rules (e ∷ p) [] ruled_p ruled_q events = cc
+same_past rules (e ∷ p) (f ∷ q) ruled_p ruled_q events =
+    let event : e.event ≡ f.event = cc in
+    let older : map (λ (e : Entry). e.event) p ≡ map (λ (e : Entry). e.event) q = cc in
+    let rest : p ≡ q = same_past rules p q ruled_p.1 ruled_q.1 older in
+    let outcome : e.outcome ≡ f.outcome = ruled_p.0 ∙ ap (outcome_of rules p) event ∙ ap (λ past. outcome_of rules past f.event) rest ∙ sym ruled_q.0 in
+    same_entries e f p q event outcome rest
+
+-- what passes a test, and then is found, passes it
+find_passes : (p q : ℕ → Bool) (xs : List ℕ) (x : ℕ) → list_all q xs ≡ true → find p xs ≡ Some x → q x ≡ true
+find_passes p q [] x all found = cc
+find_passes p q (y ∷ xs) x all found = by_cases p q y xs x (p y) (and_parts (q y) (list_all q xs) all) found (find_passes p q xs x) where
+  by_cases : (p q : ℕ → Bool) (y : ℕ) (xs : List ℕ) (x : ℕ) (here : Bool) → (q y ≡ true) × (list_all q xs ≡ true)
+      → cond here (Some y) (find p xs) ≡ Some x → (list_all q xs ≡ true → find p xs ≡ Some x → q x ≡ true) → q x ≡ true
+  by_cases p q y xs x true all found rest = let same : y ≡ x = cc in subst (λ n. q n ≡ true) same all.0
+  by_cases p q y xs x false all found rest = rest all.1 found
+
+list_all-filter : (p q : ℕ → Bool) (xs : List ℕ) → list_all q xs ≡ true → list_all q (filter p xs) ≡ true
+list_all-filter p q [] all = refl
+list_all-filter p q (x ∷ xs) all = by_cases p q x xs (p x) (and_parts (q x) (list_all q xs) all) (list_all-filter p q xs) where
+  by_cases : (p q : ℕ → Bool) (x : ℕ) (xs : List ℕ) (here : Bool) → (q x ≡ true) × (list_all q xs ≡ true)
+      → (list_all q xs ≡ true → list_all q (filter p xs) ≡ true) → list_all q (cond here (x ∷ filter p xs) (filter p xs)) ≡ true
+  by_cases p q x xs true all rest = and_from _ _ all.0 (rest all.1)
+  by_cases p q x xs false all rest = rest all.1
+
+list_all_weaker : (p q : ℕ → Bool) (weaker : (x : ℕ) → p x ≡ true → q x ≡ true) (xs : List ℕ) → list_all p xs ≡ true → list_all q xs ≡ true
+list_all_weaker p q weaker [] all = refl
+list_all_weaker p q weaker (x ∷ xs) all =
+    let parts = and_parts (p x) (list_all p xs) all in
+    and_from _ _ (weaker x parts.0) (list_all_weaker p q weaker xs parts.1)
+
+list_all_push : (q : ℕ → Bool) (xs : List ℕ) (x : ℕ) → list_all q xs ≡ true → q x ≡ true → list_all q (xs ++ x ∷ []) ≡ true
+list_all_push q [] x all here = and_from _ _ here refl
+list_all_push q (y ∷ xs) x all here =
+    let parts = and_parts (q y) (list_all q xs) all in
+    and_from _ _ parts.0 (list_all_push q xs x parts.1 here)
+
+-- a link has opened: its place is one of the past
+pub is_in : Past → ℕ → Bool
+is_in past link = leb link (length past)
+
+pub is_in-true : (past : Past) (link : ℕ) → is_in past link ≡ true → link ≤ length past
+unfolding is_in
+is_in-true past link h = leb-true link (length past) h
+
+is_in-older : (entry : Entry) (past : Past) (link : ℕ) → is_in past link ≡ true → is_in (entry ∷ past) link ≡ true
+unfolding is_in
+is_in-older entry past link h = le-leb link (suc (length past)) (omega (arith, leb-true link (length past) h))
+
+is_in-newest : (entry : Entry) (past : Past) → is_in (entry ∷ past) (suc (length past)) ≡ true
+unfolding is_in
+is_in-newest entry past = le-leb (suc (length past)) (suc (length past)) (omega arith)
+
+pub links-in : (past : Past) → list_all (is_in past) (links past) ≡ true
+unfolding links
+links-in [] = refl
+links-in (entry ∷ past) = by_cases entry past (opens entry.outcome) (list_all_weaker (is_in past) (is_in (entry ∷ past)) (is_in-older entry past) (links past) (links-in past)) where
+  by_cases : (entry : Entry) (past : Past) (new : Bool) → list_all (is_in (entry ∷ past)) (links past) ≡ true
+      → list_all (is_in (entry ∷ past)) (cond new (links past ++ suc (length past) ∷ []) (links past)) ≡ true
+  by_cases entry past true older = list_all_push (is_in (entry ∷ past)) (links past) (suc (length past)) older (is_in-newest entry past)
+  by_cases entry past false older = older
+
+pub held_before-in : (rules : Rules) (past : Past) (event : Event) → list_all (is_in past) (held_before rules past event) ≡ true
+unfolding held held_before
+held_before-in rules past event = list_all-filter _ (is_in past) _ (list_all-filter _ (is_in past) (links past) (links-in past))
+
+-- an alive takes or renews a link that has opened
+link_in : (rules : Rules) (past : Past) (event : Event) (session : Session) (link : ℕ) → link_of rules past event session ≡ Some link → link ≤ length past
+unfolding link_of
+link_in rules past event session link found = is_in-true past link (find_passes _ (is_in past) _ link (held_before-in rules past event) found)
+
+reservation_in : (rules : Rules) (past : Past) (event : Event) (nas : _) (class : Option ℕ) (link : ℕ) → reservation_of rules past event nas class ≡ Some link → link ≤ length past
+unfolding reservation_of
+reservation_in rules past event nas class link found =
+    is_in-true past link (find_passes (is_chosen past nas class) (is_in past) (held_before rules past event) link (held_before-in rules past event) found)
+
+-- the link that an outcome names has opened
+pub IsOfPast : Past → Outcome → Type 0
+IsOfPast past (Took link) = link ≤ length past
+IsOfPast past (Renewed link) = link ≤ length past
+IsOfPast past _ = ⊤
+
+pub IsOfPast-outcome_of : (rules : Rules) (past : Past) (event : Event) → IsOfPast past (outcome_of rules past event)
+unfolding IsOfPast outcome_of
+IsOfPast-outcome_of rules past event = by_act event.act where
+  of_ask : (found : Option KeptAsk) → IsOfPast past (ask_outcome rules past event found)
+  of_ask (Some ask) = tt
+  of_ask None = fresh (has_a_place rules past event && nat_lt (accepts past) (2 ^ 64 - 1)) where
+    fresh : (free : Bool) → IsOfPast past (cond free (Accepted (accepts past)) Refused)
+    fresh true = tt
+    fresh false = tt
+
+  unbound : (found : Option ℕ) → ((link : ℕ) → found ≡ Some link → link ≤ length past) → IsOfPast past (unbound_outcome rules past event found)
+  unbound (Some link) within = within link refl
+  unbound None within = opened (has_room rules past event) where
+    opened : (room : Bool) → IsOfPast past (cond room Opened Over)
+    opened true = tt
+    opened false = tt
+
+  of_alive : (session : Session) (class found : Option ℕ) → ((link : ℕ) → found ≡ Some link → link ≤ length past) → IsOfPast past (alive_outcome rules past event session class found)
+  of_alive session class (Some link) within = within link refl
+  of_alive session class None within = open_or_closed (is_closed rules past event session) where
+    open_or_closed : (closed : Bool) → IsOfPast past (cond closed Ignored (unbound_outcome rules past event (reservation_of rules past event session.nas class)))
+    open_or_closed true = tt
+    open_or_closed false = unbound _ (reservation_in rules past event session.nas class)
+
+  by_act : (act : Act) → IsOfPast past (outcome_by rules past event act)
+  by_act (Ask key nas) = of_ask (repeated rules past event key)
+  by_act (Alive nas id bundle class) = of_alive _ class _ (link_in rules past event (record { nas = nas; id = id }))
+  by_act (Stop nas id) = tt
+  by_act (Sweep nas) = tt
+  by_act Tick = tt
+
+-- what an event does touches no link that opens later
+pub touches_later : (past : Past) (outcome : Outcome) (link : ℕ) → IsOfPast past outcome → suc (length past) < link → touches link (suc (length past)) outcome ≡ false
+unfolding IsOfPast touches
+touches_later past (Accepted number) link within later = ne_eqb link (suc (length past)) (λ same. omega arith)
+touches_later past Refused link within later = refl
+touches_later past (Repeated decision) link within later = refl
+touches_later past Opened link within later = ne_eqb link (suc (length past)) (λ same. omega arith)
+touches_later past (Took taken) link within later = ne_eqb link taken (λ same. omega arith)
+touches_later past (Renewed renewed) link within later = ne_eqb link renewed (λ same. omega arith)
+touches_later past Ignored link within later = refl
+touches_later past Over link within later = refl
+touches_later past Passed link within later = refl
+
+binds_later : (past : Past) (outcome : Outcome) (link : ℕ) → IsOfPast past outcome → suc (length past) < link → binds link (suc (length past)) outcome ≡ false
+unfolding IsOfPast binds
+binds_later past (Accepted number) link within later = refl
+binds_later past Refused link within later = refl
+binds_later past (Repeated decision) link within later = refl
+binds_later past Opened link within later = ne_eqb link (suc (length past)) (λ same. omega arith)
+binds_later past (Took taken) link within later = ne_eqb link taken (λ same. omega arith)
+binds_later past (Renewed renewed) link within later = refl
+binds_later past Ignored link within later = refl
+binds_later past Over link within later = refl
+binds_later past Passed link within later = refl
+
+-- a link that has not opened is bound to no session, and was never touched
+pub bound-later : (rules : Rules) (past : Past) (link : ℕ) → IsRuled rules past → length past < link → bound link past ≡ None
+unfolding IsRuled bound bound_by
+bound-later rules [] link ruled later = refl
+bound-later rules (entry ∷ past) link ruled later =
+    let older : bound link past ≡ None = bound-later rules past link ruled.1 (omega arith) in
+    let within : IsOfPast past entry.outcome = subst (IsOfPast past) (sym ruled.0) (IsOfPast-outcome_of rules past entry.event) in
+    rw (older, binds_later past entry.outcome link within later) refl
+
+pub touched-later : (rules : Rules) (past : Past) (link : ℕ) → IsRuled rules past → length past < link → touched link past ≡ 0
+unfolding IsRuled touched
+touched-later rules [] link ruled later = refl
+touched-later rules (entry ∷ past) link ruled later =
+    let within : IsOfPast past entry.outcome = subst (IsOfPast past) (sym ruled.0) (IsOfPast-outcome_of rules past entry.event) in
+    rw (touches_later past entry.outcome link within later) (touched-later rules past link ruled.1 (omega arith))
+
+-- a link that has not opened has no bundle
+pub bundle_at-later : (rules : Rules) (past : Past) (link : ℕ) → IsRuled rules past → length past < link → bundle_at link past ≡ None
+unfolding IsRuled bundle_at bundled_by
+bundle_at-later rules [] link ruled later = refl
+bundle_at-later rules (entry ∷ past) link ruled later =
+    let older : bundle_at link past ≡ None = bundle_at-later rules past link ruled.1 (omega arith) in
+    let within : IsOfPast past entry.outcome = subst (IsOfPast past) (sym ruled.0) (IsOfPast-outcome_of rules past entry.event) in
+    rw (older, touches_later past entry.outcome link within later) refl

@@ -1,0 +1,66 @@
+-- A link is bound to the session of the alive that opened or took it, and reserved until then. Its bundle
+-- is that of the first alive that opened, took or renewed it and carried one.
+use Rattle.std.specs.Prelude.{ℕ, suc, [], ◌∷◌, length, Bool, true, false, ◌==◌, if◌then◌else◌, Option, Some, None, is_none, is_some}
+use Rattle.std.specs.Option.{option_or, option_map}
+use Rattle.rsl_event.specs.declared.event.Act.{Act}
+use Rattle.rsl_event.specs.declared.event.Act.TheVariants.{Ask, Alive, Stop, Sweep, Tick}
+use Rattle.rsl_session.specs.declared.entry.Entry.{Entry}
+use Rattle.rsl_session.specs.declared.entry.Outcome.{Outcome}
+use Rattle.rsl_session.specs.declared.entry.Outcome.TheVariants.{Accepted, Refused, Repeated, Opened, Took, Renewed, Ignored, Over, Passed}
+use Rattle.rsl_session.specs.declared.session.Session.{Session}
+use Rattle.rsl_session.specs.declared.bundle.Bundle.{Bundle}
+use Rattle.rsl_session.specs.Past.{Past}
+use Rattle.rsl_session.specs.Same.{same_session}
+
+-- whether the event at a place opened or took a link for a session
+unfoldable pub binds : ℕ → ℕ → Outcome → Bool
+binds link place Opened = link == place
+binds link place (Took taken) = link == taken
+binds link place _ = false
+
+-- whether the event at a place opened, took or renewed a link
+unfoldable pub touches : ℕ → ℕ → Outcome → Bool
+touches link place (Accepted number) = link == place
+touches link place Opened = link == place
+touches link place (Took taken) = link == taken
+touches link place (Renewed renewed) = link == renewed
+touches link place _ = false
+
+-- the session of an alive
+unfoldable pub session_of : Act → Option Session
+session_of (Alive nas session bundle class) = Some (record { nas = nas; id = session })
+session_of _ = None
+
+-- the bundle that an alive carries
+unfoldable pub bundle_of : Act → Option Bundle
+bundle_of (Alive nas session bundle class) = option_map (λ id. record { nas = nas; id = id }) bundle
+bundle_of _ = None
+
+-- the session for which the entry at a place opened or took a link, and the bundle with which it touched it
+unfoldable pub bound_by : ℕ → ℕ → Entry → Option Session
+bound_by link place entry = if binds link place entry.outcome then session_of entry.event.act else None
+
+unfoldable pub bundled_by : ℕ → ℕ → Entry → Option Bundle
+bundled_by link place entry = if touches link place entry.outcome then bundle_of entry.event.act else None
+
+-- the session that a link is bound to, by the first that bound it
+unfoldable pub bound : ℕ → Past → Option Session
+bound link [] = None
+bound link (entry ∷ past) = option_or (bound link past) (bound_by link (suc (length past)) entry)
+
+-- the bundle of a link, by the first that touched it and carried one
+unfoldable pub bundle_at : ℕ → Past → Option Bundle
+bundle_at link [] = None
+bundle_at link (entry ∷ past) = option_or (bundle_at link past) (bundled_by link (suc (length past)) entry)
+
+-- whether a session is this one
+abbrev pub is_session : Option Session → Session → Bool
+is_session None session = false
+is_session (Some other) session = same_session other session
+
+-- whether a link is reserved, and whether it is bound to a session
+unfoldable pub is_reserved : Past → ℕ → Bool
+is_reserved past link = is_none (bound link past)
+
+unfoldable pub is_bound_to : Past → Session → ℕ → Bool
+is_bound_to past session link = is_session (bound link past) session

@@ -1,0 +1,46 @@
+-- A link is held until an event after the one that opened it ends it: the link lapses as the event comes,
+-- or the event is a stop of its session or a sweep of its access server.
+use Rattle.std.specs.Prelude.{ℕ, List, [], ◌∷◌, length, filter, Bool, true, false, ◌&&◌, ◌||◌, not, nat_le, Option, Some, None}
+use Rattle.rsl_accounts.specs.declared.rules.Rules.{Rules}
+use Rattle.rsl_event.specs.declared.event.Act.{Act}
+use Rattle.rsl_event.specs.declared.event.Act.TheVariants.{Ask, Alive, Stop, Sweep, Tick}
+use Rattle.rsl_event.specs.declared.event.Event.{Event}
+use Rattle.rsl_event.specs.declared.nas.Nas.{Nas}
+use Rattle.rsl_session.specs.Past.{Past}
+use Rattle.rsl_session.specs.Same.{same_nas}
+use Rattle.rsl_session.specs.Link.{links, nas_at}
+use Rattle.rsl_session.specs.Binding.{is_bound_to}
+use Rattle.rsl_session.specs.Lapse.{lapses}
+
+-- whether an access server is this one
+abbrev pub is_nas : Option Nas → Nas → Bool
+is_nas None nas = false
+is_nas (Some other) nas = same_nas other nas
+
+-- whether a link is at an access server
+unfoldable pub is_at : Past → Nas → ℕ → Bool
+is_at past nas link = is_nas (nas_at link past) nas
+
+-- whether an act ends a link
+unfoldable pub ended_by : Past → Act → ℕ → Bool
+ended_by past (Stop nas session) link = is_bound_to past (record { nas = nas; id = session }) link
+ended_by past (Sweep nas) link = is_at past nas link
+ended_by past _ link = false
+
+-- whether a link ends at an event
+unfoldable pub ends : Rules → Past → Event → ℕ → Bool
+ends rules past event link = lapses rules past event link || ended_by past event.act link
+
+-- whether a link has ended, at some event after the one that opened it
+unfoldable pub freed : Rules → ℕ → Past → Bool
+freed rules link [] = false
+freed rules link (entry ∷ past) =
+    freed rules link past || (nat_le link (length past) && ends rules past entry.event link)
+
+-- the links that are held, in the order in which they opened
+unfoldable pub held : Rules → Past → List ℕ
+held rules past = filter (λ link. not (freed rules link past)) (links past)
+
+-- the links that are still held when an event comes: those that do not lapse then
+unfoldable pub held_before : Rules → Past → Event → List ℕ
+held_before rules past event = filter (λ link. not (lapses rules past event link)) (held rules past)

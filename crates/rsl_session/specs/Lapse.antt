@@ -1,0 +1,26 @@
+-- A reserved link lapses once it is untouched for the reserve time, and a bound one once it is untouched
+-- for the live time and the grace time. Until the live time is over a bound link is live, and then stale.
+use Rattle.std.specs.Prelude.{ℕ, ◌+◌, ◌-◌, Bool, ◌&&◌, nat_le, nat_lt, is_some, Option, Some, None}
+use Rattle.rsl_accounts.specs.declared.rules.Rules.{Rules}
+use Rattle.rsl_event.specs.declared.event.Event.{Event}
+use Rattle.rsl_session.specs.declared.session.Session.{Session}
+use Rattle.rsl_session.specs.Past.{Past}
+use Rattle.rsl_session.specs.Clock.{clock, clock_at}
+use Rattle.rsl_session.specs.Binding.{bound}
+use Rattle.rsl_session.specs.Touch.{touched}
+
+-- the seconds for which a link stands untouched
+abbrev pub standing_time : Rules → Option Session → ℕ
+standing_time rules None = rules.reserve
+standing_time rules (Some session) = rules.live + rules.grace
+
+-- whether a link lapses when an event comes
+unfoldable pub lapses : Rules → Past → Event → ℕ → Bool
+lapses rules past event link = nat_le (standing_time rules (bound link past)) (clock_at past event - touched link past)
+
+-- whether a link is bound, and live or stale
+unfoldable pub is_live : Rules → Past → ℕ → Bool
+is_live rules past link = is_some (bound link past) && nat_lt (clock past - touched link past) rules.live
+
+unfoldable pub is_stale : Rules → Past → ℕ → Bool
+is_stale rules past link = is_some (bound link past) && nat_le rules.live (clock past - touched link past)

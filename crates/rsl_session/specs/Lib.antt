@@ -1,0 +1,13 @@
+pub mod Same
+pub mod Past
+pub mod Clock
+pub mod Link
+pub mod Binding
+pub mod Touch
+pub mod Lapse
+pub mod Held
+pub mod Places
+pub mod Ask
+pub mod Closed
+pub mod Alive
+pub mod Rule

@@ -1,0 +1,10 @@
+-- A link was last touched at the clock of the last event that opened, took or renewed it.
+use Rattle.std.specs.Prelude.{ℕ, suc, [], ◌∷◌, length, if◌then◌else◌}
+use Rattle.rsl_session.specs.Past.{Past}
+use Rattle.rsl_session.specs.Clock.{clock}
+use Rattle.rsl_session.specs.Binding.{touches}
+
+unfoldable pub touched : ℕ → Past → ℕ
+touched link [] = 0
+touched link (entry ∷ past) =
+    if touches link (suc (length past)) entry.outcome then clock (entry ∷ past) else touched link past

@@ -1,0 +1,34 @@
+use rsl_event::{Decision, Event};
+
+/// What an event did. A link is named by the place of the event that opened it: 1 for the account's
+/// first event.
+#[derive(Clone, Copy, Debug, PartialEq, Eq)]
+pub enum Outcome {
+    /// A fresh ask was accepted with this number, and opened a reserved link.
+    Accepted(u64),
+    /// A fresh ask was refused, for want of a free place.
+    Refused,
+    /// An ask was a repeat of a fresh ask, and got its decision again.
+    Repeated(Decision),
+    /// An alive opened a link that is bound to its session.
+    Opened,
+    /// An alive took this reserved link for its session.
+    Took(usize),
+    /// An alive renewed this link, which was bound to its session.
+    Renewed(usize),
+    /// An alive was of a session that is closed, and changed nothing.
+    Ignored,
+    /// An alive found no place for a new link, and changed nothing.
+    Over,
+    /// A stop, sweep or tick: what it ends is said of each link.
+    Passed,
+}
+
+/// An event of an account's past, with what it did.
+#[derive(Debug, PartialEq, Eq, Drop)]
+pub struct Entry {
+    /// The event.
+    pub event: Event,
+    /// What it did.
+    pub outcome: Outcome,
+}

@@ -1,0 +1,4 @@
+pub mod AttributeLaws
+pub mod BuildingLaws
+pub mod PacketLaws
+pub mod ReadLaws

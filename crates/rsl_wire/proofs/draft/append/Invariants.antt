@@ -1,0 +1,10 @@
+use Rattle.std.proofs.Common.{◌≡◌, ◌+◌, ◌++◌, take, vec_len}
+use Rattle.std.specs.Vec.{vec_capacity}
+use Rattle.rsl_wire.proofs.draft.append.Given as goal
+
+abbrev pub invariant-loop-octet : goal.invariant-loop-octet
+invariant-loop-octet l = record {
+  items : l.octets.items ≡ l.fn.octets.items ++ take l.octet-index l.more;
+  len : vec_len l.octets ≡ vec_len l.fn.octets + l.octet-index;
+  capacity : vec_capacity l.octets ≡ vec_capacity l.fn.octets;
+}

@@ -1,0 +1,5 @@
+pub mod Attributes
+pub mod Begun
+pub mod Building
+pub mod Packet
+pub mod Seen

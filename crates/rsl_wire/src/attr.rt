@@ -1,0 +1,14 @@
+/// Octets of an attribute before its Value: its Type and its Length (RFC 2865 section 5).
+pub(crate) const ATTR_HEADER_LEN: usize = 2;
+
+/// The greatest length of an attribute's Value (RFC 2865 section 5).
+pub const MAX_VALUE_LEN: usize = 253;
+
+/// An attribute to be written: its Type and its Value (RFC 2865 section 5).
+#[derive(Clone, Copy, Debug)]
+pub struct Attr<'a> {
+    /// The Type.
+    pub kind: u8,
+    /// The Value; one over 253 octets fits no packet.
+    pub value: &'a [u8],
+}
