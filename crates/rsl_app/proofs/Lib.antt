@@ -1,4 +1,10 @@
+pub mod AccountingLaws
+pub mod Consumed
 mod HiddenLemmas
-mod PrintedLemmas
-pub mod Counting
+pub mod Keeping
+pub mod Limits
+pub mod PrintingLaws
 pub mod Snoc
+pub mod StepCounts
+pub mod SteppingLaws
+pub mod Written

@@ -1,7 +1,10 @@
+pub mod Access
+pub mod Accounting
+pub mod Attributes
 pub mod Fault
-pub mod Line
 pub mod Own
-pub mod Request
-pub mod Rule
+pub mod Printing
+pub mod Replay
 pub mod Run
+pub mod Stepping
 pub mod Taking

@@ -1,5 +1,6 @@
 -- What the steps of a run are to one account.
-use Rattle.std.specs.Prelude.{ℕ, ◌==◌, ◌%◌, Bool, List, [], ◌∷◌, Option, Some, None, Result, Ok, Err, if◌then◌else◌}
+use Rattle.std.specs.Prelude.{ℕ, ◌==◌, ◌%◌, Bool, List, [], ◌∷◌, ◌++◌, Option, Some, None, Result, Ok, if◌then◌else◌}
+use Rattle.std.specs.Option.{option_to_list}
 use Rattle.rsl_accounts.specs.Configuration.{Configuration}
 use Rattle.rsl_event.specs.Meaning.{meaning}
 use Rattle.rsl_event.specs.declared.event.Event.{Event}
@@ -26,11 +27,7 @@ event_of config boot account (Datagram moment port source octets) = event_in acc
 event_of config boot account (steps.Sweep shard moment nas) = if is_of_shard config account shard then Some (record { moment = moment; act = acts.Sweep nas }) else None
 event_of config boot account (steps.Tick shard moment) = if is_of_shard config account shard then Some (record { moment = moment; act = acts.Tick }) else None
 
-abbrev pub with_event : Option Event → List Event → List Event
-with_event None events = events
-with_event (Some event) events = event ∷ events
-
--- an account's own events among steps, in the order of the steps
+-- An account's own events among steps. The steps are listed newest first, and the events in their order.
 unfoldable pub own : Configuration → (boot account : ℕ) → List Step → List Event
 own config boot account [] = []
-own config boot account (step ∷ steps) = with_event (event_of config boot account step) (own config boot account steps)
+own config boot account (step ∷ before) = own config boot account before ++ option_to_list (event_of config boot account step)

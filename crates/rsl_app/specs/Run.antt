@@ -1,8 +1,11 @@
 -- What a run answers, from datagram to reply: each step is answered from its own account's past alone.
 -- The steps before one are a list, the newest first.
-use Rattle.std.specs.Prelude.{◌≡◌, ℕ, ◌<◌, ◌==◌, List, [], ◌∷◌, length, slice_get, slice_index, Option, Some, None, Result, Ok, Err}
+use Rattle.std.specs.Prelude.{◌≡◌, ℕ, List, [], ◌∷◌, slice_get, Option, Some, Result, Ok, Err}
 use Rattle.std.specs.Option.{option_map_or}
 use Rattle.rsl_accounts.specs.Configuration.{Configuration, client_number}
+use Rattle.rsl_accounts.specs.declared.rules.Rules.{Rules}
+use Rattle.rsl_session.specs.Rule.{decision_of, outcome_of, past_of}
+use Rattle.rsl_event.specs.declared.event.Event.{Event}
 use Rattle.rsl_wire.specs.Packet.{Fields, packet_of}
 use Rattle.rsl_wire.specs.declared.packet.WireFault.{WireFault}
 use Rattle.rsl_event.specs.Answer.{answer, said}
@@ -14,36 +17,36 @@ use Rattle.rsl_event.specs.declared.meaning.Dropped.{Dropped}
 use Rattle.rsl_event.specs.declared.meaning.Meaning.{Meaning}
 use Rattle.rsl_event.specs.declared.meaning.Meaning.TheVariants.{Own}
 use Rattle.rsl_app.specs.Own.{own}
-use Rattle.rsl_app.specs.Rule.{accepts, decision_after}
 use Rattle.rsl_app.specs.declared.step.Answer.{Answer}
 use Rattle.rsl_app.specs.declared.step.Answer.TheVariants as answers
 use Rattle.rsl_app.specs.declared.step.Step.{Step}
 use Rattle.rsl_app.specs.declared.step.Step.TheVariants as steps
 use Rattle.rsl_app.specs.declared.step.Step.TheVariants.{Datagram}
 
--- the places of an account
-abbrev pub places_of : Configuration → (account : ℕ) → ℕ
-places_of config account = option_map_or (λ entry. entry.rules.places) (slice_get config.accounts account) 0
+-- the decision on an event behind events of an account with these rules
+unfoldable pub decision_after : Rules → List Event → Event → Decision
+decision_after rules events event = decision_of (outcome_of rules (past_of rules events) event)
 
--- the decision on a meaning: that of the account's own events before it, and of nothing else
-abbrev pub decision_on : Configuration → (boot : ℕ) → (before : List Step) → Meaning → Decision
-decision_on config boot before (Own account act) = decision_after (places_of config account) (own config boot account before) act
-decision_on config boot before _ = Done
+-- the decision on a meaning: that of the session rule on the account's own events before it, and on nothing else
+abbrev pub decision_on : Configuration → (boot : ℕ) → (before : List Step) → (moment : ℕ) → Meaning → Decision
+decision_on config boot before moment (Own account act) =
+    option_map_or (λ entry. decision_after entry.rules (own config boot account before) (record { moment = moment; act = act })) (slice_get config.accounts account) Done
+decision_on config boot before moment _ = Done
 
 -- the octets of the reply to a datagram that has a packet and a client, as every one with a meaning has
 abbrev pub octets_by : Configuration → (boot : ℕ) → Meaning → Decision → Result Fields WireFault → (client : Option ℕ) → List ℕ
 octets_by config boot meaning decision (Ok fields) (Some client) = answer config boot client fields meaning decision
 octets_by config boot meaning decision _ _ = []
 
-abbrev pub answer_by : Configuration → (boot : ℕ) → (before : List Step) → Source → (datagram : List ℕ) → Result Meaning Dropped → Answer
-answer_by config boot before source datagram (Err dropped) = answers.Dropped dropped
-answer_by config boot before source datagram (Ok meaning) =
-    let decision = decision_on config boot before meaning in
+abbrev pub answer_by : Configuration → (boot : ℕ) → (before : List Step) → (moment : ℕ) → Source → (datagram : List ℕ) → Result Meaning Dropped → Answer
+answer_by config boot before moment source datagram (Err dropped) = answers.Dropped dropped
+answer_by config boot before moment source datagram (Ok meaning) =
+    let decision = decision_on config boot before moment meaning in
     answers.Reply (said meaning decision) (octets_by config boot meaning decision (packet_of datagram) (client_number config source.address))
 
 -- the answer to a step that comes after others
 abbrev pub answer_after : Configuration → (boot : ℕ) → (before : List Step) → Step → Answer
-answer_after config boot before (Datagram moment port source octets) = answer_by config boot before source octets (meaning config boot port source octets)
+answer_after config boot before (Datagram moment port source octets) = answer_by config boot before moment source octets (meaning config boot port source octets)
 answer_after config boot before (steps.Sweep shard moment nas) = answers.Quiet
 answer_after config boot before (steps.Tick shard moment) = answers.Quiet
 
@@ -61,8 +64,3 @@ taken before [] rest = before
 taken before (step ∷ steps) [] = before
 taken before (step ∷ steps) (answers.Refused ∷ rest) = taken before steps rest
 taken before (step ∷ steps) (answer ∷ rest) = taken (step ∷ before) steps rest
-
--- each account has its count of accepts
-pub record AreCounts (config : Configuration) (boot : ℕ) (before : List Step) (counts : List ℕ) : Type 0 where
-  pub accounts : length counts ≡ length config.accounts
-  pub each : (account : ℕ) → account < length counts → slice_index counts account ≡ accepts (places_of config account) (own config boot account before)

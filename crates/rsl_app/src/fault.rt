@@ -1,10 +1,11 @@
 ghost use Rattle.std.specs.Prelude.{◌≡◌};
-ghost use Rattle.rsl_app.specs.declared.fault.LineFault.TheVariants.{NoMemory as line_no_memory};
-ghost use Rattle.rsl_app.specs.declared.fault.ReplayFault.TheVariants.{NoMemory as no_memory};
+ghost use Rattle.rsl_app.specs.declared.fault.ReplayFault.TheVariants.{InputOutput, NoMemory as no_memory};
 
 use rsl_accounts::ConfigFault;
+use rsl_script::ScriptFault;
 use rsl_wire::NoMemory;
-use std::alloc::{AllocError, AllocFailed};
+use std::alloc::AllocError;
+use std::io;
 use thiserror::Error;
 
 /// Why a script was not replayed. It prints as the text for standard error.
@@ -29,8 +30,12 @@ pub enum ReplayFault {
 }
 
 impl ReplayFault {
+    ghost use Rattle.rsl_app.specs.Fault.{status_of};
+
     /// The status with which the process ends.
-    pub fn status(self) -> u8 {
+    pub fn status(self) -> u8
+        ensures { result ≡ status_of self }
+    {
         match self {
             ReplayFault::Line(_) | ReplayFault::TooLong | ReplayFault::Config(_) => 1,
             ReplayFault::InputOutput => 2,
@@ -39,10 +44,23 @@ impl ReplayFault {
     }
 }
 
-impl From<ConfigFault> for ReplayFault {
-    ghost use Rattle.rsl_app.specs.Fault.{replay_fault_of};
+impl From<ScriptFault> for ReplayFault {
+    ghost use Rattle.rsl_app.specs.Fault.{fault_of_script};
 
-    ghost from_gives = { λ fault made. made ≡ replay_fault_of fault };
+    ghost from_gives = { λ fault made. made ≡ fault_of_script fault };
+
+    fn from(fault: ScriptFault) -> ReplayFault {
+        match fault {
+            ScriptFault::Line(number) => ReplayFault::Line(number),
+            ScriptFault::NoMemory => ReplayFault::NoMemory,
+        }
+    }
+}
+
+impl From<ConfigFault> for ReplayFault {
+    ghost use Rattle.rsl_app.specs.Fault.{fault_of_config};
+
+    ghost from_gives = { λ fault made. made ≡ fault_of_config fault };
 
     fn from(fault: ConfigFault) -> ReplayFault {
         match fault {
@@ -68,37 +86,10 @@ impl From<AllocError> for ReplayFault {
     }
 }
 
-/// Why a line was not read.
-#[derive(Clone, Copy, Debug, PartialEq, Eq)]
-pub(crate) enum LineFault {
-    /// The line is wrong.
-    Wrong,
-    /// Memory was refused.
-    NoMemory,
-}
+impl From<io::Error> for ReplayFault {
+    ghost from_gives = { λ _ fault. fault ≡ InputOutput };
 
-impl LineFault {
-    /// The fault of the script whose line with this number it is.
-    pub(crate) fn at(self, number: u64) -> ReplayFault {
-        match self {
-            LineFault::Wrong => ReplayFault::Line(number),
-            LineFault::NoMemory => ReplayFault::NoMemory,
-        }
-    }
-}
-
-impl From<NoMemory> for LineFault {
-    ghost from_gives = { λ _ fault. fault ≡ line_no_memory };
-
-    fn from(_refused: NoMemory) -> LineFault {
-        LineFault::NoMemory
-    }
-}
-
-impl<T: Drop> From<AllocFailed<T>> for LineFault {
-    ghost from_gives = { λ _ fault. fault ≡ line_no_memory };
-
-    fn from(_refused: AllocFailed<T>) -> LineFault {
-        LineFault::NoMemory
+    fn from(_failed: io::Error) -> ReplayFault {
+        ReplayFault::InputOutput
     }
 }

@@ -1,24 +1,26 @@
 //! The program `radlimit`: `radlimit replay` reads a script of datagrams from standard input, gives them
 //! to the server one after the other, and prints what it answered to each.
 //!
-//! This crate has the edges: the script, the packets that a script's lines stand for, and what is
-//! printed. `replay` is the whole program over any reader and writer, and returns whatever they do. What
-//! is answered is the business of `run`, over the crates below.
+//! This crate has the edges: what is read, the packets and steps that a script's event lines stand for, and
+//! what is printed. `replay` is the whole program over any reader and writer, and returns whatever they do.
+//! What is answered is the business of `run`, which decides by the session rule (`rsl_rule`), and the
+//! script's grammar that of `rsl_script`.
 #![tactic(auto)]
 
-mod event_line;
+mod access;
+mod accounting;
+mod deciding;
 mod fault;
 mod input;
-mod line;
+mod kept;
 mod printing;
 mod replaying;
-mod request;
 mod run;
-mod script;
 mod step;
+mod stepping;
 #[cfg(test)]
 mod tests;
-mod words;
+mod word;
 
 use replaying::replay;
 use std::env::{Env, FillError};

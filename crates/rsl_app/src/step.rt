@@ -1,3 +1,4 @@
+use crate::kept::Kept;
 use rsl_event::{Dropped, Nas, Port, Said, Source};
 use rsl_wire::Octets;
 
@@ -46,11 +47,11 @@ pub enum Answer {
     Refused,
 }
 
-/// What a run has answered, and what it has counted.
+/// What a run has answered, and what it has kept.
 #[derive(Debug, Drop)]
 pub struct Ran {
     /// One answer for each step, in order.
     pub answers: Vec<Answer>,
-    /// How many accepts each account has, in the order of the configuration.
-    pub accepts: Vec<u64>,
+    /// The events of the steps that were taken, in order.
+    pub kept: Vec<Kept>,
 }

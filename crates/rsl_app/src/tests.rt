@@ -4,6 +4,8 @@
 mod faults;
 mod packets;
 mod rows;
+mod runs;
+mod sessions;
 mod streams;
 
 use crate::fault::ReplayFault;

@@ -12,9 +12,16 @@ use rsl_session::{Entry, Outcome, Session};
 use rsl_wire::NoMemory;
 use std::alloc::Global;
 
-/// What an event does.
+/// What an event does to an account with this past, by the session rule. The past is listed oldest first.
+///
+/// It takes memory for what it looks up, and fails only where memory is refused.
 #[tactic(auto, unfolding(rsl_session::specs::Rule::outcome_of))]
-fn outcome(alloc: Global, rules: &Rules, past: &[Entry], event: &Event) -> Result<Outcome, NoMemory>
+pub fn outcome(
+    alloc: Global,
+    rules: &Rules,
+    past: &[Entry],
+    event: &Event,
+) -> Result<Outcome, NoMemory>
     requires { RulesFit rules.now }
     ensures { IfOk result (λ did. did ≡ outcome_of rules.now (looking_back past.now) event.now) }
 {
@@ -63,8 +70,8 @@ fn past_after(alloc: Global, rules: &Rules, events: &[Event]) -> Result<Vec<Entr
     Ok(past)
 }
 
-/// The decision on an event, by what it did.
-fn decision(outcome: Outcome) -> Decision
+/// The decision on an event, by what it did. This takes no memory.
+pub fn decision(outcome: Outcome) -> Decision
     ensures { result ≡ decision_of outcome }
 {
     match outcome {

@@ -16,4 +16,4 @@ mod same;
 #[cfg(test)]
 mod tests;
 
-pub use decisions::{decide, places};
+pub use decisions::{decide, decision, outcome, places};

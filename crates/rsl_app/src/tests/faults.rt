@@ -20,7 +20,8 @@ fn configuration_lines_are_right_or_wrong(rt: HostRuntime) -> Result<(), Fail> {
         ("set grace 0", true),
         ("set closed 3600", true),
         ("set keep 99", true),
-        ("set shards 1", false),
+        ("set shards 4", true),
+        ("set shards 99", true),
         ("set version 1", false),
         ("set Keep 1", false),
         ("set keep 18446744073709551616", false),
@@ -83,13 +84,48 @@ fn event_lines_are_right_or_wrong(rt: HostRuntime) -> Result<(), Fail> {
         ("raw-acct 0 1.2.3.4 00", true),
         ("raw-acct -1 1.2.3.4 00", false),
         ("raw 0 1.2.3.4 00", false),
-        // Kinds of line that are not there yet.
-        ("start 0 1.2.3.4 n u s", false),
-        ("interim 0 1.2.3.4 n u s", false),
-        ("stop 0 1.2.3.4 n u s", false),
-        ("on 0 1.2.3.4 n", false),
-        ("off 0 1.2.3.4 n", false),
-        ("tick 0", false),
+        ("tick 0", true),
+        ("tick", false),
+        ("tick +1", false),
+        ("tick 0 0", false),
+    ] {
+        assert_line(&rt, line, is_right)?;
+    }
+    Ok(())
+}
+
+#[test]
+fn accounting_lines_are_right_or_wrong(rt: HostRuntime) -> Result<(), Fail> {
+    for (line, is_right) in [
+        ("start 0 1.2.3.4 n u s", true),
+        ("start 0 1.2.3.4 n u s multi=m", true),
+        ("start 0 1.2.3.4 n u s class=18446744073709551615", true),
+        ("start 0 1.2.3.4 n u s multi=m class=1", true),
+        ("start 0 1.2.3.4 n u s class=1 multi=m", false),
+        ("start 0 1.2.3.4 n u s multi=m multi=m", false),
+        ("start 0 1.2.3.4 n u s class=1 class=1", false),
+        ("start 0 1.2.3.4 n u s multi=m class=1 class=1", false),
+        ("start 0 1.2.3.4 n u s multi=", false),
+        ("start 0 1.2.3.4 n u s class=", false),
+        ("start 0 1.2.3.4 n u s class=+1", false),
+        ("start 0 1.2.3.4 n u s class=18446744073709551616", false),
+        ("start 0 1.2.3.4 n u s port=1", false),
+        // Words are by their place.
+        ("start 0 1.2.3.4 n u multi=m", true),
+        ("start 0 1.2.3.4 n u multi=m multi=class=1", true),
+        ("start 0 1.2.3.4 n u", false),
+        ("interim 0 1.2.3.4 - u s multi=m class=1", true),
+        ("interim 0 1.2.3.4 u s", false),
+        ("stop 0 1.2.3.4 n u s", true),
+        ("stop 0 1.2.3.4 n u s multi=m", false),
+        ("stop 0 1.2.3.4 n u s class=1", false),
+        ("on 0 1.2.3.4 n", true),
+        ("on 0 1.2.3.4 -", true),
+        ("on 0 1.2.3.4", false),
+        ("on 0 1.2.3.4 n u", false),
+        ("off 18446744073709551615 1.2.3.4 n", true),
+        ("off 18446744073709551616 1.2.3.4 n", false),
+        ("off 0 1.2.3 n", false),
     ] {
         assert_line(&rt, line, is_right)?;
     }
@@ -145,6 +181,9 @@ fn words_have_the_octets_of_an_attribute(rt: HostRuntime) -> Result<(), Fail> {
         format!(in rt.alloc(); "ask 0 1.2.3.4 n{longest} u pw 1")?,
         format!(in rt.alloc(); "ask 0 1.2.3.4 n u{longest} pw 1")?,
         format!(in rt.alloc(); "ask 0 1.2.3.4 n u p{longest_password} 1")?,
+        format!(in rt.alloc(); "start 0 1.2.3.4 n u s{longest}")?,
+        format!(in rt.alloc(); "start 0 1.2.3.4 n u s multi=m{longest}")?,
+        format!(in rt.alloc(); "on 0 1.2.3.4 n{longest}")?,
     ] {
         assert_line(&rt, line.as_str(), false)?;
     }
@@ -195,6 +234,14 @@ fn configurations_are_refused(rt: HostRuntime) -> Result<(), Fail> {
         (
             "set closed 0\naccount u pw 1\n",
             ConfigFault::BadValue(Field::ClosedSecs),
+        ),
+        (
+            "set shards 0\naccount u pw 1\n",
+            ConfigFault::BadValue(Field::Shards),
+        ),
+        (
+            "set shards 5\naccount u pw 1\n",
+            ConfigFault::BadValue(Field::Shards),
         ),
         // Every bad value comes before what stands twice.
         (

@@ -1,9 +1,9 @@
 use super::HEAD;
-use crate::event_line::steps_of;
-use crate::script::Script;
 use crate::step::Step;
+use crate::stepping::steps_of;
 use rsl_accounts::Config;
 use rsl_event::{Port, Source};
+use rsl_script::Script;
 use rsl_wire::Octets;
 use std::alloc::Global;
 use std::test::Fail;
@@ -17,12 +17,12 @@ struct Datagram {
     octets: Octets,
 }
 
-/// The datagram of an event line.
+/// The datagram of an event line: the last of its steps.
 fn datagram_of(alloc: Global, line: &str) -> Result<Datagram, Fail> {
     let text = format!(in alloc; "{HEAD}{line}")?;
     let script = Script::read(alloc, text.as_bytes())?;
     let config = Config::make(alloc, script.settings, script.clients, script.accounts)?;
-    let mut steps = steps_of(alloc, &config, script.events)?;
+    let mut steps = steps_of(alloc, &config, 1, script.events.as_slice())?;
     if let Some(
         Step::Datagram {
             moment,
@@ -71,6 +71,43 @@ fn lines_are_access_requests(rt: HostRuntime) -> Result<(), Fail> {
     Ok(())
 }
 
+// The octets were computed by another program from the formula of RFC 2866 section 3.
+#[test]
+fn lines_are_accounting_requests(rt: HostRuntime) -> Result<(), Fail> {
+    for (line, expected) in [
+        (
+            "start 0 192.168.1.16 n u s1 multi=m class=3",
+            "04000039d86897cd8ffc42cdd8553f3104c74b1828060000000120036e0103752c04733132036d191200000000000000010000000000000003",
+        ),
+        (
+            "interim 0 192.168.1.16 - u s1",
+            "040000218c691069014eb20b677f4d781f7017be2806000000030103752c047331",
+        ),
+        (
+            "stop 0 192.168.1.16 n u s1",
+            "0400002469ed8530102e4a4d89c13049c8a7e72828060000000220036e0103752c047331",
+        ),
+        (
+            "on 0 192.168.1.16 n",
+            "0400001d52e8592f94d3ebe088794fd4f6c2a0c028060000000720036e",
+        ),
+        (
+            "off 0 192.168.1.16 -",
+            "0400001acaaf8a99a4a6738d98e8426d8f81c0ec280600000008",
+        ),
+        // An address that is no client's has the secret `none`.
+        (
+            "stop 0 10.0.0.9 n u s1",
+            "0400002436371b065764ab55ec950ecae1aecfca28060000000220036e0103752c047331",
+        ),
+    ] {
+        let octets = datagram_of(rt.alloc(), line)?.octets;
+        let printed = hex::encode(rt.alloc(), octets.as_slice())?;
+        assert_eq!(rt; printed.as_str(), expected, "for {line}");
+    }
+    Ok(())
+}
+
 #[test]
 fn lines_are_datagrams_of_their_moment_and_port(rt: HostRuntime) -> Result<(), Fail> {
     for (line, moment, port, address) in [
@@ -83,6 +120,8 @@ fn lines_are_datagrams_of_their_moment_and_port(rt: HostRuntime) -> Result<(), F
         ),
         ("raw-auth 9 1.2.3.4 00", 9, Port::Auth, [1, 2, 3, 4]),
         ("raw-acct 10 1.2.3.4 00", 10, Port::Acct, [1, 2, 3, 4]),
+        ("stop 11 1.2.3.4 n u s", 11, Port::Acct, [1, 2, 3, 4]),
+        ("on 12 1.2.3.4 n", 12, Port::Acct, [1, 2, 3, 4]),
     ] {
         let datagram = datagram_of(rt.alloc(), line)?;
         assert_eq!(rt; datagram.moment, moment, "for {line}");

@@ -1,18 +1,17 @@
-use Rattle.std.proofs.Common.{◌≡◌, ◌∙◌, ap, sym, arith, [], ◌++◌, ◌∷◌, ◌+◌, take, List, ℕ, replicate}
+use Rattle.std.proofs.Common.{arith, [], take}
 use Rattle.std.proofs.lemmas.List.{take_more}
-use Rattle.rsl_app.proofs.Counting.{counts_start, accepts_within}
-use Rattle.rsl_app.proofs.Snoc.{IsRun, run_start, run_more}
-use Rattle.rsl_app.specs.declared.step.Step.{Step}
+use Rattle.rsl_session.proofs.Limit.{places_after-le}
+use Rattle.rsl_app.proofs.Limits.{account_fits}
+use Rattle.rsl_app.proofs.Keeping.{kept_start}
+use Rattle.rsl_app.proofs.Snoc.{run_start, run_more}
 use Rattle.rsl_app.proofs.run.run.Goals as goal
 
 pub loop-step-init : goal.loop-step-init
-loop-step-init c =
-    let none = c.in_ok-answers.ensures.items in
-    record {
-      room = omega (arith, c.in_ok-answers.ensures.exact);
-      len = c.in_ok-answers.ensures.len;
-      so_far = rw none (run_start c.args.config.now c.args.boot c.in_ok-accepts.accepts.items (counts_start c.args.config.now c.args.boot c.in_ok-accepts.accepts.items (c.in_ok-accepts.ensures.items_if_clones_equal (λ y e. e) ∙ ap (λ (n : ℕ). replicate {A = ℕ} n 0) c.accounts.ensures.number)));
-    }
+loop-step-init c = record {
+  room = omega (arith, c.in_ok-answers.ensures.exact);
+  len = c.in_ok-answers.ensures.len;
+  so_far = rw (c.in_ok-answers.ensures.items, c.new-kept.ensures.items) (run_start c.args.config.now c.args.boot [] (kept_start c.args.config.now c.args.boot));
+}
 
 pub loop-step-preserved : goal.loop-step-preserved
 loop-step-preserved c =
@@ -22,8 +21,8 @@ loop-step-preserved c =
     record {
       room = omega (arith, c.push_reserved.ensures.capacity, c.loop-step.invariant.room);
       len = omega (arith, c.push_reserved.ensures.len, c.loop-step.invariant.len);
-      so_far = rw (more, c.push_reserved.ensures.items, ← c.step-item.is) (run_more c.args.config.now c.args.boot [] (take i c.args.steps.now) c.loop-step.answers.items c.step-item.result c.take_step-answer.result c.loop-step.accepts.items c.take_step-answer.new.accepts.items before (c.take_step-answer.ensures _ before.counts));
+      so_far = rw (more, c.push_reserved.ensures.items, ← c.step-item.is) (run_more c.args.config.now c.args.boot [] (take i c.args.steps.now) c.loop-step.answers.items c.step-item.result c.take_step-answer.result c.loop-step.kept.items c.take_step-answer.new.kept.items before (c.take_step-answer.ensures _ before.kept));
     }
 
 pub returns-clause-limit : goal.returns-clause-limit
-returns-clause-limit c = λ account lt. rw (c.loop-step.invariant.so_far.counts.each account lt) (accepts_within _ _)
+returns-clause-limit c = λ account entry is. places_after-le entry.rules _ (account_fits c.args.config.now account entry c.accounts-accounts.ensures.limits is)

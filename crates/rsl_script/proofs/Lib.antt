@@ -1,0 +1,9 @@
+pub mod Numbers
+pub mod Addresses
+pub mod Behind
+pub mod Printed
+pub mod Mapped
+pub mod Fits
+pub mod Joined
+pub mod Requests
+pub mod Taken

@@ -1,0 +1,7 @@
+-- A test of words that are lent.
+use Rattle.std.proofs.Common.{◌≡◌, ◌&&◌, Bool, List, [], ◌∷◌, map, refl, ap}
+use Rattle.std.specs.List.{list_all}
+
+pub list_all_map : {X Y : Type 0} (p : Y → Bool) (f : X → Y) (xs : List X) → list_all (λ x. p (f x)) xs ≡ list_all p (map f xs)
+list_all_map p f [] = refl
+list_all_map p f (x ∷ xs) = ap (λ b. p (f x) && b) (list_all_map p f xs)

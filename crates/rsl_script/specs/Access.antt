@@ -1,0 +1,39 @@
+-- The Access-Request of a line `ask` or `chap`: its words behind the moment are CLIENT NAS NAME PASSWORD ID.
+use Rattle.std.specs.Prelude.{ℕ, List, [], ◌∷◌, codes, Option, None, Some}
+use Rattle.std.specs.List.{join_with_byte}
+use Rattle.rsl_accounts.specs.Address.{address_of}
+use Rattle.rsl_script.specs.declared.event_line.Happening.{Happening}
+use Rattle.rsl_script.specs.declared.event_line.Happening.TheVariants.{Access}
+use Rattle.rsl_script.specs.declared.request.AccessRequest.{AccessRequest}
+use Rattle.rsl_script.specs.declared.request.Method.{Method}
+use Rattle.rsl_script.specs.declared.request.Method.TheVariants.{Pap, Chap}
+use Rattle.rsl_script.specs.Fitting.{fitting_access}
+use Rattle.rsl_script.specs.Reads.{◌>>=◌}
+use Rattle.rsl_script.specs.Values.{id_of, name_of, nas_of, password_of}
+
+-- the first word of the line
+abbrev pub word_of : Method → List ℕ
+word_of Pap = codes "ask"
+word_of Chap = codes "chap"
+
+-- the line without its moment: its words, joined by one space
+unfoldable pub text_without_moment : Method → (words : List (List ℕ)) → List ℕ
+text_without_moment method words = join_with_byte 32 (word_of method ∷ words)
+
+-- the request that NAS NAME PASSWORD ID say, on a line with this text
+unfoldable pub access_request : Method → (text : List ℕ) → (words : List (List ℕ)) → Option AccessRequest
+access_request method text (nas ∷ name ∷ password ∷ id ∷ []) = do
+  nas ← nas_of nas
+  name ← name_of name
+  password ← password_of password
+  id ← id_of id
+  fitting_access (record { method = method; text = text; nas = nas; name = name; password = password; id = id })
+access_request method text _ = None
+
+-- what the words behind the moment say
+unfoldable pub access_of : Method → (words : List (List ℕ)) → Option Happening
+access_of method [] = None
+access_of method (client ∷ rest) = do
+  address ← address_of client
+  request ← access_request method (text_without_moment method (client ∷ rest)) rest
+  Some (Access address request)

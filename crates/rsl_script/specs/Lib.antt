@@ -1,0 +1,11 @@
+pub mod Reads
+pub mod Words
+pub mod Values
+pub mod Verb
+pub mod Fitting
+pub mod Access
+pub mod Accounting
+pub mod Event
+pub mod Line
+pub mod Script
+pub mod Taking

@@ -1,0 +1,33 @@
+-- What a script holds with one line more.
+use Rattle.std.specs.Prelude.{◌&&◌, nat_lt, if◌then◌else◌, ◌++◌, length, Option, None, Some, option_to_list, option_and_then, unwrap_or}
+use Rattle.rsl_accounts.specs.declared.settings.Settings.{Settings}
+use Rattle.rsl_script.specs.declared.line.Line.{Line}
+use Rattle.rsl_script.specs.declared.verb.Setting.TheVariants.{Shards, Reserve, Live, Grace, Closed, Keep}
+use Rattle.rsl_script.specs.Script.{Contents, account_in, client_in, event_in, is_configuration, value_in}
+
+abbrev pub with_setting : Settings → Line → Settings
+with_setting settings line = record {
+  version = settings.version;
+  shards = unwrap_or (value_in Shards line) settings.shards;
+  reserve = unwrap_or (value_in Reserve line) settings.reserve;
+  live = unwrap_or (value_in Live line) settings.live;
+  grace = unwrap_or (value_in Grace line) settings.grace;
+  closed = unwrap_or (value_in Closed line) settings.closed;
+  keep = unwrap_or (value_in Keep line) settings.keep;
+}
+
+abbrev pub with_line : Contents → Line → Contents
+with_line held line = record {
+  settings = with_setting held.settings line;
+  clients = held.clients ++ option_to_list (client_in line);
+  accounts = held.accounts ++ option_to_list (account_in line);
+  events = held.events ++ option_to_list (event_in line);
+}
+
+-- a line of the configuration behind an event line is not taken
+abbrev pub taken : Contents → Line → Option Contents
+taken held line = if is_configuration line && nat_lt 0 (length held.events) then None else Some (with_line held line)
+
+-- nor is a line that says nothing right
+unfoldable pub taken_said : Contents → Option Line → Option Contents
+taken_said held said = option_and_then (taken held) said

@@ -1,0 +1,43 @@
+//! The script of a replay: a text whose first lines are the settings, clients and accounts of a
+//! configuration, and whose further lines say what happens and when.
+//!
+//! `Script::read` answers exactly what its definition says, `script_of` of `specs/Script.antt`: the
+//! script of a text whose lines are all right, or the number of its first wrong line; or it answers that
+//! memory was refused. What a line says stands in `specs/Line.antt`, and behind it `specs/Event.antt`,
+//! `specs/Access.antt` and `specs/Accounting.antt`; the values of words in `specs/Values.antt`.
+//!
+//! | words of a line | says |
+//! |---|---|
+//! | `set NAME VALUE` | a setting has this value; the last line of a name counts |
+//! | `client ADDRESS SECRET` | there is this client |
+//! | `account NAME PASSWORD PLACES [PORTS]` | there is this account, of one port if no `PORTS` are given |
+//! | `ask MOMENT CLIENT NAS NAME PASSWORD ID`, `chap` the same | an Access-Request comes |
+//! | `start MOMENT CLIENT NAS NAME SESSION [multi=M] [class=N]`, `interim` the same | an Accounting-Request comes |
+//! | `stop MOMENT CLIENT NAS NAME SESSION` | the same |
+//! | `on MOMENT CLIENT NAS`, `off` the same | the same |
+//! | `raw-auth MOMENT CLIENT HEX`, `raw-acct` the same | a datagram comes to that port |
+//! | `tick MOMENT` | time passes |
+//!
+//! A text is cut into lines at each LF, and a line into words at each space. Every octet of a line is 0x20
+//! to 0x7E, and no word is empty. An empty line says nothing, nor does one that begins with `#`. Lines of
+//! the configuration stand before the first of the others. Lines are numbered from 1.
+#![tactic(auto)]
+
+mod access;
+mod accounting;
+mod event_line;
+mod fault;
+mod happening;
+mod line;
+mod request;
+mod script;
+#[cfg(test)]
+mod tests;
+mod values;
+mod verb;
+mod words;
+
+pub use event_line::{EventLine, Happening};
+pub use fault::ScriptFault;
+pub use request::{AccessRequest, AccountingRequest, Method, Status};
+pub use script::Script;

@@ -1,0 +1,151 @@
+ghost use Rattle.std.specs.Prelude.{◌≡◌, IfOk, map};
+ghost use Rattle.rsl_script.specs.Line.{account_line, account_with, client_line, line_of, said_about, said_in, set_line};
+ghost use Rattle.rsl_script.specs.Reads.{Reads};
+
+use crate::event_line::EventLine;
+use crate::fault::LineFault;
+use crate::happening::event_of;
+use crate::values::{address_of, number_of};
+use crate::verb::{Setting, Verb, setting_of, verb_of};
+use crate::words::{are_words, is_silent, text_of, words_of};
+use rsl_accounts::{Client, Entry, Rules, Text};
+use rsl_wire::NoMemory;
+use std::alloc::Global;
+
+/// What a line of a script says.
+#[derive(Drop)]
+pub(crate) enum Line {
+    /// Nothing: the line is empty, or a comment.
+    Silent,
+    /// A setting has this value.
+    Set(Setting, u64),
+    /// There is this client.
+    Client(Client),
+    /// There is this account.
+    Account(Entry),
+    /// This happens.
+    Event(EventLine),
+}
+
+impl Line {
+    /// Reads a line.
+    #[tactic(auto, unfolding(crate::specs::Line::line_of))]
+    pub(crate) fn read(alloc: Global, octets: &[u8]) -> Result<Line, LineFault>
+        ensures { Reads (line_of octets.now) result }
+    {
+        let line = text_of(octets).ok_or(LineFault::Wrong)?;
+        if is_silent(line) {
+            return Ok(Line::Silent);
+        }
+        let words = words_of(alloc, line)?;
+        if are_words(words.as_slice()) {
+            said_in(alloc, words.as_slice())
+        } else {
+            Err(LineFault::Wrong)
+        }
+    }
+}
+
+/// What the words of a line say.
+#[tactic(auto, unfolding(crate::specs::Line::said_in))]
+fn said_in(alloc: Global, words: &[&str]) -> Result<Line, LineFault>
+    ensures { Reads (said_in (map (λ word. word.now) words.now)) result }
+{
+    match words {
+        [] => Err(LineFault::Wrong),
+        [word, rest @ ..] => {
+            let verb = verb_of(word).ok_or(LineFault::Wrong)?;
+            said_about(alloc, verb, rest)
+        }
+    }
+}
+
+/// What the words behind the first say.
+#[tactic(auto, unfolding(crate::specs::Line::said_about))]
+fn said_about(alloc: Global, verb: Verb, words: &[&str]) -> Result<Line, LineFault>
+    ensures { Reads (said_about verb (map (λ word. word.now) words.now)) result }
+{
+    match verb {
+        Verb::Set => set_line(words),
+        Verb::Client => client_line(alloc, words),
+        Verb::Account => account_line(alloc, words),
+        Verb::Event(kind) => Ok(Line::Event(event_of(alloc, kind, words)?)),
+    }
+}
+
+/// A setting: `NAME VALUE`.
+#[tactic(auto, unfolding(crate::specs::Line::set_line))]
+fn set_line(words: &[&str]) -> Result<Line, LineFault>
+    ensures { Reads (set_line (map (λ word. word.now) words.now)) result }
+{
+    match words {
+        [name, value] => {
+            let setting = setting_of(name).ok_or(LineFault::Wrong)?;
+            let value = number_of(value).ok_or(LineFault::Wrong)?;
+            Ok(Line::Set(setting, value))
+        }
+        _ => Err(LineFault::Wrong),
+    }
+}
+
+/// A client: `ADDRESS SECRET`.
+#[tactic(auto, unfolding(crate::specs::Line::client_line))]
+fn client_line(alloc: Global, words: &[&str]) -> Result<Line, LineFault>
+    ensures { Reads (client_line (map (λ word. word.now) words.now)) result }
+{
+    match words {
+        [address, secret] => Ok(Line::Client(Client {
+            address: address_of(address).ok_or(LineFault::Wrong)?,
+            secret: Text::from_str(alloc, secret)?,
+        })),
+        _ => Err(LineFault::Wrong),
+    }
+}
+
+/// An account: `NAME PASSWORD PLACES [PORTS]`.
+#[tactic(auto, unfolding(crate::specs::Line::account_line))]
+fn account_line(alloc: Global, words: &[&str]) -> Result<Line, LineFault>
+    ensures { Reads (account_line (map (λ word. word.now) words.now)) result }
+{
+    match words {
+        [name, password, places] => {
+            let places = number_of(places).ok_or(LineFault::Wrong)?;
+            Ok(Line::Account(account_with(alloc, name, password, places, 1)?))
+        }
+        [name, password, places, ports] => {
+            let places = number_of(places).ok_or(LineFault::Wrong)?;
+            let ports = number_of(ports).ok_or(LineFault::Wrong)?;
+            Ok(Line::Account(account_with(alloc, name, password, places, ports)?))
+        }
+        _ => Err(LineFault::Wrong),
+    }
+}
+
+/// An account whose times are those of the settings. It fails only where memory is refused.
+fn account_with(
+    alloc: Global,
+    name: &str,
+    password: &str,
+    places: u64,
+    ports: u64,
+) -> Result<Entry, NoMemory>
+    ensures { IfOk result (λ entry. entry ≡ account_with name.now password.now places ports) }
+{
+    Ok(Entry {
+        name: Text::from_str(alloc, name)?,
+        password: Text::from_str(alloc, password)?,
+        rules: Rules {
+            places,
+            ports,
+            reserve: 0,
+            live: 0,
+            grace: 0,
+            closed: 0,
+            keep: 0,
+        },
+        service_type: None,
+        framed_protocol: None,
+        session_timeout: None,
+        idle_timeout: None,
+    })
+}

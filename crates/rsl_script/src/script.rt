@@ -1,0 +1,101 @@
+ghost use Rattle.std.specs.Prelude.{◌≡◌, ◌≢◌, None, Some, Ok, Err, [], IfErr, IfOk, IsErrOf, OnOk};
+ghost use Rattle.rsl_script.specs.Line.{line_of};
+ghost use Rattle.rsl_script.specs.Script.{contents, contents_of, script_of};
+ghost use Rattle.rsl_script.specs.Taking.{taken, taken_said, with_line};
+
+use crate::event_line::EventLine;
+use crate::fault::{LineFault, ScriptFault};
+use crate::line::Line;
+use crate::verb::Setting;
+use rsl_accounts::{Client, Entry, Settings};
+use std::alloc::Global;
+
+/// A script whose lines are all right.
+#[derive(Debug, Drop)]
+pub struct Script {
+    /// The settings: the last `set` of each counts.
+    pub settings: Settings,
+    /// The clients, in the order of their lines.
+    pub clients: Vec<Client>,
+    /// The accounts, in the order of their lines. Their times are 0, for the configuration to fill in.
+    pub accounts: Vec<Entry>,
+    /// What happens, in the order of its lines.
+    pub events: Vec<EventLine>,
+}
+
+impl Script {
+    /// The script that a text writes: it holds exactly what its lines say. `Line` is given where a line
+    /// is wrong, with the number of the first that is, and never else. `NoMemory` comes where memory is
+    /// refused before that.
+    pub fn read(alloc: Global, text: &[u8]) -> Result<Script, ScriptFault>
+        ensures script { IfOk result (λ script. script_of text.now ≡ Ok (contents script)) }
+        ensures line { IfErr result (λ fault. fault ≢ ScriptFault.NoMemory → script_of text.now ≡ Err fault) }
+    {
+        let mut script = Script::new(alloc);
+        for (index, line) in text.split(|octet| *octet == b'\n').enumerate() {
+            if let Err(fault) = script.read_line(alloc, line) {
+                return Err(fault.at(index as u64 + 1));
+            }
+        }
+        Ok(script)
+    }
+
+    /// A script without lines, which has the settings of a script that gives none.
+    #[tactic(auto, unfolding(crate::specs::Script::contents_of))]
+    fn new(alloc: Global) -> Script
+        ensures { contents result ≡ contents_of [] }
+    {
+        Script {
+            settings: Settings {
+                version: 1,
+                shards: 1,
+                reserve: 60,
+                live: 900,
+                grace: 900,
+                closed: 3600,
+                keep: 10,
+            },
+            clients: Vec::new(alloc),
+            accounts: Vec::new(alloc),
+            events: Vec::new(alloc),
+        }
+    }
+
+    /// Takes the next line of the text.
+    #[tactic(auto, unfolding(crate::specs::Taking::taken_said))]
+    fn read_line(&mut self, alloc: Global, line: &[u8]) -> Result<(), LineFault>
+        ensures taken { OnOk result (taken_said (contents self.old) (line_of line.now) ≡ Some (contents self.new)) }
+        ensures wrong { IsErrOf result LineFault.Wrong → taken_said (contents self.old) (line_of line.now) ≡ None }
+    {
+        self.take(Line::read(alloc, line)?)
+    }
+
+    /// Takes what a line says. A line of the configuration behind an event line is wrong.
+    fn take(&mut self, line: Line) -> Result<(), LineFault>
+        ensures taken { OnOk result (taken (contents self.old) line ≡ Some (contents self.new)) }
+        ensures wrong { IsErrOf result LineFault.Wrong → taken (contents self.old) line ≡ None }
+    {
+        match line {
+            Line::Silent => {}
+            Line::Event(event) => self.events.push(event)?,
+            _ if !self.events.is_empty() => return Err(LineFault::Wrong),
+            Line::Set(setting, value) => self.set(setting, value),
+            Line::Client(client) => self.clients.push(client)?,
+            Line::Account(account) => self.accounts.push(account)?,
+        }
+        Ok(())
+    }
+
+    fn set(&mut self, setting: Setting, value: u64)
+        ensures { contents self.new ≡ with_line (contents self.old) (Line.Set setting value) }
+    {
+        match setting {
+            Setting::Shards => self.settings.shards = value,
+            Setting::Reserve => self.settings.reserve = value,
+            Setting::Live => self.settings.live = value,
+            Setting::Grace => self.settings.grace = value,
+            Setting::Closed => self.settings.closed = value,
+            Setting::Keep => self.settings.keep = value,
+        }
+    }
+}

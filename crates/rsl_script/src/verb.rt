@@ -1,0 +1,87 @@
+ghost use Rattle.std.specs.Prelude.{◌≡◌};
+ghost use Rattle.rsl_script.specs.Verb.{verb_of, setting_of};
+
+use crate::request::{Method, Status};
+use rsl_event::Port;
+
+/// What a line is about, by its first word.
+#[derive(Clone, Copy, Debug, PartialEq, Eq)]
+pub(crate) enum Verb {
+    /// A setting.
+    Set,
+    /// A client.
+    Client,
+    /// An account.
+    Account,
+    /// Something that happens.
+    Event(Kind),
+}
+
+/// What kind of thing happens.
+#[derive(Clone, Copy, Debug, PartialEq, Eq)]
+pub(crate) enum Kind {
+    /// An Access-Request comes.
+    Access(Method),
+    /// An Accounting-Request comes.
+    Accounting(Status),
+    /// A datagram comes to this port, whose octets are given.
+    Raw(Port),
+    /// Time passes.
+    Tick,
+}
+
+/// A setting that a script may give.
+#[derive(Clone, Copy, Debug, PartialEq, Eq)]
+pub(crate) enum Setting {
+    /// How many shards there are.
+    Shards,
+    /// Seconds for which an accept reserves a place.
+    Reserve,
+    /// Seconds from its last packet for which a session counts as live.
+    Live,
+    /// Seconds for which a session that is no longer live keeps its place.
+    Grace,
+    /// Seconds for which a stopped session stays closed.
+    Closed,
+    /// Seconds for which an answer is given again.
+    Keep,
+}
+
+/// What a line with this first word is about.
+#[tactic(auto, unfolding(crate::specs::Verb::verb_of))]
+pub(crate) fn verb_of(word: &str) -> Option<Verb>
+    ensures { result ≡ verb_of word.now }
+{
+    match word {
+        "set" => Some(Verb::Set),
+        "client" => Some(Verb::Client),
+        "account" => Some(Verb::Account),
+        "ask" => Some(Verb::Event(Kind::Access(Method::Pap))),
+        "chap" => Some(Verb::Event(Kind::Access(Method::Chap))),
+        "start" => Some(Verb::Event(Kind::Accounting(Status::Start))),
+        "interim" => Some(Verb::Event(Kind::Accounting(Status::Interim))),
+        "stop" => Some(Verb::Event(Kind::Accounting(Status::Stop))),
+        "on" => Some(Verb::Event(Kind::Accounting(Status::On))),
+        "off" => Some(Verb::Event(Kind::Accounting(Status::Off))),
+        "raw-auth" => Some(Verb::Event(Kind::Raw(Port::Auth))),
+        "raw-acct" => Some(Verb::Event(Kind::Raw(Port::Acct))),
+        "tick" => Some(Verb::Event(Kind::Tick)),
+        _ => None,
+    }
+}
+
+/// The setting of a name.
+#[tactic(auto, unfolding(crate::specs::Verb::setting_of))]
+pub(crate) fn setting_of(word: &str) -> Option<Setting>
+    ensures { result ≡ setting_of word.now }
+{
+    match word {
+        "shards" => Some(Setting::Shards),
+        "reserve" => Some(Setting::Reserve),
+        "live" => Some(Setting::Live),
+        "grace" => Some(Setting::Grace),
+        "closed" => Some(Setting::Closed),
+        "keep" => Some(Setting::Keep),
+        _ => None,
+    }
+}
