@@ -1,7 +1,8 @@
--- The fresh asks and the stops of a past, for loops that go over the entries from the newest to the oldest.
-use Rattle.std.proofs.Common.{◌≡◌, ℕ, zero, suc, ◌+◌, ◌-◌, ◌<◌, ◌≤◌, List, [], ◌∷◌, ◌++◌, take, drop, get_or, length, refl, ap, sym, ◌∙◌, subst, arith}
-use Rattle.std.specs.Prelude.{Option, Some, None}
+-- The last fresh asks and stops of a past, for loops that go over the entries from the newest to the oldest.
+use Rattle.std.proofs.Common.{◌≡◌, ℕ, ◌+◌, ◌-◌, ◌<◌, ◌≤◌, List, [], ◌∷◌, ◌++◌, take, drop, get_or, length, refl, ap, sym, ◌∙◌, arith}
+use Rattle.std.specs.Prelude.{Some, None}
 use Rattle.std.specs.List.{cons_option}
+use Rattle.std.proofs.Math.Seq.{take-append_seam}
 use Rattle.std.proofs.lemmas.List.{drop_more, drop_all, take_all, take_rest, append-nil, append_assoc}
 use Rattle.rsl_session.specs.declared.entry.Entry.{Entry}
 use Rattle.rsl_session.specs.declared.kept.KeptAsk.{KeptAsk}
@@ -37,14 +38,28 @@ pub asks_no : (xs : List Entry) (n i now : ℕ) (x : Entry) (since : List Entry)
 asks_no xs n i now x since within step is at entries none =
     rw step (asks_more xs i x within is ∙ rw (sym at, sym entries, sym none) refl)
 
-pub asks_none : (since : List Entry) → fresh_asks since (looking_back []) ≡ []
+asks_none : (since : List Entry) → fresh_asks since (looking_back []) ≡ []
 unfolding fresh_asks
 asks_none since = ap (fresh_asks since) looking_back-none
+
+pub asks_end : (xs : List Entry) (n : ℕ) → n ≡ 0 → fresh_asks (drop n xs) (looking_back (take n xs)) ≡ []
+asks_end xs n none = rw none (asks_none xs)
 
 pub asks_all : (xs : List Entry) (n : ℕ) → length xs ≤ n → fresh_asks (drop n xs) (looking_back (take n xs)) ≡ fresh_asks [] (looking_back xs)
 asks_all xs n all = rw (drop_all n xs all, take_all n xs all) refl
 
-pub ruleset asks_steps = (asks_yes, asks_no, asks_none, asks_all, take_rest, append-nil)
+-- a loop that has found enough, or has gone over all
+pub taken_enough : {A : Type 0} (n : ℕ) (found rest whole : List A) → found ++ rest ≡ whole → length found ≤ n → n ≤ length found → found ≡ take n whole
+taken_enough n found rest whole is most enough =
+    let same : n ≡ length found = omega arith in
+    rw (sym is, same) (sym (take-append_seam found rest))
+
+pub taken_all : {A : Type 0} (n : ℕ) (found rest whole : List A) → found ++ rest ≡ whole → length found ≤ n → rest ≡ [] → found ≡ take n whole
+taken_all n found rest whole is most none =
+    let all : found ≡ whole = sym (append-nil found) ∙ ap (λ ys. found ++ ys) (sym none) ∙ is in
+    rw (sym all) (sym (take_all n found most))
+
+pub ruleset asks_steps = (asks_yes, asks_no, asks_all, take_rest)
 
 stops_cons : (since : List Entry) (entry : Entry) (past : Past) → stops since (entry ∷ past) ≡ cons_option (kept_stop (clock (entry ∷ past)) since entry.event.act) (stops (entry ∷ since) past)
 unfolding stops
@@ -68,14 +83,17 @@ pub stops_no : (xs : List Entry) (n i now : ℕ) (x : Entry) (since : List Entry
 stops_no xs n i now x since within step is at entries none =
     rw step (stops_more xs i x within is ∙ rw (sym at, sym entries, sym none) refl)
 
-pub stops_none : (since : List Entry) → stops since (looking_back []) ≡ []
+stops_none : (since : List Entry) → stops since (looking_back []) ≡ []
 unfolding stops
 stops_none since = ap (stops since) looking_back-none
+
+pub stops_end : (xs : List Entry) (n : ℕ) → n ≡ 0 → stops (drop n xs) (looking_back (take n xs)) ≡ []
+stops_end xs n none = rw none (stops_none xs)
 
 pub stops_all : (xs : List Entry) (n : ℕ) → length xs ≤ n → stops (drop n xs) (looking_back (take n xs)) ≡ stops [] (looking_back xs)
 stops_all xs n all = rw (drop_all n xs all, take_all n xs all) refl
 
-pub ruleset stops_steps = (stops_yes, stops_no, stops_none, stops_all, take_rest, append-nil)
+pub ruleset stops_steps = (stops_yes, stops_no, stops_all, take_rest)
 
 pub asks_pushed : (xs : List Entry) (n now : ℕ) (x : Entry) (ask : KeptAsk) (old new whole : List KeptAsk) → 0 < n → n ≤ length xs → x ≡ get_or xs (n - 1) x
     → now ≡ clock (looking_back (take (n - 1 + 1) xs))

@@ -1,11 +1,11 @@
 -- The definitions one entry further on, for loops that go over the entries in the order in which they came.
-use Rattle.std.proofs.Common.{◌≡◌, ℕ, zero, suc, ◌+◌, ◌-◌, ◌<◌, ◌≤◌, max, List, [], ◌∷◌, ◌++◌, reverse, take, drop, get_or, length, Bool, true, false, cond, ◌&&◌, ◌||◌, not, refl, ap, sym, ◌∙◌, subst, inl, inr, arith, add-one, eqb, leb, ltb, append-nil}
-use Rattle.std.specs.Prelude.{Option, Some, None, is_some, IfSome, filter, nat_le, count_by}
+use Rattle.std.proofs.Common.{◌≡◌, ℕ, zero, suc, ◌+◌, ◌-◌, ◌<◌, ◌≤◌, max, List, [], ◌∷◌, ◌++◌, reverse, take, drop, get_or, length, true, false, cond, ◌&&◌, ◌||◌, not, refl, ap, sym, ◌∙◌, inl, inr, arith, add-one, eqb, leb, ltb, append-nil}
+use Rattle.std.specs.Prelude.{Option, Some, None, is_some, IfSome, filter}
 use Rattle.std.specs.Borrow.{Bor}
 use Rattle.std.specs.List.{slice_get}
 use Rattle.std.specs.Option.{option_or, option_copied}
 use Rattle.std.proofs.lemmas.Option.{slice_get-get_or}
-use Rattle.std.proofs.lemmas.Bool.{cases_eq, ltb-true, ltb-false, le-leb, lt-leb, eq-eqb, ne_eqb, or_left, false≢true}
+use Rattle.std.proofs.lemmas.Bool.{cases_eq, ltb-true, ltb-false, le-leb, lt-leb, eq-eqb, ne_eqb}
 use Rattle.std.proofs.lemmas.List.{get_or_default, take_more, reverse-append, length-reverse, length-take-le, take_all, take-append-drop}
 use Rattle.std.proofs.lemmas.List.Elements.{filter-append}
 use Rattle.std.proofs.lemmas.List.Sums.{sum_by-cons}
@@ -19,6 +19,8 @@ use Rattle.rsl_session.specs.Link.{links, opens, number_of}
 use Rattle.rsl_session.specs.Binding.{touches, bound, bound_by, bundle_at, bundled_by}
 use Rattle.rsl_session.specs.Touch.{touched}
 use Rattle.rsl_session.specs.Held.{ends, freed, held}
+use Rattle.rsl_rule.specs.Standing.{standing_of}
+use Rattle.rsl_rule.specs.declared.standing.Standing.{Standing}
 use Rattle.rsl_session.specs.Ask.{accepts}
 
 pub looking_back-more : (xs : List Entry) (i : ℕ) (x : Entry) → i < length xs → x ≡ get_or xs i x → looking_back (take (i + 1) xs) ≡ x ∷ looking_back (take i xs)
@@ -52,26 +54,31 @@ clock_more xs i x within is = ap clock (looking_back-more xs i x within is)
 
 pub ruleset clock_steps = (clock_none, clock_more, looking_back_all)
 
--- the last touch
-pub touched_none : (link : ℕ) → touched link (looking_back []) ≡ 0
-unfolding touched
-touched_none link = ap (touched link) looking_back-none
+-- how a link stands
+pub standing_none : (link : ℕ) → standing_of link (looking_back []) ≡ record { clock = 0; touched = 0; session = None }
+unfolding standing_of clock touched bound
+standing_none link = ap (standing_of link) looking_back-none
 
-pub touched_more : (link : ℕ) (xs : List Entry) (i : ℕ) (x : Entry) → i < length xs → x ≡ get_or xs i x
-    → touched link (looking_back (take (i + 1) xs)) ≡ cond (touches link (i + 1) x.outcome) (clock (looking_back (take (i + 1) xs))) (touched link (looking_back (take i xs)))
-unfolding touched
-touched_more link xs i x within is =
-    rw (looking_back-more xs i x within is, length-looking_back xs i (omega arith), add-one) refl
+pub standing_next : (link : ℕ) (xs : List Entry) (x : Entry)
+    → standing_of link (x ∷ looking_back xs) ≡ record {
+      clock = max (clock (looking_back xs)) x.event.moment;
+      touched = cond (touches link (length xs + 1) x.outcome) (max (clock (looking_back xs)) x.event.moment) (touched link (looking_back xs));
+      session = option_or (bound link (looking_back xs)) (bound_by link (length xs + 1) x);
+    }
+unfolding standing_of clock touched bound
+standing_next link xs x = rw (length_all xs, add-one) refl
 
-pub touched_yes : (link : ℕ) (xs : List Entry) (i : ℕ) (x : Entry) → i < length xs → x ≡ get_or xs i x → touches link (i + 1) x.outcome ≡ true
-    → touched link (looking_back (take (i + 1) xs)) ≡ clock (looking_back (take (i + 1) xs))
-touched_yes link xs i x within is here = touched_more link xs i x within is ∙ rw here refl
+pub standing_pushed : (link : ℕ) (xs : List Entry) (x : Entry) (before : Standing) (now touch : ℕ) (session : Option Session) → before ≡ standing_of link (looking_back xs)
+    → now ≡ max before.clock x.event.moment → touch ≡ cond (touches link (length xs + 1) x.outcome) now before.touched → session ≡ option_or before.session (bound_by link (length xs + 1) x)
+    → (let next : Standing = record { clock = now; touched = touch; session = session } in next) ≡ standing_of link (x ∷ looking_back xs)
+unfolding standing_of
+standing_pushed link xs x before now touch session is at last found =
+    rw (last, at, found, is) (sym (standing_next link xs x))
 
-pub touched_no : (link : ℕ) (xs : List Entry) (i : ℕ) (x : Entry) → i < length xs → x ≡ get_or xs i x → touches link (i + 1) x.outcome ≡ false
-    → touched link (looking_back (take (i + 1) xs)) ≡ touched link (looking_back (take i xs))
-touched_no link xs i x within is other = touched_more link xs i x within is ∙ rw other refl
+pub standing_more : (link : ℕ) (xs : List Entry) (i : ℕ) (x : Entry) → i < length xs → x ≡ get_or xs i x → standing_of link (looking_back (take (i + 1) xs)) ≡ standing_of link (x ∷ looking_back (take i xs))
+standing_more link xs i x within is = ap (standing_of link) (looking_back-more xs i x within is)
 
-pub ruleset touched_steps = (touched_none, touched_yes, touched_no, looking_back_all)
+pub ruleset standing_steps = (standing_none, standing_next, standing_more, looking_back_all)
 
 -- the entry at a place
 pub entry_at_none : (past : Past) → entry_at 0 past ≡ None

@@ -1,4 +1,4 @@
-ghost use Rattle.std.specs.Prelude.{◌≡◌, [], ◌<◌, IfOk, length};
+ghost use Rattle.std.specs.Prelude.{◌≡◌, [], ◌<◌, IfOk, length, take};
 ghost use Rattle.std.specs.Option.{option_map};
 ghost use Rattle.rsl_accounts.specs.Limits.{RulesFit};
 ghost use Rattle.rsl_session.specs.Past.{looking_back};
@@ -49,41 +49,41 @@ fn decision_of_fresh(outcome: Outcome) -> Option<Decision>
     }
 }
 
-/// A fresh ask as it is kept, with the clock at it and the entries since.
+/// A fresh ask as it is kept, by the past up to it and the entries since.
 fn keep_ask(
     alloc: Global,
-    now: u64,
+    past: &[Entry],
     since: &[Entry],
     act: &Act,
     decision: Option<Decision>,
 ) -> Result<Option<KeptAsk>, NoMemory>
-    ensures { IfOk result (λ ask. ask ≡ kept_ask now since.now act.now decision) }
+    ensures { IfOk result (λ ask. ask ≡ kept_ask (clock (looking_back past.now)) since.now act.now decision) }
 {
     match (act, decision) {
         (Act::Ask { key, nas }, Some(decision)) => Ok(Some(KeptAsk {
             key: *key,
             nas: nas.try_copy(alloc)?,
             decision,
-            at: now,
+            at: clock_of(past),
             swept: is_swept_in(since, nas),
         })),
         _ => Ok(None),
     }
 }
 
-/// The fresh asks of a past, newest first.
+/// The last fresh asks of a past, newest first, as many as can be repeated.
 #[tactic(auto, using(crate::proofs::Kept::asks_steps))]
 fn asks_of(alloc: Global, past: &[Entry]) -> Result<Vec<KeptAsk>, NoMemory>
-    ensures { IfOk result (λ asks. asks.items ≡ fresh_asks [] (looking_back past.now)) }
+    ensures { IfOk result (λ asks. asks.items ≡ take KEPT_ASKS (fresh_asks [] (looking_back past.now))) }
 {
     let mut asks = Vec::new(alloc);
     let mut at = past.len();
-    while at > 0 {
+    while at > 0 && asks.len() < KEPT_ASKS {
         at -= 1;
         let entry = &past[at];
-        let now = clock_of(&past[..at + 1]);
         let decision = decision_of_fresh(entry.outcome);
-        if let Some(ask) = keep_ask(alloc, now, &past[at + 1..], &entry.event.act, decision)? {
+        let act = &entry.event.act;
+        if let Some(ask) = keep_ask(alloc, &past[..at + 1], &past[at + 1..], act, decision)? {
             asks.push(ask)?;
         }
     }
@@ -111,7 +111,7 @@ fn repeated_decision(
 {
     let now = clock_with(past, event);
     let asks = asks_of(alloc, past)?;
-    for ask in &asks[..asks.len().min(KEPT_ASKS)] {
+    for ask in &asks {
         if is_repeat_of(rules, key, now, ask) {
             return Ok(Some(ask.decision));
         }

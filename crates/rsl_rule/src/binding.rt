@@ -1,9 +1,10 @@
 ghost use Rattle.std.specs.Prelude.{◌≡◌, IfOk, is_some};
+ghost use Rattle.std.specs.Option.{option_or};
 ghost use Rattle.rsl_session.specs.Past.{looking_back};
 ghost use Rattle.rsl_session.specs.Binding.{binds, session_of, bundle_of, bound_by, bundled_by, bound, bundle_at, is_bound_to, is_reserved};
 
 use crate::link::touches_link;
-use crate::same::is_same_session;
+use crate::same::is_session_at;
 use rsl_event::Act;
 use rsl_session::{Bundle, Entry, Outcome, Session};
 use rsl_wire::NoMemory;
@@ -87,6 +88,22 @@ fn bundle_touched(
     }
 }
 
+/// The session that a link is bound to once the entry at a place has come, by the one before.
+pub(crate) fn session_after(
+    alloc: Global,
+    bound: Option<Session>,
+    link: usize,
+    place: usize,
+    entry: &Entry,
+) -> Result<Option<Session>, NoMemory>
+    ensures { IfOk result (λ session. session ≡ option_or bound (bound_by link place entry.now)) }
+{
+    match bound {
+        Some(session) => Ok(Some(session)),
+        None => session_bound(alloc, link, place, entry),
+    }
+}
+
 /// The session that a link is bound to, by the first that bound it.
 #[tactic(auto, using(crate::proofs::Looking::bound_steps))]
 pub(crate) fn session_of_link(
@@ -132,7 +149,7 @@ pub(crate) fn is_link_reserved(alloc: Global, past: &[Entry], link: usize) -> Re
 }
 
 /// Whether a link is bound to a session.
-#[tactic(auto, unfolding(rsl_session::specs::Binding::is_bound_to))]
+#[tactic(auto, unfolding(rsl_session::specs::Binding::is_bound_to, rsl_session::specs::Same::same_session))]
 pub(crate) fn is_link_bound_to(
     alloc: Global,
     past: &[Entry],
@@ -142,7 +159,7 @@ pub(crate) fn is_link_bound_to(
     ensures { IfOk result (λ is_bound. is_bound ≡ is_bound_to (looking_back past.now) session.now link) }
 {
     match session_of_link(alloc, link, past)? {
-        Some(other) => Ok(is_same_session(&other, session)),
+        Some(other) => Ok(is_session_at(&other, &session.nas, &session.id)),
         None => Ok(false),
     }
 }

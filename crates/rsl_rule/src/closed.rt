@@ -1,6 +1,7 @@
-ghost use Rattle.std.specs.Prelude.{◌≡◌, [], IfOk};
+ghost use Rattle.std.specs.Prelude.{◌≡◌, [], IfOk, take};
 ghost use Rattle.rsl_session.specs.Past.{looking_back};
 ghost use Rattle.rsl_session.specs.Closed.{closes, is_closed, kept_stop, stops};
+ghost use Rattle.rsl_session.specs.Clock.{clock};
 
 use crate::ask::is_swept_in;
 use crate::clock::{clock_of, clock_with};
@@ -14,14 +15,14 @@ use std::alloc::Global;
 /// How many of the last stops can close a session.
 const KEPT_STOPS: usize = 16;
 
-/// A stop as it is kept, with the clock at it and the entries since.
+/// A stop as it is kept, by the past up to it and the entries since.
 fn keep_stop(
     alloc: Global,
-    now: u64,
+    past: &[Entry],
     since: &[Entry],
     act: &Act,
 ) -> Result<Option<KeptStop>, NoMemory>
-    ensures { IfOk result (λ stop. stop ≡ kept_stop now since.now act.now) }
+    ensures { IfOk result (λ stop. stop ≡ kept_stop (clock (looking_back past.now)) since.now act.now) }
 {
     match act {
         Act::Stop { nas, session } => Ok(Some(KeptStop {
@@ -29,25 +30,25 @@ fn keep_stop(
                 nas: nas.try_copy(alloc)?,
                 id: session.try_copy(alloc)?,
             },
-            at: now,
+            at: clock_of(past),
             swept: is_swept_in(since, nas),
         })),
         _ => Ok(None),
     }
 }
 
-/// The stops of a past, newest first.
+/// The last stops of a past, newest first, as many as can close a session.
 #[tactic(auto, using(crate::proofs::Kept::stops_steps))]
 fn stops_of(alloc: Global, past: &[Entry]) -> Result<Vec<KeptStop>, NoMemory>
-    ensures { IfOk result (λ each. each.items ≡ stops [] (looking_back past.now)) }
+    ensures { IfOk result (λ each. each.items ≡ take KEPT_STOPS (stops [] (looking_back past.now))) }
 {
     let mut each = Vec::new(alloc);
     let mut at = past.len();
-    while at > 0 {
+    while at > 0 && each.len() < KEPT_STOPS {
         at -= 1;
         let entry = &past[at];
-        let now = clock_of(&past[..at + 1]);
-        if let Some(stop) = keep_stop(alloc, now, &past[at + 1..], &entry.event.act)? {
+        let act = &entry.event.act;
+        if let Some(stop) = keep_stop(alloc, &past[..at + 1], &past[at + 1..], act)? {
             each.push(stop)?;
         }
     }
@@ -77,9 +78,9 @@ pub(crate) fn is_session_closed(
 {
     let now = clock_with(past, event);
     let stops = stops_of(alloc, past)?;
-    let last = &stops[..stops.len().min(KEPT_STOPS)];
     Ok(
-        last.iter()
+        stops
+            .iter()
             .any(|stop| is_closed_by(rules, session, now, stop)),
     )
 }

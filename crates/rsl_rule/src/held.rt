@@ -3,18 +3,18 @@ ghost use Rattle.rsl_accounts.specs.Limits.{RulesFit};
 ghost use Rattle.rsl_session.specs.Past.{looking_back};
 ghost use Rattle.rsl_session.specs.Lapse.{lapses};
 ghost use Rattle.rsl_session.specs.Held.{ended_by, ends, freed, held, held_before};
+ghost use Rattle.rsl_rule.specs.Standing.{standing_of};
 
-use crate::binding::{is_link_bound_to, session_of_link};
-use crate::clock::clock_with;
-use crate::link::{is_link_at, last_touch, opens_link};
+use crate::link::{is_link_at, opens_link};
+use crate::standing::{Standing, standing_of_link};
 use rsl_accounts::Rules;
 use rsl_event::{Act, Event};
-use rsl_session::{Entry, Session};
+use rsl_session::Entry;
 use rsl_wire::NoMemory;
 use std::alloc::Global;
 
 /// Whether a link lapses when an event comes.
-#[tactic(auto, unfolding(rsl_session::specs::Lapse::lapses))]
+#[tactic(auto, unfolding(rsl_session::specs::Lapse::lapses, rsl_session::specs::Clock::clock_at, crate::specs::Standing::standing_of))]
 fn lapses_at(
     alloc: Global,
     rules: &Rules,
@@ -25,56 +25,45 @@ fn lapses_at(
     requires { RulesFit rules.now }
     ensures { IfOk result (λ answer. answer ≡ lapses rules.now (looking_back past.now) event.now link) }
 {
-    let untouched = clock_with(past, event).saturating_sub(last_touch(link, past));
-    match session_of_link(alloc, link, past)? {
-        Some(_) => Ok(rules.live + rules.grace <= untouched),
-        None => Ok(rules.reserve <= untouched),
-    }
+    Ok(standing_of_link(alloc, link, past)?.lapses(rules, event))
 }
 
-/// Whether an act ends a link.
-#[tactic(auto, unfolding(rsl_session::specs::Held::ended_by))]
-fn is_ended_by(alloc: Global, past: &[Entry], act: &Act, link: usize) -> Result<bool, NoMemory>
-    ensures { IfOk result (λ answer. answer ≡ ended_by (looking_back past.now) act.now link) }
+/// Whether an act ends a link that stands so.
+#[tactic(auto, unfolding(rsl_session::specs::Held::ended_by, rsl_session::specs::Binding::is_bound_to, crate::specs::Standing::standing_of))]
+fn is_ended_by(past: &[Entry], act: &Act, link: usize, standing: &Standing) -> bool
+    requires { standing.now ≡ standing_of link (looking_back past.now) }
+    ensures { result ≡ ended_by (looking_back past.now) act.now link }
 {
     match act {
-        Act::Stop { nas, session } => {
-            let stopped = Session {
-                nas: nas.try_copy(alloc)?,
-                id: session.try_copy(alloc)?,
-            };
-            is_link_bound_to(alloc, past, &stopped, link)
-        }
-        Act::Sweep { nas } => Ok(is_link_at(past, nas, link)),
-        _ => Ok(false),
+        Act::Stop { nas, session } => standing.is_bound_to(nas, session),
+        Act::Sweep { nas } => is_link_at(past, nas, link),
+        _ => false,
     }
 }
 
-/// Whether a link ends at an event.
-#[tactic(auto, unfolding(rsl_session::specs::Held::ends))]
-fn ends_at(
-    alloc: Global,
-    rules: &Rules,
-    past: &[Entry],
-    event: &Event,
-    link: usize,
-) -> Result<bool, NoMemory>
-    requires { RulesFit rules.now }
-    ensures { IfOk result (λ answer. answer ≡ ends rules.now (looking_back past.now) event.now link) }
+/// Whether a link that stands so ends at an event.
+#[tactic(auto, unfolding(rsl_session::specs::Held::ends, rsl_session::specs::Lapse::lapses, rsl_session::specs::Clock::clock_at, crate::specs::Standing::standing_of))]
+fn ends_at(rules: &Rules, past: &[Entry], event: &Event, link: usize, standing: &Standing) -> bool
+    requires rules_fit { RulesFit rules.now }
+    requires stands_so { standing.now ≡ standing_of link (looking_back past.now) }
+    ensures { result ≡ ends rules.now (looking_back past.now) event.now link }
 {
-    Ok(lapses_at(alloc, rules, past, event, link)? || is_ended_by(alloc, past, &event.act, link)?)
+    standing.lapses(rules, event) || is_ended_by(past, &event.act, link, standing)
 }
 
 /// Whether a link has ended, at some event after the one that opened it.
-#[tactic(auto, using(crate::proofs::Looking::freed_steps))]
+#[tactic(auto, using(crate::proofs::Looking::freed_steps, crate::proofs::Looking::standing_steps))]
 fn is_freed(alloc: Global, rules: &Rules, link: usize, past: &[Entry]) -> Result<bool, NoMemory>
     requires { RulesFit rules.now }
     ensures { IfOk result (λ answer. answer ≡ freed rules.now link (looking_back past.now)) }
 {
+    let mut standing = Standing::new();
     for (at, entry) in past.iter().enumerate() {
-        if link <= at && ends_at(alloc, rules, &past[..at], &entry.event, link)? {
+        let before = &past[..at];
+        if link <= at && ends_at(rules, before, &entry.event, link, &standing) {
             return Ok(true);
         }
+        standing = standing.after(alloc, link, before, entry)?;
     }
     Ok(false)
 }

@@ -13,6 +13,7 @@ mod held;
 pub mod laws;
 mod link;
 mod same;
+mod standing;
 #[cfg(test)]
 mod tests;
 

@@ -1,13 +1,11 @@
-ghost use Rattle.std.specs.Prelude.{◌≡◌, is_some};
+ghost use Rattle.std.specs.Prelude.{◌≡◌, if◌then◌else◌, is_some};
 ghost use Rattle.std.specs.Option.{option_copied};
 ghost use Rattle.rsl_session.specs.Past.{looking_back, entry_at};
 ghost use Rattle.rsl_session.specs.Link.{opens, number_of, number_at};
 ghost use Rattle.rsl_session.specs.Binding.{touches};
 ghost use Rattle.rsl_session.specs.Held.{is_nas, is_at};
 ghost use Rattle.rsl_session.specs.Link.{nas_of};
-ghost use Rattle.rsl_session.specs.Touch.{touched};
 
-use crate::clock::clock_of;
 use crate::same::is_same_nas;
 use rsl_event::{Act, Nas};
 use rsl_session::{Entry, Outcome};
@@ -43,18 +41,21 @@ pub(crate) fn touches_link(link: usize, place: usize, outcome: Outcome) -> bool
     }
 }
 
-/// The clock when a link was last touched.
-#[tactic(auto, using(crate::proofs::Looking::touched_steps))]
-pub(crate) fn last_touch(link: usize, past: &[Entry]) -> u64
-    ensures { result ≡ touched link (looking_back past.now) }
+/// The clock when a link was last touched, once an event at a place has moved the clock.
+pub(crate) fn touch_after(
+    link: usize,
+    place: usize,
+    outcome: Outcome,
+    clock: u64,
+    touched: u64,
+) -> u64
+    ensures { result ≡ if touches link place outcome then clock else touched }
 {
-    let mut touch = 0;
-    for (at, entry) in past.iter().enumerate() {
-        if touches_link(link, at + 1, entry.outcome) {
-            touch = clock_of(&past[..at + 1]);
-        }
+    if touches_link(link, place, outcome) {
+        clock
+    } else {
+        touched
     }
-    touch
 }
 
 /// The entry at a place.

@@ -1,10 +1,10 @@
 use Rattle.std.proofs.Common.{◌≡◌, ◌≤◌, ◌++◌, [], take, drop, length}
 use Rattle.rsl_session.specs.Past.{looking_back}
-use Rattle.rsl_session.specs.Closed.{stops}
+use Rattle.rsl_session.specs.Closed.{stops, KEPT_STOPS}
 use Rattle.rsl_rule.proofs.closed.stops_of.Given as goal
 
 abbrev pub invariant-loop-at : goal.invariant-loop-at
-invariant-loop-at l = (l.at ≤ length l.past) × (l.each.items ++ stops (drop l.at l.past) (looking_back (take l.at l.past)) ≡ stops [] (looking_back l.past))
+invariant-loop-at l = (l.at ≤ length l.past) × (l.each.items ++ stops (drop l.at l.past) (looking_back (take l.at l.past)) ≡ stops [] (looking_back l.past)) × (length l.each.items ≤ KEPT_STOPS)
 
 abbrev pub decreases-loop-at : goal.decreases-loop-at
 decreases-loop-at l = l.at

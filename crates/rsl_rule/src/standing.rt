@@ -1,0 +1,101 @@
+ghost use Rattle.std.specs.Prelude.{◌≡◌, ℕ, ◌∷◌, [], ◌-◌, max, nat_le, IfOk};
+ghost use Rattle.rsl_accounts.specs.Limits.{RulesFit};
+ghost use Rattle.rsl_session.specs.Past.{looking_back};
+ghost use Rattle.rsl_session.specs.Binding.{is_session};
+ghost use Rattle.rsl_session.specs.Lapse.{standing_time};
+ghost use Rattle.rsl_rule.specs.Standing.{standing_of};
+
+use crate::binding::session_after;
+use crate::link::touch_after;
+use crate::same::is_session_at;
+use rsl_accounts::Rules;
+use rsl_event::{Event, Nas};
+use rsl_session::{Entry, Session};
+use rsl_wire::{NoMemory, Octets};
+use std::alloc::Global;
+
+/// How a link stands after some events.
+#[derive(Drop)]
+pub(crate) struct Standing {
+    /// The account's clock.
+    pub clock: u64,
+    /// The clock when the link was last touched.
+    pub touched: u64,
+    /// The session that the link is bound to.
+    pub session: Option<Session>,
+}
+
+impl Standing {
+    /// How a link stands before the first event.
+    #[tactic(auto, using(crate::proofs::Looking::standing_steps))]
+    pub fn new() -> Standing
+        ensures { (link : ℕ) → result ≡ standing_of link (looking_back []) }
+    {
+        Standing {
+            clock: 0,
+            touched: 0,
+            session: None,
+        }
+    }
+
+    /// How the link stands after the entry that comes next.
+    #[tactic(auto, using(crate::proofs::Looking::standing_pushed))]
+    pub fn after(
+        self,
+        alloc: Global,
+        link: usize,
+        past: &[Entry],
+        entry: &Entry,
+    ) -> Result<Standing, NoMemory>
+        requires { self ≡ standing_of link (looking_back past.now) }
+        ensures { IfOk result (λ next. next ≡ standing_of link (entry.now ∷ looking_back past.now)) }
+    {
+        let place = past.len() + 1;
+        let clock = self.clock.max(entry.event.moment);
+        let touched = touch_after(link, place, entry.outcome, clock, self.touched);
+        let session = session_after(alloc, self.session, link, place, entry)?;
+        Ok(Standing {
+            clock,
+            touched,
+            session,
+        })
+    }
+
+    /// Whether the link is bound to the session of this Acct-Session-Id at an access server.
+    pub fn is_bound_to(&self, nas: &Nas, id: &Octets) -> bool
+        ensures { result ≡ is_session self.now.session (record { nas = nas.now; id = id.now }) }
+    {
+        match &self.session {
+            Some(session) => is_session_at(session, nas, id),
+            None => false,
+        }
+    }
+
+    /// Whether the link lapses when an event comes.
+    pub fn lapses(&self, rules: &Rules, event: &Event) -> bool
+        requires { RulesFit rules.now }
+        ensures { result ≡ nat_le (standing_time rules.now self.now.session) (max self.now.clock event.now.moment - self.now.touched) }
+    {
+        let untouched = self.clock.max(event.moment).saturating_sub(self.touched);
+        match self.session {
+            Some(_) => rules.live + rules.grace <= untouched,
+            None => rules.reserve <= untouched,
+        }
+    }
+}
+
+/// How a link stands after all of a past.
+#[tactic(auto, using(crate::proofs::Looking::standing_steps))]
+pub(crate) fn standing_of_link(
+    alloc: Global,
+    link: usize,
+    past: &[Entry],
+) -> Result<Standing, NoMemory>
+    ensures { IfOk result (λ answer. answer ≡ standing_of link (looking_back past.now)) }
+{
+    let mut standing = Standing::new();
+    for (at, entry) in past.iter().enumerate() {
+        standing = standing.after(alloc, link, &past[..at], entry)?;
+    }
+    Ok(standing)
+}
