@@ -1,5 +1,14 @@
 use super::{HEAD, REQUEST, assert_replay};
+use std::process::Abort;
 use std::test::Fail;
+
+/// Replays a script with one shard and with three, and asserts what is printed.
+fn assert_row<R: Abort + AllocGlobal>(rt: &R, script: &str, prints: &str) -> Result<(), Fail> {
+    assert_replay(rt, script, Ok(prints));
+    let with_shards = format!(in rt.alloc(); "set shards 3\n{script}")?;
+    assert_replay(rt, with_shards.as_str(), Ok(prints));
+    Ok(())
+}
 
 #[test]
 fn request_of_the_rfc_is_accepted(rt: HostRuntime) -> Result<(), Fail> {
@@ -13,7 +22,7 @@ fn request_of_the_rfc_is_accepted(rt: HostRuntime) -> Result<(), Fail> {
         let script = format!(in rt.alloc();
             "client 192.168.1.16 xyzzy5461\naccount {account}\nraw-auth 0 192.168.1.16 {REQUEST}\n"
         )?;
-        assert_replay(&rt, script.as_str(), Ok(prints));
+        assert_row(&rt, script.as_str(), prints)?;
     }
     Ok(())
 }
@@ -63,7 +72,7 @@ fn asks_are_answered_by_the_places_of_their_account(rt: HostRuntime) -> Result<(
         ("account u pw 1\n", ""),
     ] {
         let script = format!(in rt.alloc(); "client 192.168.1.16 xyzzy5461\n{lines}")?;
-        assert_replay(&rt, script.as_str(), Ok(prints));
+        assert_row(&rt, script.as_str(), prints)?;
     }
     Ok(())
 }
@@ -90,7 +99,7 @@ fn datagrams_that_are_no_requests_are_dropped(rt: HostRuntime) -> Result<(), Fai
         let script = format!(in rt.alloc();
             "client 192.168.1.16 xyzzy5461\naccount nemo arctangent 1\n{line}"
         )?;
-        assert_replay(&rt, script.as_str(), Ok(prints));
+        assert_row(&rt, script.as_str(), prints)?;
     }
     Ok(())
 }
