@@ -1,5 +1,5 @@
 -- Why a script is not replayed.
-use Rattle.std.specs.Prelude.{ℕ, ⊤}
+use Rattle.std.specs.Prelude.{ℕ, ⊤, Result, Ok, Err}
 use Rattle.rsl_accounts.specs.declared.fault.ConfigFault.{ConfigFault}
 use Rattle.rsl_accounts.specs.declared.fault.ConfigFault.TheVariants.{NoMemory as config_no_memory}
 use Rattle.rsl_script.specs.declared.fault.ScriptFault.{ScriptFault}
@@ -24,6 +24,11 @@ status_of TooLong = 1
 status_of (Config fault) = 1
 status_of InputOutput = 2
 status_of NoMemory = 3
+
+-- the status of a process whose replay came to this
+abbrev pub status_after : {T : Type 0} → Result T ReplayFault → ℕ
+status_after (Ok value) = 0
+status_after (Err fault) = status_of fault
 
 -- a fault of reading the octets of a script, before any line is looked at
 abbrev pub IsReadFault : ReplayFault → Type 0

@@ -7,6 +7,10 @@
 //! script's grammar that of `rsl_script`.
 #![tactic(auto)]
 
+ghost use Rattle.std.specs.Prelude.{◌≡◌};
+ghost use Rattle.std.specs.Process.{exit_status};
+ghost use Rattle.rsl_app.specs.Fault.{status_after};
+
 mod access;
 mod accounting;
 mod deciding;
@@ -22,6 +26,7 @@ mod stepping;
 mod tests;
 mod word;
 
+use fault::ReplayFault;
 use replaying::replay;
 use std::env::{Env, FillError};
 use std::fmt::Display;
@@ -37,10 +42,8 @@ fn main(rt: HostRuntime) -> ExitCode {
     if !is_replay(&rt) {
         return failed(&rt, USAGE, WRONG_ARGUMENTS);
     }
-    match replay(rt.alloc(), &mut rt.stdin(), &mut rt.stdout()) {
-        Ok(()) => ExitCode::SUCCESS,
-        Err(fault) => failed(&rt, fault, fault.status()),
-    }
+    let outcome = replay(rt.alloc(), &mut rt.stdin(), &mut rt.stdout());
+    ended(&rt, outcome)
 }
 
 /// Whether the arguments are the word `replay` alone.
@@ -53,9 +56,21 @@ fn is_replay(rt: &impl Env) -> bool {
     is_first && matches!(rt.arg(2, &mut word), Err(FillError::NotPresent))
 }
 
+/// Ends as a replay did, and says its fault on standard error.
+fn ended(rt: &impl Eprint, outcome: Result<(), ReplayFault>) -> ExitCode
+    ensures { exit_status result ≡ status_after outcome }
+{
+    match outcome {
+        Ok(()) => ExitCode::SUCCESS,
+        Err(fault) => failed(rt, fault, fault.status()),
+    }
+}
+
 /// Says what failed on standard error, and gives the status. Where standard error takes nothing, the
 /// status still tells.
-fn failed<D: Display + Drop>(rt: &impl Eprint, what: D, status: u8) -> ExitCode {
+fn failed<D: Display + Drop>(rt: &impl Eprint, what: D, status: u8) -> ExitCode
+    ensures { exit_status result ≡ status }
+{
     let _ = rt.eprintln(what);
     ExitCode::from(status)
 }
