@@ -22,8 +22,11 @@ pub fn run(alloc: Global, config: &Config, boot: u64, steps: &[Step]) -> Result<
     // it alone; what is no account's is answered from itself alone.
     ensures answers { IfOk result (λ ran. AreAnswers config.now boot [] steps.now ran.answers.items) }
     ensures count { IfOk result (λ ran. length ran.answers.items ≡ length steps.now) }
-    // What is kept has each account's own events, and nothing else of any account's.
+    // What is kept is each account's past: its own events, each with what the session rule says that it did.
     ensures kept { IfOk result (λ ran. AreKept config.now boot (taken [] steps.now ran.answers.items) ran.kept.items) }
+    // The events of what is kept of an account are its own events among the steps that were taken.
+    ensures own { IfOk result (λ ran. (account : ℕ) (entry : Entry) → slice_get config.now.accounts account ≡ Some entry →
+        map (λ own. own.event) (past_kept config.now account ran.kept.items) ≡ own config.now boot account (taken [] steps.now ran.answers.items)) }
     // No account holds more places than it has.
     ensures limit { IfOk result (λ ran. (account : ℕ) (entry : Entry) → slice_get config.now.accounts account ≡ Some entry →
         places_after entry.rules (own config.now boot account (taken [] steps.now ran.answers.items)) ≤ entry.rules.places) }

@@ -1,8 +1,7 @@
-ghost use Rattle.std.specs.Prelude.{◌≡◌, ◌↔◌, IsTrue, IfOk};
+ghost use Rattle.std.specs.Prelude.{◌≡◌, ◌↔◌, IsTrue};
 
 use rsl_event::Nas;
-use rsl_wire::{NoMemory, Octets};
-use std::alloc::Global;
+use rsl_wire::Octets;
 
 /// A multilink bundle: the access server that it is at, and the Acct-Multi-Session-Id that its links
 /// share there (RFC 2866 section 5.11). No bundle spans two access servers.
@@ -20,15 +19,5 @@ impl Bundle {
         ensures { IsTrue result ↔ (self.now ≡ other.now) }
     {
         self.nas.is_same(&other.nas) && self.id == other.id
-    }
-
-    /// An equal bundle. It fails only where memory is refused.
-    pub fn try_copy(&self, alloc: Global) -> Result<Bundle, NoMemory>
-        ensures { IfOk result (λ copy. copy ≡ self.now) }
-    {
-        Ok(Bundle {
-            nas: self.nas.try_copy(alloc)?,
-            id: self.id.try_copy(alloc)?,
-        })
     }
 }
