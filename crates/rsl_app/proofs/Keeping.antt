@@ -12,6 +12,8 @@ use Rattle.rsl_session.specs.declared.entry.Entry.{Entry}
 use Rattle.rsl_session.specs.declared.entry.Outcome.{Outcome}
 use Rattle.rsl_session.specs.Past.{Past, looking_back}
 use Rattle.rsl_session.specs.Rule.{decision_of, entry_of, outcome_of, past_from, past_of}
+use Rattle.rsl_rule.proofs.EarlyTick.{past_from-append}
+use Rattle.rsl_rule.proofs.Whole.{looking_back-push}
 use Rattle.rsl_wire.specs.Packet.{Fields, packet_of}
 use Rattle.rsl_wire.specs.declared.packet.WireFault.{WireFault}
 use Rattle.rsl_event.specs.Answer.{answer, said}
@@ -84,18 +86,9 @@ unfolding own
 own-cons config boot number step before = refl
 
 -- the past with one event more
-past_from-push : (rules : Rules) (past : Past) (events : List Event) (event : Event) → past_from rules past (events ++ event ∷ []) ≡ entry_of rules (past_from rules past events) event ∷ past_from rules past events
-unfolding past_from
-past_from-push rules past [] event = refl
-past_from-push rules past (first ∷ events) event = past_from-push rules (entry_of rules past first ∷ past) events event
-
 past_of-push : (rules : Rules) (events : List Event) (event : Event) → past_of rules (events ++ event ∷ []) ≡ entry_of rules (past_of rules events) event ∷ past_of rules events
-unfolding past_of
-past_of-push rules events event = past_from-push rules [] events event
-
-looking_back-push : (entries : List Entry) (entry : Entry) → looking_back (entries ++ entry ∷ []) ≡ entry ∷ looking_back entries
-unfolding looking_back
-looking_back-push entries entry = reverse-append entries (entry ∷ [])
+unfolding past_of past_from
+past_of-push rules events event = past_from-append rules [] events (event ∷ [])
 
 pub made_is : (rules : Rules) (past : Past) (event : Event) (outcome : Outcome) → outcome ≡ outcome_of rules past event → (let entry : Entry = record { event = event; outcome = outcome } in entry ≡ entry_of rules past event)
 unfolding entry_of

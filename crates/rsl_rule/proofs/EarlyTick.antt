@@ -438,7 +438,7 @@ module _ (rules : Rules) (moment : ℕ) (older : Past) (ruled : IsRuled rules ol
       ∙ places_from-after_tick [] (entry_of rules older event) tt (entry_later rules moment older [] tt event at.0).0 events at.1
 
 -- lists of events, one after another
-past_from-append : (rules : Rules) (past : Past) (some others : List Event) → past_from rules past (some ++ others) ≡ past_from rules (past_from rules past some) others
+pub past_from-append : (rules : Rules) (past : Past) (some others : List Event) → past_from rules past (some ++ others) ≡ past_from rules (past_from rules past some) others
 unfolding past_from
 past_from-append rules past [] others = refl
 past_from-append rules past (event ∷ some) others = past_from-append rules (entry_of rules past event ∷ past) some others

@@ -12,7 +12,7 @@ use Rattle.rsl_session.specs.Places.{places}
 use Rattle.rsl_session.specs.Rule.{decision_of, decisions, decisions_from, entry_of, outcome_of, past_from, past_of, places_after}
 use Rattle.rsl_session.proofs.Limit.{places_after-le}
 
-looking_back-push : (entries : List Entry) (entry : Entry) → looking_back (entries ++ entry ∷ []) ≡ entry ∷ looking_back entries
+pub looking_back-push : (entries : List Entry) (entry : Entry) → looking_back (entries ++ entry ∷ []) ≡ entry ∷ looking_back entries
 unfolding looking_back
 looking_back-push entries entry = reverse-append entries (entry ∷ [])
 
