@@ -1,5 +1,6 @@
 pub mod Lists
 pub mod Looking
+pub mod Carried
 pub mod Counted
 pub mod Kept
 pub mod Whole

@@ -1,6 +1,6 @@
 -- Loops over a list that keep, map or find: the words of `std` one element further on.
 use Rattle.std.proofs.Common.{◌≡◌, ℕ, zero, suc, ◌+◌, ◌<◌, ◌≤◌, List, [], ◌∷◌, ◌++◌, take, drop, get_or, length, Bool, true, false, cond, not, refl, ap, sym, ◌∙◌, subst, arith, add-one, append_assoc, append-nil, drop-cons}
-use Rattle.std.specs.Prelude.{Option, Some, None, filter, find, map}
+use Rattle.std.specs.Prelude.{Some, None, filter, find}
 use Rattle.std.proofs.lemmas.List.{take_more, map_more, drop_more, take_all, drop_all}
 use Rattle.std.proofs.lemmas.List.Elements.{filter-append}
 
@@ -22,8 +22,6 @@ find_no p xs i x within is misses =
 
 pub find_end : {A : Type 0} (p : A → Bool) (xs : List A) (i : ℕ) → length xs ≤ i → find p (drop i xs) ≡ None
 find_end p xs i past = ap (find p) (drop_all i xs past)
-
-pub ruleset filter_steps = (filter_yes, filter_no, take_all)
 
 pub ruleset map_steps = (map_more, take_all)
 

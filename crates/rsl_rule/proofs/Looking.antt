@@ -1,24 +1,21 @@
 -- The definitions one entry further on, for loops that go over the entries in the order in which they came.
-use Rattle.std.proofs.Common.{◌≡◌, ℕ, zero, suc, ◌+◌, ◌-◌, ◌<◌, ◌≤◌, max, List, [], ◌∷◌, ◌++◌, reverse, take, drop, get_or, length, true, false, cond, ◌&&◌, ◌||◌, not, refl, ap, sym, ◌∙◌, inl, inr, arith, add-one, eqb, leb, ltb, append-nil}
-use Rattle.std.specs.Prelude.{Option, Some, None, is_some, IfSome, filter}
+use Rattle.std.proofs.Common.{◌≡◌, ℕ, zero, suc, ◌+◌, ◌-◌, ◌<◌, ◌≤◌, max, List, [], ◌∷◌, ◌++◌, reverse, take, drop, get_or, length, true, false, cond, refl, ap, sym, ◌∙◌, inl, inr, arith, add-one, eqb, ltb}
+use Rattle.std.specs.Prelude.{Option, Some, None, is_some, IfSome}
 use Rattle.std.specs.Borrow.{Bor}
 use Rattle.std.specs.List.{slice_get}
 use Rattle.std.specs.Option.{option_or, option_copied}
 use Rattle.std.proofs.lemmas.Option.{slice_get-get_or}
-use Rattle.std.proofs.lemmas.Bool.{cases_eq, ltb-true, ltb-false, le-leb, lt-leb, eq-eqb, ne_eqb}
+use Rattle.std.proofs.lemmas.Bool.{cases_eq, ltb-true, ltb-false, eq-eqb, ne_eqb}
 use Rattle.std.proofs.lemmas.List.{get_or_default, take_more, reverse-append, length-reverse, length-take-le, take_all, take-append-drop}
-use Rattle.std.proofs.lemmas.List.Elements.{filter-append}
 use Rattle.std.proofs.lemmas.List.Sums.{sum_by-cons}
-use Rattle.rsl_accounts.specs.declared.rules.Rules.{Rules}
 use Rattle.rsl_session.specs.declared.entry.Entry.{Entry}
 use Rattle.rsl_session.specs.declared.session.Session.{Session}
 use Rattle.rsl_session.specs.declared.bundle.Bundle.{Bundle}
 use Rattle.rsl_session.specs.Past.{Past, looking_back, entry_at}
 use Rattle.rsl_session.specs.Clock.{clock}
-use Rattle.rsl_session.specs.Link.{links, opens, number_of}
+use Rattle.rsl_session.specs.Link.{number_of}
 use Rattle.rsl_session.specs.Binding.{touches, bound, bound_by, bundle_at, bundled_by}
 use Rattle.rsl_session.specs.Touch.{touched}
-use Rattle.rsl_session.specs.Held.{ends, freed, held}
 use Rattle.rsl_rule.specs.Standing.{standing_of}
 use Rattle.rsl_rule.specs.declared.standing.Standing.{Standing}
 use Rattle.rsl_session.specs.Ask.{accepts}
@@ -35,7 +32,7 @@ length-looking_back xs i within = length-reverse (take i xs) ∙ length-take-le 
 pub looking_back_all : (xs : List Entry) (i : ℕ) → length xs ≤ i → looking_back (take i xs) ≡ looking_back xs
 looking_back_all xs i all = ap looking_back (take_all i xs all)
 
-length_all : (xs : List Entry) → length (looking_back xs) ≡ length xs
+pub length_all : (xs : List Entry) → length (looking_back xs) ≡ length xs
 unfolding looking_back
 length_all xs = length-reverse xs
 
@@ -55,10 +52,6 @@ clock_more xs i x within is = ap clock (looking_back-more xs i x within is)
 pub ruleset clock_steps = (clock_none, clock_more, looking_back_all)
 
 -- how a link stands
-pub standing_none : (link : ℕ) → standing_of link (looking_back []) ≡ record { clock = 0; touched = 0; session = None }
-unfolding standing_of clock touched bound
-standing_none link = ap (standing_of link) looking_back-none
-
 pub standing_next : (link : ℕ) (xs : List Entry) (x : Entry)
     → standing_of link (x ∷ looking_back xs) ≡ record {
       clock = max (clock (looking_back xs)) x.event.moment;
@@ -74,11 +67,6 @@ pub standing_pushed : (link : ℕ) (xs : List Entry) (x : Entry) (before : Stand
 unfolding standing_of
 standing_pushed link xs x before now touch session is at last found =
     rw (last, at, found, is) (sym (standing_next link xs x))
-
-pub standing_more : (link : ℕ) (xs : List Entry) (i : ℕ) (x : Entry) → i < length xs → x ≡ get_or xs i x → standing_of link (looking_back (take (i + 1) xs)) ≡ standing_of link (x ∷ looking_back (take i xs))
-standing_more link xs i x within is = ap (standing_of link) (looking_back-more xs i x within is)
-
-pub ruleset standing_steps = (standing_none, standing_next, standing_more, looking_back_all)
 
 -- the entry at a place
 pub entry_at_none : (past : Past) → entry_at 0 past ≡ None
@@ -198,71 +186,6 @@ bundle_first link xs i x (Some bundle) within is before found some =
     ap (bundle_at link) (looking_back-split xs (i + 1)) ∙ bundle_stays link (looking_back (drop (i + 1) xs)) (looking_back (take (i + 1) xs)) bundle here
 
 pub ruleset bundle_steps = (bundle_none, bundle_next, bundle_first, looking_back_all)
-
--- what has ended
-freed_stays : (rules : Rules) (link : ℕ) (newer past : Past) → freed rules link past ≡ true → freed rules link (newer ++ past) ≡ true
-unfolding freed
-freed_stays rules link [] past is = is
-freed_stays rules link (entry ∷ newer) past is = rw (freed_stays rules link newer past is) refl
-
-pub freed_none : (rules : Rules) (link : ℕ) → freed rules link (looking_back []) ≡ false
-unfolding freed
-freed_none rules link = ap (freed rules link) looking_back-none
-
-freed_more : (rules : Rules) (link : ℕ) (xs : List Entry) (i : ℕ) (x : Entry) → i < length xs → x ≡ get_or xs i x
-    → freed rules link (looking_back (take (i + 1) xs)) ≡ (freed rules link (looking_back (take i xs)) || (leb link i && ends rules (looking_back (take i xs)) x.event link))
-unfolding freed
-freed_more rules link xs i x within is =
-    rw (looking_back-more xs i x within is, length-looking_back xs i (omega arith)) refl
-
-pub freed_young : (rules : Rules) (link : ℕ) (xs : List Entry) (i : ℕ) (x : Entry) → i < length xs → x ≡ get_or xs i x
-    → freed rules link (looking_back (take i xs)) ≡ false → i < link → freed rules link (looking_back (take (i + 1) xs)) ≡ false
-freed_young rules link xs i x within is before young = freed_more rules link xs i x within is ∙ rw (before, lt-leb link i young) refl
-
-pub freed_next : (rules : Rules) (link : ℕ) (xs : List Entry) (i : ℕ) (x : Entry) → i < length xs → x ≡ get_or xs i x
-    → freed rules link (looking_back (take i xs)) ≡ false → link ≤ i → ends rules (looking_back (take i xs)) x.event link ≡ false → freed rules link (looking_back (take (i + 1) xs)) ≡ false
-freed_next rules link xs i x within is before old stands = freed_more rules link xs i x within is ∙ rw (before, le-leb link i old, stands) refl
-
-pub freed_first : (rules : Rules) (link : ℕ) (xs : List Entry) (i : ℕ) (x : Entry) → i < length xs → x ≡ get_or xs i x
-    → freed rules link (looking_back (take i xs)) ≡ false → link ≤ i → ends rules (looking_back (take i xs)) x.event link ≡ true → freed rules link (looking_back xs) ≡ true
-freed_first rules link xs i x within is before old ended =
-    let here : freed rules link (looking_back (take (i + 1) xs)) ≡ true = freed_more rules link xs i x within is ∙ rw (before, le-leb link i old, ended) refl in
-    ap (freed rules link) (looking_back-split xs (i + 1)) ∙ freed_stays rules link (looking_back (drop (i + 1) xs)) (looking_back (take (i + 1) xs)) here
-
-pub ruleset freed_steps = (freed_none, freed_young, freed_next, freed_first, looking_back_all)
-
--- the held links among those that opened so far
-unfoldable pub held_so_far : Rules → List Entry → ℕ → List ℕ
-held_so_far rules xs i = filter (λ link. not (freed rules link (looking_back xs))) (links (looking_back (take i xs)))
-
-pub held_none : (rules : Rules) (xs : List Entry) → held_so_far rules xs 0 ≡ []
-unfolding held_so_far links
-held_none rules xs = ap (λ past. filter (λ link. not (freed rules link (looking_back xs))) (links past)) looking_back-none
-
-pub held_quiet : (rules : Rules) (xs : List Entry) (i : ℕ) (x : Entry) → i < length xs → x ≡ get_or xs i x → opens x.outcome ≡ false → held_so_far rules xs (i + 1) ≡ held_so_far rules xs i
-unfolding held_so_far links
-held_quiet rules xs i x within is quiet = rw (looking_back-more xs i x within is, quiet) refl
-
-held_opened : (rules : Rules) (xs : List Entry) (i : ℕ) (x : Entry) → i < length xs → x ≡ get_or xs i x → opens x.outcome ≡ true
-    → held_so_far rules xs (i + 1) ≡ held_so_far rules xs i ++ cond (not (freed rules (i + 1) (looking_back xs))) ((i + 1) ∷ []) []
-unfolding held_so_far links
-held_opened rules xs i x within is opened =
-    rw (looking_back-more xs i x within is, opened, length-looking_back xs i (omega arith), sym (add-one i))
-    (filter-append (λ link. not (freed rules link (looking_back xs))) (links (looking_back (take i xs))) ((i + 1) ∷ []))
-
-pub held_yes : (rules : Rules) (xs : List Entry) (i : ℕ) (x : Entry) → i < length xs → x ≡ get_or xs i x → opens x.outcome ≡ true
-    → freed rules (i + 1) (looking_back xs) ≡ false → held_so_far rules xs (i + 1) ≡ held_so_far rules xs i ++ (i + 1) ∷ []
-held_yes rules xs i x within is opened held = held_opened rules xs i x within is opened ∙ rw held refl
-
-pub held_no : (rules : Rules) (xs : List Entry) (i : ℕ) (x : Entry) → i < length xs → x ≡ get_or xs i x → opens x.outcome ≡ true
-    → freed rules (i + 1) (looking_back xs) ≡ true → held_so_far rules xs (i + 1) ≡ held_so_far rules xs i
-held_no rules xs i x within is opened gone = held_opened rules xs i x within is opened ∙ rw gone (append-nil (held_so_far rules xs i))
-
-pub held_all : (rules : Rules) (xs : List Entry) (i : ℕ) → length xs ≤ i → held_so_far rules xs i ≡ held rules (looking_back xs)
-unfolding held_so_far held
-held_all rules xs i all = rw (looking_back_all xs i all) refl
-
-pub ruleset held_steps = (held_none, held_quiet, held_yes, held_no, held_all)
 
 -- how many asks were accepted
 pub accepts_none : accepts (looking_back []) ≡ 0

@@ -10,6 +10,7 @@ mod closed;
 mod count;
 mod decisions;
 mod held;
+mod holding;
 pub mod laws;
 mod link;
 mod same;

@@ -1,4 +1,4 @@
-ghost use Rattle.std.specs.Prelude.{◌≡◌, ℕ, ◌∷◌, [], ◌-◌, max, nat_le, IfOk};
+ghost use Rattle.std.specs.Prelude.{◌≡◌, ◌∷◌, ◌-◌, max, nat_le, IfOk};
 ghost use Rattle.rsl_accounts.specs.Limits.{RulesFit};
 ghost use Rattle.rsl_session.specs.Past.{looking_back};
 ghost use Rattle.rsl_session.specs.Binding.{is_session};
@@ -26,18 +26,6 @@ pub(crate) struct Standing {
 }
 
 impl Standing {
-    /// How a link stands before the first event.
-    #[tactic(auto, using(crate::proofs::Looking::standing_steps))]
-    pub fn new() -> Standing
-        ensures { (link : ℕ) → result ≡ standing_of link (looking_back []) }
-    {
-        Standing {
-            clock: 0,
-            touched: 0,
-            session: None,
-        }
-    }
-
     /// How the link stands after the entry that comes next.
     #[tactic(auto, using(crate::proofs::Looking::standing_pushed))]
     pub fn after(
@@ -82,20 +70,4 @@ impl Standing {
             None => rules.reserve <= untouched,
         }
     }
-}
-
-/// How a link stands after all of a past.
-#[tactic(auto, using(crate::proofs::Looking::standing_steps))]
-pub(crate) fn standing_of_link(
-    alloc: Global,
-    link: usize,
-    past: &[Entry],
-) -> Result<Standing, NoMemory>
-    ensures { IfOk result (λ answer. answer ≡ standing_of link (looking_back past.now)) }
-{
-    let mut standing = Standing::new();
-    for (at, entry) in past.iter().enumerate() {
-        standing = standing.after(alloc, link, &past[..at], entry)?;
-    }
-    Ok(standing)
 }

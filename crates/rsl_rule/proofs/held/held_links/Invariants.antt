@@ -1,6 +1,7 @@
-use Rattle.std.proofs.Common.{◌≡◌}
-use Rattle.rsl_rule.proofs.Looking.{held_so_far}
+use Rattle.std.proofs.Common.{◌≡◌, take}
+use Rattle.rsl_session.specs.Past.{looking_back}
+use Rattle.rsl_session.specs.Held.{held}
 use Rattle.rsl_rule.proofs.held.held_links.Given as goal
 
-abbrev pub invariant-loop-at : goal.invariant-loop-at
-invariant-loop-at l = l.links.items ≡ held_so_far l.rules l.past l.at
+abbrev pub invariant-loop-held : goal.invariant-loop-held
+invariant-loop-held l = l.links.items ≡ take l.held-index (held l.rules (looking_back l.past))

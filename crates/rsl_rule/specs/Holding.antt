@@ -1,0 +1,36 @@
+-- What is held after some events, as one pass over them carries it.
+use Rattle.std.specs.Prelude.{◌≡◌, ℕ, List, [], ◌∷◌, filter, map, max, not}
+use Rattle.rsl_accounts.specs.declared.rules.Rules.{Rules}
+use Rattle.rsl_event.specs.declared.event.Event.{Event}
+use Rattle.rsl_session.specs.declared.entry.Outcome.{Outcome}
+use Rattle.rsl_session.specs.declared.entry.Outcome.TheVariants.{Took}
+use Rattle.rsl_session.specs.Past.{Past}
+use Rattle.rsl_session.specs.Clock.{clock}
+use Rattle.rsl_session.specs.Held.{ends, held}
+use Rattle.rsl_rule.specs.Standing.{standing_of}
+use Rattle.rsl_rule.specs.declared.holding.HeldLink.{HeldLink}
+use Rattle.rsl_rule.specs.declared.holding.Holding.{Holding}
+
+-- links, each with how it stands
+unfoldable pub standings : Past → List ℕ → List HeldLink
+standings past links = map (λ link. record { link = link; standing = standing_of link past }) links
+
+-- the held links that do not end at an event
+abbrev pub lasting : Rules → Past → Event → List ℕ
+lasting rules past event = filter (λ link. not (ends rules past event link)) (held rules past)
+
+-- the number of the link that an event took, 0 where it took none
+unfoldable pub taken_by : Outcome → ℕ
+taken_by (Took taken) = taken
+taken_by _ = 0
+
+-- the greatest number of a link that an event took
+unfoldable pub furthest_taken : Past → ℕ
+furthest_taken [] = 0
+furthest_taken (entry ∷ past) = max (furthest_taken past) (taken_by entry.outcome)
+
+-- this is carried after a past
+pub record IsHolding (rules : Rules) (past : Past) (holding : Holding) : Type 0 where
+  pub each : holding.links.items ≡ standings past (held rules past)
+  pub now : holding.clock ≡ clock past
+  pub greatest : holding.furthest ≡ furthest_taken past

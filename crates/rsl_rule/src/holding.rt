@@ -1,0 +1,199 @@
+ghost use Rattle.std.specs.Prelude.{◌≡◌, [], ◌∷◌, ◌<◌, ◌+◌, length, max, true, IfOk};
+ghost use Rattle.rsl_accounts.specs.Limits.{RulesFit};
+ghost use Rattle.rsl_accounts.specs.declared.rules.Rules.{Rules};
+ghost use Rattle.rsl_session.specs.Past.{looking_back};
+ghost use Rattle.rsl_session.specs.Clock.{clock};
+ghost use Rattle.rsl_session.specs.Link.{opens};
+ghost use Rattle.rsl_session.specs.Binding.{bound};
+ghost use Rattle.rsl_session.specs.Held.{ended_by, ends, held};
+ghost use Rattle.rsl_rule.specs.Standing.{standing_of};
+ghost use Rattle.rsl_rule.specs.Holding.{IsHolding, furthest_taken, lasting, standings, taken_by};
+
+use crate::binding::{session_after, session_of_link};
+use crate::link::{is_link_at, opens_link};
+use crate::standing::Standing;
+use rsl_accounts::Rules;
+use rsl_event::{Act, Event};
+use rsl_session::{Entry, Outcome, Session};
+use rsl_wire::NoMemory;
+use std::alloc::Global;
+
+/// A link that is held.
+#[derive(Drop)]
+pub(crate) struct HeldLink {
+    /// The link.
+    pub link: usize,
+    /// How it stands.
+    pub standing: Standing,
+}
+
+/// What is held after some events, as one pass over them carries it.
+#[derive(Drop)]
+pub(crate) struct Holding {
+    /// The held links, in the order in which they opened.
+    pub links: Vec<HeldLink>,
+    /// The account's clock.
+    pub clock: u64,
+    /// The greatest number of a link that an alive took.
+    pub furthest: usize,
+}
+
+/// Whether an act ends a link that stands so.
+#[tactic(auto, unfolding(rsl_session::specs::Held::ended_by, rsl_session::specs::Binding::is_bound_to, crate::specs::Standing::standing_of))]
+fn is_ended_by(past: &[Entry], act: &Act, link: usize, standing: &Standing) -> bool
+    requires { standing.now ≡ standing_of link (looking_back past.now) }
+    ensures { result ≡ ended_by (looking_back past.now) act.now link }
+{
+    match act {
+        Act::Stop { nas, session } => standing.is_bound_to(nas, session),
+        Act::Sweep { nas } => is_link_at(past, nas, link),
+        _ => false,
+    }
+}
+
+/// Whether a link that stands so ends at an event.
+#[tactic(auto, unfolding(rsl_session::specs::Held::ends, rsl_session::specs::Lapse::lapses, rsl_session::specs::Clock::clock_at, crate::specs::Standing::standing_of))]
+fn ends_at(rules: &Rules, past: &[Entry], event: &Event, link: usize, standing: &Standing) -> bool
+    requires rules_fit { RulesFit rules.now }
+    requires stands_so { standing.now ≡ standing_of link (looking_back past.now) }
+    ensures { result ≡ ends rules.now (looking_back past.now) event.now link }
+{
+    standing.lapses(rules, event) || is_ended_by(past, &event.act, link, standing)
+}
+
+/// The held links that do not end at the entry that comes next, each as it stands after it.
+fn links_left(
+    alloc: Global,
+    rules: &Rules,
+    past: &[Entry],
+    entry: &Entry,
+    links: Vec<HeldLink>,
+) -> Result<Vec<HeldLink>, NoMemory>
+    requires rules_fit { RulesFit rules.now }
+    requires stand_so { links.items ≡ standings (looking_back past.now) (held rules.now (looking_back past.now)) }
+    ensures { IfOk result (λ left. left.items ≡ standings (entry.now ∷ looking_back past.now) (lasting rules.now (looking_back past.now) entry.now.event)) }
+{
+    let mut left = Vec::new(alloc);
+    for held in links {
+        let link = held.link;
+        if !ends_at(rules, past, &entry.event, link, &held.standing) {
+            let standing = held.standing.after(alloc, link, past, entry)?;
+            left.push(HeldLink { link, standing })?;
+        }
+    }
+    Ok(left)
+}
+
+/// The number of the link that an event took, 0 where it took none.
+#[tactic(auto, unfolding(crate::specs::Holding::taken_by))]
+fn link_taken(outcome: Outcome) -> usize
+    ensures { result ≡ taken_by outcome }
+{
+    match outcome {
+        Outcome::Took(taken) => taken,
+        _ => 0,
+    }
+}
+
+/// The session that a link is bound to before the entry that opens it.
+///
+/// There is one only where an alive took the number of a link that had not opened. The rule takes held
+/// links alone, so no past that follows it is gone over here.
+#[tactic(auto, using(crate::proofs::Carried::unbound))]
+fn session_before(
+    alloc: Global,
+    link: usize,
+    past: &[Entry],
+    furthest: usize,
+) -> Result<Option<Session>, NoMemory>
+    requires unopened { length past.now < link }
+    requires greatest { furthest ≡ furthest_taken (looking_back past.now) }
+    ensures { IfOk result (λ session. session ≡ bound link (looking_back past.now)) }
+{
+    if furthest < link {
+        Ok(None)
+    } else {
+        session_of_link(alloc, link, past)
+    }
+}
+
+/// How the link that an entry opened stands after it, at the clock that it moved.
+#[tactic(auto, using(crate::proofs::Carried::opened_stands))]
+fn standing_of_opened(
+    alloc: Global,
+    past: &[Entry],
+    entry: &Entry,
+    now: u64,
+    furthest: usize,
+) -> Result<Standing, NoMemory>
+    requires opened { opens entry.now.outcome ≡ true }
+    requires at { now ≡ max (clock (looking_back past.now)) entry.now.event.moment }
+    requires greatest { furthest ≡ furthest_taken (looking_back past.now) }
+    ensures { IfOk result (λ standing. standing ≡ standing_of (length past.now + 1) (entry.now ∷ looking_back past.now)) }
+{
+    let link = past.len() + 1;
+    let bound = session_before(alloc, link, past, furthest)?;
+    let session = session_after(alloc, bound, link, link, entry)?;
+    Ok(Standing {
+        clock: now,
+        touched: now,
+        session,
+    })
+}
+
+impl Holding {
+    /// What is held before the first event.
+    #[tactic(auto, using(crate::proofs::Carried::holding_none))]
+    fn new(alloc: Global) -> Holding
+        ensures { (rules : Rules) → IsHolding rules (looking_back []) result }
+    {
+        Holding {
+            links: Vec::new(alloc),
+            clock: 0,
+            furthest: 0,
+        }
+    }
+
+    /// What is held after the entry that comes next.
+    fn after(
+        self,
+        alloc: Global,
+        rules: &Rules,
+        past: &[Entry],
+        entry: &Entry,
+    ) -> Result<Holding, NoMemory>
+        requires rules_fit { RulesFit rules.now }
+        requires held_so { IsHolding rules.now (looking_back past.now) self }
+        ensures { IfOk result (λ next. IsHolding rules.now (entry.now ∷ looking_back past.now) next) }
+    {
+        let clock = self.clock.max(entry.event.moment);
+        let furthest = self.furthest;
+        let mut links = links_left(alloc, rules, past, entry, self.links)?;
+        if opens_link(entry.outcome) {
+            let link = past.len() + 1;
+            let standing = standing_of_opened(alloc, past, entry, clock, furthest)?;
+            links.push(HeldLink { link, standing })?;
+        }
+        Ok(Holding {
+            links,
+            clock,
+            furthest: furthest.max(link_taken(entry.outcome)),
+        })
+    }
+}
+
+/// What is held after all of a past.
+pub(crate) fn holding_after(
+    alloc: Global,
+    rules: &Rules,
+    past: &[Entry],
+) -> Result<Holding, NoMemory>
+    requires { RulesFit rules.now }
+    ensures { IfOk result (λ holding. IsHolding rules.now (looking_back past.now) holding) }
+{
+    let mut holding = Holding::new(alloc);
+    for (at, entry) in past.iter().enumerate() {
+        holding = holding.after(alloc, rules, &past[..at], entry)?;
+    }
+    Ok(holding)
+}
