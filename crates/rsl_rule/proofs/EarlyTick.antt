@@ -1,5 +1,5 @@
--- A tick before further events, with a moment not later than any of theirs, changes no later outcome but
--- for the names of links, and so no decision and no places.
+-- Where no event behind a tick has a lower moment, each of them does what it did without the tick,
+-- up to the names of links. So decisions and places stay as they were.
 use Rattle.std.proofs.Common.{◌≡◌, ℕ, zero, suc, ◌+◌, ◌-◌, ◌^◌, ◌<◌, ◌≤◌, max, List, [], ◌∷◌, ◌++◌, length, map, take, drop, Bool, true, false, cond, ◌&&◌, ◌||◌, not, refl, ap, sym, ◌∙◌, subst, ◌⊎◌, inl, inr, arith, eqb, leb, append-nil, append_assoc}
 use Rattle.std.specs.Prelude.{Option, Some, None, filter, find, is_some, nat_le, nat_lt, insert, All}
 use Rattle.std.specs.List.{list_all, list_any, cons_option, AllByRecursion}

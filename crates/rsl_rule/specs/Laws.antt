@@ -70,8 +70,8 @@ RepeatsAreDecidedAsAFreshAsk = (rules : Rules) (events : List Event) (event : Ev
     → outcome_of rules (past_of rules events) event ≡ Repeated decision
     → Any (IsDecided (key_of event.act) decision) (past_of rules events)
 
--- a tick before further events, with a moment not later than any of theirs, changes no decision, and no
--- places after the next event
+-- a tick that is put into a list where no event behind it has a lower moment leaves every decision
+-- as it was, and the places after each event behind it
 abbrev pub EarlyTicksChangeNothing : Type 0
 EarlyTicksChangeNothing = (rules : Rules) (events : List Event) (n moment : ℕ) → n ≤ length events
     → All (λ (event : Event). moment ≤ event.moment) (drop n events)

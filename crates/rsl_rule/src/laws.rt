@@ -8,13 +8,13 @@ pub fn places_stay_within_the_limit()
     ensures { PlacesStayWithinTheLimit }
 {}
 
-/// The decisions and the places depend on the account's rules and own events alone.
+/// Determinism: the decisions and the places are a function of the rules and the list of events.
 pub fn equal_lists_are_decided_alike()
     ensures { EqualListsAreDecidedAlike }
 {}
 
-/// A tick that is put in before further events, with a moment not later than any of theirs, changes no
-/// decision, and no places after the next event.
+/// A tick may be put into a list where none of the events behind it has a lower moment: every
+/// decision stays as it was, and so do the places after each event behind it.
 pub fn early_ticks_change_nothing()
     ensures { EarlyTicksChangeNothing }
 {}

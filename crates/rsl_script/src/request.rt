@@ -17,8 +17,8 @@ pub enum Method {
 pub struct AccessRequest {
     /// How it shows that it knows the password.
     pub method: Method,
-    /// The line without its moment, its words joined by one space. Its MD5 is the Request Authenticator,
-    /// so that two lines which differ in the moment alone are one packet, sent again.
+    /// The line without its moment, its words joined by one space. Its MD5 is the Request
+    /// Authenticator: the same words at another moment are the same packet, sent again.
     pub text: Octets,
     /// The NAS-Identifier: 1 to 253 octets, or none.
     pub nas: Option<Octets>,
