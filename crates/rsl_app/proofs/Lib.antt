@@ -1,5 +1,6 @@
 pub mod AccountingLaws
 pub mod Consumed
+pub mod Ended
 mod HiddenLemmas
 pub mod Keeping
 pub mod Limits

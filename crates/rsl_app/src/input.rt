@@ -8,8 +8,8 @@ use std::io::{ErrorKind, Read};
 /// The most octets that a script may have.
 const MAX_SCRIPT_LEN: usize = 1_048_576;
 
-/// The most reads after which a reader must have come to its end: enough for the longest script an octet
-/// at a time, each read interrupted once.
+/// The reads after which a reader that has not come to its end is a fault: two for each octet that a script
+/// may have.
 const MAX_READS: u32 = 2_097_152;
 
 /// Octets of one read.

@@ -24,9 +24,6 @@ pub fn run(alloc: Global, config: &Config, boot: u64, steps: &[Step]) -> Result<
     ensures count { IfOk result (λ ran. length ran.answers.items ≡ length steps.now) }
     // What is kept is each account's past: its own events, each with what the session rule says that it did.
     ensures kept { IfOk result (λ ran. AreKept config.now boot (taken [] steps.now ran.answers.items) ran.kept.items) }
-    // The events of what is kept of an account are its own events among the steps that were taken.
-    ensures own { IfOk result (λ ran. (account : ℕ) (entry : Entry) → slice_get config.now.accounts account ≡ Some entry →
-        map (λ own. own.event) (past_kept config.now account ran.kept.items) ≡ own config.now boot account (taken [] steps.now ran.answers.items)) }
     // No account holds more places than it has.
     ensures limit { IfOk result (λ ran. (account : ℕ) (entry : Entry) → slice_get config.now.accounts account ≡ Some entry →
         places_after entry.rules (own config.now boot account (taken [] steps.now ran.answers.items)) ≤ entry.rules.places) }
@@ -48,6 +45,9 @@ impl Ran {
         requires { account < length config.now.accounts }
         ensures held { IfOk result (λ held. (entry : Entry) → slice_get config.now.accounts account ≡ Some entry →
             held ≡ places_after entry.rules (map (λ own. own.event) (past_kept config.now account self.now.kept.items))) }
+        // They are those that the session rule finds on the account's own events among the steps of which this was kept.
+        ensures own { IfOk result (λ held. (boot : ℕ) (before : List Step) (entry : Entry) → AreKept config.now boot before self.now.kept.items →
+            slice_get config.now.accounts account ≡ Some entry → held ≡ places_after entry.rules (own config.now boot account before)) }
         ensures limit { IfOk result (λ held. (entry : Entry) → slice_get config.now.accounts account ≡ Some entry → held ≤ entry.rules.places) }
     {
         let past = past_of(alloc, config, account, self.kept.as_slice())?;

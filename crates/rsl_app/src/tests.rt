@@ -1,6 +1,7 @@
 //! What the program prints for scripts. Each table is of scripts and of what is printed or what the
 //! fault is.
 
+mod commands;
 mod faults;
 mod packets;
 mod rows;

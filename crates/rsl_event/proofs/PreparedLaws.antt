@@ -1,6 +1,6 @@
 -- What a datagram means is something that a reply can be made to.
-use Rattle.std.proofs.Common.{◌≡◌, ℕ, zero, suc, ◌+◌, ◌<◌, ◌≤◌, ◌==◌, Bool, true, false, cond, ltb, ◌||◌, List, [], ◌∷◌, length, Option, Some, None, Result, Ok, Err, refl, sym, ap, subst, ◌∙◌, arith}
-use Rattle.std.specs.Prelude.{option_and_then, position, nat_lt}
+use Rattle.std.proofs.Common.{◌≡◌, ℕ, ◌<◌, ◌≤◌, ◌==◌, Bool, true, false, cond, ltb, ◌||◌, List, [], length, Option, Some, None, Result, Ok, Err, refl, sym, ap, subst, ◌∙◌, arith}
+use Rattle.std.specs.Prelude.{option_and_then, position}
 use Rattle.std.specs.List.{position_or_len}
 use Rattle.std.specs.Result.{result_unwrap_or}
 use Rattle.std.proofs.lemmas.Bool.{ltb-false, ltb-true}
@@ -9,7 +9,6 @@ use Rattle.rsl_auth.specs.Authenticator.{is_accounting_authentic}
 use Rattle.rsl_wire.specs.Attributes.{Attribute, attribute_list, attributes_in, first_of, number_in}
 use Rattle.rsl_wire.specs.Packet.{Fields, packet_octets, packet_of}
 use Rattle.rsl_wire.specs.declared.packet.WireFault.{WireFault}
-use Rattle.rsl_wire.specs.declared.packet.WireFault.TheVariants as wire
 use Rattle.rsl_event.specs.Request.{nas_of, named_account, proxy_len, secret_of, password_of}
 use Rattle.rsl_event.specs.Access.{asks_once, if_shown, shows_password, asker, ask_or_reject, access_by, access_meaning}
 use Rattle.rsl_event.specs.Accounting.{is_alive, is_stop, is_restart, text_of, note_of, unless_empty, class_of, session_act, session_meaning, status_meaning, if_status, accounting_by, accounting_meaning}
@@ -20,7 +19,7 @@ use Rattle.rsl_event.specs.declared.event.Source.{Source}
 use Rattle.rsl_event.specs.declared.meaning.Port.{Port}
 use Rattle.rsl_event.specs.declared.meaning.Port.TheVariants.{Auth, Acct}
 use Rattle.rsl_event.specs.declared.meaning.Meaning.{Meaning}
-use Rattle.rsl_event.specs.declared.meaning.Meaning.TheVariants.{Bare, Reject, Own, Restart, Stray}
+use Rattle.rsl_event.specs.declared.meaning.Meaning.TheVariants.{Bare, Restart, Stray}
 use Rattle.rsl_event.specs.declared.meaning.Dropped.{Dropped}
 use Rattle.rsl_event.specs.declared.meaning.Dropped.TheVariants as drops
 use Rattle.rsl_event.specs.declared.codes.TheConstants.{ACCESS_REQUEST, ACCOUNTING_REQUEST, USER_NAME, ACCT_STATUS_TYPE, ACCT_SESSION_ID, ACCT_MULTI_SESSION_ID}

@@ -1,15 +1,14 @@
 -- What is written into a reply, one part after another.
-use Rattle.std.proofs.Common.{◌≡◌, ℕ, zero, suc, ◌+◌, ◌<◌, ◌≤◌, ◌==◌, Bool, true, false, cond, List, [], ◌∷◌, ◌++◌, length, Option, Some, None, refl, sym, ap, subst, ◌∙◌, append_assoc, arith, sum_by, take, drop}
+use Rattle.std.proofs.Common.{◌≡◌, ℕ, List, [], ◌∷◌, ◌++◌, length, Option, Some, sym, ap, ◌∙◌, arith, take, drop}
 use Rattle.std.specs.Prelude.{replicate, slice_get}
 use Rattle.std.specs.Option.{option_map_or}
-use Rattle.std.specs.List.{AllByRecursion}
-use Rattle.std.proofs.lemmas.List.{length-append, append-nil, drop_all, take_all}
+use Rattle.std.proofs.lemmas.List.{append-nil, drop_all, take_all}
 use Rattle.std.proofs.lemmas.List.Concat.{flat_map-append, length-flat_map}
 use Rattle.rsl_accounts.specs.Configuration.{Configuration}
 use Rattle.rsl_accounts.specs.declared.client.Client.{Client}
 use Rattle.rsl_accounts.specs.declared.entry.Entry.{Entry}
 use Rattle.rsl_auth.specs.Authenticator.{sealed}
-use Rattle.rsl_wire.specs.Attributes.{Attribute, IsAttribute, AreAttributes, attribute_octets, list_octets, attribute_list, attributes_in, is_kind}
+use Rattle.rsl_wire.specs.Attributes.{Attribute, attribute_octets, list_octets, attributes_in}
 use Rattle.rsl_wire.specs.Begun.{Begun}
 use Rattle.rsl_wire.specs.Packet.{Fields, packet_octets}
 use Rattle.rsl_event.specs.Answer.{number_attribute, optional_attribute, class_attribute, accept_attributes, said, code_of, said_attributes, repeated_attributes, reply_attributes, answer}
@@ -17,7 +16,7 @@ use Rattle.rsl_event.specs.Request.{proxy_states, proxy_len, secret_of}
 use Rattle.rsl_event.specs.declared.event.Decision.{Decision}
 use Rattle.rsl_event.specs.declared.meaning.Meaning.{Meaning}
 use Rattle.rsl_event.specs.declared.words.Said.{Said}
-use Rattle.rsl_event.specs.declared.codes.TheConstants.{PROXY_STATE, PORT_LIMIT, SERVICE_TYPE, FRAMED_PROTOCOL, SESSION_TIMEOUT, IDLE_TIMEOUT}
+use Rattle.rsl_event.specs.declared.codes.TheConstants.{PORT_LIMIT, SERVICE_TYPE, FRAMED_PROTOCOL, SESSION_TIMEOUT, IDLE_TIMEOUT}
 
 -- a draft with other attributes
 abbrev pub with_attributes : Begun → List ℕ → Begun

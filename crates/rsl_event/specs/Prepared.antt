@@ -1,14 +1,14 @@
 -- A datagram that was understood.
 use Rattle.std.specs.Prelude.{◌≡◌, ℕ, ◌<◌, ◌≤◌, List, length, Result, Ok, Err}
 use Rattle.rsl_accounts.specs.Configuration.{Configuration}
-use Rattle.rsl_wire.specs.Attributes.{Attribute, attribute_list, attributes_in}
+use Rattle.rsl_wire.specs.Attributes.{attribute_list, attributes_in}
 use Rattle.rsl_event.specs.Meaning.{Fails}
 use Rattle.rsl_event.specs.Request.{proxy_len}
 use Rattle.rsl_event.specs.declared.event.Act.{Act}
 use Rattle.rsl_event.specs.declared.event.Act.TheVariants.{Sweep, Tick}
 use Rattle.rsl_event.specs.declared.meaning.Dropped.{Dropped}
 use Rattle.rsl_event.specs.declared.meaning.Meaning.{Meaning}
-use Rattle.rsl_event.specs.declared.meaning.Meaning.TheVariants.{Bare, Reject, Own, Restart, Stray}
+use Rattle.rsl_event.specs.declared.meaning.Meaning.TheVariants.{Bare, Own}
 use Rattle.rsl_event.specs.declared.meaning.Prepared.{Prepared}
 use Rattle.rsl_event.specs.declared.codes.TheConstants.{MAX_PROXY_STATE_LEN}
 

@@ -1,5 +1,5 @@
 -- What both kinds of request say: which access server, which account, and what the reply repeats.
-use Rattle.std.specs.Prelude.{ℕ, ◌+◌, List, [], length, sum_by, filter, slice_get, option_and_then, Option, Some, None}
+use Rattle.std.specs.Prelude.{ℕ, List, [], length, sum_by, filter, slice_get, option_and_then, Option, Some, None}
 use Rattle.std.specs.Option.{option_map_or}
 use Rattle.rsl_accounts.specs.Configuration.{Configuration, account_number}
 use Rattle.rsl_wire.specs.Attributes.{Attribute, attribute_octets, is_kind, first_of}

@@ -1,5 +1,5 @@
 -- What is held, one entry further on, for the pass that carries it over a past.
-use Rattle.std.proofs.Common.{◌≡◌, ℕ, suc, ◌+◌, ◌-◌, ◌<◌, ◌≤◌, max, List, [], ◌∷◌, ◌++◌, map, take, get_or, length, Bool, true, false, not, refl, ap, sym, ◌∙◌, arith}
+use Rattle.std.proofs.Common.{◌≡◌, ℕ, suc, ◌+◌, ◌-◌, ◌<◌, ◌≤◌, max, List, [], ◌∷◌, ◌++◌, map, take, get_or, length, Bool, true, false, refl, ap, sym, ◌∙◌, arith}
 use Rattle.std.specs.Prelude.{Option, None, filter, nat_le}
 use Rattle.std.specs.Option.{option_or}
 use Rattle.std.proofs.lemmas.Bool.{eq-eqb, ne_eqb}
@@ -15,8 +15,8 @@ use Rattle.rsl_session.specs.Clock.{clock, clock_at}
 use Rattle.rsl_session.specs.Link.{links, opens}
 use Rattle.rsl_session.specs.Binding.{binds, touches, bound, bound_by}
 use Rattle.rsl_session.specs.Lapse.{lapses, standing_time}
-use Rattle.rsl_session.specs.Held.{ended_by, ends, held, held_before}
-use Rattle.rsl_session.proofs.Ending.{filter-filter, not-or, left_by, any_link, list_all_any, held-quiet, held-opened}
+use Rattle.rsl_session.specs.Held.{held}
+use Rattle.rsl_session.proofs.Ending.{left_by, left_by-held, held-quiet, held-opened}
 use Rattle.rsl_rule.specs.Standing.{standing_of}
 use Rattle.rsl_rule.specs.Holding.{IsHolding, furthest_taken, lasting, standings, taken_by}
 use Rattle.rsl_rule.specs.declared.holding.HeldLink.{HeldLink}
@@ -119,10 +119,7 @@ pub ruleset holding_none = (standings_none, clock_none, furthest_none)
 
 -- what is held after one more entry
 left_by-lasting : (rules : Rules) (past : Past) (event : Event) → left_by rules past event ≡ lasting rules past event
-unfolding left_by held_before ends
-left_by-lasting rules past event =
-    sym (filter-filter any_link (λ link. not (lapses rules past event link)) (λ link. not (ended_by past event.act link)) (λ link. not (ends rules past event link))
-    (λ link h. not-or (lapses rules past event link) (ended_by past event.act link)) (held rules past) (list_all_any (held rules past)))
+left_by-lasting rules past event = sym (left_by-held rules past event)
 
 pub carried_quiet : (rules : Rules) (past : Past) (x : Entry) → opens x.outcome ≡ false
     → standings (x ∷ past) (held rules (x ∷ past)) ≡ standings (x ∷ past) (lasting rules past x.event)

@@ -1,11 +1,11 @@
 -- Where no event behind a tick has a lower moment, each of them does what it did without the tick,
 -- up to the names of links. So decisions and places stay as they were.
-use Rattle.std.proofs.Common.{◌≡◌, ℕ, zero, suc, ◌+◌, ◌-◌, ◌^◌, ◌<◌, ◌≤◌, max, List, [], ◌∷◌, ◌++◌, length, map, take, drop, Bool, true, false, cond, ◌&&◌, ◌||◌, not, refl, ap, sym, ◌∙◌, subst, ◌⊎◌, inl, inr, arith, eqb, leb, append-nil, append_assoc}
-use Rattle.std.specs.Prelude.{Option, Some, None, filter, find, is_some, nat_le, nat_lt, insert, All}
-use Rattle.std.specs.List.{list_all, list_any, cons_option, AllByRecursion}
+use Rattle.std.proofs.Common.{◌≡◌, ℕ, zero, suc, ◌-◌, ◌^◌, ◌<◌, ◌≤◌, List, [], ◌∷◌, ◌++◌, length, map, take, drop, Bool, true, false, cond, ◌&&◌, ◌||◌, not, refl, ap, sym, ◌∙◌, inl, inr, arith}
+use Rattle.std.specs.Prelude.{Option, Some, None, filter, find, nat_lt, insert}
+use Rattle.std.specs.List.{list_all, cons_option, AllByRecursion}
 use Rattle.std.specs.Option.{option_map}
-use Rattle.std.proofs.lemmas.Bool.{cases_lt, cases_eq, le-leb, lt-leb, leb-true, and_parts}
-use Rattle.std.proofs.lemmas.List.{map-append, take_at, drop_at, take-append-drop, length-take-le, length-drop}
+use Rattle.std.proofs.lemmas.Bool.{cases_lt, le-leb, lt-leb, leb-true, and_parts}
+use Rattle.std.proofs.lemmas.List.{take_at, drop_at, take-append-drop, length-take-le, length-drop}
 use Rattle.std.proofs.lemmas.List.Elements.{recursion_from_All}
 use Rattle.rsl_accounts.specs.declared.rules.Rules.{Rules}
 use Rattle.rsl_event.specs.declared.event.Event.{Event}
@@ -19,25 +19,23 @@ use Rattle.rsl_session.specs.declared.entry.Entry.{Entry}
 use Rattle.rsl_session.specs.declared.entry.Outcome.{Outcome}
 use Rattle.rsl_session.specs.declared.entry.Outcome.TheVariants.{Accepted, Refused, Repeated, Opened, Took, Renewed, Ignored, Over, Passed}
 use Rattle.rsl_session.specs.declared.kept.KeptAsk.{KeptAsk}
-use Rattle.rsl_session.specs.declared.kept.KeptStop.{KeptStop}
 use Rattle.rsl_session.specs.declared.session.Session.{Session}
-use Rattle.rsl_session.specs.declared.bundle.Bundle.{Bundle}
 use Rattle.rsl_session.specs.Past.{Past}
 use Rattle.rsl_session.specs.Clock.{clock, clock_at}
 use Rattle.rsl_session.specs.Link.{links, number_of}
-use Rattle.rsl_session.specs.Binding.{bundle_at, bundle_of, is_bound_to}
+use Rattle.rsl_session.specs.Binding.{is_bound_to}
 use Rattle.rsl_session.specs.Lapse.{lapses}
 use Rattle.rsl_session.specs.Held.{ended_by, ends, freed, held, held_before}
 use Rattle.rsl_session.specs.Places.{bundles, places, places_of}
-use Rattle.rsl_session.specs.Ask.{accepts, ask_outcome, fresh_asks, fresh_decision, has_a_place, is_sweep_of, kept_ask, repeated, repeats, swept_in, KEPT_ASKS}
-use Rattle.rsl_session.specs.Closed.{closes, is_closed, kept_stop, stops, KEPT_STOPS}
-use Rattle.rsl_session.specs.Alive.{alive_outcome, has_room, is_chosen, is_number, link_of, reservation_of, unbound_outcome}
+use Rattle.rsl_session.specs.Ask.{accepts, ask_outcome, fresh_asks, fresh_decision, has_a_place, is_sweep_of, kept_ask, repeated, swept_in}
+use Rattle.rsl_session.specs.Closed.{is_closed, kept_stop, stops}
+use Rattle.rsl_session.specs.Alive.{alive_outcome, has_room, is_chosen, link_of, reservation_of, unbound_outcome}
 use Rattle.rsl_session.specs.Rule.{IsRuled, decision_of, decisions, decisions_from, entry_of, outcome_by, outcome_of, past_from, past_of, places_after}
-use Rattle.rsl_session.proofs.Ruled.{is_in, is_in-true, links-in, IsRuled-past_of, held_before-in}
+use Rattle.rsl_session.proofs.Ruled.{is_in, is_in-true, links-in, IsRuled-past_of}
 use Rattle.rsl_session.proofs.Ending.{freed_later, freed_older, filter-filter, any_link, list_all_any, not-or}
 use Rattle.rsl_rule.specs.Laws.{EarlyTicksChangeNothing}
 use Rattle.rsl_rule.proofs.Numbers.{accepts-cons}
-use Rattle.rsl_rule.proofs.Shift.{shift, shift-old, shift-new, shift_outcome, shift_entry, tick_event, tick_entry, after_tick, length-after_tick, older-le, clock_at-after_tick, clock_next, number_of-shift, number_at-after_tick, links-after_tick, bound-after_tick, bundle_at-after_tick, lapses-after_tick, is_bound_to-after_tick, is_reserved-after_tick, is_at-after_tick, ended_by-after_tick}
+use Rattle.rsl_rule.proofs.Shift.{shift, shift-old, shift-new, shift_outcome, shift_entry, tick_event, tick_entry, after_tick, length-after_tick, older-le, clock_at-after_tick, clock_next, number_of-shift, number_at-after_tick, links-after_tick, bundle_at-after_tick, lapses-after_tick, is_bound_to-after_tick, is_reserved-after_tick, is_at-after_tick, ended_by-after_tick}
 
 -- each of some entries has a moment that is not before the tick's
 abbrev pub AreLater : ℕ → Past → Type 0

@@ -1,9 +1,8 @@
 -- The reservation that an alive with no class takes has the lowest number.
-use Rattle.std.proofs.Common.{◌≡◌, ℕ, zero, suc, ◌+◌, ◌-◌, ◌<◌, ◌≤◌, List, [], ◌∷◌, ◌++◌, length, Bool, true, false, cond, ◌&&◌, not, refl, ap, sym, ◌∙◌, subst, ◌⊎◌, inl, inr, arith, eqb}
-use Rattle.std.specs.Prelude.{Option, Some, None, filter, find, is_some, ⊤}
+use Rattle.std.proofs.Common.{◌≡◌, ℕ, suc, ◌+◌, ◌<◌, ◌≤◌, List, [], ◌∷◌, ◌++◌, length, Bool, true, false, cond, ◌&&◌, refl, ap, sym, ◌∙◌, subst, inl, inr, arith}
+use Rattle.std.specs.Prelude.{Option, Some, None, filter, find, ⊤}
 use Rattle.std.specs.List.{list_all, AllByRecursion}
-use Rattle.std.specs.Option.{option_and_then}
-use Rattle.std.proofs.lemmas.Bool.{cases_eq, cases_lt, and_parts, and_from, eq-eqb, ne_eqb, eqb-true}
+use Rattle.std.proofs.lemmas.Bool.{cases_eq, and_parts, and_from, eq-eqb, ne_eqb, eqb-true}
 use Rattle.rsl_accounts.specs.declared.rules.Rules.{Rules}
 use Rattle.rsl_event.specs.declared.event.Event.{Event}
 use Rattle.rsl_event.specs.declared.nas.Nas.{Nas}
@@ -16,7 +15,7 @@ use Rattle.rsl_session.specs.Binding.{is_reserved}
 use Rattle.rsl_session.specs.Held.{held, held_before, is_at}
 use Rattle.rsl_session.specs.Ask.{accepts}
 use Rattle.rsl_session.specs.Alive.{is_chosen, is_number, reservation_of}
-use Rattle.rsl_session.specs.Rule.{IsRuled, outcome_of}
+use Rattle.rsl_session.specs.Rule.{IsRuled}
 use Rattle.rsl_session.proofs.Ruled.{is_in, is_in-true, links-in}
 use Rattle.rsl_rule.proofs.Numbers.{accepts-cons, IsNext, IsNext-outcome_of}
 use Rattle.rsl_rule.proofs.Shift.{number_cons, number_later, number_nil}

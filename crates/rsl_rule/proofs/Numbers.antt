@@ -1,5 +1,5 @@
 -- Accept numbers count up from 0.
-use Rattle.std.proofs.Common.{◌≡◌, ℕ, zero, suc, ◌+◌, ◌-◌, ◌^◌, ◌<◌, ◌≤◌, List, [], ◌∷◌, ◌++◌, length, get_or, Bool, true, false, cond, ◌&&◌, refl, ap, sym, ◌∙◌, subst, ◌⊎◌, inl, inr, arith, append-nil, length-append}
+use Rattle.std.proofs.Common.{◌≡◌, ℕ, ◌+◌, ◌-◌, ◌^◌, List, [], ◌∷◌, ◌++◌, length, Bool, true, false, cond, ◌&&◌, refl, ap, sym, ◌∙◌, subst, inl, inr, arith, append-nil}
 use Rattle.std.specs.Prelude.{Option, Some, None, is_some, ⊤, nat_lt, EachIndex, slice_index}
 use Rattle.std.proofs.lemmas.Bool.{cases_lt}
 use Rattle.std.proofs.lemmas.List.{get_or_append_left, get_or_push, length_push}
@@ -16,7 +16,7 @@ use Rattle.rsl_session.specs.declared.session.Session.{Session}
 use Rattle.rsl_session.specs.Past.{Past}
 use Rattle.rsl_session.specs.Link.{number_of}
 use Rattle.rsl_session.specs.Ask.{accepts, ask_outcome, has_a_place, repeated}
-use Rattle.rsl_session.specs.Alive.{alive_outcome, unbound_outcome, link_of, reservation_of, has_room}
+use Rattle.rsl_session.specs.Alive.{alive_outcome, unbound_outcome, reservation_of, has_room}
 use Rattle.rsl_session.specs.Closed.{is_closed}
 use Rattle.rsl_session.specs.Rule.{IsRuled, outcome_of, outcome_by, past_of}
 use Rattle.rsl_session.proofs.Ruled.{IsRuled-past_of}

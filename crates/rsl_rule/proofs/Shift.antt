@@ -1,17 +1,16 @@
 -- A tick that is put into a past moves the place of each later event up by one, and so the name of each
 -- link that opens later; all else that the rule looks back for stays as it is.
-use Rattle.std.proofs.Common.{◌≡◌, ℕ, zero, suc, ◌+◌, ◌-◌, ◌<◌, ◌≤◌, max, List, [], ◌∷◌, ◌++◌, length, map, Bool, true, false, cond, ◌&&◌, ◌||◌, not, refl, ap, sym, ◌∙◌, subst, ◌⊎◌, inl, inr, arith, eqb, leb, append-nil}
-use Rattle.std.specs.Prelude.{Option, Some, None, filter, find, is_some, nat_le, nat_lt, take}
-use Rattle.std.specs.List.{list_all, cons_option, AllByRecursion}
-use Rattle.std.specs.Option.{option_map, option_or, option_and_then}
-use Rattle.std.proofs.lemmas.Bool.{cases_lt, cases_eq, le-leb, lt-leb, leb-true, eq-eqb, ne_eqb, and_parts}
+use Rattle.std.proofs.Common.{◌≡◌, ℕ, suc, ◌<◌, ◌≤◌, max, List, [], ◌∷◌, ◌++◌, length, map, Bool, true, false, cond, refl, ap, sym, ◌∙◌, ◌⊎◌, inl, inr, arith, eqb, leb}
+use Rattle.std.specs.Prelude.{Option, Some, None}
+use Rattle.std.specs.List.{list_all, AllByRecursion}
+use Rattle.std.specs.Option.{option_or, option_and_then}
+use Rattle.std.proofs.lemmas.Bool.{cases_lt, cases_eq, le-leb, lt-leb, eq-eqb, ne_eqb, and_parts}
 use Rattle.std.proofs.lemmas.List.{map-append}
 use Rattle.rsl_accounts.specs.declared.rules.Rules.{Rules}
 use Rattle.rsl_event.specs.declared.event.Event.{Event}
 use Rattle.rsl_event.specs.declared.event.Act.{Act}
 use Rattle.rsl_event.specs.declared.event.Act.TheVariants.{Ask, Alive, Stop, Sweep, Tick}
 use Rattle.rsl_event.specs.declared.nas.Nas.{Nas}
-use Rattle.rsl_event.specs.declared.event.Decision.{Decision}
 use Rattle.rsl_session.specs.declared.entry.Entry.{Entry}
 use Rattle.rsl_session.specs.declared.entry.Outcome.{Outcome}
 use Rattle.rsl_session.specs.declared.entry.Outcome.TheVariants.{Accepted, Refused, Repeated, Opened, Took, Renewed, Ignored, Over, Passed}
@@ -20,14 +19,12 @@ use Rattle.rsl_session.specs.declared.bundle.Bundle.{Bundle}
 use Rattle.rsl_session.specs.Past.{Past, entry_at}
 use Rattle.rsl_session.specs.Clock.{clock, clock_at}
 use Rattle.rsl_session.specs.Link.{links, opens, nas_of, nas_at, number_of, number_at}
-use Rattle.rsl_session.specs.Binding.{binds, touches, session_of, bundle_of, bound_by, bundled_by, bound, bundle_at, is_reserved, is_bound_to}
+use Rattle.rsl_session.specs.Binding.{binds, touches, bound_by, bundled_by, bound, bundle_at, is_reserved, is_bound_to}
 use Rattle.rsl_session.specs.Touch.{touched}
 use Rattle.rsl_session.specs.Lapse.{lapses}
-use Rattle.rsl_session.specs.Held.{is_at, ended_by, ends, freed, held, held_before}
-use Rattle.rsl_session.specs.Places.{bundles}
+use Rattle.rsl_session.specs.Held.{is_at, ended_by}
 use Rattle.rsl_session.specs.Rule.{IsRuled}
 use Rattle.rsl_session.proofs.Ruled.{bound-later, bundle_at-later, touched-later, is_in, is_in-true, links-in}
-use Rattle.rsl_session.proofs.Ending.{freed_later, freed_older, filter-filter, any_link, list_all_any, not-or}
 
 -- the new name of a link, where the tick has the place after n events
 pub shift : ℕ → ℕ → ℕ

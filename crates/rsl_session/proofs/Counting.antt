@@ -1,17 +1,17 @@
 -- One link more adds no place or one, in whatever order the links stand; so links that end add none, and
 -- a link that joins a bundle adds none.
-use Rattle.std.proofs.Common.{◌≡◌, ℕ, zero, suc, ◌+◌, ◌-◌, ◌*◌, min, ◌<◌, ◌≤◌, List, [], ◌∷◌, ◌++◌, length, Bool, true, false, cond, ◌||◌, not, refl, ap, sym, ◌∙◌, subst, ◌⊎◌, inl, inr, arith, append_assoc, map}
+use Rattle.std.proofs.Common.{◌≡◌, ℕ, suc, ◌+◌, ◌-◌, ◌*◌, ◌<◌, ◌≤◌, List, [], ◌∷◌, ◌++◌, length, Bool, true, false, cond, ◌||◌, refl, ap, sym, ◌∙◌, subst, ◌⊎◌, inl, inr, arith, append_assoc, map}
 use Rattle.std.specs.Prelude.{Option, Some, None, count_by, sum_by, filter, is_none}
 use Rattle.std.specs.Int.{div_ceil}
 use Rattle.std.specs.List.{list_any}
-use Rattle.std.proofs.lemmas.Bool.{cases_Bool, cases_lt, or_parts}
+use Rattle.std.proofs.lemmas.Bool.{cases_lt, or_parts}
 use Rattle.std.proofs.lemmas.Grind.{div_ceil_times}
 use Rattle.std.proofs.lemmas.List.Sums.{sum_by-cons, sum_by-append}
 use Rattle.std.proofs.Math.Nat.{mul-le-mul_right}
 use Rattle.rsl_session.specs.declared.bundle.Bundle.{Bundle}
 use Rattle.rsl_session.specs.Same.{same_bundle}
 use Rattle.rsl_session.specs.Places.{places_of, each_bundle, is_bundle}
-use Rattle.rsl_session.proofs.Sameness.{bundle_cases, same_bundle-refl, same_bundle-true}
+use Rattle.rsl_session.proofs.Sameness.{bundle_cases, same_bundle-refl}
 
 -- rounded up, one link more takes as many or one more
 ceil_step : (m ports q r : ℕ) → 0 < ports → m ≤ q * ports → q * ports < m + ports → suc m ≤ r * ports → r * ports < suc m + ports → (q ≤ r) × (r ≤ suc q)

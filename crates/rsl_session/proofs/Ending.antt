@@ -1,8 +1,8 @@
 -- The held links of a past, from those that were held before its last event.
-use Rattle.std.proofs.Common.{◌≡◌, ℕ, zero, suc, ◌<◌, ◌≤◌, List, [], ◌∷◌, ◌++◌, length, Bool, true, false, cond, ◌&&◌, ◌||◌, not, refl, ap, sym, ◌∙◌, subst, arith, leb}
-use Rattle.std.specs.Prelude.{Option, Some, None, filter, nat_le}
+use Rattle.std.proofs.Common.{◌≡◌, ℕ, suc, ◌<◌, ◌≤◌, List, [], ◌∷◌, ◌++◌, length, Bool, true, false, cond, ◌&&◌, ◌||◌, not, refl, ap, ◌∙◌, arith}
+use Rattle.std.specs.Prelude.{filter, nat_le}
 use Rattle.std.specs.List.{list_all}
-use Rattle.std.proofs.lemmas.Bool.{le-leb, leb-true, lt-leb, and_parts}
+use Rattle.std.proofs.lemmas.Bool.{le-leb, lt-leb, and_parts}
 use Rattle.std.proofs.lemmas.List.Elements.{filter-append}
 use Rattle.rsl_accounts.specs.declared.rules.Rules.{Rules}
 use Rattle.rsl_event.specs.declared.event.Event.{Event}
@@ -56,7 +56,7 @@ unfolding any_link
 list_all_any [] = refl
 list_all_any (x ∷ xs) = list_all_any xs
 
-left_by-held : (rules : Rules) (past : Past) (event : Event) → filter (λ link. not (ends rules past event link)) (held rules past) ≡ left_by rules past event
+pub left_by-held : (rules : Rules) (past : Past) (event : Event) → filter (λ link. not (ends rules past event link)) (held rules past) ≡ left_by rules past event
 unfolding left_by held_before ends
 left_by-held rules past event =
     filter-filter any_link (λ link. not (lapses rules past event link)) (λ link. not (ended_by past event.act link)) (λ link. not (ends rules past event link))

@@ -1,7 +1,7 @@
 -- The places that an account holds never exceed its limit.
-use Rattle.std.proofs.Common.{◌≡◌, ℕ, zero, suc, ◌+◌, ◌-◌, ◌^◌, ◌<◌, ◌≤◌, List, [], ◌∷◌, ◌++◌, length, Bool, true, false, cond, ◌&&◌, not, refl, ap, sym, ◌∙◌, subst, ◌⊎◌, inl, inr, arith, map, eqb, leb, append-nil}
+use Rattle.std.proofs.Common.{◌≡◌, ℕ, suc, ◌-◌, ◌^◌, ◌<◌, ◌≤◌, List, [], ◌∷◌, ◌++◌, length, Bool, true, false, cond, ◌&&◌, not, refl, ap, sym, subst, ◌⊎◌, inl, inr, arith, map, eqb, append-nil}
 use Rattle.std.proofs.lemmas.List.{map-append}
-use Rattle.std.specs.Prelude.{Option, Some, None, filter, ⊤, nat_le, nat_lt, take}
+use Rattle.std.specs.Prelude.{Option, Some, None, ⊤, nat_lt}
 use Rattle.std.specs.Option.{option_or}
 use Rattle.std.proofs.lemmas.Bool.{leb-true, and_parts, eq-eqb}
 use Rattle.rsl_accounts.specs.Limits.{RulesFit}
@@ -22,9 +22,9 @@ use Rattle.rsl_session.specs.Held.{held, held_before, ended_by}
 use Rattle.rsl_session.specs.Lapse.{lapses}
 use Rattle.rsl_session.specs.Places.{places, places_of, bundles, each_bundle}
 use Rattle.rsl_session.specs.Ask.{ask_outcome, repeated, has_a_place, accepts}
-use Rattle.rsl_session.specs.Alive.{alive_outcome, unbound_outcome, link_of, reservation_of, has_room}
+use Rattle.rsl_session.specs.Alive.{alive_outcome, unbound_outcome, reservation_of, has_room}
 use Rattle.rsl_session.specs.Closed.{is_closed}
-use Rattle.rsl_session.specs.Rule.{IsRuled, outcome_of, outcome_by, entry_of, past_from, past_of, places_after}
+use Rattle.rsl_session.specs.Rule.{IsRuled, outcome_of, outcome_by, past_of, places_after}
 use Rattle.rsl_session.proofs.Counting.{fewer, joined, places_of_front, places_of_more}
 use Rattle.rsl_session.proofs.Ruled.{bundle_at-later, IsRuled-past_of}
 use Rattle.rsl_session.proofs.Ending.{left_by, held-quiet, held-opened}

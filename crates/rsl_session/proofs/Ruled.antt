@@ -1,10 +1,9 @@
 -- What a past that follows the rule is: one past for one list of events, and each link in it names a place
 -- at which a link opened.
-use Rattle.std.proofs.Common.{◌≡◌, ℕ, zero, suc, ◌-◌, ◌^◌, ◌<◌, ◌≤◌, List, [], ◌∷◌, ◌++◌, length, Bool, true, false, cond, ◌&&◌, ◌||◌, not, refl, ap, sym, ◌∙◌, subst, ◌⊎◌, inl, inr, arith, map, eqb, leb}
-use Rattle.std.specs.Prelude.{Option, Some, None, filter, find, ⊤, nat_le, nat_lt, is_some}
-use Rattle.std.specs.Option.{option_or, option_map}
+use Rattle.std.proofs.Common.{◌≡◌, ℕ, suc, ◌-◌, ◌^◌, ◌<◌, ◌≤◌, List, [], ◌∷◌, ◌++◌, length, Bool, true, false, cond, ◌&&◌, refl, ap, sym, ◌∙◌, subst, arith, map, leb}
+use Rattle.std.specs.Prelude.{Option, Some, None, filter, find, ⊤, nat_lt}
 use Rattle.std.specs.List.{list_all}
-use Rattle.std.proofs.lemmas.Bool.{cases_Bool, le-leb, leb-true, lt-leb, and_from, and_parts, false≢true, ne_eqb, eqb-true}
+use Rattle.std.proofs.lemmas.Bool.{le-leb, leb-true, and_from, and_parts, ne_eqb}
 use Rattle.rsl_accounts.specs.declared.rules.Rules.{Rules}
 use Rattle.rsl_event.specs.declared.event.Event.{Event}
 use Rattle.rsl_event.specs.declared.event.Act.{Act}
@@ -16,9 +15,9 @@ use Rattle.rsl_session.specs.declared.kept.KeptAsk.{KeptAsk}
 use Rattle.rsl_session.specs.declared.session.Session.{Session}
 use Rattle.rsl_session.specs.Past.{Past}
 use Rattle.rsl_session.specs.Link.{links, opens}
-use Rattle.rsl_session.specs.Binding.{bound, bound_by, bundle_at, bundled_by, binds, touches, session_of, bundle_of}
+use Rattle.rsl_session.specs.Binding.{bound, bound_by, bundle_at, bundled_by, binds, touches}
 use Rattle.rsl_session.specs.Touch.{touched}
-use Rattle.rsl_session.specs.Held.{held, held_before, freed}
+use Rattle.rsl_session.specs.Held.{held, held_before}
 use Rattle.rsl_session.specs.Ask.{ask_outcome, repeated, has_a_place, accepts}
 use Rattle.rsl_session.specs.Alive.{alive_outcome, unbound_outcome, link_of, reservation_of, has_room, is_chosen}
 use Rattle.rsl_session.specs.Closed.{is_closed}

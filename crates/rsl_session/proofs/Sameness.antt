@@ -1,6 +1,6 @@
 -- Each test of `specs/Same.antt` says true exactly where the two values are equal.
 use Rattle.std.proofs.Common.{◌≡◌, ℕ, List, Bool, true, false, ◌&&◌, refl, ap, sym, ◌∙◌, subst, eqb, ◌⊎◌, inl, inr}
-use Rattle.std.specs.Prelude.{Option, Some, None, ◌↔◌}
+use Rattle.std.specs.Prelude.{◌↔◌}
 use Rattle.std.specs.Bool.{Decides}
 use Rattle.std.proofs.lemmas.Bool.{eqb-true, eq-eqb, and_parts, and_from, cases_Bool, false_from_ne_true, false≢true}
 use Rattle.std.proofs.lemmas.Slice.Eq.{bytes_eq-Decides}

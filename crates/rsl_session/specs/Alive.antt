@@ -2,11 +2,10 @@
 -- the session. It is ignored if the session is closed. It takes a reserved link at its access server: with
 -- a class, the link of that accept number; with none, the link of the lowest. It opens a new link, if the
 -- places then are within the limit. Otherwise it is over.
-use Rattle.std.specs.Prelude.{ℕ, ◌-◌, ◌^◌, min, List, [], ◌∷◌, ◌++◌, Bool, true, false, ◌&&◌, ◌==◌, nat_le, find, count_by, if◌then◌else◌, Option, Some, None}
+use Rattle.std.specs.Prelude.{ℕ, ◌-◌, ◌^◌, min, [], ◌∷◌, ◌++◌, Bool, true, false, ◌&&◌, ◌==◌, nat_le, find, count_by, if◌then◌else◌, Option, Some, None}
 use Rattle.rsl_accounts.specs.declared.rules.Rules.{Rules}
 use Rattle.rsl_event.specs.declared.event.Event.{Event}
 use Rattle.rsl_event.specs.declared.nas.Nas.{Nas}
-use Rattle.rsl_session.specs.declared.entry.Entry.{Entry}
 use Rattle.rsl_session.specs.declared.entry.Outcome.{Outcome}
 use Rattle.rsl_session.specs.declared.entry.Outcome.TheVariants.{Opened, Took, Renewed, Ignored, Over}
 use Rattle.rsl_session.specs.declared.session.Session.{Session}

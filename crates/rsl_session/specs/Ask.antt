@@ -1,11 +1,11 @@
 -- An ask is a repeat if one of the last 8 fresh asks has its key, is less than the keep time old, and had
 -- no sweep of its access server since. It gets the decision of the latest such ask. Every other ask is
 -- fresh: it is accepted, and opens a reserved link, where one more place is free.
-use Rattle.std.specs.Prelude.{ℕ, ◌+◌, ◌-◌, ◌^◌, List, [], ◌∷◌, Bool, true, false, ◌&&◌, not, nat_lt, nat_le, find, count_by, take, if◌then◌else◌, is_some, Option, Some, None}
+use Rattle.std.specs.Prelude.{ℕ, ◌+◌, ◌-◌, ◌^◌, List, [], ◌∷◌, Bool, false, ◌&&◌, not, nat_lt, nat_le, find, count_by, take, if◌then◌else◌, is_some, Option, Some, None}
 use Rattle.std.specs.List.{list_any, cons_option}
 use Rattle.rsl_accounts.specs.declared.rules.Rules.{Rules}
 use Rattle.rsl_event.specs.declared.event.Act.{Act}
-use Rattle.rsl_event.specs.declared.event.Act.TheVariants.{Ask, Alive, Stop, Sweep, Tick}
+use Rattle.rsl_event.specs.declared.event.Act.TheVariants.{Ask, Sweep}
 use Rattle.rsl_event.specs.declared.event.Decision.{Decision}
 use Rattle.rsl_event.specs.declared.event.Decision.TheVariants.{Accept, LimitReject}
 use Rattle.rsl_event.specs.declared.event.Event.{Event}

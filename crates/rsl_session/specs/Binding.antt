@@ -1,12 +1,12 @@
 -- A link is bound to the session of the alive that opened or took it, and reserved until then. Its bundle
 -- is that of the first alive that opened, took or renewed it and carried one.
-use Rattle.std.specs.Prelude.{ℕ, suc, [], ◌∷◌, length, Bool, true, false, ◌==◌, if◌then◌else◌, Option, Some, None, is_none, is_some}
+use Rattle.std.specs.Prelude.{ℕ, suc, [], ◌∷◌, length, Bool, false, ◌==◌, if◌then◌else◌, Option, Some, None, is_none}
 use Rattle.std.specs.Option.{option_or, option_map}
 use Rattle.rsl_event.specs.declared.event.Act.{Act}
-use Rattle.rsl_event.specs.declared.event.Act.TheVariants.{Ask, Alive, Stop, Sweep, Tick}
+use Rattle.rsl_event.specs.declared.event.Act.TheVariants.{Alive}
 use Rattle.rsl_session.specs.declared.entry.Entry.{Entry}
 use Rattle.rsl_session.specs.declared.entry.Outcome.{Outcome}
-use Rattle.rsl_session.specs.declared.entry.Outcome.TheVariants.{Accepted, Refused, Repeated, Opened, Took, Renewed, Ignored, Over, Passed}
+use Rattle.rsl_session.specs.declared.entry.Outcome.TheVariants.{Accepted, Opened, Took, Renewed}
 use Rattle.rsl_session.specs.declared.session.Session.{Session}
 use Rattle.rsl_session.specs.declared.bundle.Bundle.{Bundle}
 use Rattle.rsl_session.specs.Past.{Past}

@@ -4,7 +4,7 @@ use Rattle.std.specs.Prelude.{ℕ, ◌-◌, List, [], ◌∷◌, Bool, ◌&&◌,
 use Rattle.std.specs.List.{list_any, cons_option}
 use Rattle.rsl_accounts.specs.declared.rules.Rules.{Rules}
 use Rattle.rsl_event.specs.declared.event.Act.{Act}
-use Rattle.rsl_event.specs.declared.event.Act.TheVariants.{Ask, Alive, Stop, Sweep, Tick}
+use Rattle.rsl_event.specs.declared.event.Act.TheVariants.{Stop}
 use Rattle.rsl_event.specs.declared.event.Event.{Event}
 use Rattle.rsl_session.specs.declared.entry.Entry.{Entry}
 use Rattle.rsl_session.specs.declared.kept.KeptStop.{KeptStop}

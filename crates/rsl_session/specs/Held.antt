@@ -1,9 +1,9 @@
 -- A link is held until an event after the one that opened it ends it: the link lapses as the event comes,
 -- or the event is a stop of its session or a sweep of its access server.
-use Rattle.std.specs.Prelude.{ℕ, List, [], ◌∷◌, length, filter, Bool, true, false, ◌&&◌, ◌||◌, not, nat_le, Option, Some, None}
+use Rattle.std.specs.Prelude.{ℕ, List, [], ◌∷◌, length, filter, Bool, false, ◌&&◌, ◌||◌, not, nat_le, Option, Some, None}
 use Rattle.rsl_accounts.specs.declared.rules.Rules.{Rules}
 use Rattle.rsl_event.specs.declared.event.Act.{Act}
-use Rattle.rsl_event.specs.declared.event.Act.TheVariants.{Ask, Alive, Stop, Sweep, Tick}
+use Rattle.rsl_event.specs.declared.event.Act.TheVariants.{Stop, Sweep}
 use Rattle.rsl_event.specs.declared.event.Event.{Event}
 use Rattle.rsl_event.specs.declared.nas.Nas.{Nas}
 use Rattle.rsl_session.specs.Past.{Past}

@@ -6,7 +6,7 @@ use Rattle.rsl_event.specs.declared.event.Act.{Act}
 use Rattle.rsl_event.specs.declared.event.Act.TheVariants.{Ask, Alive, Stop, Sweep, Tick}
 use Rattle.rsl_event.specs.declared.nas.Nas.{Nas}
 use Rattle.rsl_session.specs.declared.entry.Outcome.{Outcome}
-use Rattle.rsl_session.specs.declared.entry.Outcome.TheVariants.{Accepted, Refused, Repeated, Opened, Took, Renewed, Ignored, Over, Passed}
+use Rattle.rsl_session.specs.declared.entry.Outcome.TheVariants.{Accepted, Opened}
 use Rattle.rsl_session.specs.Past.{Past, entry_at}
 
 -- whether an event opened a link

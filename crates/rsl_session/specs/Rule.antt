@@ -2,13 +2,13 @@
 use Rattle.std.specs.Prelude.{◌≡◌, ℕ, List, [], ◌∷◌, ⊤}
 use Rattle.rsl_accounts.specs.declared.rules.Rules.{Rules}
 use Rattle.rsl_event.specs.declared.event.Act.{Act}
-use Rattle.rsl_event.specs.declared.event.Act.TheVariants.{Ask, Alive, Stop, Sweep, Tick}
+use Rattle.rsl_event.specs.declared.event.Act.TheVariants.{Ask, Alive}
 use Rattle.rsl_event.specs.declared.event.Decision.{Decision}
 use Rattle.rsl_event.specs.declared.event.Decision.TheVariants.{Accept, LimitReject, Done}
 use Rattle.rsl_event.specs.declared.event.Event.{Event}
 use Rattle.rsl_session.specs.declared.entry.Entry.{Entry}
 use Rattle.rsl_session.specs.declared.entry.Outcome.{Outcome}
-use Rattle.rsl_session.specs.declared.entry.Outcome.TheVariants.{Accepted, Refused, Repeated, Opened, Took, Renewed, Ignored, Over, Passed}
+use Rattle.rsl_session.specs.declared.entry.Outcome.TheVariants.{Accepted, Refused, Repeated, Passed}
 use Rattle.rsl_session.specs.Past.{Past}
 use Rattle.rsl_session.specs.Places.{places}
 use Rattle.rsl_session.specs.Ask.{ask_outcome, repeated}

@@ -104,6 +104,37 @@ fn datagrams_that_are_no_requests_are_dropped(rt: HostRuntime) -> Result<(), Fai
     Ok(())
 }
 
+/// The request of the RFC with 15 Proxy-States of 253 octets and one of so many.
+fn proxied<R: Abort + AllocGlobal>(
+    rt: &R,
+    len: &str,
+    last: &str,
+    rest: usize,
+) -> Result<String, Fail> {
+    let state = format!(in rt.alloc(); "21ff{}", "00".repeat(rt.alloc(), 253)?)?;
+    let states = state.as_str().repeat(rt.alloc(), 15)?;
+    let zeros = "00".repeat(rt.alloc(), rest)?;
+    Ok(format!(in rt.alloc();
+        "raw-auth 0 192.168.1.16 0100{len}0f403f9473978057bd83d5cb98f4227a01066e656d6f\
+         02120dbe708d93d413ce3196e43f782a0aee{states}21{last}{zeros}"
+    )?)
+}
+
+#[test]
+fn proxy_states_have_3900_octets_at_most(rt: HostRuntime) -> Result<(), Fail> {
+    for (len, last, rest, prints) in [
+        ("0f68", "4b", 73, "1 accept 0\n"),
+        ("0f69", "4c", 74, "1 drop ProxyTooLong\n"),
+    ] {
+        let line = proxied(&rt, len, last, rest)?;
+        let script = format!(in rt.alloc();
+            "client 192.168.1.16 xyzzy5461\naccount nemo arctangent 1\n{line}"
+        )?;
+        assert_row(&rt, script.as_str(), prints)?;
+    }
+    Ok(())
+}
+
 #[test]
 fn comments_and_empty_lines_are_no_event_lines(rt: HostRuntime) -> Result<(), Fail> {
     let script = format!(in rt.alloc();

@@ -1,3 +1,4 @@
+use super::REQUEST;
 use crate::run::run;
 use crate::step::{Answer, Ran, Step};
 use crate::stepping::steps_of;
@@ -45,6 +46,14 @@ fn said(answer: &Answer) -> Option<Said> {
     }
 }
 
+/// The octets of an answer, if it is a reply.
+fn octets_of(answer: &Answer) -> Option<&[u8]> {
+    match answer {
+        Answer::Reply(_, octets) => Some(octets.as_slice()),
+        _ => None,
+    }
+}
+
 #[test]
 fn sweep_is_for_the_accounts_of_its_shard_alone(rt: HostRuntime) -> Result<(), Fail> {
     let alloc = rt.alloc();
@@ -81,25 +90,65 @@ fn sweep_is_for_the_accounts_of_its_shard_alone(rt: HostRuntime) -> Result<(), F
 #[test]
 fn accounts_hold_places_of_their_own(rt: HostRuntime) -> Result<(), Fail> {
     let alloc = rt.alloc();
-    let (config, steps) = config_and_steps(
-        alloc,
-        "client 192.168.1.16 xyzzy5461\naccount a pw 2\naccount b pw 2\n\
-         ask 0 192.168.1.16 n a pw 1\nask 0 192.168.1.16 n b pw 1\n\
-         ask 0 192.168.1.16 n a pw 2\nask 0 192.168.1.16 n b pw 2\nask 0 192.168.1.16 n b pw 3\n",
-    )?;
-    let ran = run(alloc, &config, BOOT, steps.as_slice())?;
-    let expected = [
-        Said::Accept(0),
-        Said::Accept(0),
-        Said::Accept(1),
-        Said::Accept(1),
-        Said::LimitReject,
-    ];
-    assert_eq!(rt; ran.answers.len(), expected.len());
-    for (answer, expected) in ran.answers.iter().zip(expected) {
-        assert_eq!(rt; said(answer), Some(expected));
+    for shards in [1, 2, 3] {
+        let script = format!(in alloc;
+            "set shards {shards}\nclient 192.168.1.16 xyzzy5461\naccount a pw 2\naccount b pw 2\n\
+             ask 0 192.168.1.16 n a pw 1\nask 0 192.168.1.16 n b pw 1\n\
+             ask 0 192.168.1.16 n a pw 2\nask 0 192.168.1.16 n b pw 2\nask 0 192.168.1.16 n b pw 3\n"
+        )?;
+        let (config, steps) = config_and_steps(alloc, script.as_str())?;
+        let ran = run(alloc, &config, BOOT, steps.as_slice())?;
+        let expected = [
+            Said::Accept(0),
+            Said::Accept(0),
+            Said::Accept(1),
+            Said::Accept(1),
+            Said::LimitReject,
+        ];
+        assert_eq!(rt; ran.answers.len(), expected.len());
+        for (answer, expected) in ran.answers.iter().zip(expected) {
+            assert_eq!(rt; said(answer), Some(expected));
+        }
+        assert_eq!(rt; held(alloc, &config, &ran, 0)?, Some(2));
+        assert_eq!(rt; held(alloc, &config, &ran, 1)?, Some(2));
     }
-    assert_eq!(rt; held(alloc, &config, &ran, 0)?, Some(2));
-    assert_eq!(rt; held(alloc, &config, &ran, 1)?, Some(2));
+    Ok(())
+}
+
+// The Response Authenticators were computed with Python's hashlib, by the formula of RFC 2865 section 3.
+
+// An accept with its Class and Port-Limit.
+const ACCEPT: &[u8] =
+    b"\x02\0\0\x2c\x7f\xa8\x5d\x1b\x24\x4f\x70\xf5\x5c\x74\x8c\xf7\xf4\x49\x42\x87\
+\x19\x12\0\0\0\0\0\0\0\x01\0\0\0\0\0\0\0\0\x3e\x06\0\0\0\x01";
+
+// A limit reject with its Reply-Message.
+const LIMIT_REJECT: &[u8] =
+    b"\x03\0\0\x2b\x7f\xd5\x81\xea\x74\x8d\x15\x1b\x65\x09\x91\x12\x36\xd3\xd3\x92\
+\x12\x17Session limit reached";
+
+// The reject of a request with a malformed attribute list.
+const REJECT: &[u8] =
+    b"\x03\x07\0\x14\xf7\x73\x6c\x97\x5c\x3d\x21\x75\xbb\x9f\xee\xad\xef\xc4\xca\x84";
+
+#[test]
+fn replies_have_their_octets(rt: HostRuntime) -> Result<(), Fail> {
+    let alloc = rt.alloc();
+    let malformed = "01070016000000000000000000000000000000000101";
+    for (places, request, expected) in [
+        (1, REQUEST, ACCEPT),
+        (0, REQUEST, LIMIT_REJECT),
+        (1, malformed, REJECT),
+    ] {
+        let script = format!(in alloc;
+            "client 192.168.1.16 xyzzy5461\naccount nemo arctangent {places}\nraw-auth 0 192.168.1.16 {request}\n"
+        )?;
+        let (config, steps) = config_and_steps(alloc, script.as_str())?;
+        let ran = run(alloc, &config, BOOT, steps.as_slice())?;
+        assert_eq!(rt; ran.answers.len(), 1);
+        for answer in &ran.answers {
+            assert_eq!(rt; octets_of(answer), Some(expected));
+        }
+    }
     Ok(())
 }

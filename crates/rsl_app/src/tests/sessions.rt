@@ -236,7 +236,7 @@ fn restart_ends_the_sessions_of_one_access_server(rt: HostRuntime) -> Result<(),
                 "start 0 C - u s1\non 1 C n\nask 2 C n u pw 1\non 3 C -\nask 4 C n u pw 2\n",
                 "1 account\n2 account\n3 reject limit\n4 account\n5 accept 0\n",
             ),
-            // The access server of the kept ask decides whether it is kept.
+            // A restart of another access server leaves a kept ask to be repeated.
             (
                 "pw 1",
                 "ask 0 C n1 u pw 1\non 1 C n2\nask 2 C n1 u pw 1\n",
@@ -275,6 +275,20 @@ fn reservation_is_taken_by_number_and_by_class(rt: HostRuntime) -> Result<(), Fa
                 "ask 0 C n u pw 1\nask 30 C n u pw 2\nstart 50 C n u s1\ntick 60\ntick 90\n\
                  start 91 C n u s2 class=1\nask 92 C n u pw 3\n",
                 "1 accept 0\n2 accept 1\n3 account\n4 tick\n5 tick\n6 account\n7 reject limit\n",
+            ),
+            // The second reservation has lapsed too, so one place is free and no more.
+            (
+                "pw 2",
+                "ask 0 C n u pw 1\nask 30 C n u pw 2\nstart 50 C n u s1\ntick 60\ntick 90\n\
+                 ask 91 C n u pw 3\nask 91 C n u pw 4\n",
+                "1 accept 0\n2 accept 1\n3 account\n4 tick\n5 tick\n6 accept 2\n7 reject limit\n",
+            ),
+            // The class takes the second reservation, and leaves the first to lapse.
+            (
+                "pw 2",
+                "ask 0 C n u pw 1\nask 30 C n u pw 2\nstart 50 C n u s1 class=1\ntick 60\n\
+                 ask 61 C n u pw 3\nask 61 C n u pw 4\n",
+                "1 accept 0\n2 accept 1\n3 account\n4 tick\n5 accept 2\n6 reject limit\n",
             ),
             // A class that is no reservation's opens a new link.
             (

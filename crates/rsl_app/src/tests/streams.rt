@@ -35,10 +35,13 @@ impl Read for Pieces<'_> {
 
 /// A reader each of whose reads is interrupted.
 #[derive(Drop)]
-struct Interrupted;
+struct Interrupted {
+    reads: u64,
+}
 
 impl Read for Interrupted {
     fn read(&mut self, _buf: &mut [u8]) -> io::Result<usize> {
+        self.reads = self.reads.saturating_add(1);
         Err(io::Error::from(ErrorKind::Interrupted))
     }
 }
@@ -124,8 +127,10 @@ fn read_that_fails_is_an_input_fault(rt: HostRuntime) -> Result<(), Fail> {
 #[test]
 fn reader_without_an_end_is_an_input_fault(rt: HostRuntime) {
     let mut output = Vec::new(rt.alloc());
-    let outcome = replay(rt.alloc(), &mut Interrupted, &mut output);
+    let mut reader = Interrupted { reads: 0 };
+    let outcome = replay(rt.alloc(), &mut reader, &mut output);
     assert_eq!(rt; outcome, Err(ReplayFault::InputOutput));
+    assert_eq!(rt; reader.reads, 2_097_152);
 }
 
 #[test]

@@ -1,11 +1,8 @@
-use Rattle.std.proofs.Common.{arith, [], subst, take}
-use Rattle.std.proofs.lemmas.List.{take_all, take_more}
+use Rattle.std.proofs.Common.{arith, [], take}
+use Rattle.std.proofs.lemmas.List.{take_more}
 use Rattle.rsl_session.proofs.Limit.{places_after-le}
 use Rattle.rsl_app.proofs.Limits.{account_fits}
-use Rattle.rsl_app.specs.Run.{taken}
-use Rattle.rsl_app.specs.Taking.{AreKept}
 use Rattle.rsl_app.proofs.Keeping.{kept_start}
-use Rattle.rsl_app.proofs.OwnEvents.{own_events}
 use Rattle.rsl_app.proofs.Snoc.{run_start, run_more}
 use Rattle.rsl_app.proofs.run.run.Goals as goal
 
@@ -29,9 +26,3 @@ loop-step-preserved c =
 
 pub returns-clause-limit : goal.returns-clause-limit
 returns-clause-limit c = λ account entry is. places_after-le entry.rules _ (account_fits c.args.config.now account entry c.accounts-accounts.ensures.limits is)
-
-pub returns-clause-own : goal.returns-clause-own
-returns-clause-own c =
-    let all = take_all c.loop-step.step-index c.args.steps.now (omega (arith, c.loop-step-test.false)) in
-    let kept = subst (λ steps. AreKept c.args.config.now c.args.boot (taken [] steps c.loop-step.answers.items) c.loop-step.kept.items) all c.loop-step.invariant.so_far.kept in
-    λ account entry there. own_events c.args.config.now c.args.boot (taken [] c.args.steps.now c.loop-step.answers.items) c.loop-step.kept.items account entry kept there

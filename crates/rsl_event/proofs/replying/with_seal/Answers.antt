@@ -1,4 +1,4 @@
-use Rattle.std.proofs.Common.{◌≡◌, ◌∙◌, sym, ap, arith, List, ℕ, length}
+use Rattle.std.proofs.Common.{◌≡◌, ◌∙◌, sym, ap, List, ℕ, length}
 use Rattle.rsl_auth.specs.Authenticator.{sealed}
 use Rattle.rsl_event.proofs.WritingLaws.{put_back}
 use Rattle.rsl_event.proofs.replying.with_seal.Goals as goal

@@ -1,4 +1,4 @@
-use Rattle.std.proofs.Common.{◌≡◌, drop, take}
+use Rattle.std.proofs.Common.{◌≡◌, drop}
 use Rattle.std.specs.Prelude.{find}
 use Rattle.rsl_session.specs.Ask.{repeats}
 use Rattle.rsl_rule.proofs.ask.repeated_decision.Given as goal
