@@ -1,5 +1,6 @@
 ghost use Rattle.std.specs.Prelude.{◌≡◌, ◌≢◌, ℕ, List, IfSome};
 ghost use Rattle.std.specs.Io.KnownBytes.{Appends, Keeps};
+ghost use Rattle.std.specs.Process.{exit_status};
 ghost use Rattle.rsl_app.specs.Fault.{status_after};
 ghost use Rattle.rsl_app.specs.Replay.{IsReplayed};
 
@@ -9,10 +10,10 @@ use std::alloc::Global;
 use std::env::{Env, FillError};
 use std::fmt::Display;
 use std::io::{Read, Write};
+use std::process::ExitCode;
 
 /// What is said where the arguments are wrong.
-pub(crate) const USAGE: &str =
-    "usage: radlimit replay or radlimit serve FILE ADDRESS AUTHPORT ACCTPORT TURNS";
+const USAGE: &str = "usage: radlimit replay or radlimit serve FILE ADDRESS AUTHPORT ACCTPORT TURNS";
 
 /// The status of a process whose arguments are wrong.
 const WRONG_ARGUMENTS: u8 = 1;
@@ -27,16 +28,16 @@ pub(crate) fn command<E: Env, R: Read, W: Write, S: Write>(
     stdin: &mut R,
     stdout: &mut W,
     stderr: &mut S,
-) -> u8
+) -> ExitCode
     // With status 0, what is written is what the server answers to the script that was read, and nothing else.
-    ensures replayed { result ≡ 0 → IfSome (R.remaining stdin.old) (λ text.
+    ensures replayed { exit_status result ≡ 0 → IfSome (R.remaining stdin.old) (λ text.
         (written : List ℕ) × IsReplayed text written × Appends (W.contents stdout.old) (W.contents stdout.new) written) }
     // With every status but 0 and 2, nothing is written.
-    ensures silent { result ≢ 0 → result ≢ 2 → Keeps (W.contents stdout.old) (W.contents stdout.new) }
+    ensures silent { exit_status result ≢ 0 → exit_status result ≢ 2 → Keeps (W.contents stdout.old) (W.contents stdout.new) }
 {
     if !is_replay(arguments) {
         say(stderr, USAGE);
-        return WRONG_ARGUMENTS;
+        return ExitCode::from(WRONG_ARGUMENTS);
     }
     ended(stderr, replay(alloc, stdin, stdout))
 }
@@ -52,14 +53,14 @@ fn is_replay<E: Env>(arguments: &E) -> bool {
 }
 
 /// The status after a replay, whose fault is said on standard error.
-fn ended<S: Write>(stderr: &mut S, outcome: Result<(), ReplayFault>) -> u8
-    ensures { result ≡ status_after outcome }
+fn ended<S: Write>(stderr: &mut S, outcome: Result<(), ReplayFault>) -> ExitCode
+    ensures { exit_status result ≡ status_after outcome }
 {
     match outcome {
-        Ok(()) => 0,
+        Ok(()) => ExitCode::SUCCESS,
         Err(fault) => {
             say(stderr, fault);
-            fault.status()
+            ExitCode::from(fault.status())
         }
     }
 }

@@ -27,12 +27,11 @@ use command::command;
 use std::process::ExitCode;
 
 fn main(rt: HostRuntime) -> ExitCode {
-    let status = command(
+    command(
         rt.alloc(),
         &rt,
         &mut rt.stdin(),
         &mut rt.stdout(),
         &mut rt.stderr(),
-    );
-    ExitCode::from(status)
+    )
 }
