@@ -6,16 +6,16 @@ use Rattle.std.proofs.lemmas.Bool.{eq-eqb, ne_eqb}
 use Rattle.std.proofs.lemmas.List.{get_or-map, length-map, map-append, take_all, take_more}
 use Rattle.rsl_accounts.specs.declared.rules.Rules.{Rules}
 use Rattle.rsl_event.specs.declared.event.Event.{Event}
-use Rattle.rsl_session.specs.declared.entry.Entry.{Entry}
-use Rattle.rsl_session.specs.declared.entry.Outcome.{Outcome}
-use Rattle.rsl_session.specs.declared.entry.Outcome.TheVariants.{Accepted, Refused, Repeated, Opened, Took, Renewed, Ignored, Over, Passed}
+use Rattle.rsl_session.specs.declared.past_event.PastEvent.{PastEvent}
+use Rattle.rsl_session.specs.declared.outcome.Outcome.{Outcome}
+use Rattle.rsl_session.specs.declared.outcome.Outcome.TheVariants.{Accepted, Refused, Repeated, Opened, Took, Renewed, Ignored, Over, Passed}
 use Rattle.rsl_session.specs.declared.session.Session.{Session}
 use Rattle.rsl_session.specs.Past.{Past, looking_back}
 use Rattle.rsl_session.specs.Clock.{clock, clock_at}
 use Rattle.rsl_session.specs.Link.{links, opens}
-use Rattle.rsl_session.specs.Binding.{binds, touches, bound, bound_by}
+use Rattle.rsl_session.specs.Binding.{binds, touches, session_at, bound_by}
 use Rattle.rsl_session.specs.Lapse.{lapses, standing_time}
-use Rattle.rsl_session.specs.Held.{held}
+use Rattle.rsl_session.specs.Held.{held_links}
 use Rattle.rsl_session.proofs.Ending.{left_by, left_by-held, held-quiet, held-opened}
 use Rattle.rsl_rule.specs.Standing.{standing_of}
 use Rattle.rsl_rule.specs.Holding.{IsHolding, furthest_taken, lasting, standings, taken_by}
@@ -73,17 +73,17 @@ binds-none link place Ignored later beyond = refl
 binds-none link place Over later beyond = refl
 binds-none link place Passed later beyond = refl
 
-bound_by-none : (link place : ℕ) (entry : Entry) → place < link → taken_by entry.outcome < link → bound_by link place entry ≡ None
+bound_by-none : (link place : ℕ) (entry : PastEvent) → place < link → taken_by entry.outcome < link → bound_by link place entry ≡ None
 unfolding bound_by
 bound_by-none link place entry later beyond = rw (binds-none link place entry.outcome later beyond) refl
 
-bound-none : (past : Past) (link : ℕ) → length past < link → furthest_taken past < link → bound link past ≡ None
-unfolding bound furthest_taken
+bound-none : (past : Past) (link : ℕ) → length past < link → furthest_taken past < link → session_at link past ≡ None
+unfolding session_at furthest_taken
 bound-none [] link later beyond = refl
 bound-none (entry ∷ past) link later beyond =
     rw (bound-none past link (omega arith) (omega arith), bound_by-none link (suc (length past)) entry later (omega arith)) refl
 
-pub unbound : (xs : List Entry) (link furthest : ℕ) → length xs < link → furthest ≡ furthest_taken (looking_back xs) → furthest < link → bound link (looking_back xs) ≡ None
+pub unbound : (xs : List PastEvent) (link furthest : ℕ) → length xs < link → furthest ≡ furthest_taken (looking_back xs) → furthest < link → session_at link (looking_back xs) ≡ None
 unbound xs link furthest later is beyond = bound-none (looking_back xs) link (omega (arith, length_all xs)) (omega arith)
 
 -- a link is touched by the event that opens it
@@ -99,17 +99,17 @@ touches_own place Ignored opened = cc
 touches_own place Over opened = cc
 touches_own place Passed opened = cc
 
-pub opened_stands : (xs : List Entry) (x : Entry) (link now : ℕ) (before session : Option Session) → opens x.outcome ≡ true → link ≡ length xs + 1 → now ≡ max (clock (looking_back xs)) x.event.moment
-    → before ≡ bound link (looking_back xs) → session ≡ option_or before (bound_by link link x)
+pub opened_stands : (xs : List PastEvent) (x : PastEvent) (link now : ℕ) (before session : Option Session) → opens x.outcome ≡ true → link ≡ length xs + 1 → now ≡ max (clock (looking_back xs)) x.event.moment
+    → before ≡ session_at link (looking_back xs) → session ≡ option_or before (bound_by link link x)
     → (let opened : Standing = record { clock = now; touched = now; session = session } in opened) ≡ standing_of (length xs + 1) (x ∷ looking_back xs)
 opened_stands xs x link now before session opened place at was is =
     let own = touches_own (length xs + 1) x.outcome opened in
     rw (is, was, at, place) (sym (standing_next (length xs + 1) xs x ∙ rw own refl))
 
 -- what is held before the first event
-pub standings_none : (rules : Rules) → standings (looking_back []) (held rules (looking_back [])) ≡ []
-unfolding standings held links
-standings_none rules = ap (λ past. standings past (held rules past)) looking_back-none
+pub standings_none : (rules : Rules) → standings (looking_back []) (held_links rules (looking_back [])) ≡ []
+unfolding standings held_links links
+standings_none rules = ap (λ past. standings past (held_links rules past)) looking_back-none
 
 pub furthest_none : furthest_taken (looking_back []) ≡ 0
 unfolding furthest_taken
@@ -121,12 +121,12 @@ pub ruleset holding_none = (standings_none, clock_none, furthest_none)
 left_by-lasting : (rules : Rules) (past : Past) (event : Event) → left_by rules past event ≡ lasting rules past event
 left_by-lasting rules past event = sym (left_by-held rules past event)
 
-pub carried_quiet : (rules : Rules) (past : Past) (x : Entry) → opens x.outcome ≡ false
-    → standings (x ∷ past) (held rules (x ∷ past)) ≡ standings (x ∷ past) (lasting rules past x.event)
+pub carried_quiet : (rules : Rules) (past : Past) (x : PastEvent) → opens x.outcome ≡ false
+    → standings (x ∷ past) (held_links rules (x ∷ past)) ≡ standings (x ∷ past) (lasting rules past x.event)
 carried_quiet rules past x quiet = ap (λ ls. standings (x ∷ past) ls) (held-quiet rules x past quiet ∙ left_by-lasting rules past x.event)
 
-pub carried_opened : (rules : Rules) (xs : List Entry) (x : Entry) (standing : Standing) → opens x.outcome ≡ true → standing ≡ standing_of (length xs + 1) (x ∷ looking_back xs)
-    → standings (x ∷ looking_back xs) (held rules (x ∷ looking_back xs))
+pub carried_opened : (rules : Rules) (xs : List PastEvent) (x : PastEvent) (standing : Standing) → opens x.outcome ≡ true → standing ≡ standing_of (length xs + 1) (x ∷ looking_back xs)
+    → standings (x ∷ looking_back xs) (held_links rules (x ∷ looking_back xs))
     ≡ standings (x ∷ looking_back xs) (lasting rules (looking_back xs) x.event) ++ (record { link = length xs + 1; standing = standing }) ∷ []
 unfolding standings
 carried_opened rules xs x standing opened stands =
@@ -135,19 +135,19 @@ carried_opened rules xs x standing opened stands =
     rw stands (ap (map as_item) (held-opened rules x (looking_back xs) opened ∙ ap (λ ls. ls ++ suc (length (looking_back xs)) ∷ []) (left_by-lasting rules (looking_back xs) x.event) ∙ ap (λ n. lasting rules (looking_back xs) x.event ++ n ∷ []) place)
     ∙ map-append as_item (lasting rules (looking_back xs) x.event) ((length xs + 1) ∷ []))
 
-pub clock_next : (past : Past) (x : Entry) → clock (x ∷ past) ≡ max (clock past) x.event.moment
+pub clock_next : (past : Past) (x : PastEvent) → clock (x ∷ past) ≡ max (clock past) x.event.moment
 unfolding clock
 clock_next past x = refl
 
-pub furthest_next : (past : Past) (x : Entry) → furthest_taken (x ∷ past) ≡ max (furthest_taken past) (taken_by x.outcome)
+pub furthest_next : (past : Past) (x : PastEvent) → furthest_taken (x ∷ past) ≡ max (furthest_taken past) (taken_by x.outcome)
 unfolding furthest_taken
 furthest_next past x = refl
 
 -- what is held, over the entries of a past
-pub holding_more : (rules : Rules) (xs : List Entry) (i : ℕ) (x : Entry) (holding : Holding) → i < length xs → x ≡ get_or xs i x → IsHolding rules (x ∷ looking_back (take i xs)) holding → IsHolding rules (looking_back (take (i + 1) xs)) holding
+pub holding_more : (rules : Rules) (xs : List PastEvent) (i : ℕ) (x : PastEvent) (holding : Holding) → i < length xs → x ≡ get_or xs i x → IsHolding rules (x ∷ looking_back (take i xs)) holding → IsHolding rules (looking_back (take (i + 1) xs)) holding
 holding_more rules xs i x holding within is so = rw (looking_back-more xs i x within is) so
 
-pub holding_all : (rules : Rules) (xs : List Entry) (i : ℕ) (holding : Holding) → length xs ≤ i → IsHolding rules (looking_back (take i xs)) holding → IsHolding rules (looking_back xs) holding
+pub holding_all : (rules : Rules) (xs : List PastEvent) (i : ℕ) (holding : Holding) → length xs ≤ i → IsHolding rules (looking_back (take i xs)) holding → IsHolding rules (looking_back xs) holding
 holding_all rules xs i holding all so = rw looking_back_all at so
 
 -- the numbers of the held links, one further on

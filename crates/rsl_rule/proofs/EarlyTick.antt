@@ -15,9 +15,9 @@ use Rattle.rsl_event.specs.declared.event.Decision.{Decision}
 use Rattle.rsl_event.specs.declared.event.Decision.TheVariants.{Done}
 use Rattle.rsl_event.specs.declared.event.Key.{Key}
 use Rattle.rsl_event.specs.declared.nas.Nas.{Nas}
-use Rattle.rsl_session.specs.declared.entry.Entry.{Entry}
-use Rattle.rsl_session.specs.declared.entry.Outcome.{Outcome}
-use Rattle.rsl_session.specs.declared.entry.Outcome.TheVariants.{Accepted, Refused, Repeated, Opened, Took, Renewed, Ignored, Over, Passed}
+use Rattle.rsl_session.specs.declared.past_event.PastEvent.{PastEvent}
+use Rattle.rsl_session.specs.declared.outcome.Outcome.{Outcome}
+use Rattle.rsl_session.specs.declared.outcome.Outcome.TheVariants.{Accepted, Refused, Repeated, Opened, Took, Renewed, Ignored, Over, Passed}
 use Rattle.rsl_session.specs.declared.kept.KeptAsk.{KeptAsk}
 use Rattle.rsl_session.specs.declared.session.Session.{Session}
 use Rattle.rsl_session.specs.Past.{Past}
@@ -25,9 +25,10 @@ use Rattle.rsl_session.specs.Clock.{clock, clock_at}
 use Rattle.rsl_session.specs.Link.{links, number_of}
 use Rattle.rsl_session.specs.Binding.{is_bound_to}
 use Rattle.rsl_session.specs.Lapse.{lapses}
-use Rattle.rsl_session.specs.Held.{ended_by, ends, freed, held, held_before}
+use Rattle.rsl_session.specs.Held.{ended_by, ends, is_freed, held_links, held_before}
 use Rattle.rsl_session.specs.Places.{bundles, places, places_of}
-use Rattle.rsl_session.specs.Ask.{accepts, ask_outcome, fresh_asks, fresh_decision, has_a_place, is_sweep_of, kept_ask, repeated, swept_in}
+use Rattle.rsl_session.specs.Ask.{accepts, ask_outcome, fresh_asks, fresh_decision, has_a_place, kept_ask, repeated_ask}
+use Rattle.rsl_session.specs.Sweep.{is_sweep_of, swept_in}
 use Rattle.rsl_session.specs.Closed.{is_closed, kept_stop, stops}
 use Rattle.rsl_session.specs.Alive.{alive_outcome, has_room, is_chosen, link_of, reservation_of, unbound_outcome}
 use Rattle.rsl_session.specs.Rule.{IsRuled, decision_of, decisions, decisions_from, entry_of, outcome_by, outcome_of, past_from, past_of, places_after}
@@ -39,7 +40,7 @@ use Rattle.rsl_rule.proofs.Shift.{shift, shift-old, shift-new, shift_outcome, sh
 
 -- each of some entries has a moment that is not before the tick's
 abbrev pub AreLater : ℕ → Past → Type 0
-AreLater moment newer = AllByRecursion (λ (entry : Entry). moment ≤ entry.event.moment) newer
+AreLater moment newer = AllByRecursion (λ (entry : PastEvent). moment ≤ entry.event.moment) newer
 
 or_moved : (a b c : Bool) → (b ≡ true → c ≡ true) → ((a || (b || false)) || c) ≡ (a || c)
 or_moved true b c implies = refl
@@ -78,17 +79,17 @@ find-map f p q same (x ∷ xs) = rw (same x, find-map f p q same xs) (by_cases (
 
 -- the links that stand when an event comes are those that have not ended and do not lapse
 gone : Rules → Past → Event → ℕ → Bool
-gone rules past event link = freed rules link past || lapses rules past event link
+gone rules past event link = is_freed rules link past || lapses rules past event link
 
 held_before-gone : (rules : Rules) (past : Past) (event : Event) → held_before rules past event ≡ filter (λ link. not (gone rules past event link)) (links past)
-unfolding held_before held gone
+unfolding held_before held_links gone
 held_before-gone rules past event =
-    sym (filter-filter any_link (λ link. not (freed rules link past)) (λ link. not (lapses rules past event link)) (λ link. not (freed rules link past || lapses rules past event link))
-    (λ link h. not-or (freed rules link past) (lapses rules past event link)) (links past) (list_all_any (links past)))
+    sym (filter-filter any_link (λ link. not (is_freed rules link past)) (λ link. not (lapses rules past event link)) (λ link. not (is_freed rules link past || lapses rules past event link))
+    (λ link h. not-or (is_freed rules link past) (lapses rules past event link)) (links past) (list_all_any (links past)))
 
 -- the link that an event opens has not ended
-freed_newest : (rules : Rules) (entry : Entry) (past : Past) → freed rules (suc (length past)) (entry ∷ past) ≡ false
-unfolding freed
+freed_newest : (rules : Rules) (entry : PastEvent) (past : Past) → is_freed rules (suc (length past)) (entry ∷ past) ≡ false
+unfolding is_freed
 freed_newest rules entry past =
     rw (freed_later rules past (suc (length past)) (omega arith), lt-leb (suc (length past)) (length past) (omega arith)) refl
 
@@ -101,9 +102,9 @@ shift_within n k link within =
 
 module _ (rules : Rules) (moment : ℕ) (older : Past) (ruled : IsRuled rules older) where
   -- after the next event a link has ended where it has without the tick
-  freed-after_next : (newer : Past) (entry : Entry) (link : ℕ) → link ≤ suc (length (newer ++ older))
+  freed-after_next : (newer : Past) (entry : PastEvent) (link : ℕ) → link ≤ suc (length (newer ++ older))
       → (link ≤ length (newer ++ older) → gone rules (after_tick moment older newer) entry.event (shift (length older) link) ≡ gone rules (newer ++ older) entry.event link)
-      → freed rules (shift (length older) link) (shift_entry (length older) entry ∷ after_tick moment older newer) ≡ freed rules link (entry ∷ newer ++ older)
+      → is_freed rules (shift (length older) link) (shift_entry (length older) entry ∷ after_tick moment older newer) ≡ is_freed rules link (entry ∷ newer ++ older)
   unfolding gone shift_entry ends
   freed-after_next newer entry link within same =
       elim (cases_lt (length (newer ++ older)) link) [
@@ -111,15 +112,15 @@ module _ (rules : Rules) (moment : ℕ) (older : Past) (ruled : IsRuled rules ol
             let here : link ≡ suc (length (newer ++ older)) = omega arith in
             let name : shift (length older) link ≡ suc (length (after_tick moment older newer)) =
             shift-new (length older) link (omega (arith, older-le older newer)) ∙ ap suc here ∙ ap suc (sym (length-after_tick moment older newer)) in
-            ap (λ l. freed rules l (shift_entry (length older) entry ∷ after_tick moment older newer)) name ∙ freed_newest rules (shift_entry (length older) entry) (after_tick moment older newer)
-            ∙ sym (ap (λ l. freed rules l (entry ∷ newer ++ older)) here ∙ freed_newest rules entry (newer ++ older))
+            ap (λ l. is_freed rules l (shift_entry (length older) entry ∷ after_tick moment older newer)) name ∙ freed_newest rules (shift_entry (length older) entry) (after_tick moment older newer)
+            ∙ sym (ap (λ l. is_freed rules l (entry ∷ newer ++ older)) here ∙ freed_newest rules entry (newer ++ older))
         | inr old ↦
             freed_older rules (shift_entry (length older) entry) (after_tick moment older newer) (shift (length older) link)
             (omega (arith, length-after_tick moment older newer, shift_within (length older) (length (newer ++ older)) link old))
-            ∙ or_assoc (freed rules (shift (length older) link) (after_tick moment older newer)) (lapses rules (after_tick moment older newer) entry.event (shift (length older) link))
+            ∙ or_assoc (is_freed rules (shift (length older) link) (after_tick moment older newer)) (lapses rules (after_tick moment older newer) entry.event (shift (length older) link))
             (ended_by (after_tick moment older newer) entry.event.act (shift (length older) link))
             ∙ both (same old) (ended_by-after_tick rules moment older ruled newer entry.event.act link)
-            ∙ sym (or_assoc (freed rules link (newer ++ older)) (lapses rules (newer ++ older) entry.event link) (ended_by (newer ++ older) entry.event.act link))
+            ∙ sym (or_assoc (is_freed rules link (newer ++ older)) (lapses rules (newer ++ older) entry.event link) (ended_by (newer ++ older) entry.event.act link))
             ∙ sym (freed_older rules entry (newer ++ older) link old)
       ]
 
@@ -128,7 +129,7 @@ module _ (rules : Rules) (moment : ℕ) (older : Past) (ruled : IsRuled rules ol
   unfolding gone after_tick ends tick_entry tick_event ended_by
   gone-after_tick [] later event at link within =
       rw (lapses-after_tick rules moment older ruled [] later event at link, shift-old (length older) link within, freed_older rules (tick_entry moment) older link within)
-      (or_moved (freed rules link older) (lapses rules older (tick_event moment) link) (lapses rules older event link) (lapses_sooner rules older moment event link at))
+      (or_moved (is_freed rules link older) (lapses rules older (tick_event moment) link) (lapses rules older event link) (lapses_sooner rules older moment event link at))
   gone-after_tick (entry ∷ newer) later event at link within =
       rw (freed-after_next newer entry link within (gone-after_tick newer later.1 entry.event later.0 link), lapses-after_tick rules moment older ruled (entry ∷ newer) later event at link) refl
 
@@ -145,18 +146,18 @@ module _ (rules : Rules) (moment : ℕ) (older : Past) (ruled : IsRuled rules ol
       (not_gone newer later event at) (links (newer ++ older)) (links-in (newer ++ older))
       ∙ ap (map (shift (length older))) (sym (held_before-gone rules (newer ++ older) event))
 
-  not_freed : (newer : Past) (entry : Entry) → AreLater moment newer → moment ≤ entry.event.moment → (link : ℕ) → is_in (entry ∷ newer ++ older) link ≡ true
-      → not (freed rules (shift (length older) link) (after_tick moment older (entry ∷ newer))) ≡ not (freed rules link (entry ∷ newer ++ older))
+  not_freed : (newer : Past) (entry : PastEvent) → AreLater moment newer → moment ≤ entry.event.moment → (link : ℕ) → is_in (entry ∷ newer ++ older) link ≡ true
+      → not (is_freed rules (shift (length older) link) (after_tick moment older (entry ∷ newer))) ≡ not (is_freed rules link (entry ∷ newer ++ older))
   unfolding after_tick
   not_freed newer entry later at link within =
       ap not (freed-after_next newer entry link (is_in-true (entry ∷ newer ++ older) link within) (gone-after_tick newer later entry.event at link))
 
-  held-after_tick : (newer : Past) (entry : Entry) → AreLater moment newer → moment ≤ entry.event.moment
-      → held rules (after_tick moment older (entry ∷ newer)) ≡ map (shift (length older)) (held rules (entry ∷ newer ++ older))
-  unfolding held
+  held-after_tick : (newer : Past) (entry : PastEvent) → AreLater moment newer → moment ≤ entry.event.moment
+      → held_links rules (after_tick moment older (entry ∷ newer)) ≡ map (shift (length older)) (held_links rules (entry ∷ newer ++ older))
+  unfolding held_links
   held-after_tick newer entry later at =
-      ap (filter (λ link. not (freed rules link (after_tick moment older (entry ∷ newer))))) (links-after_tick moment older (entry ∷ newer))
-      ∙ filter-map (shift (length older)) (λ link. not (freed rules link (after_tick moment older (entry ∷ newer)))) (λ link. not (freed rules link (entry ∷ newer ++ older))) (is_in (entry ∷ newer ++ older))
+      ap (filter (λ link. not (is_freed rules link (after_tick moment older (entry ∷ newer))))) (links-after_tick moment older (entry ∷ newer))
+      ∙ filter-map (shift (length older)) (λ link. not (is_freed rules link (after_tick moment older (entry ∷ newer)))) (λ link. not (is_freed rules link (entry ∷ newer ++ older))) (is_in (entry ∷ newer ++ older))
       (not_freed newer entry later at) (links (entry ∷ newer ++ older)) (links-in (entry ∷ newer ++ older))
 
   bundles-after_tick : (newer : Past) (some : List ℕ) → bundles (after_tick moment older newer) (map (shift (length older)) some) ≡ bundles (newer ++ older) some
@@ -169,11 +170,11 @@ module _ (rules : Rules) (moment : ℕ) (older : Past) (ruled : IsRuled rules ol
   bundles_before newer later event at =
       ap (bundles (after_tick moment older newer)) (held_before-after_tick newer later event at) ∙ bundles-after_tick newer (held_before rules (newer ++ older) event)
 
-  places-after_tick : (newer : Past) (entry : Entry) → AreLater moment newer → moment ≤ entry.event.moment → places rules (after_tick moment older (entry ∷ newer)) ≡ places rules (entry ∷ newer ++ older)
+  places-after_tick : (newer : Past) (entry : PastEvent) → AreLater moment newer → moment ≤ entry.event.moment → places rules (after_tick moment older (entry ∷ newer)) ≡ places rules (entry ∷ newer ++ older)
   unfolding places
   places-after_tick newer entry later at =
       ap (places_of rules.ports)
-      (ap (bundles (after_tick moment older (entry ∷ newer))) (held-after_tick newer entry later at) ∙ bundles-after_tick (entry ∷ newer) (held rules (entry ∷ newer ++ older)))
+      (ap (bundles (after_tick moment older (entry ∷ newer))) (held-after_tick newer entry later at) ∙ bundles-after_tick (entry ∷ newer) (held_links rules (entry ∷ newer ++ older)))
 
   has_a_place-after_tick : (newer : Past) → AreLater moment newer → (event : Event) → moment ≤ event.moment → has_a_place rules (after_tick moment older newer) event ≡ has_a_place rules (newer ++ older) event
   unfolding has_a_place
@@ -213,23 +214,23 @@ accepts-after_tick moment older (entry ∷ newer) =
     ∙ sym (accepts-cons entry (newer ++ older))
 
 -- kept asks and stops, where the same access servers were swept since
-SweptAlike : List Entry → List Entry → Type 0
+SweptAlike : List PastEvent → List PastEvent → Type 0
 SweptAlike some others = (nas : Nas) → swept_in some nas ≡ swept_in others nas
 
-swept_cons : (entry : Entry) (some : List Entry) (nas : Nas) → swept_in (entry ∷ some) nas ≡ (is_sweep_of nas entry.event.act || swept_in some nas)
+swept_cons : (entry : PastEvent) (some : List PastEvent) (nas : Nas) → swept_in (entry ∷ some) nas ≡ (is_sweep_of nas entry.event.act || swept_in some nas)
 unfolding swept_in
 swept_cons entry some nas = refl
 
-SweptAlike-cons : (a b : Entry) (some others : List Entry) → a.event.act ≡ b.event.act → SweptAlike some others → SweptAlike (a ∷ some) (b ∷ others)
+SweptAlike-cons : (a b : PastEvent) (some others : List PastEvent) → a.event.act ≡ b.event.act → SweptAlike some others → SweptAlike (a ∷ some) (b ∷ others)
 unfolding SweptAlike
 SweptAlike-cons a b some others same alike nas =
     swept_cons a some nas ∙ rw (same, alike nas) refl ∙ sym (swept_cons b others nas)
 
-SweptAlike-tick : (moment : ℕ) (some others : List Entry) → SweptAlike some others → SweptAlike (tick_entry moment ∷ some) others
+SweptAlike-tick : (moment : ℕ) (some others : List PastEvent) → SweptAlike some others → SweptAlike (tick_entry moment ∷ some) others
 unfolding SweptAlike tick_entry tick_event
 SweptAlike-tick moment some others alike nas = swept_cons (tick_entry moment) some nas ∙ alike nas
 
-kept_alike : (now : ℕ) (some others : List Entry) (act : Act) (decision : Option Decision) → SweptAlike some others → kept_ask now some act decision ≡ kept_ask now others act decision
+kept_alike : (now : ℕ) (some others : List PastEvent) (act : Act) (decision : Option Decision) → SweptAlike some others → kept_ask now some act decision ≡ kept_ask now others act decision
 unfolding SweptAlike
 kept_alike now some others (Ask key nas) (Some decision) alike = rw (alike nas) refl
 kept_alike now some others (Ask key nas) None alike = refl
@@ -238,7 +239,7 @@ kept_alike now some others (Stop nas session) decision alike = refl
 kept_alike now some others (Sweep nas) decision alike = refl
 kept_alike now some others Tick decision alike = refl
 
-asks_alike : (past : Past) (some others : List Entry) → SweptAlike some others → fresh_asks some past ≡ fresh_asks others past
+asks_alike : (past : Past) (some others : List PastEvent) → SweptAlike some others → fresh_asks some past ≡ fresh_asks others past
 unfolding fresh_asks
 asks_alike [] some others alike = refl
 asks_alike (entry ∷ past) some others alike =
@@ -256,15 +257,15 @@ fresh-shift n Ignored = refl
 fresh-shift n Over = refl
 fresh-shift n Passed = refl
 
-asks_cons : (some : List Entry) (entry : Entry) (past : Past) → fresh_asks some (entry ∷ past) ≡ cons_option (kept_ask (clock (entry ∷ past)) some entry.event.act (fresh_decision entry.outcome)) (fresh_asks (entry ∷ some) past)
+asks_cons : (some : List PastEvent) (entry : PastEvent) (past : Past) → fresh_asks some (entry ∷ past) ≡ cons_option (kept_ask (clock (entry ∷ past)) some entry.event.act (fresh_decision entry.outcome)) (fresh_asks (entry ∷ some) past)
 unfolding fresh_asks
 asks_cons some entry past = refl
 
-tick_asks : (moment : ℕ) (older : Past) (some : List Entry) → fresh_asks some (tick_entry moment ∷ older) ≡ fresh_asks (tick_entry moment ∷ some) older
+tick_asks : (moment : ℕ) (older : Past) (some : List PastEvent) → fresh_asks some (tick_entry moment ∷ older) ≡ fresh_asks (tick_entry moment ∷ some) older
 unfolding fresh_asks tick_entry tick_event fresh_decision
 tick_asks moment older some = refl
 
-asks-after_tick : (moment : ℕ) (older newer : Past) (some others : List Entry) → AreLater moment newer → SweptAlike some others
+asks-after_tick : (moment : ℕ) (older newer : Past) (some others : List PastEvent) → AreLater moment newer → SweptAlike some others
     → fresh_asks some (after_tick moment older newer) ≡ fresh_asks others (newer ++ older)
 unfolding after_tick shift_entry
 asks-after_tick moment older [] some others later alike = tick_asks moment older some ∙ asks_alike older (tick_entry moment ∷ some) others (SweptAlike-tick moment some others alike)
@@ -278,7 +279,7 @@ asks-after_tick moment older (entry ∷ newer) some others later alike =
     ) refl
     ∙ sym (asks_cons others entry (newer ++ older))
 
-stop_alike : (now : ℕ) (some others : List Entry) (act : Act) → SweptAlike some others → kept_stop now some act ≡ kept_stop now others act
+stop_alike : (now : ℕ) (some others : List PastEvent) (act : Act) → SweptAlike some others → kept_stop now some act ≡ kept_stop now others act
 unfolding SweptAlike
 stop_alike now some others (Ask key nas) alike = refl
 stop_alike now some others (Alive nas session bundle class) alike = refl
@@ -286,21 +287,21 @@ stop_alike now some others (Stop nas session) alike = rw (alike nas) refl
 stop_alike now some others (Sweep nas) alike = refl
 stop_alike now some others Tick alike = refl
 
-stops_cons : (some : List Entry) (entry : Entry) (past : Past) → stops some (entry ∷ past) ≡ cons_option (kept_stop (clock (entry ∷ past)) some entry.event.act) (stops (entry ∷ some) past)
+stops_cons : (some : List PastEvent) (entry : PastEvent) (past : Past) → stops some (entry ∷ past) ≡ cons_option (kept_stop (clock (entry ∷ past)) some entry.event.act) (stops (entry ∷ some) past)
 unfolding stops
 stops_cons some entry past = refl
 
-stops_alike : (past : Past) (some others : List Entry) → SweptAlike some others → stops some past ≡ stops others past
+stops_alike : (past : Past) (some others : List PastEvent) → SweptAlike some others → stops some past ≡ stops others past
 unfolding stops
 stops_alike [] some others alike = refl
 stops_alike (entry ∷ past) some others alike =
     rw (stop_alike (clock (entry ∷ past)) some others entry.event.act alike, stops_alike past (entry ∷ some) (entry ∷ others) (SweptAlike-cons entry entry some others refl alike)) refl
 
-tick_stops : (moment : ℕ) (older : Past) (some : List Entry) → stops some (tick_entry moment ∷ older) ≡ stops (tick_entry moment ∷ some) older
+tick_stops : (moment : ℕ) (older : Past) (some : List PastEvent) → stops some (tick_entry moment ∷ older) ≡ stops (tick_entry moment ∷ some) older
 unfolding stops tick_entry tick_event
 tick_stops moment older some = refl
 
-stops-after_tick : (moment : ℕ) (older newer : Past) (some others : List Entry) → AreLater moment newer → SweptAlike some others
+stops-after_tick : (moment : ℕ) (older newer : Past) (some others : List PastEvent) → AreLater moment newer → SweptAlike some others
     → stops some (after_tick moment older newer) ≡ stops others (newer ++ older)
 unfolding after_tick shift_entry
 stops-after_tick moment older [] some others later alike = tick_stops moment older some ∙ stops_alike older (tick_entry moment ∷ some) others (SweptAlike-tick moment some others alike)
@@ -318,8 +319,8 @@ unfolding SweptAlike
 alike_none nas = refl
 
 repeated-after_tick : (rules : Rules) (moment : ℕ) (older newer : Past) → AreLater moment newer → (event : Event) → moment ≤ event.moment → (key : Key)
-    → repeated rules (after_tick moment older newer) event key ≡ repeated rules (newer ++ older) event key
-unfolding repeated
+    → repeated_ask rules (after_tick moment older newer) event key ≡ repeated_ask rules (newer ++ older) event key
+unfolding repeated_ask
 repeated-after_tick rules moment older newer later event at key =
     rw (clock_at-after_tick moment older newer event at, asks-after_tick moment older newer [] [] later alike_none) refl
 
@@ -367,7 +368,7 @@ module _ (rules : Rules) (moment : ℕ) (older : Past) (ruled : IsRuled rules ol
         (open_or_closed (is_closed rules (newer ++ older) event session) (reservation_of rules (newer ++ older) event session.nas class))
 
     by_act : (act : Act) → outcome_by rules (after_tick moment older newer) event act ≡ shift_outcome (length older) (outcome_by rules (newer ++ older) event act)
-    by_act (Ask key nas) = rw (repeated-after_tick rules moment older newer later event at key) (of_ask (repeated rules (newer ++ older) event key))
+    by_act (Ask key nas) = rw (repeated-after_tick rules moment older newer later event at key) (of_ask (repeated_ask rules (newer ++ older) event key))
     by_act (Alive nas id bundle class) =
         let session : Session = record { nas = nas; id = id } in
         rw (link_of-after_tick rules moment older ruled newer later event at session) (of_alive session class (link_of rules (newer ++ older) event session))
@@ -402,7 +403,7 @@ module _ (rules : Rules) (moment : ℕ) (older : Past) (ruled : IsRuled rules ol
   next_entry newer later event at =
       made event (outcome_of rules (after_tick moment older newer) event) (shift_outcome (length older) (outcome_of rules (newer ++ older) event)) (after_tick moment older newer)
       (outcome-after_tick rules moment older ruled newer later event at) where
-        entry_with : Event → Outcome → Entry
+        entry_with : Event → Outcome → PastEvent
         entry_with event outcome = record { event = event; outcome = outcome }
 
         made : (event : Event) (a b : Outcome) (past : Past) → a ≡ b → entry_with event a ∷ past ≡ entry_with event b ∷ past
@@ -418,7 +419,7 @@ module _ (rules : Rules) (moment : ℕ) (older : Past) (ruled : IsRuled rules ol
       (ap (λ past. decisions_from rules past events) (next_entry newer later event at.0)
       ∙ decisions-after_tick (entry_of rules (newer ++ older) event ∷ newer) (entry_later rules moment (newer ++ older) newer later event at.0) events at.1))
 
-  places_from-after_tick : (newer : Past) (entry : Entry) → AreLater moment newer → moment ≤ entry.event.moment → (events : List Event) → AreEventsLater moment events
+  places_from-after_tick : (newer : Past) (entry : PastEvent) → AreLater moment newer → moment ≤ entry.event.moment → (events : List Event) → AreEventsLater moment events
       → places rules (past_from rules (after_tick moment older (entry ∷ newer)) events) ≡ places rules (past_from rules (entry ∷ newer ++ older) events)
   unfolding past_from
   places_from-after_tick newer entry later here [] at = places-after_tick rules moment older ruled newer entry later here

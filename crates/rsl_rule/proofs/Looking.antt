@@ -8,31 +8,31 @@ use Rattle.std.proofs.lemmas.Option.{slice_get-get_or}
 use Rattle.std.proofs.lemmas.Bool.{cases_eq, ltb-true, ltb-false, eq-eqb, ne_eqb}
 use Rattle.std.proofs.lemmas.List.{get_or_default, take_more, reverse-append, length-reverse, length-take-le, take_all, take-append-drop}
 use Rattle.std.proofs.lemmas.List.Sums.{sum_by-cons}
-use Rattle.rsl_session.specs.declared.entry.Entry.{Entry}
+use Rattle.rsl_session.specs.declared.past_event.PastEvent.{PastEvent}
 use Rattle.rsl_session.specs.declared.session.Session.{Session}
 use Rattle.rsl_session.specs.declared.bundle.Bundle.{Bundle}
 use Rattle.rsl_session.specs.Past.{Past, looking_back, entry_at}
 use Rattle.rsl_session.specs.Clock.{clock}
 use Rattle.rsl_session.specs.Link.{number_of}
-use Rattle.rsl_session.specs.Binding.{touches, bound, bound_by, bundle_at, bundled_by}
-use Rattle.rsl_session.specs.Touch.{touched}
+use Rattle.rsl_session.specs.Binding.{touches, session_at, bound_by, bundle_at, bundled_by}
+use Rattle.rsl_session.specs.Touch.{touched_at}
 use Rattle.rsl_rule.specs.Standing.{standing_of}
 use Rattle.rsl_rule.specs.declared.standing.Standing.{Standing}
 use Rattle.rsl_session.specs.Ask.{accepts}
 
-pub looking_back-more : (xs : List Entry) (i : ℕ) (x : Entry) → i < length xs → x ≡ get_or xs i x → looking_back (take (i + 1) xs) ≡ x ∷ looking_back (take i xs)
+pub looking_back-more : (xs : List PastEvent) (i : ℕ) (x : PastEvent) → i < length xs → x ≡ get_or xs i x → looking_back (take (i + 1) xs) ≡ x ∷ looking_back (take i xs)
 unfolding looking_back
 looking_back-more xs i x within is =
     ap reverse (take_more xs i x within ∙ ap (λ y. take i xs ++ y ∷ []) (sym is)) ∙ reverse-append (take i xs) (x ∷ [])
 
-pub length-looking_back : (xs : List Entry) (i : ℕ) → i ≤ length xs → length (looking_back (take i xs)) ≡ i
+pub length-looking_back : (xs : List PastEvent) (i : ℕ) → i ≤ length xs → length (looking_back (take i xs)) ≡ i
 unfolding looking_back
 length-looking_back xs i within = length-reverse (take i xs) ∙ length-take-le i xs within
 
-pub looking_back_all : (xs : List Entry) (i : ℕ) → length xs ≤ i → looking_back (take i xs) ≡ looking_back xs
+pub looking_back_all : (xs : List PastEvent) (i : ℕ) → length xs ≤ i → looking_back (take i xs) ≡ looking_back xs
 looking_back_all xs i all = ap looking_back (take_all i xs all)
 
-pub length_all : (xs : List Entry) → length (looking_back xs) ≡ length xs
+pub length_all : (xs : List PastEvent) → length (looking_back xs) ≡ length xs
 unfolding looking_back
 length_all xs = length-reverse xs
 
@@ -45,23 +45,23 @@ pub clock_none : clock (looking_back []) ≡ 0
 unfolding clock
 clock_none = ap clock looking_back-none
 
-pub clock_more : (xs : List Entry) (i : ℕ) (x : Entry) → i < length xs → x ≡ get_or xs i x → clock (looking_back (take (i + 1) xs)) ≡ max (clock (looking_back (take i xs))) x.event.moment
+pub clock_more : (xs : List PastEvent) (i : ℕ) (x : PastEvent) → i < length xs → x ≡ get_or xs i x → clock (looking_back (take (i + 1) xs)) ≡ max (clock (looking_back (take i xs))) x.event.moment
 unfolding clock
 clock_more xs i x within is = ap clock (looking_back-more xs i x within is)
 
 pub ruleset clock_steps = (clock_none, clock_more, looking_back_all)
 
 -- how a link stands
-pub standing_next : (link : ℕ) (xs : List Entry) (x : Entry)
+pub standing_next : (link : ℕ) (xs : List PastEvent) (x : PastEvent)
     → standing_of link (x ∷ looking_back xs) ≡ record {
       clock = max (clock (looking_back xs)) x.event.moment;
-      touched = cond (touches link (length xs + 1) x.outcome) (max (clock (looking_back xs)) x.event.moment) (touched link (looking_back xs));
-      session = option_or (bound link (looking_back xs)) (bound_by link (length xs + 1) x);
+      touched = cond (touches link (length xs + 1) x.outcome) (max (clock (looking_back xs)) x.event.moment) (touched_at link (looking_back xs));
+      session = option_or (session_at link (looking_back xs)) (bound_by link (length xs + 1) x);
     }
-unfolding standing_of clock touched bound
+unfolding standing_of clock touched_at session_at
 standing_next link xs x = rw (length_all xs, add-one) refl
 
-pub standing_pushed : (link : ℕ) (xs : List Entry) (x : Entry) (before : Standing) (now touch : ℕ) (session : Option Session) → before ≡ standing_of link (looking_back xs)
+pub standing_pushed : (link : ℕ) (xs : List PastEvent) (x : PastEvent) (before : Standing) (now touch : ℕ) (session : Option Session) → before ≡ standing_of link (looking_back xs)
     → now ≡ max before.clock x.event.moment → touch ≡ cond (touches link (length xs + 1) x.outcome) now before.touched → session ≡ option_or before.session (bound_by link (length xs + 1) x)
     → (let next : Standing = record { clock = now; touched = touch; session = session } in next) ≡ standing_of link (x ∷ looking_back xs)
 unfolding standing_of
@@ -74,7 +74,7 @@ unfolding entry_at
 entry_at_none [] = refl
 entry_at_none (entry ∷ past) = rw (ne_eqb 0 (suc (length past)) (λ same. omega arith)) (entry_at_none past)
 
-entry_at-cons : (place : ℕ) (entry : Entry) (past : Past) → entry_at place (entry ∷ past) ≡ cond (eqb place (suc (length past))) (Some entry) (entry_at place past)
+entry_at-cons : (place : ℕ) (entry : PastEvent) (past : Past) → entry_at place (entry ∷ past) ≡ cond (eqb place (suc (length past))) (Some entry) (entry_at place past)
 unfolding entry_at
 entry_at-cons place entry past = refl
 
@@ -84,15 +84,15 @@ entry_at_newer [] place newer = refl
 entry_at_newer (entry ∷ past) place newer =
     rw (ne_eqb place (suc (length past)) (λ same. omega arith)) (entry_at_newer past place (omega arith))
 
-entry_at-slice_get : (x : Entry) (xs : List Entry) (i : ℕ) → i ≤ length (x ∷ xs) → (place : ℕ) → 0 < place → place ≤ i → entry_at place (looking_back (take i (x ∷ xs))) ≡ slice_get (x ∷ xs) (place - 1)
+entry_at-slice_get : (x : PastEvent) (xs : List PastEvent) (i : ℕ) → i ≤ length (x ∷ xs) → (place : ℕ) → 0 < place → place ≤ i → entry_at place (looking_back (take i (x ∷ xs))) ≡ slice_get (x ∷ xs) (place - 1)
 entry_at-slice_get x xs zero within place some at = absurd (omega arith)
 entry_at-slice_get x xs (suc i) within place some at =
-    let last : Entry = get_or (x ∷ xs) i x in
+    let last : PastEvent = get_or (x ∷ xs) i x in
     let same : last ≡ get_or (x ∷ xs) i last = get_or_default (x ∷ xs) i x last (omega arith) in
     let more : looking_back (take (suc i) (x ∷ xs)) ≡ last ∷ looking_back (take i (x ∷ xs)) =
     ap (λ n. looking_back (take n (x ∷ xs))) (sym (add-one i)) ∙ looking_back-more (x ∷ xs) i last (omega arith) same in
     ap (entry_at place) more ∙ entry_at_last x xs i last place (omega arith) some at (slice_get-get_or (x ∷ xs) i x (omega arith)) (entry_at-slice_get x xs i (omega arith) place some) where
-      entry_at_last : (x : Entry) (xs : List Entry) (i : ℕ) (last : Entry) (place : ℕ) → i < length (x ∷ xs) → 0 < place → place ≤ suc i → slice_get (x ∷ xs) i ≡ Some last
+      entry_at_last : (x : PastEvent) (xs : List PastEvent) (i : ℕ) (last : PastEvent) (place : ℕ) → i < length (x ∷ xs) → 0 < place → place ≤ suc i → slice_get (x ∷ xs) i ≡ Some last
           → (place ≤ i → entry_at place (looking_back (take i (x ∷ xs))) ≡ slice_get (x ∷ xs) (place - 1))
           → entry_at place (last ∷ looking_back (take i (x ∷ xs))) ≡ slice_get (x ∷ xs) (place - 1)
       entry_at_last x xs i last place within some at is older =
@@ -104,15 +104,15 @@ entry_at-slice_get x xs (suc i) within place some at =
             | inr other ↦ rw (ne_eqb place (suc i) other) (older (omega (arith, other)))
           ]
 
-pub entry_at_place : (xs : List Entry) (place : ℕ) → 0 < place → place ≤ length xs → entry_at place (looking_back xs) ≡ slice_get xs (place - 1)
+pub entry_at_place : (xs : List PastEvent) (place : ℕ) → 0 < place → place ≤ length xs → entry_at place (looking_back xs) ≡ slice_get xs (place - 1)
 entry_at_place [] place some at = absurd (omega arith)
 entry_at_place (x ∷ xs) place some at =
     sym (ap (entry_at place) (looking_back_all (x ∷ xs) (length (x ∷ xs)) (omega arith))) ∙ entry_at-slice_get x xs (length (x ∷ xs)) (omega arith) place some at
 
-pub entry_at_past : (xs : List Entry) (place : ℕ) → length xs < place → entry_at place (looking_back xs) ≡ None
+pub entry_at_past : (xs : List PastEvent) (place : ℕ) → length xs < place → entry_at place (looking_back xs) ≡ None
 entry_at_past xs place past = entry_at_newer (looking_back xs) place (omega (arith, length_all xs))
 
-pub entry_read : (xs : List Entry) (place : ℕ) (got : Option (Bor Entry)) → (place ≡ 0 → ⊥) → is_some got ≡ ltb (place - 1) (length xs) → IfSome got (λ x. x.now ≡ get_or xs (place - 1) x.now)
+pub entry_read : (xs : List PastEvent) (place : ℕ) (got : Option (Bor PastEvent)) → (place ≡ 0 → ⊥) → is_some got ≡ ltb (place - 1) (length xs) → IfSome got (λ x. x.now ≡ get_or xs (place - 1) x.now)
     → option_copied got ≡ entry_at place (looking_back xs)
 entry_read xs place None some within is =
     let past = ltb-false (place - 1) (length xs) (sym within) in
@@ -124,36 +124,36 @@ entry_read xs place (Some x) some within is =
 pub ruleset entry_steps = (entry_at_none)
 
 -- the session that a link is bound to
-bound_stays : (link : ℕ) (newer past : Past) (session : Session) → bound link past ≡ Some session → bound link (newer ++ past) ≡ Some session
-unfolding bound
+bound_stays : (link : ℕ) (newer past : Past) (session : Session) → session_at link past ≡ Some session → session_at link (newer ++ past) ≡ Some session
+unfolding session_at
 bound_stays link [] past session is = is
 bound_stays link (entry ∷ newer) past session is = rw (bound_stays link newer past session is) refl
 
-looking_back-split : (xs : List Entry) (i : ℕ) → looking_back xs ≡ looking_back (drop i xs) ++ looking_back (take i xs)
+looking_back-split : (xs : List PastEvent) (i : ℕ) → looking_back xs ≡ looking_back (drop i xs) ++ looking_back (take i xs)
 unfolding looking_back
 looking_back-split xs i = ap reverse (sym (take-append-drop i xs)) ∙ reverse-append (take i xs) (drop i xs)
 
-pub bound_none : (link : ℕ) → bound link (looking_back []) ≡ None
-unfolding bound
-bound_none link = ap (bound link) looking_back-none
+pub bound_none : (link : ℕ) → session_at link (looking_back []) ≡ None
+unfolding session_at
+bound_none link = ap (session_at link) looking_back-none
 
-bound_more : (link : ℕ) (xs : List Entry) (i : ℕ) (x : Entry) → i < length xs → x ≡ get_or xs i x
-    → bound link (looking_back (take (i + 1) xs)) ≡ option_or (bound link (looking_back (take i xs))) (bound_by link (i + 1) x)
-unfolding bound
+bound_more : (link : ℕ) (xs : List PastEvent) (i : ℕ) (x : PastEvent) → i < length xs → x ≡ get_or xs i x
+    → session_at link (looking_back (take (i + 1) xs)) ≡ option_or (session_at link (looking_back (take i xs))) (bound_by link (i + 1) x)
+unfolding session_at
 bound_more link xs i x within is =
     rw (looking_back-more xs i x within is, length-looking_back xs i (omega arith), add-one) refl
 
-pub bound_next : (link : ℕ) (xs : List Entry) (i : ℕ) (x : Entry) (found : Option Session) → i < length xs → x ≡ get_or xs i x
-    → bound link (looking_back (take i xs)) ≡ None → found ≡ bound_by link (i + 1) x → is_some found ≡ false → bound link (looking_back (take (i + 1) xs)) ≡ None
+pub bound_next : (link : ℕ) (xs : List PastEvent) (i : ℕ) (x : PastEvent) (found : Option Session) → i < length xs → x ≡ get_or xs i x
+    → session_at link (looking_back (take i xs)) ≡ None → found ≡ bound_by link (i + 1) x → is_some found ≡ false → session_at link (looking_back (take (i + 1) xs)) ≡ None
 bound_next link xs i x None within is before found none = bound_more link xs i x within is ∙ rw before (sym found)
 bound_next link xs i x (Some session) within is before found none = cc
 
-pub bound_first : (link : ℕ) (xs : List Entry) (i : ℕ) (x : Entry) (found : Option Session) → i < length xs → x ≡ get_or xs i x
-    → bound link (looking_back (take i xs)) ≡ None → found ≡ bound_by link (i + 1) x → is_some found ≡ true → bound link (looking_back xs) ≡ found
+pub bound_first : (link : ℕ) (xs : List PastEvent) (i : ℕ) (x : PastEvent) (found : Option Session) → i < length xs → x ≡ get_or xs i x
+    → session_at link (looking_back (take i xs)) ≡ None → found ≡ bound_by link (i + 1) x → is_some found ≡ true → session_at link (looking_back xs) ≡ found
 bound_first link xs i x None within is before found some = cc
 bound_first link xs i x (Some session) within is before found some =
-    let here : bound link (looking_back (take (i + 1) xs)) ≡ Some session = bound_more link xs i x within is ∙ rw before (sym found) in
-    ap (bound link) (looking_back-split xs (i + 1)) ∙ bound_stays link (looking_back (drop (i + 1) xs)) (looking_back (take (i + 1) xs)) session here
+    let here : session_at link (looking_back (take (i + 1) xs)) ≡ Some session = bound_more link xs i x within is ∙ rw before (sym found) in
+    ap (session_at link) (looking_back-split xs (i + 1)) ∙ bound_stays link (looking_back (drop (i + 1) xs)) (looking_back (take (i + 1) xs)) session here
 
 pub ruleset bound_steps = (bound_none, bound_next, bound_first, looking_back_all)
 
@@ -167,18 +167,18 @@ pub bundle_none : (link : ℕ) → bundle_at link (looking_back []) ≡ None
 unfolding bundle_at
 bundle_none link = ap (bundle_at link) looking_back-none
 
-bundle_more : (link : ℕ) (xs : List Entry) (i : ℕ) (x : Entry) → i < length xs → x ≡ get_or xs i x
+bundle_more : (link : ℕ) (xs : List PastEvent) (i : ℕ) (x : PastEvent) → i < length xs → x ≡ get_or xs i x
     → bundle_at link (looking_back (take (i + 1) xs)) ≡ option_or (bundle_at link (looking_back (take i xs))) (bundled_by link (i + 1) x)
 unfolding bundle_at
 bundle_more link xs i x within is =
     rw (looking_back-more xs i x within is, length-looking_back xs i (omega arith), add-one) refl
 
-pub bundle_next : (link : ℕ) (xs : List Entry) (i : ℕ) (x : Entry) (found : Option Bundle) → i < length xs → x ≡ get_or xs i x
+pub bundle_next : (link : ℕ) (xs : List PastEvent) (i : ℕ) (x : PastEvent) (found : Option Bundle) → i < length xs → x ≡ get_or xs i x
     → bundle_at link (looking_back (take i xs)) ≡ None → found ≡ bundled_by link (i + 1) x → is_some found ≡ false → bundle_at link (looking_back (take (i + 1) xs)) ≡ None
 bundle_next link xs i x None within is before found none = bundle_more link xs i x within is ∙ rw before (sym found)
 bundle_next link xs i x (Some bundle) within is before found none = cc
 
-pub bundle_first : (link : ℕ) (xs : List Entry) (i : ℕ) (x : Entry) (found : Option Bundle) → i < length xs → x ≡ get_or xs i x
+pub bundle_first : (link : ℕ) (xs : List PastEvent) (i : ℕ) (x : PastEvent) (found : Option Bundle) → i < length xs → x ≡ get_or xs i x
     → bundle_at link (looking_back (take i xs)) ≡ None → found ≡ bundled_by link (i + 1) x → is_some found ≡ true → bundle_at link (looking_back xs) ≡ found
 bundle_first link xs i x None within is before found some = cc
 bundle_first link xs i x (Some bundle) within is before found some =
@@ -192,10 +192,10 @@ pub accepts_none : accepts (looking_back []) ≡ 0
 unfolding accepts
 accepts_none = ap accepts looking_back-none
 
-pub accepts_more : (xs : List Entry) (i : ℕ) (x : Entry) → i < length xs → x ≡ get_or xs i x
+pub accepts_more : (xs : List PastEvent) (i : ℕ) (x : PastEvent) → i < length xs → x ≡ get_or xs i x
     → accepts (looking_back (take (i + 1) xs)) ≡ accepts (looking_back (take i xs)) + cond (is_some (number_of x.outcome)) 1 0
 unfolding accepts
 accepts_more xs i x within is =
-    ap accepts (looking_back-more xs i x within is) ∙ (omega (arith, sum_by-cons (λ (e : Entry). cond (is_some (number_of e.outcome)) 1 0) x (looking_back (take i xs))))
+    ap accepts (looking_back-more xs i x within is) ∙ (omega (arith, sum_by-cons (λ (e : PastEvent). cond (is_some (number_of e.outcome)) 1 0) x (looking_back (take i xs))))
 
 pub ruleset accepts_steps = (accepts_none, accepts_more, looking_back_all)

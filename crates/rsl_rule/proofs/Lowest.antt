@@ -6,13 +6,13 @@ use Rattle.std.proofs.lemmas.Bool.{cases_eq, and_parts, and_from, eq-eqb, ne_eqb
 use Rattle.rsl_accounts.specs.declared.rules.Rules.{Rules}
 use Rattle.rsl_event.specs.declared.event.Event.{Event}
 use Rattle.rsl_event.specs.declared.nas.Nas.{Nas}
-use Rattle.rsl_session.specs.declared.entry.Entry.{Entry}
-use Rattle.rsl_session.specs.declared.entry.Outcome.{Outcome}
-use Rattle.rsl_session.specs.declared.entry.Outcome.TheVariants.{Accepted, Refused, Repeated, Opened, Took, Renewed, Ignored, Over, Passed}
+use Rattle.rsl_session.specs.declared.past_event.PastEvent.{PastEvent}
+use Rattle.rsl_session.specs.declared.outcome.Outcome.{Outcome}
+use Rattle.rsl_session.specs.declared.outcome.Outcome.TheVariants.{Accepted, Refused, Repeated, Opened, Took, Renewed, Ignored, Over, Passed}
 use Rattle.rsl_session.specs.Past.{Past}
 use Rattle.rsl_session.specs.Link.{links, opens, number_of, number_at}
 use Rattle.rsl_session.specs.Binding.{is_reserved}
-use Rattle.rsl_session.specs.Held.{held, held_before, is_at}
+use Rattle.rsl_session.specs.Held.{held_links, held_before, is_at}
 use Rattle.rsl_session.specs.Ask.{accepts}
 use Rattle.rsl_session.specs.Alive.{is_chosen, is_number, reservation_of}
 use Rattle.rsl_session.specs.Rule.{IsRuled}
@@ -60,7 +60,7 @@ ascending_filter p (x ∷ xs) ascending = by_cases (p x) (ascending_filter p xs 
   by_cases false rest = rest
 
 held_before_ascends : (rules : Rules) (past : Past) (event : Event) → IsAscending (held_before rules past event)
-unfolding held held_before
+unfolding held_links held_before
 held_before_ascends rules past event = ascending_filter _ _ (ascending_filter _ (links past) (links_ascend past))
 
 -- what is found of the fewer is not before what is found of the more
@@ -102,7 +102,7 @@ next_is past Ignored a next given = cc
 next_is past Over a next given = cc
 next_is past Passed a next given = cc
 
-number_here : (rules : Rules) (entry : Entry) (past : Past) (link a : ℕ) → IsRuled rules (entry ∷ past) → link ≡ suc (length past) → number_at link (entry ∷ past) ≡ Some a
+number_here : (rules : Rules) (entry : PastEvent) (past : Past) (link a : ℕ) → IsRuled rules (entry ∷ past) → link ≡ suc (length past) → number_at link (entry ∷ past) ≡ Some a
     → (a ≡ accepts past) × (accepts (entry ∷ past) ≡ 1 + accepts past)
 unfolding IsRuled
 number_here rules entry past link a ruled here given =
@@ -111,7 +111,7 @@ number_here rules entry past link a ruled here given =
       rw given_here at (accepts-cons entry past),
     )
 
-number_older : (entry : Entry) (past : Past) (link : ℕ) → (link ≡ suc (length past) → ⊥) → number_at link (entry ∷ past) ≡ number_at link past
+number_older : (entry : PastEvent) (past : Past) (link : ℕ) → (link ≡ suc (length past) → ⊥) → number_at link (entry ∷ past) ≡ number_at link past
 number_older entry past link other = number_cons link entry past ∙ rw (ne_eqb link (suc (length past)) other) refl
 
 number_below : (rules : Rules) (past : Past) (link a : ℕ) → IsRuled rules past → number_at link past ≡ Some a → a < accepts past

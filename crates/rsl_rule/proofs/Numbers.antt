@@ -8,14 +8,14 @@ use Rattle.rsl_accounts.specs.declared.rules.Rules.{Rules}
 use Rattle.rsl_event.specs.declared.event.Event.{Event}
 use Rattle.rsl_event.specs.declared.event.Act.{Act}
 use Rattle.rsl_event.specs.declared.event.Act.TheVariants.{Ask, Alive, Stop, Sweep, Tick}
-use Rattle.rsl_session.specs.declared.entry.Entry.{Entry}
-use Rattle.rsl_session.specs.declared.entry.Outcome.{Outcome}
-use Rattle.rsl_session.specs.declared.entry.Outcome.TheVariants.{Accepted, Refused, Repeated, Opened, Took, Renewed, Ignored, Over, Passed}
+use Rattle.rsl_session.specs.declared.past_event.PastEvent.{PastEvent}
+use Rattle.rsl_session.specs.declared.outcome.Outcome.{Outcome}
+use Rattle.rsl_session.specs.declared.outcome.Outcome.TheVariants.{Accepted, Refused, Repeated, Opened, Took, Renewed, Ignored, Over, Passed}
 use Rattle.rsl_session.specs.declared.kept.KeptAsk.{KeptAsk}
 use Rattle.rsl_session.specs.declared.session.Session.{Session}
 use Rattle.rsl_session.specs.Past.{Past}
 use Rattle.rsl_session.specs.Link.{number_of}
-use Rattle.rsl_session.specs.Ask.{accepts, ask_outcome, has_a_place, repeated}
+use Rattle.rsl_session.specs.Ask.{accepts, ask_outcome, has_a_place, repeated_ask}
 use Rattle.rsl_session.specs.Alive.{alive_outcome, unbound_outcome, reservation_of, has_room}
 use Rattle.rsl_session.specs.Closed.{is_closed}
 use Rattle.rsl_session.specs.Rule.{IsRuled, outcome_of, outcome_by, past_of}
@@ -52,15 +52,15 @@ IsNext-outcome_of rules past event = by_act event.act where
     open_or_closed false = unbound _
 
   by_act : (act : Act) → IsNext past (outcome_by rules past event act)
-  by_act (Ask key nas) = of_ask (repeated rules past event key)
+  by_act (Ask key nas) = of_ask (repeated_ask rules past event key)
   by_act (Alive nas id bundle class) = of_alive _ class _
   by_act (Stop nas id) = tt
   by_act (Sweep nas) = tt
   by_act Tick = tt
 
-pub accepts-cons : (entry : Entry) (past : Past) → accepts (entry ∷ past) ≡ cond (is_some (number_of entry.outcome)) 1 0 + accepts past
+pub accepts-cons : (entry : PastEvent) (past : Past) → accepts (entry ∷ past) ≡ cond (is_some (number_of entry.outcome)) 1 0 + accepts past
 unfolding accepts
-accepts-cons entry past = sum_by-cons (λ (e : Entry). cond (is_some (number_of e.outcome)) 1 0) entry past
+accepts-cons entry past = sum_by-cons (λ (e : PastEvent). cond (is_some (number_of e.outcome)) 1 0) entry past
 
 -- one more number at the end
 counted_push : (xs : List ℕ) (n : ℕ) → length xs ≡ n → EachIndex xs (λ k. slice_index xs k ≡ k) → EachIndex (xs ++ n ∷ []) (λ k. slice_index (xs ++ n ∷ []) k ≡ k)
@@ -76,21 +76,21 @@ counted_push xs n long each k within =
 pub Counted : Past → Type 0
 Counted past = (length (accept_numbers past) ≡ accepts past) × EachIndex (accept_numbers past) (λ k. slice_index (accept_numbers past) k ≡ k)
 
-unnumbered : (entry : Entry) (past : Past) (outcome : Outcome) → entry.outcome ≡ outcome → number_of outcome ≡ None → Counted past → Counted (entry ∷ past)
+unnumbered : (entry : PastEvent) (past : Past) (outcome : Outcome) → entry.outcome ≡ outcome → number_of outcome ≡ None → Counted past → Counted (entry ∷ past)
 unfolding Counted accept_numbers
 unnumbered entry past outcome is none counted =
     let no_number : number_of entry.outcome ≡ None = ap number_of is ∙ none in
     let more = rw no_number at (accepts-cons entry past) in
     rw (no_number, append-nil (accept_numbers past)) (counted.0 ∙ sym (more ∙ omega arith), counted.1)
 
-numbered : (entry : Entry) (past : Past) (number : ℕ) → number_of entry.outcome ≡ Some number → number ≡ accepts past → Counted past → Counted (entry ∷ past)
+numbered : (entry : PastEvent) (past : Past) (number : ℕ) → number_of entry.outcome ≡ Some number → number ≡ accepts past → Counted past → Counted (entry ∷ past)
 unfolding Counted accept_numbers
 numbered entry past number some next counted =
     let more = rw some at (accepts-cons entry past) in
     let long : length (accept_numbers past) ≡ number = counted.0 ∙ sym next in
     rw some (length_push (accept_numbers past) number ∙ sym (more ∙ omega arith), counted_push (accept_numbers past) number long counted.1)
 
-count_more : (entry : Entry) (past : Past) (outcome : Outcome) → entry.outcome ≡ outcome → IsNext past outcome → Counted past → Counted (entry ∷ past)
+count_more : (entry : PastEvent) (past : Past) (outcome : Outcome) → entry.outcome ≡ outcome → IsNext past outcome → Counted past → Counted (entry ∷ past)
 unfolding IsNext number_of
 count_more entry past (Accepted number) is next counted = numbered entry past number (ap number_of is) next counted
 count_more entry past Refused is next counted = unnumbered entry past Refused is refl counted

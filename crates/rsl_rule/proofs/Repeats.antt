@@ -9,28 +9,28 @@ use Rattle.rsl_event.specs.declared.event.Act.TheVariants.{Ask, Alive, Stop, Swe
 use Rattle.rsl_event.specs.declared.event.Decision.{Decision}
 use Rattle.rsl_event.specs.declared.event.Event.{Event}
 use Rattle.rsl_event.specs.declared.event.Key.{Key}
-use Rattle.rsl_session.specs.declared.entry.Entry.{Entry}
-use Rattle.rsl_session.specs.declared.entry.Outcome.TheVariants.{Accepted, Refused, Repeated, Opened, Ignored, Over}
+use Rattle.rsl_session.specs.declared.past_event.PastEvent.{PastEvent}
+use Rattle.rsl_session.specs.declared.outcome.Outcome.TheVariants.{Accepted, Refused, Repeated, Opened, Ignored, Over}
 use Rattle.rsl_session.specs.declared.kept.KeptAsk.{KeptAsk}
 use Rattle.rsl_session.specs.declared.session.Session.{Session}
 use Rattle.rsl_session.specs.Past.{Past}
 use Rattle.rsl_session.specs.Same.{same_key}
 use Rattle.rsl_session.specs.Clock.{clock, clock_at}
-use Rattle.rsl_session.specs.Ask.{accepts, ask_outcome, fresh_asks, fresh_decision, has_a_place, kept_ask, repeated, repeats, KEPT_ASKS}
+use Rattle.rsl_session.specs.Ask.{accepts, ask_outcome, fresh_asks, fresh_decision, has_a_place, kept_ask, repeated_ask, repeats, KEPT_ASKS}
 use Rattle.rsl_session.specs.Alive.{alive_outcome, unbound_outcome, reservation_of, has_room}
 use Rattle.rsl_session.specs.Closed.{is_closed}
 use Rattle.rsl_session.specs.Rule.{outcome_of, outcome_by}
 use Rattle.rsl_session.proofs.Sameness.{same_key-true}
 use Rattle.rsl_rule.specs.Laws.{IsDecided, key_of}
 
-any_here : (P : Entry → Type 0) (x : Entry) (xs : List Entry) → P x → Any P (x ∷ xs)
+any_here : (P : PastEvent → Type 0) (x : PastEvent) (xs : List PastEvent) → P x → Any P (x ∷ xs)
 any_here P x xs p = (0, x, (omega arith), refl, p)
 
-any_later : (P : Entry → Type 0) (x : Entry) (xs : List Entry) → Any P xs → Any P (x ∷ xs)
+any_later : (P : PastEvent → Type 0) (x : PastEvent) (xs : List PastEvent) → Any P xs → Any P (x ∷ xs)
 any_later P x xs (k, y, within, is, p) = (suc k, y, (omega arith), is, p)
 
 -- an ask that is kept was fresh
-kept_is : (now : ℕ) (since : List Entry) (entry : Entry) (act : Act) (decision : Option Decision) (ask : KeptAsk) → entry.event.act ≡ act → fresh_decision entry.outcome ≡ decision
+kept_is : (now : ℕ) (since : List PastEvent) (entry : PastEvent) (act : Act) (decision : Option Decision) (ask : KeptAsk) → entry.event.act ≡ act → fresh_decision entry.outcome ≡ decision
     → kept_ask now since act decision ≡ Some ask → IsDecided (Some ask.key) ask.decision entry
 kept_is now since entry (Ask key nas) (Some decision) ask act fresh kept =
     let same : key ≡ ask.key = cc in
@@ -47,7 +47,7 @@ kept_is now since entry Tick (Some decision) ask act fresh kept = cc
 kept_is now since entry Tick None ask act fresh kept = cc
 
 -- a kept ask that is found passes the test, and was fresh
-found_is : (p : KeptAsk → Bool) (n : ℕ) (since : List Entry) (past : Past) (ask : KeptAsk) → find p (take n (fresh_asks since past)) ≡ Some ask
+found_is : (p : KeptAsk → Bool) (n : ℕ) (since : List PastEvent) (past : Past) (ask : KeptAsk) → find p (take n (fresh_asks since past)) ≡ Some ask
     → (p ask ≡ true) × Any (IsDecided (Some ask.key) ask.decision) past
 unfolding fresh_asks
 found_is p zero since [] ask found = cc
@@ -78,8 +78,8 @@ found_is p n since (entry ∷ past) ask found =
       by_cases (suc m) (Some kept) is found rest = here m kept (p kept) refl is found rest
 
 -- the ask that a repeat repeats
-repeated_is : (rules : Rules) (past : Past) (event : Event) (key : Key) (ask : KeptAsk) → repeated rules past event key ≡ Some ask → Any (IsDecided (Some key) ask.decision) past
-unfolding repeated repeats
+repeated_is : (rules : Rules) (past : Past) (event : Event) (key : Key) (ask : KeptAsk) → repeated_ask rules past event key ≡ Some ask → Any (IsDecided (Some key) ask.decision) past
+unfolding repeated_ask repeats
 repeated_is rules past event key ask found =
     let is = found_is (repeats rules key (clock_at past event)) KEPT_ASKS [] past ask found in
     let tests = and_parts (same_key ask.key key && nat_lt (clock_at past event - ask.at) rules.keep) (not ask.swept) is.0 in
@@ -94,7 +94,7 @@ repeats_are rules past event decision = by_act event.act where
   fresh true is = cc
   fresh false is = cc
 
-  of_ask : (key : Key) (found : Option KeptAsk) → repeated rules past event key ≡ found → ask_outcome rules past event found ≡ Repeated decision → Any (IsDecided (Some key) decision) past
+  of_ask : (key : Key) (found : Option KeptAsk) → repeated_ask rules past event key ≡ found → ask_outcome rules past event found ≡ Repeated decision → Any (IsDecided (Some key) decision) past
   of_ask key (Some ask) found is =
       let same : ask.decision ≡ decision = cc in
       subst (λ (d : Decision). Any (IsDecided (Some key) d) past) same (repeated_is rules past event key ask found)
@@ -117,7 +117,7 @@ repeats_are rules past event decision = by_act event.act where
   of_alive session class None is = open_or_closed (is_closed rules past event session) (reservation_of rules past event session.nas class) is
 
   by_act : (act : Act) → outcome_by rules past event act ≡ Repeated decision → Any (IsDecided (key_of act) decision) past
-  by_act (Ask key nas) is = of_ask key (repeated rules past event key) refl is
+  by_act (Ask key nas) is = of_ask key (repeated_ask rules past event key) refl is
   by_act (Alive nas id bundle class) is = absurd (of_alive _ class _ is)
   by_act (Stop nas id) is = cc
   by_act (Sweep nas) is = cc

@@ -11,16 +11,16 @@ use Rattle.rsl_event.specs.declared.event.Event.{Event}
 use Rattle.rsl_event.specs.declared.event.Act.{Act}
 use Rattle.rsl_event.specs.declared.event.Act.TheVariants.{Ask, Alive, Stop, Sweep, Tick}
 use Rattle.rsl_event.specs.declared.nas.Nas.{Nas}
-use Rattle.rsl_session.specs.declared.entry.Entry.{Entry}
-use Rattle.rsl_session.specs.declared.entry.Outcome.{Outcome}
-use Rattle.rsl_session.specs.declared.entry.Outcome.TheVariants.{Accepted, Refused, Repeated, Opened, Took, Renewed, Ignored, Over, Passed}
+use Rattle.rsl_session.specs.declared.past_event.PastEvent.{PastEvent}
+use Rattle.rsl_session.specs.declared.outcome.Outcome.{Outcome}
+use Rattle.rsl_session.specs.declared.outcome.Outcome.TheVariants.{Accepted, Refused, Repeated, Opened, Took, Renewed, Ignored, Over, Passed}
 use Rattle.rsl_session.specs.declared.session.Session.{Session}
 use Rattle.rsl_session.specs.declared.bundle.Bundle.{Bundle}
 use Rattle.rsl_session.specs.Past.{Past, entry_at}
 use Rattle.rsl_session.specs.Clock.{clock, clock_at}
 use Rattle.rsl_session.specs.Link.{links, opens, nas_of, nas_at, number_of, number_at}
-use Rattle.rsl_session.specs.Binding.{binds, touches, bound_by, bundled_by, bound, bundle_at, is_reserved, is_bound_to}
-use Rattle.rsl_session.specs.Touch.{touched}
+use Rattle.rsl_session.specs.Binding.{binds, touches, bound_by, bundled_by, session_at, bundle_at, is_reserved, is_bound_to}
+use Rattle.rsl_session.specs.Touch.{touched_at}
 use Rattle.rsl_session.specs.Lapse.{lapses}
 use Rattle.rsl_session.specs.Held.{is_at, ended_by}
 use Rattle.rsl_session.specs.Rule.{IsRuled}
@@ -81,17 +81,17 @@ shift_outcome n Ignored = Ignored
 shift_outcome n Over = Over
 shift_outcome n Passed = Passed
 
-unfoldable pub shift_entry : ℕ → Entry → Entry
+unfoldable pub shift_entry : ℕ → PastEvent → PastEvent
 shift_entry n entry = record { event = entry.event; outcome = shift_outcome n entry.outcome }
 
-pub shift_event : (n : ℕ) (entry : Entry) → (shift_entry n entry).event ≡ entry.event
+pub shift_event : (n : ℕ) (entry : PastEvent) → (shift_entry n entry).event ≡ entry.event
 unfolding shift_entry
 shift_event n entry = refl
 
 unfoldable pub tick_event : ℕ → Event
 tick_event moment = record { moment = moment; act = Tick }
 
-unfoldable pub tick_entry : ℕ → Entry
+unfoldable pub tick_entry : ℕ → PastEvent
 tick_entry moment = record { event = tick_event moment; outcome = Passed }
 
 -- a past with the tick between what is older and what is newer
@@ -120,7 +120,7 @@ unfolding clock_at
 clock_at-after_tick moment older newer event early =
     ap (λ now. max now event.moment) (clock-after_tick moment older newer) ∙ (omega arith)
 
-pub clock_next : (moment : ℕ) (older newer : Past) (entry : Entry) → moment ≤ entry.event.moment → clock (after_tick moment older (entry ∷ newer)) ≡ clock (entry ∷ newer ++ older)
+pub clock_next : (moment : ℕ) (older newer : Past) (entry : PastEvent) → moment ≤ entry.event.moment → clock (after_tick moment older (entry ∷ newer)) ≡ clock (entry ∷ newer ++ older)
 unfolding clock after_tick shift_entry
 clock_next moment older newer entry early =
     ap (λ now. max now entry.event.moment) (clock-after_tick moment older newer) ∙ (omega arith)
@@ -151,17 +151,17 @@ touches-shift n k link Over new = refl
 touches-shift n k link Passed new = refl
 
 -- the entry at a place: its access server and number
-nas_cons : (place : ℕ) (entry : Entry) (past : Past) → nas_at place (entry ∷ past) ≡ cond (eqb place (suc (length past))) (nas_of entry.event.act) (nas_at place past)
+nas_cons : (place : ℕ) (entry : PastEvent) (past : Past) → nas_at place (entry ∷ past) ≡ cond (eqb place (suc (length past))) (nas_of entry.event.act) (nas_at place past)
 unfolding nas_at entry_at
 nas_cons place entry past = by_cases (eqb place (suc (length past))) where
-  by_cases : (here : Bool) → option_and_then (λ (e : Entry). nas_of e.event.act) (cond here (Some entry) (entry_at place past)) ≡ cond here (nas_of entry.event.act) (option_and_then (λ (e : Entry). nas_of e.event.act) (entry_at place past))
+  by_cases : (here : Bool) → option_and_then (λ (e : PastEvent). nas_of e.event.act) (cond here (Some entry) (entry_at place past)) ≡ cond here (nas_of entry.event.act) (option_and_then (λ (e : PastEvent). nas_of e.event.act) (entry_at place past))
   by_cases true = refl
   by_cases false = refl
 
-pub number_cons : (place : ℕ) (entry : Entry) (past : Past) → number_at place (entry ∷ past) ≡ cond (eqb place (suc (length past))) (number_of entry.outcome) (number_at place past)
+pub number_cons : (place : ℕ) (entry : PastEvent) (past : Past) → number_at place (entry ∷ past) ≡ cond (eqb place (suc (length past))) (number_of entry.outcome) (number_at place past)
 unfolding number_at entry_at
 number_cons place entry past = by_cases (eqb place (suc (length past))) where
-  by_cases : (here : Bool) → option_and_then (λ (e : Entry). number_of e.outcome) (cond here (Some entry) (entry_at place past)) ≡ cond here (number_of entry.outcome) (option_and_then (λ (e : Entry). number_of e.outcome) (entry_at place past))
+  by_cases : (here : Bool) → option_and_then (λ (e : PastEvent). number_of e.outcome) (cond here (Some entry) (entry_at place past)) ≡ cond here (number_of entry.outcome) (option_and_then (λ (e : PastEvent). number_of e.outcome) (entry_at place past))
   by_cases true = refl
   by_cases false = refl
 
@@ -264,9 +264,9 @@ links-after_tick moment older (entry ∷ newer) =
     by_cases false = refl
 
 module _ (rules : Rules) (moment : ℕ) (older : Past) (ruled : IsRuled rules older) where
-  pub bound-after_tick : (newer : Past) (link : ℕ) → bound (shift (length older) link) (after_tick moment older newer) ≡ bound link (newer ++ older)
-  unfolding bound bound_by after_tick tick_entry shift_entry binds
-  bound-after_tick [] link = by_cases (bound (shift (length older) link) older) ∙ shift_later (λ l. bound l older) None (length older) link (λ later new. bound-later rules older later ruled new) where
+  pub bound-after_tick : (newer : Past) (link : ℕ) → session_at (shift (length older) link) (after_tick moment older newer) ≡ session_at link (newer ++ older)
+  unfolding session_at bound_by after_tick tick_entry shift_entry binds
+  bound-after_tick [] link = by_cases (session_at (shift (length older) link) older) ∙ shift_later (λ l. session_at l older) None (length older) link (λ later new. bound-later rules older later ruled new) where
     by_cases : (o : Option Session) → option_or o None ≡ o
     by_cases None = refl
     by_cases (Some session) = refl
@@ -282,9 +282,9 @@ module _ (rules : Rules) (moment : ℕ) (older : Past) (ruled : IsRuled rules ol
   bundle_at-after_tick (entry ∷ newer) link =
       rw (bundle_at-after_tick newer link, length-after_tick moment older newer, touches-shift (length older) (suc (length (newer ++ older))) link entry.outcome (omega (arith, older-le older newer))) refl
 
-  pub touched-after_tick : (newer : Past) → AllByRecursion (λ (entry : Entry). moment ≤ entry.event.moment) newer → (link : ℕ) → touched (shift (length older) link) (after_tick moment older newer) ≡ touched link (newer ++ older)
-  unfolding touched after_tick tick_entry shift_entry touches
-  touched-after_tick [] early link = shift_later (λ l. touched l older) 0 (length older) link (λ later new. touched-later rules older later ruled new)
+  pub touched-after_tick : (newer : Past) → AllByRecursion (λ (entry : PastEvent). moment ≤ entry.event.moment) newer → (link : ℕ) → touched_at (shift (length older) link) (after_tick moment older newer) ≡ touched_at link (newer ++ older)
+  unfolding touched_at after_tick tick_entry shift_entry touches
+  touched-after_tick [] early link = shift_later (λ l. touched_at l older) 0 (length older) link (λ later new. touched-later rules older later ruled new)
   touched-after_tick (entry ∷ newer) early link =
       rw (
         touched-after_tick newer early.1 link,
@@ -293,7 +293,7 @@ module _ (rules : Rules) (moment : ℕ) (older : Past) (ruled : IsRuled rules ol
         clock_next moment older newer entry early.0,
       ) refl
 
-  pub lapses-after_tick : (newer : Past) → AllByRecursion (λ (entry : Entry). moment ≤ entry.event.moment) newer → (event : Event) → moment ≤ event.moment → (link : ℕ)
+  pub lapses-after_tick : (newer : Past) → AllByRecursion (λ (entry : PastEvent). moment ≤ entry.event.moment) newer → (event : Event) → moment ≤ event.moment → (link : ℕ)
       → lapses rules (after_tick moment older newer) event (shift (length older) link) ≡ lapses rules (newer ++ older) event link
   unfolding lapses
   lapses-after_tick newer early event at link =

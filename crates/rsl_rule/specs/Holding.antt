@@ -2,11 +2,11 @@
 use Rattle.std.specs.Prelude.{◌≡◌, ℕ, List, [], ◌∷◌, filter, map, max, not}
 use Rattle.rsl_accounts.specs.declared.rules.Rules.{Rules}
 use Rattle.rsl_event.specs.declared.event.Event.{Event}
-use Rattle.rsl_session.specs.declared.entry.Outcome.{Outcome}
-use Rattle.rsl_session.specs.declared.entry.Outcome.TheVariants.{Took}
+use Rattle.rsl_session.specs.declared.outcome.Outcome.{Outcome}
+use Rattle.rsl_session.specs.declared.outcome.Outcome.TheVariants.{Took}
 use Rattle.rsl_session.specs.Past.{Past}
 use Rattle.rsl_session.specs.Clock.{clock}
-use Rattle.rsl_session.specs.Held.{ends, held}
+use Rattle.rsl_session.specs.Held.{ends, held_links}
 use Rattle.rsl_rule.specs.Standing.{standing_of}
 use Rattle.rsl_rule.specs.declared.holding.HeldLink.{HeldLink}
 use Rattle.rsl_rule.specs.declared.holding.Holding.{Holding}
@@ -17,7 +17,7 @@ standings past links = map (λ link. record { link = link; standing = standing_o
 
 -- the held links that do not end at an event
 abbrev pub lasting : Rules → Past → Event → List ℕ
-lasting rules past event = filter (λ link. not (ends rules past event link)) (held rules past)
+lasting rules past event = filter (λ link. not (ends rules past event link)) (held_links rules past)
 
 -- the number of the link that an event took, 0 where it took none
 unfoldable pub taken_by : Outcome → ℕ
@@ -31,6 +31,6 @@ furthest_taken (entry ∷ past) = max (furthest_taken past) (taken_by entry.outc
 
 -- this is carried after a past
 pub record IsHolding (rules : Rules) (past : Past) (holding : Holding) : Type 0 where
-  pub each : holding.links.items ≡ standings past (held rules past)
+  pub each : holding.links.items ≡ standings past (held_links rules past)
   pub now : holding.clock ≡ clock past
   pub greatest : holding.furthest ≡ furthest_taken past

@@ -10,8 +10,8 @@ use Rattle.rsl_event.specs.declared.event.Decision.TheVariants.{Done}
 use Rattle.rsl_event.specs.declared.event.Event.{Event}
 use Rattle.rsl_event.specs.declared.event.Key.{Key}
 use Rattle.rsl_event.specs.declared.nas.Nas.{Nas}
-use Rattle.rsl_session.specs.declared.entry.Entry.{Entry}
-use Rattle.rsl_session.specs.declared.entry.Outcome.TheVariants.{Repeated}
+use Rattle.rsl_session.specs.declared.past_event.PastEvent.{PastEvent}
+use Rattle.rsl_session.specs.declared.outcome.Outcome.TheVariants.{Repeated}
 use Rattle.rsl_session.specs.Past.{Past}
 use Rattle.rsl_session.specs.Alive.{reservation_of}
 use Rattle.rsl_session.specs.Ask.{fresh_decision}
@@ -25,12 +25,12 @@ PlacesStayWithinTheLimit = (rules : Rules) (events : List Event) (n : ℕ) → R
 -- the past of a list of events has its events, newest first, and each did what the rule says by what came before it
 abbrev pub PastsFollowTheRule : Type 0
 PastsFollowTheRule = (rules : Rules) (events : List Event)
-    → IsRuled rules (past_of rules events) × (map (λ (entry : Entry). entry.event) (past_of rules events) ≡ reverse events)
+    → IsRuled rules (past_of rules events) × (map (λ (entry : PastEvent). entry.event) (past_of rules events) ≡ reverse events)
 
 -- two pasts of the same events that follow the rule are equal
 abbrev pub OnePastFollowsTheRule : Type 0
 OnePastFollowsTheRule = (rules : Rules) (one other : Past) → IsRuled rules one → IsRuled rules other
-    → map (λ (entry : Entry). entry.event) one ≡ map (λ (entry : Entry). entry.event) other → one ≡ other
+    → map (λ (entry : PastEvent). entry.event) one ≡ map (λ (entry : PastEvent). entry.event) other → one ≡ other
 
 -- an alive with no class takes the reservation at its access server that has the lowest number: no class
 -- names a lower one
@@ -60,7 +60,7 @@ key_of (Ask key nas) = Some key
 key_of _ = None
 
 -- a fresh ask of a key was decided so
-pub record IsDecided (key : Option Key) (decision : Decision) (entry : Entry) : Type 0 where
+pub record IsDecided (key : Option Key) (decision : Decision) (entry : PastEvent) : Type 0 where
   pub same_key : key_of entry.event.act ≡ key
   pub decided : fresh_decision entry.outcome ≡ Some decision
 

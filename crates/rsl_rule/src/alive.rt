@@ -10,7 +10,7 @@ use crate::held::links_before;
 use crate::link::{is_link_at, number_of_link};
 use rsl_accounts::Rules;
 use rsl_event::{Event, Nas};
-use rsl_session::{Entry, Outcome, Session};
+use rsl_session::{PastEvent, Outcome, Session};
 use rsl_wire::NoMemory;
 use std::alloc::Global;
 
@@ -19,7 +19,7 @@ use std::alloc::Global;
 fn link_of_session(
     alloc: Global,
     rules: &Rules,
-    past: &[Entry],
+    past: &[PastEvent],
     event: &Event,
     session: &Session,
 ) -> Result<Option<usize>, NoMemory>
@@ -50,7 +50,7 @@ fn is_named(class: Option<u64>, number: Option<u64>) -> bool
 #[tactic(auto, unfolding(rsl_session::specs::Alive::is_chosen))]
 fn can_take(
     alloc: Global,
-    past: &[Entry],
+    past: &[PastEvent],
     nas: &Nas,
     class: Option<u64>,
     link: usize,
@@ -66,7 +66,7 @@ fn can_take(
 fn chosen_reservation(
     alloc: Global,
     rules: &Rules,
-    past: &[Entry],
+    past: &[PastEvent],
     event: &Event,
     nas: &Nas,
     class: Option<u64>,
@@ -85,7 +85,7 @@ fn chosen_reservation(
 
 /// Whether one more link with the event's bundle can open.
 #[tactic(auto, unfolding(rsl_session::specs::Alive::has_room))]
-fn can_open(alloc: Global, rules: &Rules, past: &[Entry], event: &Event) -> Result<bool, NoMemory>
+fn can_open(alloc: Global, rules: &Rules, past: &[PastEvent], event: &Event) -> Result<bool, NoMemory>
     requires { RulesFit rules.now }
     ensures { IfOk result (λ room. room ≡ has_room rules.now (looking_back past.now) event.now) }
 {
@@ -99,7 +99,7 @@ fn can_open(alloc: Global, rules: &Rules, past: &[Entry], event: &Event) -> Resu
 fn outcome_of_unbound(
     alloc: Global,
     rules: &Rules,
-    past: &[Entry],
+    past: &[PastEvent],
     event: &Event,
     nas: &Nas,
     class: Option<u64>,
@@ -121,7 +121,7 @@ fn outcome_of_unbound(
 pub(crate) fn outcome_of_alive(
     alloc: Global,
     rules: &Rules,
-    past: &[Entry],
+    past: &[PastEvent],
     event: &Event,
     session: &Session,
     class: Option<u64>,

@@ -2,7 +2,8 @@ ghost use Rattle.std.specs.Prelude.{◌≡◌, [], ◌<◌, IfOk, length, take};
 ghost use Rattle.std.specs.Option.{option_map};
 ghost use Rattle.rsl_accounts.specs.Limits.{RulesFit};
 ghost use Rattle.rsl_session.specs.Past.{looking_back};
-ghost use Rattle.rsl_session.specs.Ask.{accepts, ask_outcome, fresh_asks, fresh_decision, has_a_place, is_sweep_of, kept_ask, repeated, repeats, swept_in};
+ghost use Rattle.rsl_session.specs.Ask.{accepts, ask_outcome, fresh_asks, fresh_decision, has_a_place, kept_ask, repeated_ask, repeats};
+ghost use Rattle.rsl_session.specs.Sweep.{is_sweep_of, swept_in};
 ghost use Rattle.rsl_session.specs.Clock.{clock};
 
 use crate::clock::{clock_of, clock_with};
@@ -12,7 +13,7 @@ use crate::link::accept_number;
 use crate::same::{is_same_key, is_same_nas};
 use rsl_accounts::Rules;
 use rsl_event::{Act, Decision, Event, Key, Nas};
-use rsl_session::{Entry, KeptAsk, Outcome};
+use rsl_session::{PastEvent, KeptAsk, Outcome};
 use rsl_wire::NoMemory;
 use std::alloc::Global;
 
@@ -30,8 +31,8 @@ fn sweeps(nas: &Nas, act: &Act) -> bool
 }
 
 /// Whether there is a sweep of an access server among some entries.
-#[tactic(auto, unfolding(rsl_session::specs::Ask::swept_in))]
-pub(crate) fn is_swept_in(entries: &[Entry], nas: &Nas) -> bool
+#[tactic(auto, unfolding(rsl_session::specs::Sweep::swept_in))]
+pub(crate) fn is_swept_in(entries: &[PastEvent], nas: &Nas) -> bool
     ensures { result ≡ swept_in entries.now nas.now }
 {
     entries.iter().any(|entry| sweeps(nas, &entry.event.act))
@@ -52,8 +53,8 @@ fn decision_of_fresh(outcome: Outcome) -> Option<Decision>
 /// A fresh ask as it is kept, by the past up to it and the entries since.
 fn keep_ask(
     alloc: Global,
-    past: &[Entry],
-    since: &[Entry],
+    past: &[PastEvent],
+    since: &[PastEvent],
     act: &Act,
     decision: Option<Decision>,
 ) -> Result<Option<KeptAsk>, NoMemory>
@@ -73,7 +74,7 @@ fn keep_ask(
 
 /// The last fresh asks of a past, newest first, as many as can be repeated.
 #[tactic(auto, using(crate::proofs::Kept::asks_steps))]
-fn asks_of(alloc: Global, past: &[Entry]) -> Result<Vec<KeptAsk>, NoMemory>
+fn asks_of(alloc: Global, past: &[PastEvent]) -> Result<Vec<KeptAsk>, NoMemory>
     ensures { IfOk result (λ asks. asks.items ≡ take KEPT_ASKS (fresh_asks [] (looking_back past.now))) }
 {
     let mut asks = Vec::new(alloc);
@@ -103,11 +104,11 @@ fn is_repeat_of(rules: &Rules, key: &Key, now: u64, ask: &KeptAsk) -> bool
 fn repeated_decision(
     alloc: Global,
     rules: &Rules,
-    past: &[Entry],
+    past: &[PastEvent],
     event: &Event,
     key: &Key,
 ) -> Result<Option<Decision>, NoMemory>
-    ensures { IfOk result (λ decision. decision ≡ option_map (λ ask. ask.decision) (repeated rules.now (looking_back past.now) event.now key.now)) }
+    ensures { IfOk result (λ decision. decision ≡ option_map (λ ask. ask.decision) (repeated_ask rules.now (looking_back past.now) event.now key.now)) }
 {
     let now = clock_with(past, event);
     let asks = asks_of(alloc, past)?;
@@ -121,7 +122,7 @@ fn repeated_decision(
 
 /// How many fresh asks were accepted.
 #[tactic(auto, unfolding(rsl_session::specs::Ask::accepts), using(crate::proofs::Looking::accepts_steps))]
-fn accepted(past: &[Entry]) -> u64
+fn accepted(past: &[PastEvent]) -> u64
     ensures { result ≡ accepts (looking_back past.now) }
 {
     let mut accepted = 0;
@@ -135,7 +136,7 @@ fn accepted(past: &[Entry]) -> u64
 
 /// Whether one more link without a bundle can open.
 #[tactic(auto, unfolding(rsl_session::specs::Ask::has_a_place))]
-fn has_place(alloc: Global, rules: &Rules, past: &[Entry], event: &Event) -> Result<bool, NoMemory>
+fn has_place(alloc: Global, rules: &Rules, past: &[PastEvent], event: &Event) -> Result<bool, NoMemory>
     requires { RulesFit rules.now }
     ensures { IfOk result (λ free. free ≡ has_a_place rules.now (looking_back past.now) event.now) }
 {
@@ -148,12 +149,12 @@ fn has_place(alloc: Global, rules: &Rules, past: &[Entry], event: &Event) -> Res
 pub(crate) fn outcome_of_ask(
     alloc: Global,
     rules: &Rules,
-    past: &[Entry],
+    past: &[PastEvent],
     event: &Event,
     key: &Key,
 ) -> Result<Outcome, NoMemory>
     requires { RulesFit rules.now }
-    ensures { IfOk result (λ outcome. outcome ≡ ask_outcome rules.now (looking_back past.now) event.now (repeated rules.now (looking_back past.now) event.now key.now)) }
+    ensures { IfOk result (λ outcome. outcome ≡ ask_outcome rules.now (looking_back past.now) event.now (repeated_ask rules.now (looking_back past.now) event.now key.now)) }
 {
     if let Some(decision) = repeated_decision(alloc, rules, past, event, key)? {
         return Ok(Outcome::Repeated(decision));

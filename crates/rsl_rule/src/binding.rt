@@ -1,12 +1,12 @@
 ghost use Rattle.std.specs.Prelude.{◌≡◌, IfOk, is_some};
 ghost use Rattle.std.specs.Option.{option_or};
 ghost use Rattle.rsl_session.specs.Past.{looking_back};
-ghost use Rattle.rsl_session.specs.Binding.{binds, session_of, bundle_of, bound_by, bundled_by, bound, bundle_at, is_bound_to, is_reserved};
+ghost use Rattle.rsl_session.specs.Binding.{binds, session_of, bundle_of, bound_by, bundled_by, session_at, bundle_at, is_bound_to, is_reserved};
 
 use crate::link::touches_link;
 use crate::same::is_session_at;
 use rsl_event::Act;
-use rsl_session::{Bundle, Entry, Outcome, Session};
+use rsl_session::{Bundle, PastEvent, Outcome, Session};
 use rsl_wire::NoMemory;
 use std::alloc::Global;
 
@@ -60,7 +60,7 @@ fn session_bound(
     alloc: Global,
     link: usize,
     place: usize,
-    entry: &Entry,
+    entry: &PastEvent,
 ) -> Result<Option<Session>, NoMemory>
     ensures { IfOk result (λ session. session ≡ bound_by link place entry.now) }
 {
@@ -77,7 +77,7 @@ fn bundle_touched(
     alloc: Global,
     link: usize,
     place: usize,
-    entry: &Entry,
+    entry: &PastEvent,
 ) -> Result<Option<Bundle>, NoMemory>
     ensures { IfOk result (λ bundle. bundle ≡ bundled_by link place entry.now) }
 {
@@ -94,9 +94,9 @@ pub(crate) fn session_after(
     bound: Option<Session>,
     link: usize,
     place: usize,
-    entry: &Entry,
+    entry: &PastEvent,
 ) -> Result<Option<Session>, NoMemory>
-    ensures { IfOk result (λ session. session ≡ option_or bound (bound_by link place entry.now)) }
+    ensures { IfOk result (λ session. session ≡ option_or session_at (bound_by link place entry.now)) }
 {
     match bound {
         Some(session) => Ok(Some(session)),
@@ -109,9 +109,9 @@ pub(crate) fn session_after(
 pub(crate) fn session_of_link(
     alloc: Global,
     link: usize,
-    past: &[Entry],
+    past: &[PastEvent],
 ) -> Result<Option<Session>, NoMemory>
-    ensures { IfOk result (λ session. session ≡ bound link (looking_back past.now)) }
+    ensures { IfOk result (λ session. session ≡ session_at link (looking_back past.now)) }
 {
     for (at, entry) in past.iter().enumerate() {
         let session = session_bound(alloc, link, at + 1, entry)?;
@@ -127,7 +127,7 @@ pub(crate) fn session_of_link(
 pub(crate) fn bundle_of_link(
     alloc: Global,
     link: usize,
-    past: &[Entry],
+    past: &[PastEvent],
 ) -> Result<Option<Bundle>, NoMemory>
     ensures { IfOk result (λ bundle. bundle ≡ bundle_at link (looking_back past.now)) }
 {
@@ -142,7 +142,7 @@ pub(crate) fn bundle_of_link(
 
 /// Whether a link is reserved: bound to no session yet.
 #[tactic(auto, unfolding(rsl_session::specs::Binding::is_reserved))]
-pub(crate) fn is_link_reserved(alloc: Global, past: &[Entry], link: usize) -> Result<bool, NoMemory>
+pub(crate) fn is_link_reserved(alloc: Global, past: &[PastEvent], link: usize) -> Result<bool, NoMemory>
     ensures { IfOk result (λ reserved. reserved ≡ is_reserved (looking_back past.now) link) }
 {
     Ok(session_of_link(alloc, link, past)?.is_none())
@@ -152,7 +152,7 @@ pub(crate) fn is_link_reserved(alloc: Global, past: &[Entry], link: usize) -> Re
 #[tactic(auto, unfolding(rsl_session::specs::Binding::is_bound_to, rsl_session::specs::Same::same_session))]
 pub(crate) fn is_link_bound_to(
     alloc: Global,
-    past: &[Entry],
+    past: &[PastEvent],
     session: &Session,
     link: usize,
 ) -> Result<bool, NoMemory>

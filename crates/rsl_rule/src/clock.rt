@@ -3,11 +3,11 @@ ghost use Rattle.rsl_session.specs.Past.{looking_back};
 ghost use Rattle.rsl_session.specs.Clock.{clock, clock_at};
 
 use rsl_event::Event;
-use rsl_session::Entry;
+use rsl_session::PastEvent;
 
 /// The clock of an account: the greatest moment of its events, 0 before the first.
 #[tactic(auto, using(crate::proofs::Looking::clock_steps))]
-pub(crate) fn clock_of(past: &[Entry]) -> u64
+pub(crate) fn clock_of(past: &[PastEvent]) -> u64
     ensures { result ≡ clock (looking_back past.now) }
 {
     let mut now = 0u64;
@@ -19,7 +19,7 @@ pub(crate) fn clock_of(past: &[Entry]) -> u64
 
 /// The clock when an event has come.
 #[tactic(auto, unfolding(rsl_session::specs::Clock::clock_at))]
-pub(crate) fn clock_with(past: &[Entry], event: &Event) -> u64
+pub(crate) fn clock_with(past: &[PastEvent], event: &Event) -> u64
     ensures { result ≡ clock_at (looking_back past.now) event.now }
 {
     clock_of(past).max(event.moment)

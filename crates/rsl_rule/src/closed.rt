@@ -8,7 +8,7 @@ use crate::clock::{clock_of, clock_with};
 use crate::same::is_same_session;
 use rsl_accounts::Rules;
 use rsl_event::{Act, Event};
-use rsl_session::{Entry, KeptStop, Session};
+use rsl_session::{PastEvent, KeptStop, Session};
 use rsl_wire::NoMemory;
 use std::alloc::Global;
 
@@ -18,8 +18,8 @@ const KEPT_STOPS: usize = 16;
 /// A stop as it is kept, by the past up to it and the entries since.
 fn keep_stop(
     alloc: Global,
-    past: &[Entry],
-    since: &[Entry],
+    past: &[PastEvent],
+    since: &[PastEvent],
     act: &Act,
 ) -> Result<Option<KeptStop>, NoMemory>
     ensures { IfOk result (λ stop. stop ≡ kept_stop (clock (looking_back past.now)) since.now act.now) }
@@ -39,7 +39,7 @@ fn keep_stop(
 
 /// The last stops of a past, newest first, as many as can close a session.
 #[tactic(auto, using(crate::proofs::Kept::stops_steps))]
-fn stops_of(alloc: Global, past: &[Entry]) -> Result<Vec<KeptStop>, NoMemory>
+fn stops_of(alloc: Global, past: &[PastEvent]) -> Result<Vec<KeptStop>, NoMemory>
     ensures { IfOk result (λ each. each.items ≡ take KEPT_STOPS (stops [] (looking_back past.now))) }
 {
     let mut each = Vec::new(alloc);
@@ -70,7 +70,7 @@ fn is_closed_by(rules: &Rules, session: &Session, now: u64, stop: &KeptStop) -> 
 pub(crate) fn is_session_closed(
     alloc: Global,
     rules: &Rules,
-    past: &[Entry],
+    past: &[PastEvent],
     event: &Event,
     session: &Session,
 ) -> Result<bool, NoMemory>

@@ -8,7 +8,7 @@ use crate::binding::bundle_of_link;
 use crate::held::held_links;
 use crate::same::is_same_bundle;
 use rsl_accounts::Rules;
-use rsl_session::{Bundle, Entry};
+use rsl_session::{Bundle, PastEvent};
 use rsl_wire::NoMemory;
 use std::alloc::Global;
 
@@ -16,7 +16,7 @@ use std::alloc::Global;
 #[tactic(auto, using(crate::proofs::Lists::map_steps), unfolding(rsl_session::specs::Places::bundles))]
 pub(crate) fn bundles_of(
     alloc: Global,
-    past: &[Entry],
+    past: &[PastEvent],
     links: &[usize],
 ) -> Result<Vec<Option<Bundle>>, NoMemory>
     ensures { IfOk result (λ each. each.items ≡ bundles (looking_back past.now) links.now) }
@@ -78,9 +78,9 @@ pub(crate) fn places_taken(ports: u64, bundles: &[Option<Bundle>]) -> u64
 
 /// The places that are held.
 #[tactic(auto, unfolding(rsl_session::specs::Places::places))]
-pub(crate) fn places_held(alloc: Global, rules: &Rules, past: &[Entry]) -> Result<u64, NoMemory>
+pub(crate) fn places_held(alloc: Global, rules: &Rules, past: &[PastEvent]) -> Result<u64, NoMemory>
     requires { RulesFit rules.now }
-    ensures { IfOk result (λ held. held ≡ places rules.now (looking_back past.now)) }
+    ensures { IfOk result (λ held. held_links ≡ places rules.now (looking_back past.now)) }
 {
     let links = held_links(alloc, rules, past)?;
     let bundles = bundles_of(alloc, past, &links)?;

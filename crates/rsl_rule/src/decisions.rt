@@ -8,7 +8,7 @@ use crate::ask::outcome_of_ask;
 use crate::count::places_held;
 use rsl_accounts::Rules;
 use rsl_event::{Act, Decision, Event};
-use rsl_session::{Entry, Outcome, Session};
+use rsl_session::{PastEvent, Outcome, Session};
 use rsl_wire::NoMemory;
 use std::alloc::Global;
 
@@ -19,7 +19,7 @@ use std::alloc::Global;
 pub fn outcome(
     alloc: Global,
     rules: &Rules,
-    past: &[Entry],
+    past: &[PastEvent],
     event: &Event,
 ) -> Result<Outcome, NoMemory>
     requires { RulesFit rules.now }
@@ -55,14 +55,14 @@ fn copy_of(alloc: Global, event: &Event) -> Result<Event, NoMemory>
 
 /// The events, oldest first, each with what it did.
 #[tactic(auto, using(crate::proofs::Whole::past_steps))]
-fn past_after(alloc: Global, rules: &Rules, events: &[Event]) -> Result<Vec<Entry>, NoMemory>
+fn past_after(alloc: Global, rules: &Rules, events: &[Event]) -> Result<Vec<PastEvent>, NoMemory>
     requires { RulesFit rules.now }
     ensures { IfOk result (λ past. looking_back past.items ≡ past_of rules.now events.now) }
 {
     let mut past = Vec::new(alloc);
     for event in events {
         let did = outcome(alloc, rules, &past, event)?;
-        past.push(Entry {
+        past.push(PastEvent {
             event: copy_of(alloc, event)?,
             outcome: did,
         })?;
@@ -104,8 +104,8 @@ pub fn decide(alloc: Global, rules: &Rules, events: &[Event]) -> Result<Vec<Deci
 #[tactic(auto, using(crate::proofs::Whole::places_steps))]
 pub fn places(alloc: Global, rules: &Rules, events: &[Event]) -> Result<u32, NoMemory>
     requires { RulesFit rules.now }
-    ensures exact { IfOk result (λ held. held ≡ places_after rules.now events.now) }
-    ensures limit { IfOk result (λ held. held ≤ rules.now.places) }
+    ensures exact { IfOk result (λ held. held_links ≡ places_after rules.now events.now) }
+    ensures limit { IfOk result (λ held. held_links ≤ rules.now.places) }
 {
     let past = past_after(alloc, rules, events)?;
     Ok(places_held(alloc, rules, &past)? as u32)

@@ -1,12 +1,12 @@
 ghost use Rattle.std.specs.Prelude.{◌≡◌, IfOk};
 ghost use Rattle.rsl_accounts.specs.Limits.{RulesFit};
 ghost use Rattle.rsl_session.specs.Past.{looking_back};
-ghost use Rattle.rsl_session.specs.Held.{held, held_before};
+ghost use Rattle.rsl_session.specs.Held.{held_links, held_before};
 
 use crate::holding::holding_after;
 use rsl_accounts::Rules;
 use rsl_event::Event;
-use rsl_session::Entry;
+use rsl_session::PastEvent;
 use rsl_wire::NoMemory;
 use std::alloc::Global;
 
@@ -14,10 +14,10 @@ use std::alloc::Global;
 pub(crate) fn held_links(
     alloc: Global,
     rules: &Rules,
-    past: &[Entry],
+    past: &[PastEvent],
 ) -> Result<Vec<usize>, NoMemory>
     requires { RulesFit rules.now }
-    ensures { IfOk result (λ links. links.items ≡ held rules.now (looking_back past.now)) }
+    ensures { IfOk result (λ links. links.items ≡ held_links rules.now (looking_back past.now)) }
 {
     let holding = holding_after(alloc, rules, past)?;
     let mut links = Vec::new(alloc);
@@ -31,7 +31,7 @@ pub(crate) fn held_links(
 pub(crate) fn links_before(
     alloc: Global,
     rules: &Rules,
-    past: &[Entry],
+    past: &[PastEvent],
     event: &Event,
 ) -> Result<Vec<usize>, NoMemory>
     requires { RulesFit rules.now }

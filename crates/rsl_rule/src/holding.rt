@@ -4,8 +4,8 @@ ghost use Rattle.rsl_accounts.specs.declared.rules.Rules.{Rules};
 ghost use Rattle.rsl_session.specs.Past.{looking_back};
 ghost use Rattle.rsl_session.specs.Clock.{clock};
 ghost use Rattle.rsl_session.specs.Link.{opens};
-ghost use Rattle.rsl_session.specs.Binding.{bound};
-ghost use Rattle.rsl_session.specs.Held.{ended_by, ends, held};
+ghost use Rattle.rsl_session.specs.Binding.{session_at};
+ghost use Rattle.rsl_session.specs.Held.{ended_by, ends, held_links};
 ghost use Rattle.rsl_rule.specs.Standing.{standing_of};
 ghost use Rattle.rsl_rule.specs.Holding.{IsHolding, furthest_taken, lasting, standings, taken_by};
 
@@ -14,7 +14,7 @@ use crate::link::{is_link_at, opens_link};
 use crate::standing::Standing;
 use rsl_accounts::Rules;
 use rsl_event::{Act, Event};
-use rsl_session::{Entry, Outcome, Session};
+use rsl_session::{PastEvent, Outcome, Session};
 use rsl_wire::NoMemory;
 use std::alloc::Global;
 
@@ -40,7 +40,7 @@ pub(crate) struct Holding {
 
 /// Whether an act ends a link that stands so.
 #[tactic(auto, unfolding(rsl_session::specs::Held::ended_by, rsl_session::specs::Binding::is_bound_to, crate::specs::Standing::standing_of))]
-fn is_ended_by(past: &[Entry], act: &Act, link: usize, standing: &Standing) -> bool
+fn is_ended_by(past: &[PastEvent], act: &Act, link: usize, standing: &Standing) -> bool
     requires { standing.now ≡ standing_of link (looking_back past.now) }
     ensures { result ≡ ended_by (looking_back past.now) act.now link }
 {
@@ -53,7 +53,7 @@ fn is_ended_by(past: &[Entry], act: &Act, link: usize, standing: &Standing) -> b
 
 /// Whether a link that stands so ends at an event.
 #[tactic(auto, unfolding(rsl_session::specs::Held::ends, rsl_session::specs::Lapse::lapses, rsl_session::specs::Clock::clock_at, crate::specs::Standing::standing_of))]
-fn ends_at(rules: &Rules, past: &[Entry], event: &Event, link: usize, standing: &Standing) -> bool
+fn ends_at(rules: &Rules, past: &[PastEvent], event: &Event, link: usize, standing: &Standing) -> bool
     requires rules_fit { RulesFit rules.now }
     requires stands_so { standing.now ≡ standing_of link (looking_back past.now) }
     ensures { result ≡ ends rules.now (looking_back past.now) event.now link }
@@ -65,12 +65,12 @@ fn ends_at(rules: &Rules, past: &[Entry], event: &Event, link: usize, standing: 
 fn links_left(
     alloc: Global,
     rules: &Rules,
-    past: &[Entry],
-    entry: &Entry,
+    past: &[PastEvent],
+    entry: &PastEvent,
     links: Vec<HeldLink>,
 ) -> Result<Vec<HeldLink>, NoMemory>
     requires rules_fit { RulesFit rules.now }
-    requires stand_so { links.items ≡ standings (looking_back past.now) (held rules.now (looking_back past.now)) }
+    requires stand_so { links.items ≡ standings (looking_back past.now) (held_links rules.now (looking_back past.now)) }
     ensures { IfOk result (λ left. left.items ≡ standings (entry.now ∷ looking_back past.now) (lasting rules.now (looking_back past.now) entry.now.event)) }
 {
     let mut left = Vec::new(alloc);
@@ -103,12 +103,12 @@ fn link_taken(outcome: Outcome) -> usize
 fn session_before(
     alloc: Global,
     link: usize,
-    past: &[Entry],
+    past: &[PastEvent],
     furthest: usize,
 ) -> Result<Option<Session>, NoMemory>
     requires unopened { length past.now < link }
     requires greatest { furthest ≡ furthest_taken (looking_back past.now) }
-    ensures { IfOk result (λ session. session ≡ bound link (looking_back past.now)) }
+    ensures { IfOk result (λ session. session ≡ session_at link (looking_back past.now)) }
 {
     if furthest < link {
         Ok(None)
@@ -121,8 +121,8 @@ fn session_before(
 #[tactic(auto, using(crate::proofs::Carried::opened_stands))]
 fn standing_of_opened(
     alloc: Global,
-    past: &[Entry],
-    entry: &Entry,
+    past: &[PastEvent],
+    entry: &PastEvent,
     now: u64,
     furthest: usize,
 ) -> Result<Standing, NoMemory>
@@ -159,8 +159,8 @@ impl Holding {
         self,
         alloc: Global,
         rules: &Rules,
-        past: &[Entry],
-        entry: &Entry,
+        past: &[PastEvent],
+        entry: &PastEvent,
     ) -> Result<Holding, NoMemory>
         requires rules_fit { RulesFit rules.now }
         requires held_so { IsHolding rules.now (looking_back past.now) self }
@@ -186,7 +186,7 @@ impl Holding {
 pub(crate) fn holding_after(
     alloc: Global,
     rules: &Rules,
-    past: &[Entry],
+    past: &[PastEvent],
 ) -> Result<Holding, NoMemory>
     requires { RulesFit rules.now }
     ensures { IfOk result (λ holding. IsHolding rules.now (looking_back past.now) holding) }

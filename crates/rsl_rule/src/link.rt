@@ -8,7 +8,7 @@ ghost use Rattle.rsl_session.specs.Link.{nas_of};
 
 use crate::same::is_same_nas;
 use rsl_event::{Act, Nas};
-use rsl_session::{Entry, Outcome};
+use rsl_session::{PastEvent, Outcome};
 
 /// Whether an event opened a link.
 #[tactic(auto, unfolding(rsl_session::specs::Link::opens))]
@@ -49,7 +49,7 @@ pub(crate) fn touch_after(
     clock: u64,
     touched: u64,
 ) -> u64
-    ensures { result ≡ if touches link place outcome then clock else touched }
+    ensures { result ≡ if touches link place outcome then clock else touched_at }
 {
     if touches_link(link, place, outcome) {
         clock
@@ -60,7 +60,7 @@ pub(crate) fn touch_after(
 
 /// The entry at a place.
 #[tactic(auto, using(crate::proofs::Looking::entry_steps))]
-pub(crate) fn entry_of(place: usize, past: &[Entry]) -> Option<&Entry>
+pub(crate) fn entry_of(place: usize, past: &[PastEvent]) -> Option<&PastEvent>
     ensures { option_copied result ≡ entry_at place (looking_back past.now) }
 {
     if place == 0 {
@@ -86,7 +86,7 @@ fn is_act_at(act: &Act, nas: &Nas) -> bool
 
 /// Whether a link is at an access server.
 #[tactic(auto, unfolding(rsl_session::specs::Held::is_at, rsl_session::specs::Link::nas_at))]
-pub(crate) fn is_link_at(past: &[Entry], nas: &Nas, link: usize) -> bool
+pub(crate) fn is_link_at(past: &[PastEvent], nas: &Nas, link: usize) -> bool
     ensures { result ≡ is_at (looking_back past.now) nas.now link }
 {
     match entry_of(link, past) {
@@ -97,7 +97,7 @@ pub(crate) fn is_link_at(past: &[Entry], nas: &Nas, link: usize) -> bool
 
 /// The accept number of a link that an ask opened.
 #[tactic(auto, unfolding(rsl_session::specs::Link::number_at))]
-pub(crate) fn number_of_link(link: usize, past: &[Entry]) -> Option<u64>
+pub(crate) fn number_of_link(link: usize, past: &[PastEvent]) -> Option<u64>
     ensures { result ≡ number_at link (looking_back past.now) }
 {
     match entry_of(link, past) {

@@ -10,7 +10,7 @@ use crate::link::touch_after;
 use crate::same::is_session_at;
 use rsl_accounts::Rules;
 use rsl_event::{Event, Nas};
-use rsl_session::{Entry, Session};
+use rsl_session::{PastEvent, Session};
 use rsl_wire::{NoMemory, Octets};
 use std::alloc::Global;
 
@@ -32,8 +32,8 @@ impl Standing {
         self,
         alloc: Global,
         link: usize,
-        past: &[Entry],
-        entry: &Entry,
+        past: &[PastEvent],
+        entry: &PastEvent,
     ) -> Result<Standing, NoMemory>
         requires { self ≡ standing_of link (looking_back past.now) }
         ensures { IfOk result (λ next. next ≡ standing_of link (entry.now ∷ looking_back past.now)) }

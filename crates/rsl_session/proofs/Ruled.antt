@@ -1,6 +1,6 @@
 -- What a past that follows the rule is: one past for one list of events, and each link in it names a place
 -- at which a link opened.
-use Rattle.std.proofs.Common.{◌≡◌, ℕ, suc, ◌-◌, ◌^◌, ◌<◌, ◌≤◌, List, [], ◌∷◌, ◌++◌, length, Bool, true, false, cond, ◌&&◌, refl, ap, sym, ◌∙◌, subst, arith, map, leb}
+use Rattle.std.proofs.Common.{◌≡◌, ℕ, suc, ◌-◌, ◌^◌, ◌<◌, ◌≤◌, List, [], ◌∷◌, ◌++◌, length, Bool, true, false, cond, refl, ap, sym, ◌∙◌, subst, arith, map, leb}
 use Rattle.std.specs.Prelude.{Option, Some, None, filter, find, ⊤, nat_lt}
 use Rattle.std.specs.List.{list_all}
 use Rattle.std.proofs.lemmas.Bool.{le-leb, leb-true, and_from, and_parts, ne_eqb}
@@ -8,17 +8,18 @@ use Rattle.rsl_accounts.specs.declared.rules.Rules.{Rules}
 use Rattle.rsl_event.specs.declared.event.Event.{Event}
 use Rattle.rsl_event.specs.declared.event.Act.{Act}
 use Rattle.rsl_event.specs.declared.event.Act.TheVariants.{Ask, Alive, Stop, Sweep, Tick}
-use Rattle.rsl_session.specs.declared.entry.Entry.{Entry}
-use Rattle.rsl_session.specs.declared.entry.Outcome.{Outcome}
-use Rattle.rsl_session.specs.declared.entry.Outcome.TheVariants.{Accepted, Refused, Repeated, Opened, Took, Renewed, Ignored, Over, Passed}
+use Rattle.rsl_session.specs.declared.past_event.PastEvent.{PastEvent}
+use Rattle.rsl_session.specs.declared.outcome.Outcome.{Outcome}
+use Rattle.rsl_session.specs.declared.outcome.Outcome.TheVariants.{Accepted, AcceptedInPlace, Refused, Repeated, Opened, Took, Renewed, Ignored, Over, Passed}
 use Rattle.rsl_session.specs.declared.kept.KeptAsk.{KeptAsk}
 use Rattle.rsl_session.specs.declared.session.Session.{Session}
 use Rattle.rsl_session.specs.Past.{Past}
 use Rattle.rsl_session.specs.Link.{links, opens}
-use Rattle.rsl_session.specs.Binding.{bound, bound_by, bundle_at, bundled_by, binds, touches}
-use Rattle.rsl_session.specs.Touch.{touched}
-use Rattle.rsl_session.specs.Held.{held, held_before}
-use Rattle.rsl_session.specs.Ask.{ask_outcome, repeated, has_a_place, accepts}
+use Rattle.rsl_session.specs.Binding.{session_at, bound_by, bundle_at, bundled_by, binds, touches}
+use Rattle.rsl_session.specs.Touch.{touched_at}
+use Rattle.rsl_session.specs.Held.{held_links, held_before}
+use Rattle.rsl_session.specs.Ask.{ask_outcome, fresh_outcome, unfitting_outcome, repeated_ask, has_a_place, has_a_place_without, yielding_link, idle_links, accepts}
+use Rattle.rsl_session.specs.Lapse.{is_idle}
 use Rattle.rsl_session.specs.Alive.{alive_outcome, unbound_outcome, link_of, reservation_of, has_room, is_chosen}
 use Rattle.rsl_session.specs.Closed.{is_closed}
 use Rattle.rsl_session.specs.Rule.{IsRuled, outcome_of, outcome_by, past_from, past_of, entry_of}
@@ -34,25 +35,25 @@ unfolding past_of IsRuled
 IsRuled-past_of rules events = IsRuled-past_from rules [] events tt
 
 -- two pasts of the same events that follow the rule are equal
-make_entry : Event → Outcome → Entry
+make_entry : Event → Outcome → PastEvent
 make_entry event outcome = record { event = event; outcome = outcome }
 
-same_entries : (e f : Entry) (p q : Past) → e.event ≡ f.event → e.outcome ≡ f.outcome → p ≡ q → e ∷ p ≡ f ∷ q
+same_entries : (e f : PastEvent) (p q : Past) → e.event ≡ f.event → e.outcome ≡ f.outcome → p ≡ q → e ∷ p ≡ f ∷ q
 unfolding make_entry
 same_entries e f p q event outcome rest =
     let entry : make_entry e.event e.outcome ≡ make_entry f.event f.outcome = cc in
     cons_entries (make_entry e.event e.outcome) (make_entry f.event f.outcome) p q entry rest where
-      cons_entries : (e f : Entry) (p q : Past) → e ≡ f → p ≡ q → e ∷ p ≡ f ∷ q
+      cons_entries : (e f : PastEvent) (p q : Past) → e ≡ f → p ≡ q → e ∷ p ≡ f ∷ q
       cons_entries e f p q a b = cc
 
-pub same_past : (rules : Rules) (p q : Past) → IsRuled rules p → IsRuled rules q → map (λ (e : Entry). e.event) p ≡ map (λ (e : Entry). e.event) q → p ≡ q
+pub same_past : (rules : Rules) (p q : Past) → IsRuled rules p → IsRuled rules q → map (λ (e : PastEvent). e.event) p ≡ map (λ (e : PastEvent). e.event) q → p ≡ q
 unfolding IsRuled
 same_past rules [] [] ruled_p ruled_q events = refl
 same_past rules [] (f ∷ q) ruled_p ruled_q events = cc
 same_past rules (e ∷ p) [] ruled_p ruled_q events = cc
 same_past rules (e ∷ p) (f ∷ q) ruled_p ruled_q events =
     let event : e.event ≡ f.event = cc in
-    let older : map (λ (e : Entry). e.event) p ≡ map (λ (e : Entry). e.event) q = cc in
+    let older : map (λ (e : PastEvent). e.event) p ≡ map (λ (e : PastEvent). e.event) q = cc in
     let rest : p ≡ q = same_past rules p q ruled_p.1 ruled_q.1 older in
     let outcome : e.outcome ≡ f.outcome = ruled_p.0 ∙ ap (outcome_of rules p) event ∙ ap (λ past. outcome_of rules past f.event) rest ∙ sym ruled_q.0 in
     same_entries e f p q event outcome rest
@@ -94,11 +95,11 @@ pub is_in-true : (past : Past) (link : ℕ) → is_in past link ≡ true → lin
 unfolding is_in
 is_in-true past link h = leb-true link (length past) h
 
-is_in-older : (entry : Entry) (past : Past) (link : ℕ) → is_in past link ≡ true → is_in (entry ∷ past) link ≡ true
+is_in-older : (entry : PastEvent) (past : Past) (link : ℕ) → is_in past link ≡ true → is_in (entry ∷ past) link ≡ true
 unfolding is_in
 is_in-older entry past link h = le-leb link (suc (length past)) (omega (arith, leb-true link (length past) h))
 
-is_in-newest : (entry : Entry) (past : Past) → is_in (entry ∷ past) (suc (length past)) ≡ true
+is_in-newest : (entry : PastEvent) (past : Past) → is_in (entry ∷ past) (suc (length past)) ≡ true
 unfolding is_in
 is_in-newest entry past = le-leb (suc (length past)) (suc (length past)) (omega arith)
 
@@ -106,13 +107,13 @@ pub links-in : (past : Past) → list_all (is_in past) (links past) ≡ true
 unfolding links
 links-in [] = refl
 links-in (entry ∷ past) = by_cases entry past (opens entry.outcome) (list_all_weaker (is_in past) (is_in (entry ∷ past)) (is_in-older entry past) (links past) (links-in past)) where
-  by_cases : (entry : Entry) (past : Past) (new : Bool) → list_all (is_in (entry ∷ past)) (links past) ≡ true
+  by_cases : (entry : PastEvent) (past : Past) (new : Bool) → list_all (is_in (entry ∷ past)) (links past) ≡ true
       → list_all (is_in (entry ∷ past)) (cond new (links past ++ suc (length past) ∷ []) (links past)) ≡ true
   by_cases entry past true older = list_all_push (is_in (entry ∷ past)) (links past) (suc (length past)) older (is_in-newest entry past)
   by_cases entry past false older = older
 
 pub held_before-in : (rules : Rules) (past : Past) (event : Event) → list_all (is_in past) (held_before rules past event) ≡ true
-unfolding held held_before
+unfolding held_links held_before
 held_before-in rules past event = list_all-filter _ (is_in past) _ (list_all-filter _ (is_in past) (links past) (links-in past))
 
 -- an alive takes or renews a link that has opened
@@ -125,21 +126,44 @@ unfolding reservation_of
 reservation_in rules past event nas class link found =
     is_in-true past link (find_passes (is_chosen past nas class) (is_in past) (held_before rules past event) link (held_before-in rules past event) found)
 
+-- an ask takes the place of a link that has opened
+yielding_in : (rules : Rules) (past : Past) (event : Event) (link : ℕ) → yielding_link rules past event ≡ Some link → link ≤ length past
+unfolding yielding_link idle_links
+yielding_in rules past event link found =
+    is_in-true past link (find_passes _ (is_in past) (idle_links rules past event) link
+    (list_all-filter (is_idle rules past event) (is_in past) _ (held_before-in rules past event)) found)
+
 -- the link that an outcome names has opened
 pub IsOfPast : Past → Outcome → Type 0
+IsOfPast past (AcceptedInPlace number yielded) = yielded ≤ length past
 IsOfPast past (Took link) = link ≤ length past
 IsOfPast past (Renewed link) = link ≤ length past
 IsOfPast past _ = ⊤
 
 pub IsOfPast-outcome_of : (rules : Rules) (past : Past) (event : Event) → IsOfPast past (outcome_of rules past event)
-unfolding IsOfPast outcome_of
+unfolding IsOfPast outcome_of fresh_outcome
 IsOfPast-outcome_of rules past event = by_act event.act where
   of_ask : (found : Option KeptAsk) → IsOfPast past (ask_outcome rules past event found)
   of_ask (Some ask) = tt
-  of_ask None = fresh (has_a_place rules past event && nat_lt (accepts past) (2 ^ 64 - 1)) where
-    fresh : (free : Bool) → IsOfPast past (cond free (Accepted (accepts past)) Refused)
-    fresh true = tt
-    fresh false = tt
+  of_ask None = numbered (nat_lt (accepts past) (2 ^ 64 - 1)) where
+    without : (link : ℕ) → link ≤ length past → (fits : Bool) → IsOfPast past (cond fits (AcceptedInPlace (accepts past) link) Refused)
+    without link within true = within
+    without link within false = tt
+
+    unfitting : (found : Option ℕ) → ((link : ℕ) → found ≡ Some link → link ≤ length past) → IsOfPast past (unfitting_outcome rules past event found)
+    unfitting None within = tt
+    unfitting (Some link) within = without link (within link refl) (has_a_place_without rules past event link)
+
+    by_place : (free : Bool) → IsOfPast past (cond free (Accepted (accepts past)) (unfitting_outcome rules past event (yielding_link rules past event)))
+    by_place true = tt
+    by_place false = unfitting _ (yielding_in rules past event)
+
+    fresh : IsOfPast past (fresh_outcome rules past event)
+    fresh = by_place (has_a_place rules past event)
+
+    numbered : (left : Bool) → IsOfPast past (cond left (fresh_outcome rules past event) Refused)
+    numbered true = fresh
+    numbered false = tt
 
   unbound : (found : Option ℕ) → ((link : ℕ) → found ≡ Some link → link ≤ length past) → IsOfPast past (unbound_outcome rules past event found)
   unbound (Some link) within = within link refl
@@ -156,7 +180,7 @@ IsOfPast-outcome_of rules past event = by_act event.act where
     open_or_closed false = unbound _ (reservation_in rules past event session.nas class)
 
   by_act : (act : Act) → IsOfPast past (outcome_by rules past event act)
-  by_act (Ask key nas) = of_ask (repeated rules past event key)
+  by_act (Ask key nas) = of_ask (repeated_ask rules past event key)
   by_act (Alive nas id bundle class) = of_alive _ class _ (link_in rules past event (record { nas = nas; id = id }))
   by_act (Stop nas id) = tt
   by_act (Sweep nas) = tt
@@ -166,6 +190,7 @@ IsOfPast-outcome_of rules past event = by_act event.act where
 pub touches_later : (past : Past) (outcome : Outcome) (link : ℕ) → IsOfPast past outcome → suc (length past) < link → touches link (suc (length past)) outcome ≡ false
 unfolding IsOfPast touches
 touches_later past (Accepted number) link within later = ne_eqb link (suc (length past)) (λ same. omega arith)
+touches_later past (AcceptedInPlace number yielded) link within later = ne_eqb link (suc (length past)) (λ same. omega arith)
 touches_later past Refused link within later = refl
 touches_later past (Repeated decision) link within later = refl
 touches_later past Opened link within later = ne_eqb link (suc (length past)) (λ same. omega arith)
@@ -178,6 +203,7 @@ touches_later past Passed link within later = refl
 binds_later : (past : Past) (outcome : Outcome) (link : ℕ) → IsOfPast past outcome → suc (length past) < link → binds link (suc (length past)) outcome ≡ false
 unfolding IsOfPast binds
 binds_later past (Accepted number) link within later = refl
+binds_later past (AcceptedInPlace number yielded) link within later = refl
 binds_later past Refused link within later = refl
 binds_later past (Repeated decision) link within later = refl
 binds_later past Opened link within later = ne_eqb link (suc (length past)) (λ same. omega arith)
@@ -188,16 +214,16 @@ binds_later past Over link within later = refl
 binds_later past Passed link within later = refl
 
 -- a link that has not opened is bound to no session, and was never touched
-pub bound-later : (rules : Rules) (past : Past) (link : ℕ) → IsRuled rules past → length past < link → bound link past ≡ None
-unfolding IsRuled bound bound_by
+pub bound-later : (rules : Rules) (past : Past) (link : ℕ) → IsRuled rules past → length past < link → session_at link past ≡ None
+unfolding IsRuled session_at bound_by
 bound-later rules [] link ruled later = refl
 bound-later rules (entry ∷ past) link ruled later =
-    let older : bound link past ≡ None = bound-later rules past link ruled.1 (omega arith) in
+    let older : session_at link past ≡ None = bound-later rules past link ruled.1 (omega arith) in
     let within : IsOfPast past entry.outcome = subst (IsOfPast past) (sym ruled.0) (IsOfPast-outcome_of rules past entry.event) in
     rw (older, binds_later past entry.outcome link within later) refl
 
-pub touched-later : (rules : Rules) (past : Past) (link : ℕ) → IsRuled rules past → length past < link → touched link past ≡ 0
-unfolding IsRuled touched
+pub touched-later : (rules : Rules) (past : Past) (link : ℕ) → IsRuled rules past → length past < link → touched_at link past ≡ 0
+unfolding IsRuled touched_at
 touched-later rules [] link ruled later = refl
 touched-later rules (entry ∷ past) link ruled later =
     let within : IsOfPast past entry.outcome = subst (IsOfPast past) (sym ruled.0) (IsOfPast-outcome_of rules past entry.event) in

@@ -6,8 +6,8 @@ use Rattle.std.specs.Prelude.{ℕ, ◌-◌, ◌^◌, min, [], ◌∷◌, ◌++�
 use Rattle.rsl_accounts.specs.declared.rules.Rules.{Rules}
 use Rattle.rsl_event.specs.declared.event.Event.{Event}
 use Rattle.rsl_event.specs.declared.nas.Nas.{Nas}
-use Rattle.rsl_session.specs.declared.entry.Outcome.{Outcome}
-use Rattle.rsl_session.specs.declared.entry.Outcome.TheVariants.{Opened, Took, Renewed, Ignored, Over}
+use Rattle.rsl_session.specs.declared.outcome.Outcome.{Outcome}
+use Rattle.rsl_session.specs.declared.outcome.Outcome.TheVariants.{Opened, Took, Renewed, Ignored, Over}
 use Rattle.rsl_session.specs.declared.session.Session.{Session}
 use Rattle.rsl_session.specs.Past.{Past}
 use Rattle.rsl_session.specs.Link.{number_at}
@@ -57,5 +57,5 @@ abbrev pub is_over : Outcome → Bool
 is_over Over = true
 is_over _ = false
 
-unfoldable pub over : Past → ℕ
-over past = min (count_by (λ entry. is_over entry.outcome) past) (2 ^ 64 - 1)
+unfoldable pub over_count : Past → ℕ
+over_count past = min (count_by (λ entry. is_over entry.outcome) past) (2 ^ 64 - 1)

@@ -1,24 +1,27 @@
 -- An ask is a repeat if one of the last 8 fresh asks has its key, is less than the keep time old, and had
 -- no sweep of its access server since. It gets the decision of the latest such ask. Every other ask is
--- fresh: it is accepted, and opens a reserved link, where one more place is free.
-use Rattle.std.specs.Prelude.{ℕ, ◌+◌, ◌-◌, ◌^◌, List, [], ◌∷◌, Bool, false, ◌&&◌, not, nat_lt, nat_le, find, count_by, take, if◌then◌else◌, is_some, Option, Some, None}
-use Rattle.std.specs.List.{list_any, cons_option}
+-- fresh: it is accepted, and opens a reserved link, where one more place is free. Where none is, the idle
+-- link touched longest ago yields, if the places without it leave room for one more; no other link is tried.
+use Rattle.std.specs.Prelude.{ℕ, ◌+◌, ◌-◌, ◌^◌, List, [], ◌∷◌, filter, Bool, ◌&&◌, ◌==◌, not, nat_lt, nat_le, find, count_by, take, if◌then◌else◌, is_some, Option, Some, None}
+use Rattle.std.specs.List.{list_all, cons_option}
 use Rattle.rsl_accounts.specs.declared.rules.Rules.{Rules}
 use Rattle.rsl_event.specs.declared.event.Act.{Act}
-use Rattle.rsl_event.specs.declared.event.Act.TheVariants.{Ask, Sweep}
+use Rattle.rsl_event.specs.declared.event.Act.TheVariants.{Ask}
 use Rattle.rsl_event.specs.declared.event.Decision.{Decision}
 use Rattle.rsl_event.specs.declared.event.Decision.TheVariants.{Accept, LimitReject}
 use Rattle.rsl_event.specs.declared.event.Event.{Event}
 use Rattle.rsl_event.specs.declared.event.Key.{Key}
-use Rattle.rsl_event.specs.declared.nas.Nas.{Nas}
-use Rattle.rsl_session.specs.declared.entry.Entry.{Entry}
-use Rattle.rsl_session.specs.declared.entry.Outcome.{Outcome}
-use Rattle.rsl_session.specs.declared.entry.Outcome.TheVariants.{Accepted, Refused, Repeated}
+use Rattle.rsl_session.specs.declared.past_event.PastEvent.{PastEvent}
+use Rattle.rsl_session.specs.declared.outcome.Outcome.{Outcome}
+use Rattle.rsl_session.specs.declared.outcome.Outcome.TheVariants.{Accepted, AcceptedInPlace, Refused, Repeated}
 use Rattle.rsl_session.specs.declared.kept.KeptAsk.{KeptAsk}
 use Rattle.rsl_session.specs.Past.{Past}
-use Rattle.rsl_session.specs.Same.{same_key, same_nas}
+use Rattle.rsl_session.specs.Same.{same_key}
+use Rattle.rsl_session.specs.Sweep.{swept_in}
 use Rattle.rsl_session.specs.Clock.{clock, clock_at}
 use Rattle.rsl_session.specs.Link.{number_of}
+use Rattle.rsl_session.specs.Touch.{touched_at}
+use Rattle.rsl_session.specs.Lapse.{is_idle}
 use Rattle.rsl_session.specs.Held.{held_before}
 use Rattle.rsl_session.specs.Places.{places_of, bundles}
 
@@ -26,28 +29,21 @@ use Rattle.rsl_session.specs.Places.{places_of, bundles}
 abbrev pub KEPT_ASKS : ℕ
 KEPT_ASKS = 8
 
--- whether an act is a sweep of an access server, and whether there is one among entries
-abbrev pub is_sweep_of : Nas → Act → Bool
-is_sweep_of nas (Sweep other) = same_nas other nas
-is_sweep_of nas _ = false
-
-unfoldable pub swept_in : List Entry → Nas → Bool
-swept_in entries nas = list_any (λ entry. is_sweep_of nas entry.event.act) entries
-
 -- the decision on a fresh ask
 unfoldable pub fresh_decision : Outcome → Option Decision
 fresh_decision (Accepted number) = Some (Accept number)
+fresh_decision (AcceptedInPlace number yielded) = Some (Accept number)
 fresh_decision Refused = Some LimitReject
 fresh_decision _ = None
 
 -- a fresh ask as it is kept, with the clock at it and whether its access server is among those swept since
-abbrev pub kept_ask : ℕ → List Entry → Act → Option Decision → Option KeptAsk
+abbrev pub kept_ask : ℕ → List PastEvent → Act → Option Decision → Option KeptAsk
 kept_ask now since (Ask key nas) (Some decision) =
     Some (record { key = key; nas = nas; decision = decision; at = now; swept = swept_in since nas })
 kept_ask now since act decision = None
 
 -- the fresh asks of a past, newest first, where these entries came since
-unfoldable pub fresh_asks : List Entry → Past → List KeptAsk
+unfoldable pub fresh_asks : List PastEvent → Past → List KeptAsk
 fresh_asks since [] = []
 fresh_asks since (entry ∷ past) =
     cons_option (kept_ask (clock (entry ∷ past)) since entry.event.act (fresh_decision entry.outcome))
@@ -58,19 +54,57 @@ unfoldable pub repeats : Rules → Key → ℕ → KeptAsk → Bool
 repeats rules key now ask = same_key ask.key key && nat_lt (now - ask.at) rules.keep && not ask.swept
 
 -- the latest fresh ask that an ask of this key repeats
-unfoldable pub repeated : Rules → Past → Event → Key → Option KeptAsk
-repeated rules past event key = find (repeats rules key (clock_at past event)) (take KEPT_ASKS (fresh_asks [] past))
+unfoldable pub repeated_ask : Rules → Past → Event → Key → Option KeptAsk
+repeated_ask rules past event key = find (repeats rules key (clock_at past event)) (take KEPT_ASKS (fresh_asks [] past))
 
 -- how many fresh asks were accepted
 unfoldable pub accepts : Past → ℕ
 accepts past = count_by (λ entry. is_some (number_of entry.outcome)) past
 
+-- whether one more link without a bundle can open beside some links
+unfoldable pub has_place_beside : Rules → Past → List ℕ → Bool
+has_place_beside rules past links = nat_le (places_of rules.ports (bundles past links) + 1) rules.places
+
 -- whether one more link without a bundle can open
 unfoldable pub has_a_place : Rules → Past → Event → Bool
-has_a_place rules past event = nat_le (places_of rules.ports (bundles past (held_before rules past event)) + 1) rules.places
+has_a_place rules past event = has_place_beside rules past (held_before rules past event)
+
+-- the links that are idle when an event comes
+unfoldable pub idle_links : Rules → Past → Event → List ℕ
+idle_links rules past event = filter (is_idle rules past event) (held_before rules past event)
+
+-- whether none of some links was touched before this one
+unfoldable pub is_touched_first : Past → List ℕ → ℕ → Bool
+is_touched_first past links link = list_all (λ other. nat_le (touched_at link past) (touched_at other past)) links
+
+-- the link that can yield: of the idle links the one touched longest ago, and of these the first that opened
+unfoldable pub yielding_link : Rules → Past → Event → Option ℕ
+yielding_link rules past event =
+    find (is_touched_first past (idle_links rules past event)) (idle_links rules past event)
+
+-- the held links but one
+unfoldable pub held_without : Rules → Past → Event → ℕ → List ℕ
+held_without rules past event link = filter (λ other. not (other == link)) (held_before rules past event)
+
+-- whether one more link without a bundle can open in the place of one
+unfoldable pub has_a_place_without : Rules → Past → Event → ℕ → Bool
+has_a_place_without rules past event link = has_place_beside rules past (held_without rules past event link)
+
+-- what a fresh ask does where no place is free, by the link that can yield
+abbrev pub unfitting_outcome : Rules → Past → Event → Option ℕ → Outcome
+unfitting_outcome rules past event None = Refused
+unfitting_outcome rules past event (Some link) =
+    if has_a_place_without rules past event link then AcceptedInPlace (accepts past) link else Refused
+
+-- what a fresh ask does, while there is an accept number for it
+unfoldable pub fresh_outcome : Rules → Past → Event → Outcome
+fresh_outcome rules past event =
+    if has_a_place rules past event
+    then Accepted (accepts past)
+    else unfitting_outcome rules past event (yielding_link rules past event)
 
 -- what an ask does, by the fresh ask that it repeats
 abbrev pub ask_outcome : Rules → Past → Event → Option KeptAsk → Outcome
 ask_outcome rules past event (Some ask) = Repeated ask.decision
 ask_outcome rules past event None =
-    if has_a_place rules past event && nat_lt (accepts past) (2 ^ 64 - 1) then Accepted (accepts past) else Refused
+    if nat_lt (accepts past) (2 ^ 64 - 1) then fresh_outcome rules past event else Refused

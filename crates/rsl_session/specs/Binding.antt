@@ -4,9 +4,9 @@ use Rattle.std.specs.Prelude.{ℕ, suc, [], ◌∷◌, length, Bool, false, ◌=
 use Rattle.std.specs.Option.{option_or, option_map}
 use Rattle.rsl_event.specs.declared.event.Act.{Act}
 use Rattle.rsl_event.specs.declared.event.Act.TheVariants.{Alive}
-use Rattle.rsl_session.specs.declared.entry.Entry.{Entry}
-use Rattle.rsl_session.specs.declared.entry.Outcome.{Outcome}
-use Rattle.rsl_session.specs.declared.entry.Outcome.TheVariants.{Accepted, Opened, Took, Renewed}
+use Rattle.rsl_session.specs.declared.past_event.PastEvent.{PastEvent}
+use Rattle.rsl_session.specs.declared.outcome.Outcome.{Outcome}
+use Rattle.rsl_session.specs.declared.outcome.Outcome.TheVariants.{Accepted, AcceptedInPlace, Opened, Took, Renewed}
 use Rattle.rsl_session.specs.declared.session.Session.{Session}
 use Rattle.rsl_session.specs.declared.bundle.Bundle.{Bundle}
 use Rattle.rsl_session.specs.Past.{Past}
@@ -21,6 +21,7 @@ binds link place _ = false
 -- whether the event at a place opened, took or renewed a link
 unfoldable pub touches : ℕ → ℕ → Outcome → Bool
 touches link place (Accepted number) = link == place
+touches link place (AcceptedInPlace number yielded) = link == place
 touches link place Opened = link == place
 touches link place (Took taken) = link == taken
 touches link place (Renewed renewed) = link == renewed
@@ -37,16 +38,16 @@ bundle_of (Alive nas session bundle class) = option_map (λ id. record { nas = n
 bundle_of _ = None
 
 -- the session for which the entry at a place opened or took a link, and the bundle with which it touched it
-unfoldable pub bound_by : ℕ → ℕ → Entry → Option Session
+unfoldable pub bound_by : ℕ → ℕ → PastEvent → Option Session
 bound_by link place entry = if binds link place entry.outcome then session_of entry.event.act else None
 
-unfoldable pub bundled_by : ℕ → ℕ → Entry → Option Bundle
+unfoldable pub bundled_by : ℕ → ℕ → PastEvent → Option Bundle
 bundled_by link place entry = if touches link place entry.outcome then bundle_of entry.event.act else None
 
 -- the session that a link is bound to, by the first that bound it
-unfoldable pub bound : ℕ → Past → Option Session
-bound link [] = None
-bound link (entry ∷ past) = option_or (bound link past) (bound_by link (suc (length past)) entry)
+unfoldable pub session_at : ℕ → Past → Option Session
+session_at link [] = None
+session_at link (entry ∷ past) = option_or (session_at link past) (bound_by link (suc (length past)) entry)
 
 -- the bundle of a link, by the first that touched it and carried one
 unfoldable pub bundle_at : ℕ → Past → Option Bundle
@@ -60,7 +61,7 @@ is_session (Some other) session = same_session other session
 
 -- whether a link is reserved, and whether it is bound to a session
 unfoldable pub is_reserved : Past → ℕ → Bool
-is_reserved past link = is_none (bound link past)
+is_reserved past link = is_none (session_at link past)
 
 unfoldable pub is_bound_to : Past → Session → ℕ → Bool
-is_bound_to past session link = is_session (bound link past) session
+is_bound_to past session link = is_session (session_at link past) session

@@ -6,26 +6,26 @@ use Rattle.rsl_accounts.specs.declared.rules.Rules.{Rules}
 use Rattle.rsl_event.specs.declared.event.Act.{Act}
 use Rattle.rsl_event.specs.declared.event.Act.TheVariants.{Stop}
 use Rattle.rsl_event.specs.declared.event.Event.{Event}
-use Rattle.rsl_session.specs.declared.entry.Entry.{Entry}
+use Rattle.rsl_session.specs.declared.past_event.PastEvent.{PastEvent}
 use Rattle.rsl_session.specs.declared.kept.KeptStop.{KeptStop}
 use Rattle.rsl_session.specs.declared.session.Session.{Session}
 use Rattle.rsl_session.specs.Past.{Past}
 use Rattle.rsl_session.specs.Same.{same_session}
 use Rattle.rsl_session.specs.Clock.{clock, clock_at}
-use Rattle.rsl_session.specs.Ask.{swept_in}
+use Rattle.rsl_session.specs.Sweep.{swept_in}
 
 -- how many of the last stops can close a session
 abbrev pub KEPT_STOPS : ℕ
 KEPT_STOPS = 16
 
 -- a stop as it is kept, with the clock at it and whether its access server is among those swept since
-abbrev pub kept_stop : ℕ → List Entry → Act → Option KeptStop
+abbrev pub kept_stop : ℕ → List PastEvent → Act → Option KeptStop
 kept_stop now since (Stop nas session) =
     Some (record { session = record { nas = nas; id = session }; at = now; swept = swept_in since nas })
 kept_stop now since act = None
 
 -- the stops of a past, newest first, where these entries came since
-unfoldable pub stops : List Entry → Past → List KeptStop
+unfoldable pub stops : List PastEvent → Past → List KeptStop
 stops since [] = []
 stops since (entry ∷ past) =
     cons_option (kept_stop (clock (entry ∷ past)) since entry.event.act) (stops (entry ∷ since) past)

@@ -1,11 +1,13 @@
 -- A link is held until an event after the one that opened it ends it: the link lapses as the event comes,
--- or the event is a stop of its session or a sweep of its access server.
-use Rattle.std.specs.Prelude.{ℕ, List, [], ◌∷◌, length, filter, Bool, false, ◌&&◌, ◌||◌, not, nat_le, Option, Some, None}
+-- or the event is a stop of its session, a sweep of its access server, or an ask to which the link yields.
+use Rattle.std.specs.Prelude.{ℕ, List, [], ◌∷◌, length, filter, Bool, false, ◌&&◌, ◌||◌, ◌==◌, not, nat_le, Option, Some, None}
 use Rattle.rsl_accounts.specs.declared.rules.Rules.{Rules}
 use Rattle.rsl_event.specs.declared.event.Act.{Act}
 use Rattle.rsl_event.specs.declared.event.Act.TheVariants.{Stop, Sweep}
 use Rattle.rsl_event.specs.declared.event.Event.{Event}
 use Rattle.rsl_event.specs.declared.nas.Nas.{Nas}
+use Rattle.rsl_session.specs.declared.outcome.Outcome.{Outcome}
+use Rattle.rsl_session.specs.declared.outcome.Outcome.TheVariants.{AcceptedInPlace}
 use Rattle.rsl_session.specs.Past.{Past}
 use Rattle.rsl_session.specs.Same.{same_nas}
 use Rattle.rsl_session.specs.Link.{links, nas_at}
@@ -31,16 +33,22 @@ ended_by past _ link = false
 unfoldable pub ends : Rules → Past → Event → ℕ → Bool
 ends rules past event link = lapses rules past event link || ended_by past event.act link
 
+-- whether a link yields to an event, by what the event did
+unfoldable pub yields : ℕ → Outcome → Bool
+yields link (AcceptedInPlace number yielded) = link == yielded
+yields link _ = false
+
 -- whether a link has ended, at some event after the one that opened it
-unfoldable pub freed : Rules → ℕ → Past → Bool
-freed rules link [] = false
-freed rules link (entry ∷ past) =
-    freed rules link past || (nat_le link (length past) && ends rules past entry.event link)
+unfoldable pub is_freed : Rules → ℕ → Past → Bool
+is_freed rules link [] = false
+is_freed rules link (entry ∷ past) =
+    is_freed rules link past
+    || (nat_le link (length past) && (ends rules past entry.event link || yields link entry.outcome))
 
 -- the links that are held, in the order in which they opened
-unfoldable pub held : Rules → Past → List ℕ
-held rules past = filter (λ link. not (freed rules link past)) (links past)
+unfoldable pub held_links : Rules → Past → List ℕ
+held_links rules past = filter (λ link. not (is_freed rules link past)) (links past)
 
 -- the links that are still held when an event comes: those that do not lapse then
 unfoldable pub held_before : Rules → Past → Event → List ℕ
-held_before rules past event = filter (λ link. not (lapses rules past event link)) (held rules past)
+held_before rules past event = filter (λ link. not (lapses rules past event link)) (held_links rules past)

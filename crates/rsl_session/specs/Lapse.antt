@@ -6,8 +6,8 @@ use Rattle.rsl_event.specs.declared.event.Event.{Event}
 use Rattle.rsl_session.specs.declared.session.Session.{Session}
 use Rattle.rsl_session.specs.Past.{Past}
 use Rattle.rsl_session.specs.Clock.{clock, clock_at}
-use Rattle.rsl_session.specs.Binding.{bound}
-use Rattle.rsl_session.specs.Touch.{touched}
+use Rattle.rsl_session.specs.Binding.{session_at}
+use Rattle.rsl_session.specs.Touch.{touched_at}
 
 -- the seconds for which a link stands untouched
 abbrev pub standing_time : Rules → Option Session → ℕ
@@ -16,11 +16,16 @@ standing_time rules (Some session) = rules.live + rules.grace
 
 -- whether a link lapses when an event comes
 unfoldable pub lapses : Rules → Past → Event → ℕ → Bool
-lapses rules past event link = nat_le (standing_time rules (bound link past)) (clock_at past event - touched link past)
+lapses rules past event link = nat_le (standing_time rules (session_at link past)) (clock_at past event - touched_at link past)
+
+-- whether a link is idle when an event comes: bound, and its live time is over then
+unfoldable pub is_idle : Rules → Past → Event → ℕ → Bool
+is_idle rules past event link =
+    is_some (session_at link past) && nat_le rules.live (clock_at past event - touched_at link past)
 
 -- whether a link is bound, and live or stale
 unfoldable pub is_live : Rules → Past → ℕ → Bool
-is_live rules past link = is_some (bound link past) && nat_lt (clock past - touched link past) rules.live
+is_live rules past link = is_some (session_at link past) && nat_lt (clock past - touched_at link past) rules.live
 
 unfoldable pub is_stale : Rules → Past → ℕ → Bool
-is_stale rules past link = is_some (bound link past) && nat_le rules.live (clock past - touched link past)
+is_stale rules past link = is_some (session_at link past) && nat_le rules.live (clock past - touched_at link past)

@@ -1,5 +1,6 @@
 pub mod Same
 pub mod Past
+pub mod Sweep
 pub mod Clock
 pub mod Link
 pub mod Binding

@@ -5,13 +5,14 @@ use Rattle.std.specs.Option.{option_and_then}
 use Rattle.rsl_event.specs.declared.event.Act.{Act}
 use Rattle.rsl_event.specs.declared.event.Act.TheVariants.{Ask, Alive, Stop, Sweep, Tick}
 use Rattle.rsl_event.specs.declared.nas.Nas.{Nas}
-use Rattle.rsl_session.specs.declared.entry.Outcome.{Outcome}
-use Rattle.rsl_session.specs.declared.entry.Outcome.TheVariants.{Accepted, Opened}
+use Rattle.rsl_session.specs.declared.outcome.Outcome.{Outcome}
+use Rattle.rsl_session.specs.declared.outcome.Outcome.TheVariants.{Accepted, AcceptedInPlace, Opened}
 use Rattle.rsl_session.specs.Past.{Past, entry_at}
 
 -- whether an event opened a link
 unfoldable pub opens : Outcome → Bool
 opens (Accepted number) = true
+opens (AcceptedInPlace number yielded) = true
 opens Opened = true
 opens _ = false
 
@@ -35,6 +36,7 @@ nas_at link past = option_and_then (λ entry. nas_of entry.event.act) (entry_at 
 -- the accept number that an event gave
 unfoldable pub number_of : Outcome → Option ℕ
 number_of (Accepted number) = Some number
+number_of (AcceptedInPlace number yielded) = Some number
 number_of _ = None
 
 -- the accept number of a link that an ask opened

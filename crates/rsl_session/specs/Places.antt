@@ -8,7 +8,7 @@ use Rattle.rsl_session.specs.declared.bundle.Bundle.{Bundle}
 use Rattle.rsl_session.specs.Past.{Past}
 use Rattle.rsl_session.specs.Same.{same_bundle}
 use Rattle.rsl_session.specs.Binding.{bundle_at}
-use Rattle.rsl_session.specs.Held.{held}
+use Rattle.rsl_session.specs.Held.{held_links}
 
 -- whether a link's bundle is this one
 abbrev pub is_bundle : Bundle → Option Bundle → Bool
@@ -34,4 +34,4 @@ bundles past some = map (λ link. bundle_at link past) some
 
 -- the places that are held
 unfoldable pub places : Rules → Past → ℕ
-places rules past = places_of rules.ports (bundles past (held rules past))
+places rules past = places_of rules.ports (bundles past (held_links rules past))

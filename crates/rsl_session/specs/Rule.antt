@@ -6,17 +6,17 @@ use Rattle.rsl_event.specs.declared.event.Act.TheVariants.{Ask, Alive}
 use Rattle.rsl_event.specs.declared.event.Decision.{Decision}
 use Rattle.rsl_event.specs.declared.event.Decision.TheVariants.{Accept, LimitReject, Done}
 use Rattle.rsl_event.specs.declared.event.Event.{Event}
-use Rattle.rsl_session.specs.declared.entry.Entry.{Entry}
-use Rattle.rsl_session.specs.declared.entry.Outcome.{Outcome}
-use Rattle.rsl_session.specs.declared.entry.Outcome.TheVariants.{Accepted, Refused, Repeated, Passed}
+use Rattle.rsl_session.specs.declared.past_event.PastEvent.{PastEvent}
+use Rattle.rsl_session.specs.declared.outcome.Outcome.{Outcome}
+use Rattle.rsl_session.specs.declared.outcome.Outcome.TheVariants.{Accepted, AcceptedInPlace, Refused, Repeated, Passed}
 use Rattle.rsl_session.specs.Past.{Past}
 use Rattle.rsl_session.specs.Places.{places}
-use Rattle.rsl_session.specs.Ask.{ask_outcome, repeated}
+use Rattle.rsl_session.specs.Ask.{ask_outcome, repeated_ask}
 use Rattle.rsl_session.specs.Alive.{alive_outcome, link_of}
 
 -- what an event does, by its act
 abbrev pub outcome_by : Rules → Past → Event → Act → Outcome
-outcome_by rules past event (Ask key nas) = ask_outcome rules past event (repeated rules past event key)
+outcome_by rules past event (Ask key nas) = ask_outcome rules past event (repeated_ask rules past event key)
 outcome_by rules past event (Alive nas id bundle class) =
     alive_outcome rules past event (record { nas = nas; id = id }) class
     (link_of rules past event (record { nas = nas; id = id }))
@@ -28,12 +28,13 @@ outcome_of rules past event = outcome_by rules past event event.act
 -- the decision on an event, by what it did
 abbrev pub decision_of : Outcome → Decision
 decision_of (Accepted number) = Accept number
+decision_of (AcceptedInPlace number yielded) = Accept number
 decision_of Refused = LimitReject
 decision_of (Repeated decision) = decision
 decision_of _ = Done
 
 -- the entry that an event makes
-unfoldable pub entry_of : Rules → Past → Event → Entry
+unfoldable pub entry_of : Rules → Past → Event → PastEvent
 entry_of rules past event = record { event = event; outcome = outcome_of rules past event }
 
 -- each event of a past did what the rule says, by what came before it

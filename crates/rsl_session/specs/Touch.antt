@@ -4,7 +4,7 @@ use Rattle.rsl_session.specs.Past.{Past}
 use Rattle.rsl_session.specs.Clock.{clock}
 use Rattle.rsl_session.specs.Binding.{touches}
 
-unfoldable pub touched : ℕ → Past → ℕ
-touched link [] = 0
-touched link (entry ∷ past) =
-    if touches link (suc (length past)) entry.outcome then clock (entry ∷ past) else touched link past
+unfoldable pub touched_at : ℕ → Past → ℕ
+touched_at link [] = 0
+touched_at link (entry ∷ past) =
+    if touches link (suc (length past)) entry.outcome then clock (entry ∷ past) else touched_at link past

@@ -7,11 +7,13 @@
 #![tactic(auto)]
 
 mod bundle;
-mod entry;
 mod kept;
+mod outcome;
+mod past_event;
 mod session;
 
 pub use bundle::Bundle;
-pub use entry::{Entry, Outcome};
 pub use kept::{KeptAsk, KeptStop};
+pub use outcome::Outcome;
+pub use past_event::PastEvent;
 pub use session::Session;

@@ -2,7 +2,7 @@ use Rattle.std.proofs.Common.{ℕ, ap, not, sym, ◌∙◌}
 use Rattle.std.specs.Prelude.{filter}
 use Rattle.rsl_session.specs.Past.{looking_back}
 use Rattle.rsl_session.specs.Lapse.{lapses}
-use Rattle.rsl_session.specs.Held.{held, held_before}
+use Rattle.rsl_session.specs.Held.{held_links, held_before}
 use Rattle.rsl_rule.proofs.Lists.{filter_yes, filter_no}
 use Rattle.rsl_rule.proofs.Carried.{standings_at, number_all, lapses_so}
 use Rattle.rsl_rule.proofs.held.links_before.Goals as goal
@@ -11,7 +11,7 @@ use Rattle.rsl_rule.proofs.held.links_before.Goals.{then-not-lapses+in_ok-push, 
 pub loop-held-preserved : goal.loop-held-preserved
 loop-held-preserved c =
     let past = looking_back c.args.past.now in
-    let links = held c.args.rules.now past in
+    let links = held_links c.args.rules.now past in
     let stays = λ (link : ℕ). not (lapses c.args.rules.now past c.args.event.now link) in
     let stand_so = c.deref-held-items.ensures.value ∙ c.in_ok-holding.ensures.each in
     let at = standings_at past links c.deref-held-items.result.now stand_so c.loop-held.held-index c.held-item.result c.loop-held-test.true c.held-item.is in
@@ -31,4 +31,4 @@ returns c =
     let past = looking_back c.args.past.now in
     let stays = λ (link : ℕ). not (lapses c.args.rules.now past c.args.event.now link) in
     let stand_so = c.deref-held-items.ensures.value ∙ c.in_ok-holding.ensures.each in
-    c.loop-held.invariant ∙ ap (filter stays) (number_all past (held c.args.rules.now past) c.deref-held-items.result.now stand_so c.loop-held.held-index c.loop-held-test.false)
+    c.loop-held.invariant ∙ ap (filter stays) (number_all past (held_links c.args.rules.now past) c.deref-held-items.result.now stand_so c.loop-held.held-index c.loop-held-test.false)

@@ -4,7 +4,7 @@ use Rattle.std.proofs.lemmas.Iterator.Adapters.{YieldsList-from_vec}
 use Rattle.std.proofs.lemmas.Iterator.Consumers.{YieldsList-turn, YieldsList-end}
 use Rattle.std.proofs.lemmas.List.{length_push}
 use Rattle.rsl_session.specs.Past.{looking_back}
-use Rattle.rsl_session.specs.Held.{ends, held}
+use Rattle.rsl_session.specs.Held.{ends, held_links}
 use Rattle.rsl_rule.specs.Holding.{standings}
 use Rattle.rsl_rule.proofs.Carried.{standings_at, left_yes, left_no, number_all}
 use Rattle.rsl_rule.proofs.holding.links_left.Goals as goal
@@ -30,25 +30,25 @@ loop-held-preserved c =
     let each = YieldsList-from_vec {s = c.into_iter-held-iterator.result} c.args.links.items c.into_iter-held-iterator.ensures.into_iter_gives.0 (c.into_iter-held-iterator.ensures.into_iter_gives.1 ∙ c.args.links.ok.0) in
     let at = YieldsList-turn each c.loop-held.yielded c.loop-held.held-iterator c.loop-held.yielded_by c.next.result c.next.new.self c.in-Some.held c.in-Some.is c.next.ensures.steps in
     let past = looking_back c.args.past.now in
-    rw length_push (c.loop-held.invariant ∙ sym (left_no (λ link. not (ends c.args.rules.now past c.args.entry.now.event link)) past (c.args.entry.now ∷ past) (held c.args.rules.now past) c.args.links.items c.requires.stand_so (length c.loop-held.yielded) c.in-Some.held at.0 at.1 (ap not (sym c.ends_at.ensures ∙ c.if-not-ends_at.false))))
+    rw length_push (c.loop-held.invariant ∙ sym (left_no (λ link. not (ends c.args.rules.now past c.args.entry.now.event link)) past (c.args.entry.now ∷ past) (held_links c.args.rules.now past) c.args.links.items c.requires.stand_so (length c.loop-held.yielded) c.in-Some.held at.0 at.1 (ap not (sym c.ends_at.ensures ∙ c.if-not-ends_at.false))))
 
 pub loop-held-preserved-else-not-ends_at : goal.loop-held-preserved-else-not-ends_at
 loop-held-preserved-else-not-ends_at c =
     let each = YieldsList-from_vec {s = c.into_iter-held-iterator.result} c.args.links.items c.into_iter-held-iterator.ensures.into_iter_gives.0 (c.into_iter-held-iterator.ensures.into_iter_gives.1 ∙ c.args.links.ok.0) in
     let at = YieldsList-turn each c.loop-held.yielded c.loop-held.held-iterator c.loop-held.yielded_by c.next.result c.next.new.self c.in-Some.held c.in-Some.is c.next.ensures.steps in
     let past = looking_back c.args.past.now in
-    rw length_push (c.loop-held.invariant ∙ sym (left_no (λ link. not (ends c.args.rules.now past c.args.entry.now.event link)) past (c.args.entry.now ∷ past) (held c.args.rules.now past) c.args.links.items c.requires.stand_so (length c.loop-held.yielded) c.in-Some.held at.0 at.1 (ap not (sym c.ends_at.ensures ∙ c.if-not-ends_at.false))))
+    rw length_push (c.loop-held.invariant ∙ sym (left_no (λ link. not (ends c.args.rules.now past c.args.entry.now.event link)) past (c.args.entry.now ∷ past) (held_links c.args.rules.now past) c.args.links.items c.requires.stand_so (length c.loop-held.yielded) c.in-Some.held at.0 at.1 (ap not (sym c.ends_at.ensures ∙ c.if-not-ends_at.false))))
 
 pub loop-held-preserved-in-Continue-branch-2 : goal.loop-held-preserved-in-Continue-branch-2
 loop-held-preserved-in-Continue-branch-2 c =
     let each = YieldsList-from_vec {s = c.into_iter-held-iterator.result} c.args.links.items c.into_iter-held-iterator.ensures.into_iter_gives.0 (c.into_iter-held-iterator.ensures.into_iter_gives.1 ∙ c.args.links.ok.0) in
     let at = YieldsList-turn each c.loop-held.yielded c.loop-held.held-iterator c.loop-held.yielded_by c.next.result c.next.new.self c.in-Some.held c.in-Some.is c.next.ensures.steps in
     let past = looking_back c.args.past.now in
-    rw length_push (c.in_ok-push.ensures.items ∙ rw c.loop-held.invariant (sym (left_yes (λ link. not (ends c.args.rules.now past c.args.entry.now.event link)) past (c.args.entry.now ∷ past) (held c.args.rules.now past) c.args.links.items c.requires.stand_so (length c.loop-held.yielded) c.in-Some.held at.0 at.1 (ap not (sym c.ends_at.ensures ∙ c.if-not-ends_at.true)) c.in_ok-standing.standing c.in_ok-standing.ensures)))
+    rw length_push (c.in_ok-push.ensures.items ∙ rw c.loop-held.invariant (sym (left_yes (λ link. not (ends c.args.rules.now past c.args.entry.now.event link)) past (c.args.entry.now ∷ past) (held_links c.args.rules.now past) c.args.links.items c.requires.stand_so (length c.loop-held.yielded) c.in-Some.held at.0 at.1 (ap not (sym c.ends_at.ensures ∙ c.if-not-ends_at.true)) c.in_ok-standing.standing c.in_ok-standing.ensures)))
 
 pub returns : goal.returns
 returns c =
     let each = YieldsList-from_vec {s = c.into_iter-held-iterator.result} c.args.links.items c.into_iter-held-iterator.ensures.into_iter_gives.0 (c.into_iter-held-iterator.ensures.into_iter_gives.1 ∙ c.args.links.ok.0) in
     let all = YieldsList-end each c.loop-held.yielded c.loop-held.held-iterator c.loop-held.yielded_by c.next.result c.next.new.self c.in-None.is c.next.ensures.steps in
     let past = looking_back c.args.past.now in
-    c.loop-held.invariant ∙ ap (λ ls. standings (c.args.entry.now ∷ past) (filter (λ link. not (ends c.args.rules.now past c.args.entry.now.event link)) ls)) (number_all past (held c.args.rules.now past) c.args.links.items c.requires.stand_so (length c.loop-held.yielded) (omega arith))
+    c.loop-held.invariant ∙ ap (λ ls. standings (c.args.entry.now ∷ past) (filter (λ link. not (ends c.args.rules.now past c.args.entry.now.event link)) ls)) (number_all past (held_links c.args.rules.now past) c.args.links.items c.requires.stand_so (length c.loop-held.yielded) (omega arith))

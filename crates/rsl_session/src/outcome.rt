@@ -1,4 +1,4 @@
-use rsl_event::{Decision, Event};
+use rsl_event::Decision;
 
 /// What an event did. A link is named by the place of the event that opened it: 1 for the account's
 /// first event.
@@ -6,6 +6,13 @@ use rsl_event::{Decision, Event};
 pub enum Outcome {
     /// A fresh ask was accepted with this number, and opened a reserved link.
     Accepted(u64),
+    /// A fresh ask that did not fit was accepted in the place of a stale link, and opened a reserved link.
+    AcceptedInPlace {
+        /// The accept number.
+        number: u64,
+        /// The stale link, which yielded its place and ended.
+        yielded: usize,
+    },
     /// A fresh ask was refused, for want of a free place.
     Refused,
     /// An ask was a repeat of a fresh ask, and got its decision again.
@@ -22,13 +29,4 @@ pub enum Outcome {
     Over,
     /// A stop, sweep or tick: what it ends is said of each link.
     Passed,
-}
-
-/// An event of an account's past, with what it did.
-#[derive(Debug, PartialEq, Eq, Drop)]
-pub struct Entry {
-    /// The event.
-    pub event: Event,
-    /// What it did.
-    pub outcome: Outcome,
 }
