@@ -2,9 +2,9 @@
 use Rattle.std.proofs.Common.{◌≡◌, ℕ, List, Option, Some, None, Result, Ok, Err, refl, arith}
 use Rattle.std.specs.Prelude.{◌≢◌, IfErr, OnOk}
 use Rattle.std.specs.Io.KnownBytes.{Keeps}
-use Rattle.rsl_app.specs.Fault.{status_after}
-use Rattle.rsl_app.specs.declared.fault.ReplayFault.{ReplayFault}
-use Rattle.rsl_app.specs.declared.fault.ReplayFault.TheVariants.{Line, TooLong, Config, InputOutput, NoMemory}
+use Rattle.rsl_app.specs.Status.{status_after}
+use Rattle.rsl_replay.specs.declared.fault.ReplayFault.{ReplayFault}
+use Rattle.rsl_replay.specs.declared.fault.ReplayFault.TheVariants.{Line, TooLong, Config, InputOutput, NoMemory}
 
 -- the status 0 is that of a replay
 pub replayed_at_0 : {T : Type 0} (r : Result T ReplayFault) (status : ℕ) (P : Type 0) → status ≡ status_after r → OnOk r P → status ≡ 0 → P

@@ -1,11 +1,10 @@
 ghost use Rattle.std.specs.Prelude.{◌≡◌, ◌≢◌, ℕ, List, IfSome};
 ghost use Rattle.std.specs.Io.KnownBytes.{Appends, Keeps};
 ghost use Rattle.std.specs.Process.{exit_status};
-ghost use Rattle.rsl_app.specs.Fault.{status_after};
-ghost use Rattle.rsl_app.specs.Replay.{IsReplayed};
+ghost use Rattle.rsl_app.specs.Status.{status_after};
+ghost use Rattle.rsl_replay.specs.Replay.{IsReplayed};
 
-use crate::fault::ReplayFault;
-use crate::replaying::replay;
+use rsl_replay::{ReplayFault, replay};
 use std::alloc::Global;
 use std::env::{Env, FillError};
 use std::fmt::Display;

@@ -1,0 +1,41 @@
+-- What a replay writes for the octets of a script, and why it fails.
+use Rattle.std.specs.Prelude.{◌≡◌, ℕ, ◌<◌, ◌≤◌, ⊤, List, [], length, Ok, Err}
+use Rattle.rsl_accounts.specs.Configuration.{Configuration, configuration_of}
+use Rattle.rsl_accounts.specs.declared.fault.ConfigFault.{ConfigFault}
+use Rattle.rsl_script.specs.Script.{Contents, script_of}
+use Rattle.rsl_script.specs.declared.fault.ScriptFault.TheVariants.{Line as wrong_line}
+use Rattle.rsl_replay.specs.Printing.{printed}
+use Rattle.rsl_replay.specs.Run.{AreAnswers}
+use Rattle.rsl_replay.specs.Stepping.{steps_of_lines}
+use Rattle.rsl_replay.specs.declared.fault.ReplayFault.{ReplayFault}
+use Rattle.rsl_replay.specs.declared.fault.ReplayFault.TheVariants.{Line, TooLong, Config, InputOutput, NoMemory}
+use Rattle.rsl_replay.specs.declared.input.TheConstants.{MAX_SCRIPT_LEN}
+use Rattle.rsl_replay.specs.declared.replaying.TheConstants.{BOOT}
+use Rattle.rsl_replay.specs.declared.step.Answer.{Answer}
+
+-- The text is a right script of a right configuration, and not too long; each step of its event lines has its answer, and what is
+-- written tells for each event line what it was answered.
+pub record IsReplayed (text written : List ℕ) : Type 0 where
+  pub script : Contents
+  pub config : Configuration
+  pub answers : List Answer
+  pub short : length text ≤ MAX_SCRIPT_LEN
+  pub read : script_of text ≡ Ok script
+  pub made : configuration_of script.settings script.clients script.accounts ≡ Ok config
+  pub answered : AreAnswers config BOOT [] (steps_of_lines config BOOT script.events) answers
+  pub printed_lines : written ≡ printed config script.events answers
+
+-- a right script whose configuration has the fault
+pub record IsRefused (text : List ℕ) (fault : ConfigFault) : Type 0 where
+  pub script : Contents
+  pub read : script_of text ≡ Ok script
+  pub refused : configuration_of script.settings script.clients script.accounts ≡ Err fault
+
+-- A fault of a text is there: too long comes first, then the first wrong line, then the configuration's fault.
+-- Reads, writes and growths may fail at any time.
+abbrev pub IsFaultOf : (text : List ℕ) → ReplayFault → Type 0
+IsFaultOf text TooLong = MAX_SCRIPT_LEN < length text
+IsFaultOf text (Line number) = (length text ≤ MAX_SCRIPT_LEN) × (script_of text ≡ Err (wrong_line number))
+IsFaultOf text (Config fault) = (length text ≤ MAX_SCRIPT_LEN) × IsRefused text fault
+IsFaultOf text InputOutput = ⊤
+IsFaultOf text NoMemory = ⊤

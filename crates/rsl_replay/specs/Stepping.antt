@@ -1,0 +1,92 @@
+-- The steps that event lines stand for.
+use Rattle.std.specs.Prelude.{ℕ, ◌+◌, Bool, true, false, List, [], ◌∷◌, ◌++◌, map, codes, Option, Some, None, if◌then◌else◌}
+use Rattle.std.specs.List.{flat_map, range_with_len}
+use Rattle.rsl_accounts.specs.Configuration.{Configuration, client_number}
+use Rattle.rsl_event.specs.Request.{name_of, secret_of}
+use Rattle.rsl_event.specs.declared.nas.Nas.{Nas}
+use Rattle.rsl_event.specs.declared.meaning.Port.{Port}
+use Rattle.rsl_event.specs.declared.meaning.Port.TheVariants.{Auth, Acct}
+use Rattle.rsl_script.specs.declared.event_line.EventLine.{EventLine}
+use Rattle.rsl_script.specs.declared.event_line.Happening.{Happening}
+use Rattle.rsl_script.specs.declared.event_line.Happening.TheVariants.{Access, Accounting, Raw}
+use Rattle.rsl_script.specs.declared.event_line.Happening.TheVariants as happenings
+use Rattle.rsl_script.specs.declared.request.AccountingRequest.{AccountingRequest}
+use Rattle.rsl_script.specs.declared.request.Status.{Status}
+use Rattle.rsl_script.specs.declared.request.Status.TheVariants.{On, Off}
+use Rattle.rsl_replay.specs.Access.{access_octets}
+use Rattle.rsl_replay.specs.Accounting.{accounting_octets}
+use Rattle.rsl_replay.specs.declared.step.Step.{Step}
+use Rattle.rsl_replay.specs.declared.step.Step.TheVariants as steps
+use Rattle.rsl_replay.specs.declared.step.Step.TheVariants.{Datagram}
+
+-- the secret that a packet from an address is made with: its client's, or `none` where no client has the address
+abbrev pub secret_by : Configuration → (client : Option ℕ) → List ℕ
+secret_by config None = codes "none"
+secret_by config (Some client) = secret_of config client
+
+abbrev pub secret_at : Configuration → (address : List ℕ) → List ℕ
+secret_at config address = secret_by config (client_number config address)
+
+-- a datagram from port 1024 of an address
+abbrev pub datagram : (moment : ℕ) → Port → (address octets : List ℕ) → Step
+datagram moment port address octets = Datagram moment port (record { address = address; port = 1024 }) octets
+
+-- a step for each shard, in the order of their numbers
+abbrev pub for_each_shard : Configuration → (step : ℕ → Step) → List Step
+for_each_shard config step = map step (range_with_len 0 config.settings.shards)
+
+abbrev pub ticks : Configuration → (moment : ℕ) → List Step
+ticks config moment = for_each_shard config (λ shard. steps.Tick shard moment)
+
+abbrev pub sweeps : Configuration → (moment : ℕ) → Nas → List Step
+sweeps config moment nas = for_each_shard config (λ shard. steps.Sweep shard moment nas)
+
+-- the access server of a client: it has no name where the line has no NAS
+abbrev pub nas_of : (client : ℕ) → (name : Option (List ℕ)) → Nas
+nas_of client name = record { client = client; name = name_of name None }
+
+-- whether a status says that the access server has restarted
+abbrev pub is_restart : Status → Bool
+is_restart On = true
+is_restart Off = true
+is_restart _ = false
+
+-- the sweeps before an Accounting-Request from an address: there are none where no client has it
+abbrev pub sweeps_by : Configuration → (moment : ℕ) → (name : Option (List ℕ)) → (client : Option ℕ) → List Step
+sweeps_by config moment name None = []
+sweeps_by config moment name (Some client) = sweeps config moment (nas_of client name)
+
+abbrev pub sweeps_before : Configuration → (moment : ℕ) → (address : List ℕ) → AccountingRequest → List Step
+sweeps_before config moment address request =
+    if is_restart request.status then sweeps_by config moment request.nas (client_number config address) else []
+
+-- what happens at a moment
+abbrev pub steps_at : Configuration → (boot moment : ℕ) → Happening → List Step
+steps_at config boot moment (Access address request) =
+    datagram moment Auth address (access_octets request (secret_at config address)) ∷ []
+steps_at config boot moment (Accounting address request) =
+    sweeps_before config moment address request
+    ++ datagram moment Acct address (accounting_octets boot request (secret_at config address)) ∷ []
+steps_at config boot moment (Raw address port octets) = datagram moment port address octets ∷ []
+steps_at config boot moment happenings.Tick = ticks config moment
+
+-- the steps of a line, to a server with this boot number
+unfoldable pub steps_of_line : Configuration → (boot : ℕ) → EventLine → List Step
+steps_of_line config boot line = steps_at config boot line.moment line.happening
+
+abbrev pub steps_of_lines : Configuration → (boot : ℕ) → List EventLine → List Step
+steps_of_lines config boot lines = flat_map (steps_of_line config boot) lines
+
+-- how many steps a line has
+abbrev pub sweep_count : Configuration → Status → (client : Option ℕ) → ℕ
+sweep_count config status None = 0
+sweep_count config status (Some client) = if is_restart status then config.settings.shards else 0
+
+abbrev pub count_of : Configuration → Happening → ℕ
+count_of config (Access address request) = 1
+count_of config (Accounting address request) = sweep_count config request.status (client_number config address) + 1
+count_of config (Raw address port octets) = 1
+count_of config happenings.Tick = config.settings.shards
+
+unfoldable pub step_count : Configuration → EventLine → ℕ
+step_count config line = count_of config line.happening

@@ -1,0 +1,55 @@
+ghost use Rattle.std.specs.Prelude.{◌≡◌};
+ghost use Rattle.rsl_replay.specs.Printing.{drop_name};
+
+use rsl_event::{Dropped, Said};
+use std::fmt;
+
+/// What is printed of an event line, in a word.
+#[derive(Clone, Copy)]
+pub(crate) enum Word {
+    /// Its datagram was answered: `accept` and the accept number, `reject limit`, `reject` or `account`.
+    Said(Said),
+    /// Its datagram was dropped: `drop` and the name of the reason.
+    Dropped(Dropped),
+    /// Time has passed: `tick`.
+    Tick,
+    /// Memory was refused for one of its steps: `refused`.
+    Refused,
+}
+
+impl fmt::Display for Word {
+    ghost use Rattle.std.specs.Prelude.{Some};
+    ghost use Rattle.rsl_replay.specs.Printing.{word_text};
+
+    ghost output = { λ word. Some (word_text word) };
+
+    fn fmt<W: fmt::Write>(&self, f: &mut fmt::Formatter<W>) -> fmt::Result {
+        match self {
+            Word::Said(Said::Accept(number)) => write!(f, "accept {number}"),
+            Word::Said(Said::LimitReject) => write!(f, "reject limit"),
+            Word::Said(Said::Reject) => write!(f, "reject"),
+            Word::Said(Said::Account) => write!(f, "account"),
+            Word::Dropped(dropped) => write!(f, "drop {}", name_of(*dropped)),
+            Word::Tick => write!(f, "tick"),
+            Word::Refused => write!(f, "refused"),
+        }
+    }
+}
+
+/// The name of a reason.
+fn name_of(dropped: Dropped) -> &'static str
+    ensures { result.now ≡ drop_name dropped }
+{
+    match dropped {
+        Dropped::Short => "Short",
+        Dropped::BadLength => "BadLength",
+        Dropped::UnknownClient => "UnknownClient",
+        Dropped::WrongCode => "WrongCode",
+        Dropped::BadAuthenticator => "BadAuthenticator",
+        Dropped::Malformed => "Malformed",
+        Dropped::ProxyTooLong => "ProxyTooLong",
+        Dropped::NoStatus => "NoStatus",
+        Dropped::NoSession => "NoSession",
+        Dropped::NoMemory => "NoMemory",
+    }
+}
