@@ -52,7 +52,7 @@ module _ {X Y : Type 0} (f : Y → List (Option ConfigFault)) (view : X → Y) (
   checks_found fault so_far found = sym (so_far ∙ checks_failed fault (sym found))
 
 -- what the first `?` of the walk answers, the second, and the last call
-module _ (head : Field → Given) (clients accounts : List (Field → Given)) where
+module _ (version : ℕ) (head : Field → Given) (clients accounts : List (Field → Given)) where
   abbrev at_head : List (Option ConfigFault)
   at_head = checks file_fields head
 
@@ -60,18 +60,18 @@ module _ (head : Field → Given) (clients accounts : List (Field → Given)) wh
   at_clients = flat_map (checks client_fields) clients
 
   abbrev at_accounts : List (Option ConfigFault)
-  at_accounts = flat_map (checks account_fields) accounts
+  at_accounts = flat_map (checks (account_fields version)) accounts
 
-  pub walk_at_head : (fault : ConfigFault) → Some fault ≡ first_fault (checks file_fields head) → Some fault ≡ first_fault (walk head clients accounts)
+  pub walk_at_head : (fault : ConfigFault) → Some fault ≡ first_fault (checks file_fields head) → Some fault ≡ first_fault (walk version head clients accounts)
   unfolding walk
   walk_at_head fault found = sym (first_fault-stays (at_head ++ at_clients) at_accounts fault (first_fault-stays at_head at_clients fault (sym found)))
 
-  pub walk_at_clients : (fault : ConfigFault) → None ≡ first_fault (checks file_fields head) → Some fault ≡ first_fault (flat_map (checks client_fields) clients) → Some fault ≡ first_fault (walk head clients accounts)
+  pub walk_at_clients : (fault : ConfigFault) → None ≡ first_fault (checks file_fields head) → Some fault ≡ first_fault (flat_map (checks client_fields) clients) → Some fault ≡ first_fault (walk version head clients accounts)
   unfolding walk
   walk_at_clients fault passed found =
       sym (first_fault-stays (at_head ++ at_clients) at_accounts fault (first_fault-append at_head at_clients (sym passed) ∙ sym found))
 
-  pub walk_at_accounts : first_fault (checks file_fields head) ≡ None → first_fault (flat_map (checks client_fields) clients) ≡ None → first_fault (walk head clients accounts) ≡ first_fault (flat_map (checks account_fields) accounts)
+  pub walk_at_accounts : first_fault (checks file_fields head) ≡ None → first_fault (flat_map (checks client_fields) clients) ≡ None → first_fault (walk version head clients accounts) ≡ first_fault (flat_map (checks (account_fields version)) accounts)
   unfolding walk
   walk_at_accounts passed passed_too =
       first_fault-append (at_head ++ at_clients) at_accounts (first_fault-append at_head at_clients passed ∙ passed_too)

@@ -5,10 +5,10 @@ use Rattle.rsl_accounts.specs.declared.entry.Entry.{Entry}
 use Rattle.rsl_accounts.specs.declared.rules.Rules.{Rules}
 use Rattle.rsl_accounts.specs.declared.settings.Settings.{Settings}
 use Rattle.rsl_accounts.specs.Configuration.{with_times}
-use Rattle.rsl_accounts.specs.Settings.{rules_with_times}
+use Rattle.rsl_accounts.specs.Settings.{rules_of}
 
 pub times_more : (settings : Settings) (xs ys : List Entry) (i : ℕ) (x : Entry) (rules : Rules) → i < length xs → ys ≡ map (with_times settings) (take i xs) ++ drop i xs → x ≡ get_or ys i x
-    → rules ≡ rules_with_times settings (get_or ys i x).rules
+    → rules ≡ rules_of settings (get_or ys i x)
     → set ys i (record (get_or ys i x) { rules = rules }) ≡ map (with_times settings) (take (i + 1) xs) ++ drop (i + 1) xs
 times_more settings xs ys i x rules within so_far read is =
     ap (λ r. set ys i (record (get_or ys i x) { rules = r })) is

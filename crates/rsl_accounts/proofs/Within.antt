@@ -1,7 +1,7 @@
 -- Settings, clients and accounts that pass the walk are within their limits.
-use Rattle.std.proofs.Common.{◌≡◌, ◌≢◌, ℕ, ◌≤◌, Bool, true, false, not, leb, eqb, List, [], ◌∷◌, ◌++◌, map, length, get_or, All, Option, None, Some, IfSome, refl, sym, ap, ◌∙◌}
+use Rattle.std.proofs.Common.{◌≡◌, ◌≢◌, ℕ, ◌≤◌, Bool, true, false, not, leb, eqb, List, [], ◌∷◌, ◌++◌, map, length, get_or, All, Option, None, Some, IfSome, unwrap_or, refl, sym, ap, ◌∙◌}
 use Rattle.std.proofs.lemmas.Bool.{and_parts, leb-true, eqb-true, eq-eqb}
-use Rattle.std.proofs.lemmas.List.{length-map}
+use Rattle.std.proofs.lemmas.List.{length-map, map-append}
 use Rattle.std.proofs.lemmas.List.Elements.{All-nil, All-cons, All-map}
 use Rattle.std.proofs.lemmas.List.Sums.{AllPass-from_list_all}
 use Rattle.std.specs.List.{flat_map, AllByRecursion}
@@ -17,8 +17,10 @@ use Rattle.rsl_accounts.specs.Configuration.{walk_over, with_times, comes_twice,
 use Rattle.rsl_accounts.specs.Entry.{given_in_entry, given_option}
 use Rattle.rsl_accounts.specs.Field.{is_between, is_secret, is_name, has_no_nul, is_visible, takes_number, takes_count, takes_text}
 use Rattle.rsl_accounts.specs.Limits.{IsTime, SettingsFit, IsSecret, IsName, IsAccount, IsConfiguration}
-use Rattle.rsl_accounts.specs.Settings.{given_in_head}
-use Rattle.rsl_accounts.specs.Walk.{checks, walk, first_fault, fault_of, given_if, file_fields, client_fields, account_fields}
+use Rattle.rsl_accounts.specs.Settings.{given_in_head, own_time}
+use Rattle.rsl_accounts.specs.Version.{knows_own_times}
+use Rattle.rsl_accounts.specs.Walk.{checks, walk, first_fault, fault_of, given_if, file_fields, client_fields, common_fields, own_times, account_fields}
+use Rattle.rsl_accounts.proofs.Faults.{first_fault-append}
 use Rattle.rsl_accounts.proofs.Made.{made}
 
 -- checks without a fault have all passed
@@ -31,6 +33,19 @@ pub passed-append : (xs ys : List (Option ConfigFault)) → first_fault (xs ++ y
 passed-append [] ys none = (refl, none)
 passed-append (None ∷ xs) ys none = passed-append xs ys none
 passed-append (Some fault ∷ xs) ys none = cc
+
+-- the checks of two lists of fields, and of both joined
+pub passed-both : (fields more : List Field) (given : Field → Given) → first_fault (checks (fields ++ more) given) ≡ None
+    → (first_fault (checks fields given) ≡ None) × (first_fault (checks more given) ≡ None)
+passed-both fields more given none =
+    passed-append (checks fields given) (checks more given) (ap first_fault (sym (map-append (λ f. fault_of f (given f)) fields more)) ∙ none)
+
+pub pass-both : (fields more : List Field) (given : Field → Given) → first_fault (checks fields given) ≡ None → first_fault (checks more given) ≡ None
+    → first_fault (checks (fields ++ more) given) ≡ None
+pass-both fields more given none none_more =
+    ap first_fault (map-append (λ f. fault_of f (given f)) fields more)
+    ∙ first_fault-append (checks fields given) (checks more given) none
+    ∙ none_more
 
 pub passed-flat_map : {X : Type 0} (fields : List Field) (given : X → Field → Given) (xs : List X) → first_fault (flat_map (checks fields) (map given xs)) ≡ None → All (λ x. first_fault (checks fields (given x)) ≡ None) xs
 passed-flat_map fields given [] none = All-nil (λ x. first_fault (checks fields (given x)) ≡ None)
@@ -55,7 +70,7 @@ time seconds right =
 
 -- what the head of a file has that passes
 record HeadFits (settings : Settings) (client_count account_count : ℕ) : Type 0 where
-  version : settings.version ≡ 1
+  version : (1 ≤ settings.version) × (settings.version ≤ 2)
   shards : (1 ≤ settings.shards) × (settings.shards ≤ 4)
   reserve : IsTime settings.reserve
   live : IsTime settings.live
@@ -70,7 +85,7 @@ unfolding file_fields
 head_fits settings clients accounts none =
     let p = passed (checks file_fields (given_in_head settings clients accounts)) none in
     record {
-      version = eqb-true settings.version 1 (is_right field.Version (takes_number field.Version settings.version) p.0);
+      version = between 1 2 settings.version (is_right field.Version (takes_number field.Version settings.version) p.0);
       shards = between 1 4 settings.shards (is_right field.Shards (takes_number field.Shards settings.shards) p.1.0);
       reserve = time settings.reserve (is_right field.ReserveSecs (takes_number field.ReserveSecs settings.reserve) p.1.1.0);
       live = time settings.live (is_right field.LiveSecs (takes_number field.LiveSecs settings.live) p.1.1.1.0);
@@ -117,31 +132,59 @@ optional : (f : Field) → ((n : ℕ) → takes_number f n ≡ is_between 1 4294
 optional f takes None none = tt
 optional f takes (Some n) none = (between 1 4294967295 n (sym (takes n) ∙ is_right f (takes_number f n) none)).0
 
-entry_fits : (settings : Settings) → SettingsFit settings → (entry : Entry) → first_fault (checks account_fields (given_in_entry entry)) ≡ None → IsAccount settings (with_times settings entry)
-unfolding account_fields
-entry_fits settings fits entry none =
-    let p = passed (checks account_fields (given_in_entry entry)) none in
-    let ports = between 1 16 entry.rules.ports (is_right field.Ports (takes_number field.Ports entry.rules.ports) p.1.1.1.0) in
-    record {
-      name = name entry.name (is_right field.Name (takes_text field.Name entry.name) p.0);
-      password = secret entry.password (is_right field.Password (takes_text field.Password entry.password) p.1.0);
-      rules = record {
-        places = (between 0 64 entry.rules.places (is_right field.Places (takes_number field.Places entry.rules.places) p.1.1.0)).1;
-        a_port = ports.0;
-        ports = ports.1;
-        reserve = fits.reserve;
-        live = fits.live;
-        grace = fits.grace;
-        closed = fits.closed;
-        keep = fits.keep;
-        keep_within_reserve = fits.keep_within_reserve;
-      };
-      times = refl;
-      service_type = optional field.ServiceType (λ n. refl) entry.service_type p.1.1.1.1.0;
-      framed_protocol = optional field.FramedProtocol (λ n. refl) entry.framed_protocol p.1.1.1.1.1.0;
-      session_timeout = optional field.SessionTimeout (λ n. refl) entry.session_timeout p.1.1.1.1.1.1.0;
-      idle_timeout = optional field.IdleTimeout (λ n. refl) entry.idle_timeout p.1.1.1.1.1.1.1.0;
-    }
+-- an account's own time is within its limits where the version knows it
+own_fits : (f : Field) → ((n : ℕ) → takes_number f n ≡ is_between 1 86400 n) → (own : Option ℕ) (common : ℕ) → IsTime common → fault_of f (given_option f own) ≡ None → IsTime (unwrap_or own common)
+own_fits f takes None common fits none = fits
+own_fits f takes (Some n) common fits none = time n (sym (takes n) ∙ is_right f (takes_number f n) none)
+
+module _ (settings : Settings) (fits : SettingsFit settings) (entry : Entry) (none : first_fault (checks (account_fields settings.version) (given_in_entry entry)) ≡ None) where
+  common_pass : first_fault (checks common_fields (given_in_entry entry)) ≡ None
+  common_pass = by (knows_own_times settings.version) refl
+    where
+      by : (known : Bool) → knows_own_times settings.version ≡ known → first_fault (checks common_fields (given_in_entry entry)) ≡ None
+      by true known =
+          let all : first_fault (checks (common_fields ++ own_times) (given_in_entry entry)) ≡ None = rw known at none in
+          (passed-both common_fields own_times (given_in_entry entry) all).0
+      by false known = rw known at none
+
+  times_fit : IsTime (own_time settings.version entry.own_live settings.live) × IsTime (own_time settings.version entry.own_grace settings.grace)
+  unfolding own_times
+  times_fit = by (knows_own_times settings.version) refl
+    where
+      by : (known : Bool) → knows_own_times settings.version ≡ known
+          → IsTime (own_time settings.version entry.own_live settings.live) × IsTime (own_time settings.version entry.own_grace settings.grace)
+      by true known =
+          let all : first_fault (checks (common_fields ++ own_times) (given_in_entry entry)) ≡ None = rw known at none in
+          let p = passed (checks own_times (given_in_entry entry)) (passed-both common_fields own_times (given_in_entry entry) all).1 in
+          rw known (own_fits field.OwnLive (λ n. refl) entry.own_live settings.live fits.live p.0, own_fits field.OwnGrace (λ n. refl) entry.own_grace settings.grace fits.grace p.1.0)
+      by false known = rw known (fits.live, fits.grace)
+
+  entry_fits : IsAccount settings (with_times settings entry)
+  unfolding common_fields
+  entry_fits =
+      let p = passed (checks common_fields (given_in_entry entry)) common_pass in
+      let ports = between 1 16 entry.rules.ports (is_right field.Ports (takes_number field.Ports entry.rules.ports) p.1.1.1.0) in
+      let times = times_fit in
+      record {
+        name = name entry.name (is_right field.Name (takes_text field.Name entry.name) p.0);
+        password = secret entry.password (is_right field.Password (takes_text field.Password entry.password) p.1.0);
+        rules = record {
+          places = (between 0 64 entry.rules.places (is_right field.Places (takes_number field.Places entry.rules.places) p.1.1.0)).1;
+          a_port = ports.0;
+          ports = ports.1;
+          reserve = fits.reserve;
+          live = times.0;
+          grace = times.1;
+          closed = fits.closed;
+          keep = fits.keep;
+          keep_within_reserve = fits.keep_within_reserve;
+        };
+        times = refl;
+        service_type = optional field.ServiceType (λ n. refl) entry.service_type p.1.1.1.1.0;
+        framed_protocol = optional field.FramedProtocol (λ n. refl) entry.framed_protocol p.1.1.1.1.1.0;
+        session_timeout = optional field.SessionTimeout (λ n. refl) entry.session_timeout p.1.1.1.1.1.1.0;
+        idle_timeout = optional field.IdleTimeout (λ n. refl) entry.idle_timeout p.1.1.1.1.1.1.1.0;
+      }
 
 -- the times leave the names
 pub names-with_times : (settings : Settings) (accounts : List Entry) → names (map (with_times settings) accounts) ≡ names accounts
@@ -153,12 +196,14 @@ unfolding walk
 made_fits settings clients accounts none differ differ_too short =
     let head = checks file_fields (given_in_head settings (length clients) (length accounts)) in
     let of_clients = flat_map (checks client_fields) (map given_in_client clients) in
-    let of_accounts = flat_map (checks account_fields) (map given_in_entry accounts) in
+    let fields = account_fields settings.version in
+    let of_accounts = flat_map (checks fields) (map given_in_entry accounts) in
     let (front, accounts_pass) = passed-append (head ++ of_clients) of_accounts none in
     let (head_passes, clients_pass) = passed-append head of_clients front in
     let fits = head_fits settings (length clients) (length accounts) head_passes in
     let settings_fit : SettingsFit settings = record {
-      version = fits.version;
+      a_version = fits.version.0;
+      version = fits.version.1;
       a_shard = fits.shards.0;
       shards = fits.shards.1;
       reserve = fits.reserve;
@@ -169,7 +214,7 @@ made_fits settings clients accounts none differ differ_too short =
       keep_within_reserve = short;
     } in
     let each_client = passed-flat_map client_fields given_in_client clients clients_pass in
-    let each_entry = passed-flat_map account_fields given_in_entry accounts accounts_pass in
+    let each_entry = passed-flat_map fields given_in_entry accounts accounts_pass in
     record {
       settings = settings_fit;
       a_client = fits.clients.0;

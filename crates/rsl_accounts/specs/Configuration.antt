@@ -9,7 +9,7 @@ use Rattle.rsl_accounts.specs.declared.fault.ConfigFault.TheVariants.{TwiceClien
 use Rattle.rsl_accounts.specs.declared.settings.Settings.{Settings}
 use Rattle.rsl_accounts.specs.Client.{given_in_client}
 use Rattle.rsl_accounts.specs.Entry.{given_in_entry}
-use Rattle.rsl_accounts.specs.Settings.{given_in_head, rules_with_times}
+use Rattle.rsl_accounts.specs.Settings.{given_in_head, rules_of}
 use Rattle.rsl_accounts.specs.Walk.{walk, first_fault}
 
 -- clients and accounts stand in the order of the file, in which they are numbered from 0
@@ -38,7 +38,10 @@ fault_if wrong fault = if wrong then Some fault else None
 -- the walk over settings, clients and accounts
 abbrev pub walk_over : Settings → List Client → List Entry → List (Option ConfigFault)
 walk_over settings clients accounts =
-    walk (given_in_head settings (length clients) (length accounts)) (map given_in_client clients) (map given_in_entry accounts)
+    walk settings.version
+    (given_in_head settings (length clients) (length accounts))
+    (map given_in_client clients)
+    (map given_in_entry accounts)
 
 -- the checks of a configuration, in their order
 unfoldable pub checks_of : Settings → List Client → List Entry → List (Option ConfigFault)
@@ -49,9 +52,9 @@ checks_of settings clients accounts =
     ∷ fault_if (nat_lt settings.reserve settings.keep) KeepTooLong
     ∷ []
 
--- the account, with the times of the settings
+-- the account, with its times
 abbrev pub with_times : Settings → Entry → Entry
-with_times settings entry = record entry { rules = rules_with_times settings entry.rules }
+with_times settings entry = record entry { rules = rules_of settings entry }
 
 -- the fault, if there is one
 abbrev pub fault_or : {T : Type 0} → Option ConfigFault → Result T ConfigFault → Result T ConfigFault

@@ -2,7 +2,7 @@
 use Rattle.std.specs.Prelude.{ℕ, Option, None, Some}
 use Rattle.rsl_accounts.specs.declared.entry.Entry.{Entry}
 use Rattle.rsl_accounts.specs.declared.field.Field.{Field}
-use Rattle.rsl_accounts.specs.declared.field.Field.TheVariants.{Name, Password, Places, Ports, ServiceType, FramedProtocol, SessionTimeout, IdleTimeout}
+use Rattle.rsl_accounts.specs.declared.field.Field.TheVariants.{Name, Password, Places, Ports, ServiceType, FramedProtocol, SessionTimeout, IdleTimeout, OwnLive, OwnGrace}
 use Rattle.rsl_accounts.specs.declared.given.Given.{Given}
 use Rattle.rsl_accounts.specs.declared.given.Given.TheVariants.{Absent}
 use Rattle.rsl_accounts.specs.Walk.{given_number, given_text}
@@ -20,4 +20,6 @@ given_in_entry entry ServiceType = given_option ServiceType entry.service_type
 given_in_entry entry FramedProtocol = given_option FramedProtocol entry.framed_protocol
 given_in_entry entry SessionTimeout = given_option SessionTimeout entry.session_timeout
 given_in_entry entry IdleTimeout = given_option IdleTimeout entry.idle_timeout
+given_in_entry entry OwnLive = given_option OwnLive entry.own_live
+given_in_entry entry OwnGrace = given_option OwnGrace entry.own_grace
 given_in_entry entry _ = Absent

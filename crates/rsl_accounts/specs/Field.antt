@@ -3,36 +3,42 @@ use Rattle.std.specs.Prelude.{ℕ, List, Bool, true, false, not, ◌==◌, ◌&&
 use Rattle.std.specs.List.{list_all}
 use Rattle.rsl_accounts.specs.Address.{address_of}
 use Rattle.rsl_accounts.specs.declared.field.Field.{Field}
-use Rattle.rsl_accounts.specs.declared.field.Field.TheVariants.{Version, Shards, ReserveSecs, LiveSecs, GraceSecs, ClosedSecs, KeepSecs, Client, Account, Address, Secret, Name, Password, Places, Ports, ServiceType, FramedProtocol, SessionTimeout, IdleTimeout}
+use Rattle.rsl_accounts.specs.declared.field.Field.TheVariants.{Version, Shards, ReserveSecs, LiveSecs, GraceSecs, ClosedSecs, KeepSecs, Client, Account, Address, Secret, Name, Password, Signed, Places, Ports, ServiceType, FramedProtocol, SessionTimeout, IdleTimeout, OwnLive, OwnGrace}
 
 -- the key under which the field stands in the file
-abbrev pub key_of : Field → List ℕ
-key_of Version = codes "version"
-key_of Shards = codes "shards"
-key_of ReserveSecs = codes "reserve_secs"
-key_of LiveSecs = codes "live_secs"
-key_of GraceSecs = codes "grace_secs"
-key_of ClosedSecs = codes "closed_secs"
-key_of KeepSecs = codes "keep_secs"
-key_of Client = codes "client"
-key_of Account = codes "account"
-key_of Address = codes "address"
-key_of Secret = codes "secret"
-key_of Name = codes "name"
-key_of Password = codes "password"
-key_of Places = codes "places"
-key_of Ports = codes "ports"
-key_of ServiceType = codes "service_type"
-key_of FramedProtocol = codes "framed_protocol"
-key_of SessionTimeout = codes "session_timeout"
-key_of IdleTimeout = codes "idle_timeout"
+abbrev pub field_key : Field → List ℕ
+field_key Version = codes "version"
+field_key Shards = codes "shards"
+field_key ReserveSecs = codes "reserve_secs"
+field_key LiveSecs = codes "live_secs"
+field_key GraceSecs = codes "grace_secs"
+field_key ClosedSecs = codes "closed_secs"
+field_key KeepSecs = codes "keep_secs"
+field_key Client = codes "client"
+field_key Account = codes "account"
+field_key Address = codes "address"
+field_key Secret = codes "secret"
+field_key Signed = codes "signed"
+field_key Name = codes "name"
+field_key Password = codes "password"
+field_key Places = codes "places"
+field_key Ports = codes "ports"
+field_key ServiceType = codes "service_type"
+field_key FramedProtocol = codes "framed_protocol"
+field_key SessionTimeout = codes "session_timeout"
+field_key IdleTimeout = codes "idle_timeout"
+field_key OwnLive = codes "live_secs"
+field_key OwnGrace = codes "grace_secs"
 
--- a field that an account may leave out
+-- a field that a client or an account may leave out
 abbrev pub is_optional : Field → Bool
+is_optional Signed = true
 is_optional ServiceType = true
 is_optional FramedProtocol = true
 is_optional SessionTimeout = true
 is_optional IdleTimeout = true
+is_optional OwnLive = true
+is_optional OwnGrace = true
 is_optional _ = false
 
 abbrev pub is_between : ℕ → ℕ → ℕ → Bool
@@ -40,7 +46,7 @@ is_between least most number = nat_le least number && nat_le number most
 
 -- a number that the field may have
 abbrev pub takes_number : Field → ℕ → Bool
-takes_number Version number = number == 1
+takes_number Version number = is_between 1 2 number
 takes_number Shards number = is_between 1 4 number
 takes_number ReserveSecs number = is_between 1 86400 number
 takes_number LiveSecs number = is_between 1 86400 number
@@ -53,7 +59,14 @@ takes_number ServiceType number = is_between 1 4294967295 number
 takes_number FramedProtocol number = is_between 1 4294967295 number
 takes_number SessionTimeout number = is_between 1 4294967295 number
 takes_number IdleTimeout number = is_between 1 4294967295 number
+takes_number OwnLive number = is_between 1 86400 number
+takes_number OwnGrace number = is_between 1 86400 number
 takes_number _ number = false
+
+-- whether the field may have true and false
+abbrev pub takes_boolean : Field → Bool
+takes_boolean Signed = true
+takes_boolean _ = false
 
 -- how many tables the field may have
 abbrev pub takes_count : Field → ℕ → Bool

@@ -4,7 +4,7 @@ use Rattle.rsl_accounts.specs.declared.entry.Entry.{Entry}
 use Rattle.rsl_accounts.specs.declared.rules.Rules.{Rules}
 use Rattle.rsl_accounts.specs.declared.settings.Settings.{Settings}
 use Rattle.rsl_accounts.specs.Configuration.{Configuration, addresses, names, comes_twice}
-use Rattle.rsl_accounts.specs.Settings.{rules_with_times}
+use Rattle.rsl_accounts.specs.Settings.{rules_of}
 
 -- a number of seconds that a rule may have
 pub record IsTime (seconds : ℕ) : Type 0 where
@@ -25,7 +25,8 @@ pub record RulesFit (rules : Rules) : Type 0 where
 
 -- every number of the settings is within its limits
 pub record SettingsFit (settings : Settings) : Type 0 where
-  pub version : settings.version ≡ 1
+  pub a_version : 1 ≤ settings.version
+  pub version : settings.version ≤ 2
   pub a_shard : 1 ≤ settings.shards
   pub shards : settings.shards ≤ 4
   pub reserve : IsTime settings.reserve
@@ -47,12 +48,12 @@ pub record IsName (text : List ℕ) : Type 0 where
   pub length : length_of text ≤ 64
   pub visible : All (λ octet. (33 ≤ octet) × (octet ≤ 126)) text
 
--- the account is within its limits, and has the times of the settings
+-- the account is within its limits, and its times are its own or those of the settings
 pub record IsAccount (settings : Settings) (entry : Entry) : Type 0 where
   pub name : IsName entry.name
   pub password : IsSecret entry.password
   pub rules : RulesFit entry.rules
-  pub times : entry.rules ≡ rules_with_times settings entry.rules
+  pub times : entry.rules ≡ rules_of settings entry
   pub service_type : IfSome entry.service_type (λ number. 1 ≤ number)
   pub framed_protocol : IfSome entry.framed_protocol (λ number. 1 ≤ number)
   pub session_timeout : IfSome entry.session_timeout (λ number. 1 ≤ number)

@@ -2,12 +2,13 @@
 use Rattle.std.specs.Prelude.{ℕ, Bool, List, [], ◌∷◌, ◌++◌, map, if◌then◌else◌, Option, None, Some}
 use Rattle.std.specs.List.{flat_map}
 use Rattle.rsl_accounts.specs.declared.field.Field.{Field}
-use Rattle.rsl_accounts.specs.declared.field.Field.TheVariants.{Version, Shards, ReserveSecs, LiveSecs, GraceSecs, ClosedSecs, KeepSecs, Client, Account, Address, Secret, Name, Password, Places, Ports, ServiceType, FramedProtocol, SessionTimeout, IdleTimeout}
+use Rattle.rsl_accounts.specs.declared.field.Field.TheVariants.{Version, Shards, ReserveSecs, LiveSecs, GraceSecs, ClosedSecs, KeepSecs, Client, Account, Address, Secret, Signed, Name, Password, Places, Ports, ServiceType, FramedProtocol, SessionTimeout, IdleTimeout, OwnLive, OwnGrace}
 use Rattle.rsl_accounts.specs.declared.fault.ConfigFault.{ConfigFault}
 use Rattle.rsl_accounts.specs.declared.fault.ConfigFault.TheVariants.{Missing, BadValue}
 use Rattle.rsl_accounts.specs.declared.given.Given.{Given}
 use Rattle.rsl_accounts.specs.declared.given.Given.TheVariants.{Absent, Wrong, Right}
-use Rattle.rsl_accounts.specs.Field.{is_optional, takes_number, takes_count, takes_text}
+use Rattle.rsl_accounts.specs.Field.{is_optional, takes_number, takes_boolean, takes_count, takes_text}
+use Rattle.rsl_accounts.specs.Version.{knows_own_times}
 
 -- the fields at the head of a file, in the order of the walk
 unfoldable pub file_fields : List Field
@@ -15,11 +16,19 @@ file_fields = Version ∷ Shards ∷ ReserveSecs ∷ LiveSecs ∷ GraceSecs ∷ 
 
 -- the fields of a client
 unfoldable pub client_fields : List Field
-client_fields = Address ∷ Secret ∷ []
+client_fields = Address ∷ Secret ∷ Signed ∷ []
+
+-- the fields of an account in every version
+unfoldable pub common_fields : List Field
+common_fields = Name ∷ Password ∷ Places ∷ Ports ∷ ServiceType ∷ FramedProtocol ∷ SessionTimeout ∷ IdleTimeout ∷ []
+
+-- times of an account's own, which version 1 does not know
+unfoldable pub own_times : List Field
+own_times = OwnLive ∷ OwnGrace ∷ []
 
 -- the fields of an account
-unfoldable pub account_fields : List Field
-account_fields = Name ∷ Password ∷ Places ∷ Ports ∷ ServiceType ∷ FramedProtocol ∷ SessionTimeout ∷ IdleTimeout ∷ []
+abbrev pub account_fields : (version : ℕ) → List Field
+account_fields version = if knows_own_times version then common_fields ++ own_times else common_fields
 
 -- what a value is for its field
 abbrev pub given_if : (is_right : Bool) → Given
@@ -30,6 +39,9 @@ given_number field number = given_if (takes_number field number)
 
 abbrev pub given_count : Field → ℕ → Given
 given_count field count = given_if (takes_count field count)
+
+abbrev pub given_boolean : Field → Given
+given_boolean field = given_if (takes_boolean field)
 
 abbrev pub given_text : Field → List ℕ → Given
 given_text field text = given_if (takes_text field text)
@@ -45,9 +57,11 @@ abbrev pub checks : List Field → (Field → Given) → List (Option ConfigFaul
 checks fields given = map (λ field. fault_of field (given field)) fields
 
 -- the checks of the whole walk: the head of the file, then each client, then each account
-unfoldable pub walk : (Field → Given) → List (Field → Given) → List (Field → Given) → List (Option ConfigFault)
-walk head clients accounts =
-    checks file_fields head ++ flat_map (checks client_fields) clients ++ flat_map (checks account_fields) accounts
+unfoldable pub walk : (version : ℕ) → (Field → Given) → List (Field → Given) → List (Field → Given) → List (Option ConfigFault)
+walk version head clients accounts =
+    checks file_fields head
+    ++ flat_map (checks client_fields) clients
+    ++ flat_map (checks (account_fields version)) accounts
 
 -- the first fault of some checks
 abbrev pub first_fault : List (Option ConfigFault) → Option ConfigFault

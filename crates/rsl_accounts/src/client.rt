@@ -1,6 +1,6 @@
 use crate::field::Field;
 use crate::given::{Fields, Given};
-use crate::text::Text;
+use crate::secret::Secret;
 
 /// An access server that may send packets.
 #[derive(Debug, PartialEq, Eq, Drop)]
@@ -8,7 +8,10 @@ pub struct Client {
     /// Its IPv4 address.
     pub address: [u8; 4],
     /// The secret shared with it: 1 to 128 octets of UTF-8 without NUL.
-    pub secret: Text,
+    pub secret: Secret,
+    /// Whether each of its Access-Requests must have a right Message-Authenticator (RFC 3579 section
+    /// 3.2).
+    pub signed: bool,
 }
 
 impl Fields for Client {
@@ -19,7 +22,8 @@ impl Fields for Client {
     fn given(&self, field: Field) -> Given {
         match field {
             Field::Address => Given::Right,
-            Field::Secret => Given::text(field, self.secret.as_bytes()),
+            Field::Secret => Given::text(field, self.secret.expose()),
+            Field::Signed => Given::Right,
             _ => Given::Absent,
         }
     }

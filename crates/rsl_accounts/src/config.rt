@@ -37,8 +37,8 @@ impl Model for Config {
 }
 
 impl Config {
-    /// The configuration of these settings, clients and accounts, each account with the times of the
-    /// settings. The faults come in this order: `BadValue` of the first field of the walk with a wrong
+    /// The configuration of these settings, clients and accounts. The rules of each account get its times:
+    /// those of the settings, but in version 2 its own live and grace times where it has them. The faults come in this order: `BadValue` of the first field of the walk with a wrong
     /// value, `TwiceClient`, `TwiceAccount`, `KeepTooLong`. `NoMemory` comes where memory is refused,
     /// before the checks that follow.
     pub fn make(
@@ -160,7 +160,7 @@ fn walk_over(settings: Settings, clients: &[Client], accounts: &[Entry]) -> Resu
         clients: clients.len(),
         accounts: accounts.len(),
     };
-    walk(&head, clients, accounts)
+    walk(settings.version, &head, clients, accounts)
 }
 
 /// The place of the first client with the address.
@@ -207,12 +207,12 @@ fn index_names(alloc: Global, accounts: &[Entry]) -> Result<IndexSet<Vec<u8>>, C
     Ok(index)
 }
 
-/// The accounts with the times of the settings.
+/// The accounts with their times.
 fn fill_times(settings: &Settings, mut accounts: Vec<Entry>) -> Vec<Entry>
     ensures { result.items ≡ map (with_times settings.now) accounts.items }
 {
     for account in accounts.iter_mut() {
-        account.rules = settings.with_times(account.rules);
+        account.rules = settings.rules_of(account);
     }
     accounts
 }

@@ -4,6 +4,7 @@ ghost use Rattle.rsl_accounts.specs.Entry.{given_option};
 use crate::field::Field;
 use crate::given::{Fields, Given};
 use crate::rules::Rules;
+use crate::secret::Secret;
 use crate::text::Text;
 
 /// An account.
@@ -12,7 +13,7 @@ pub struct Entry {
     /// The User-Name: 1 to 64 octets, each 0x21 to 0x7E.
     pub name: Text,
     /// The password: 1 to 128 octets of UTF-8 without NUL.
-    pub password: Text,
+    pub password: Secret,
     /// The session limit.
     pub rules: Rules,
     /// The Service-Type of the account's accepts (RFC 2865 section 5.6), at least 1.
@@ -23,6 +24,10 @@ pub struct Entry {
     pub session_timeout: Option<u32>,
     /// The Idle-Timeout of the account's accepts in seconds (RFC 2865 section 5.28), at least 1.
     pub idle_timeout: Option<u32>,
+    /// The live time of the account's own in seconds, 1 to 86,400; in version 1 it is passed over.
+    pub own_live: Option<u64>,
+    /// The grace time of the account's own in seconds, 1 to 86,400; in version 1 it is passed over.
+    pub own_grace: Option<u64>,
 }
 
 impl Fields for Entry {
@@ -33,23 +38,34 @@ impl Fields for Entry {
     fn given(&self, field: Field) -> Given {
         match field {
             Field::Name => Given::text(field, self.name.as_bytes()),
-            Field::Password => Given::text(field, self.password.as_bytes()),
+            Field::Password => Given::text(field, self.password.expose()),
             Field::Places => Given::number(field, self.rules.places),
             Field::Ports => Given::number(field, self.rules.ports),
-            Field::ServiceType => optional(field, self.service_type),
-            Field::FramedProtocol => optional(field, self.framed_protocol),
-            Field::SessionTimeout => optional(field, self.session_timeout),
-            Field::IdleTimeout => optional(field, self.idle_timeout),
+            Field::ServiceType => short(field, self.service_type),
+            Field::FramedProtocol => short(field, self.framed_protocol),
+            Field::SessionTimeout => short(field, self.session_timeout),
+            Field::IdleTimeout => short(field, self.idle_timeout),
+            Field::OwnLive => optional(field, self.own_live),
+            Field::OwnGrace => optional(field, self.own_grace),
             _ => Given::Absent,
         }
     }
 }
 
-fn optional(field: Field, number: Option<u32>) -> Given
+fn short(field: Field, number: Option<u32>) -> Given
     ensures { result ≡ given_option field number }
 {
     match number {
         None => Given::Absent,
         Some(number) => Given::number(field, number as u64),
+    }
+}
+
+fn optional(field: Field, number: Option<u64>) -> Given
+    ensures { result ≡ given_option field number }
+{
+    match number {
+        None => Given::Absent,
+        Some(number) => Given::number(field, number),
     }
 }

@@ -1,5 +1,5 @@
 ghost use Rattle.std.specs.Prelude.{◌≡◌, Some};
-ghost use Rattle.rsl_accounts.specs.Field.{key_of, is_optional, is_between, is_secret, is_name, has_no_nul, is_visible, takes_number, takes_count, takes_text};
+ghost use Rattle.rsl_accounts.specs.Field.{field_key, is_optional, is_between, is_secret, is_name, has_no_nul, is_visible, takes_number, takes_boolean, takes_count, takes_text};
 
 use crate::address::address_of;
 use std::fmt;
@@ -29,6 +29,8 @@ pub enum Field {
     Address,
     /// The secret shared with a client.
     Secret,
+    /// Whether a client signs its requests with a Message-Authenticator.
+    Signed,
     /// The User-Name of an account.
     Name,
     /// The password of an account.
@@ -45,12 +47,16 @@ pub enum Field {
     SessionTimeout,
     /// The Idle-Timeout of an account's accepts, in seconds.
     IdleTimeout,
+    /// The live time of an account's own, under the key of `LiveSecs`.
+    OwnLive,
+    /// The grace time of an account's own, under the key of `GraceSecs`.
+    OwnGrace,
 }
 
 impl Field {
     /// The key under which the field stands in the file, as `keep_secs`.
     pub fn key(&self) -> &'static str
-        ensures { result.now ≡ key_of self.now }
+        ensures { result.now ≡ field_key self.now }
     {
         match self {
             Field::Version => "version",
@@ -64,6 +70,7 @@ impl Field {
             Field::Account => "account",
             Field::Address => "address",
             Field::Secret => "secret",
+            Field::Signed => "signed",
             Field::Name => "name",
             Field::Password => "password",
             Field::Places => "places",
@@ -72,6 +79,8 @@ impl Field {
             Field::FramedProtocol => "framed_protocol",
             Field::SessionTimeout => "session_timeout",
             Field::IdleTimeout => "idle_timeout",
+            Field::OwnLive => "live_secs",
+            Field::OwnGrace => "grace_secs",
         }
     }
 
@@ -79,10 +88,13 @@ impl Field {
         ensures { result ≡ is_optional self }
     {
         match self {
-            Field::ServiceType
+            Field::Signed
+            | Field::ServiceType
             | Field::FramedProtocol
             | Field::SessionTimeout
-            | Field::IdleTimeout => true,
+            | Field::IdleTimeout
+            | Field::OwnLive
+            | Field::OwnGrace => true,
             _ => false,
         }
     }
@@ -92,13 +104,15 @@ impl Field {
         ensures { result ≡ takes_number self number }
     {
         match self {
-            Field::Version => number == 1,
+            Field::Version => is_between(1, 2, number),
             Field::Shards => is_between(1, 4, number),
             Field::ReserveSecs
             | Field::LiveSecs
             | Field::GraceSecs
             | Field::ClosedSecs
-            | Field::KeepSecs => is_between(1, 86_400, number),
+            | Field::KeepSecs
+            | Field::OwnLive
+            | Field::OwnGrace => is_between(1, 86_400, number),
             Field::Places => is_between(0, 64, number),
             Field::Ports => is_between(1, 16, number),
             Field::ServiceType
@@ -107,6 +121,13 @@ impl Field {
             | Field::IdleTimeout => is_between(1, 4_294_967_295, number),
             _ => false,
         }
+    }
+
+    /// Whether the field may have true and false.
+    pub(crate) fn takes_boolean(self) -> bool
+        ensures { result ≡ takes_boolean self }
+    {
+        matches!(self, Field::Signed)
     }
 
     /// Whether the field may have this many tables.
@@ -134,7 +155,7 @@ impl Field {
 }
 
 impl fmt::Display for Field {
-    ghost output = { λ field. Some (key_of field) };
+    ghost output = { λ field. Some (field_key field) };
 
     fn fmt<W: fmt::Write>(&self, f: &mut fmt::Formatter<W>) -> fmt::Result {
         f.write_str(self.key())

@@ -3,7 +3,7 @@ ghost use Rattle.std.specs.Prelude.{◌≡◌, ◌≢◌, Some, None, [], map, i
 ghost use Rattle.std.specs.List.{list_all};
 ghost use Rattle.toml.specs.Data.{as_table};
 ghost use Rattle.toml.specs.View.{view};
-ghost use Rattle.rsl_accounts.specs.File.{file_of, member_in, natural, given_value, given_items, given_in, number_in, short_number_in, text_in, tables_in, settings_in, address_in, client_in, rules_in, entry_in, configuration_of_text};
+ghost use Rattle.rsl_accounts.specs.File.{file_of, member_in, natural, given_value, given_items, given_in, file_number, short_number_in, text_in, boolean_in, tables_in, version_in, settings_in, address_in, client_in, rules_in, own_number, entry_in, configuration_of_text};
 
 use crate::address::address_of;
 use crate::client::Client;
@@ -13,9 +13,10 @@ use crate::fault::ConfigFault;
 use crate::field::Field;
 use crate::given::{Fields, Given};
 use crate::rules::Rules;
+use crate::secret::Secret;
 use crate::settings::Settings;
 use crate::text::Text;
-use crate::walk::walk;
+use crate::walk::{knows_own_times, walk};
 use rsl_wire::NoMemory;
 use std::alloc::Global;
 use toml::Value;
@@ -33,10 +34,11 @@ impl Config {
         let file = parse(alloc, text)?;
         let clients = tables(&file, Field::Client);
         let accounts = tables(&file, Field::Account);
-        walk(&file, clients, accounts)?;
+        let version = version(&file);
+        walk(version, &file, clients, accounts)?;
         let settings = settings(&file);
         let clients = read_clients(alloc, clients)?;
-        let accounts = read_entries(alloc, accounts)?;
+        let accounts = read_entries(alloc, version, accounts)?;
         Config::assemble(alloc, settings, clients, accounts)
     }
 }
@@ -85,6 +87,8 @@ fn given(value: &Value, field: Field) -> Given
         Given::text(field, text.as_bytes())
     } else if let Some(items) = value.as_array() {
         given_items(items.as_slice(), field)
+    } else if value.is_bool() {
+        Given::boolean(field)
     } else {
         Given::Wrong
     }
@@ -119,7 +123,7 @@ fn are_tables(items: &[Value]) -> bool
 
 /// The number of a field, if it is a number that is not negative.
 fn number(table: &Value, field: Field) -> Option<u64>
-    ensures { result ≡ number_in (view table.now) field }
+    ensures { result ≡ file_number (view table.now) field }
 {
     natural(member(table, field)?.as_integer()?)
 }
@@ -143,6 +147,16 @@ fn text(table: &Value, field: Field) -> Option<&str>
     member(table, field)?.as_str()
 }
 
+/// What a field says, false if it is neither true nor false.
+fn boolean(table: &Value, field: Field) -> bool
+    ensures { result ≡ boolean_in (view table.now) field }
+{
+    match member(table, field) {
+        Some(value) => value.as_bool().unwrap_or(false),
+        None => false,
+    }
+}
+
 /// The tables of a field, or none if it is no array.
 fn tables(table: &Value, field: Field) -> &[Value]
     ensures { map view result.now ≡ tables_in (view table.now) field }
@@ -156,13 +170,20 @@ fn tables(table: &Value, field: Field) -> &[Value]
     }
 }
 
+/// The version of the file's format, 0 if it has none.
+fn version(file: &Value) -> u64
+    ensures { result ≡ version_in (view file.now) }
+{
+    number(file, Field::Version).unwrap_or(0)
+}
+
 /// The settings at the head of a file that has passed the walk.
 #[tactic(auto, unfolding(crate::specs::File::settings_in))]
 fn settings(file: &Value) -> Settings
     ensures { result ≡ settings_in (view file.now) }
 {
     Settings {
-        version: number(file, Field::Version).unwrap_or(0),
+        version: version(file),
         shards: number(file, Field::Shards).unwrap_or(0),
         reserve: number(file, Field::ReserveSecs).unwrap_or(0),
         live: number(file, Field::LiveSecs).unwrap_or(0),
@@ -195,7 +216,8 @@ fn read_client(alloc: Global, table: &Value) -> Result<Client, NoMemory>
 {
     Ok(Client {
         address: address(table),
-        secret: owned_text(alloc, table, Field::Secret)?,
+        secret: Secret::from(owned_text(alloc, table, Field::Secret)?),
+        signed: boolean(table, Field::Signed),
     })
 }
 
@@ -209,7 +231,7 @@ fn read_clients(alloc: Global, tables: &[Value]) -> Result<Vec<Client>, NoMemory
     Ok(clients)
 }
 
-/// The session limit of an account, whose times are those of the settings.
+/// The session limit of an account, of which the times are filled in later.
 #[tactic(auto, unfolding(crate::specs::File::rules_in))]
 fn rules(table: &Value) -> Rules
     ensures { result ≡ rules_in (view table.now) }
@@ -225,27 +247,40 @@ fn rules(table: &Value) -> Rules
     }
 }
 
+/// A time of an account's own, which version 1 does not know.
+fn own_number(version: u64, table: &Value, field: Field) -> Option<u64>
+    ensures { result ≡ own_number version (view table.now) field }
+{
+    if knows_own_times(version) {
+        number(table, field)
+    } else {
+        None
+    }
+}
+
 #[tactic(auto, unfolding(crate::specs::File::entry_in))]
-fn read_entry(alloc: Global, table: &Value) -> Result<Entry, NoMemory>
-    ensures { IfOk result (λ entry. entry ≡ entry_in (view table.now)) }
+fn read_entry(alloc: Global, version: u64, table: &Value) -> Result<Entry, NoMemory>
+    ensures { IfOk result (λ entry. entry ≡ entry_in version (view table.now)) }
 {
     Ok(Entry {
         name: owned_text(alloc, table, Field::Name)?,
-        password: owned_text(alloc, table, Field::Password)?,
+        password: Secret::from(owned_text(alloc, table, Field::Password)?),
         rules: rules(table),
         service_type: short_number(table, Field::ServiceType),
         framed_protocol: short_number(table, Field::FramedProtocol),
         session_timeout: short_number(table, Field::SessionTimeout),
         idle_timeout: short_number(table, Field::IdleTimeout),
+        own_live: own_number(version, table, Field::OwnLive),
+        own_grace: own_number(version, table, Field::OwnGrace),
     })
 }
 
-fn read_entries(alloc: Global, tables: &[Value]) -> Result<Vec<Entry>, NoMemory>
-    ensures { IfOk result (λ entries. entries.items ≡ map entry_in (map view tables.now)) }
+fn read_entries(alloc: Global, version: u64, tables: &[Value]) -> Result<Vec<Entry>, NoMemory>
+    ensures { IfOk result (λ entries. entries.items ≡ map (entry_in version) (map view tables.now)) }
 {
     let mut entries = Vec::with_capacity(alloc, tables.len())?;
     for table in tables {
-        entries.push(read_entry(alloc, table)?)?;
+        entries.push(read_entry(alloc, version, table)?)?;
     }
     Ok(entries)
 }

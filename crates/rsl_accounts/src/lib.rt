@@ -17,15 +17,18 @@ mod field;
 mod file;
 mod given;
 mod rules;
+mod secret;
 mod settings;
 mod text;
 mod walk;
 
+pub use address::address_of;
 pub use client::Client;
 pub use config::Config;
 pub use entry::Entry;
 pub use fault::ConfigFault;
 pub use field::Field;
 pub use rules::Rules;
+pub use secret::Secret;
 pub use settings::Settings;
 pub use text::Text;

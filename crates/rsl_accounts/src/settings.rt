@@ -1,13 +1,16 @@
 ghost use Rattle.std.specs.Prelude.{◌≡◌};
+ghost use Rattle.rsl_accounts.specs.Settings.{own_time};
 
+use crate::entry::Entry;
 use crate::field::Field;
 use crate::given::{Fields, Given};
 use crate::rules::Rules;
+use crate::walk::knows_own_times;
 
 /// What an account file says once, for all accounts.
 #[derive(Clone, Copy, Debug, PartialEq, Eq)]
 pub struct Settings {
-    /// The version of the file's format: 1.
+    /// The version of the file's format: 1 or 2. In version 2 an account can have times of its own.
     pub version: u64,
     /// How many shards the accounts are spread over: 1 to 4.
     pub shards: u64,
@@ -24,21 +27,33 @@ pub struct Settings {
 }
 
 impl Settings {
-    ghost use Rattle.rsl_accounts.specs.Settings.{rules_with_times};
+    ghost use Rattle.rsl_accounts.specs.Settings.{rules_of};
 
-    /// The rules with the times of the settings.
-    pub(crate) fn with_times(&self, rules: Rules) -> Rules
-        ensures { result ≡ rules_with_times self.now rules }
+    /// The session limit of the account, with its times: its own where the version knows them and the
+    /// account has them, else those of the settings.
+    pub(crate) fn rules_of(&self, entry: &Entry) -> Rules
+        ensures { result ≡ rules_of self.now entry.now }
     {
         Rules {
-            places: rules.places,
-            ports: rules.ports,
+            places: entry.rules.places,
+            ports: entry.rules.ports,
             reserve: self.reserve,
-            live: self.live,
-            grace: self.grace,
+            live: own_time(self.version, entry.own_live, self.live),
+            grace: own_time(self.version, entry.own_grace, self.grace),
             closed: self.closed,
             keep: self.keep,
         }
+    }
+}
+
+/// A time of an account: its own where the version knows one, else the common one.
+fn own_time(version: u64, own: Option<u64>, common: u64) -> u64
+    ensures { result ≡ own_time version own common }
+{
+    if knows_own_times(version) {
+        own.unwrap_or(common)
+    } else {
+        common
     }
 }
 

@@ -1,7 +1,8 @@
 ghost use Rattle.std.specs.Prelude.{◌≡◌, map};
 ghost use Rattle.std.specs.List.{flat_map};
 ghost use Rattle.std.specs.Result.{result_err};
-ghost use Rattle.rsl_accounts.specs.Walk.{file_fields, client_fields, account_fields, given_if, given_number, given_count, given_text, fault_of, checks, walk, first_fault};
+ghost use Rattle.rsl_accounts.specs.Walk.{file_fields, client_fields, account_fields, given_if, given_number, given_boolean, given_count, given_text, fault_of, checks, walk, first_fault};
+ghost use Rattle.rsl_accounts.specs.Version.{knows_own_times};
 
 use crate::fault::ConfigFault;
 use crate::field::Field;
@@ -19,9 +20,13 @@ const FILE_FIELDS: [Field; 9] = [
     Field::Account,
 ];
 
-const CLIENT_FIELDS: [Field; 2] = [Field::Address, Field::Secret];
+const CLIENT_FIELDS: [Field; 3] = [Field::Address, Field::Secret, Field::Signed];
 
-const ACCOUNT_FIELDS: [Field; 8] = [
+/// How many fields an account has in every version.
+const COMMON_FIELDS: usize = 8;
+
+/// The fields of an account, those that version 1 does not know at the end.
+const ACCOUNT_FIELDS: [Field; 10] = [
     Field::Name,
     Field::Password,
     Field::Places,
@@ -30,6 +35,8 @@ const ACCOUNT_FIELDS: [Field; 8] = [
     Field::FramedProtocol,
     Field::SessionTimeout,
     Field::IdleTimeout,
+    Field::OwnLive,
+    Field::OwnGrace,
 ];
 
 impl Given {
@@ -37,6 +44,12 @@ impl Given {
         ensures { result ≡ given_number field number }
     {
         given_if(field.takes_number(number))
+    }
+
+    pub(crate) fn boolean(field: Field) -> Given
+        ensures { result ≡ given_boolean field }
+    {
+        given_if(field.takes_boolean())
     }
 
     pub(crate) fn count(field: Field, count: usize) -> Given
@@ -70,19 +83,40 @@ fn given_if(is_right: bool) -> Given
     if is_right { Given::Right } else { Given::Wrong }
 }
 
+/// Whether an account can have times of its own.
+pub(crate) fn knows_own_times(version: u64) -> bool
+    ensures { result ≡ knows_own_times version }
+{
+    version == 2
+}
+
+/// The fields of an account.
+#[tactic(auto, unfolding(crate::specs::Walk::common_fields, crate::specs::Walk::own_times))]
+fn account_fields(version: u64) -> &'static [Field]
+    ensures { result.now ≡ account_fields version }
+{
+    if knows_own_times(version) {
+        &ACCOUNT_FIELDS
+    } else {
+        &ACCOUNT_FIELDS[..COMMON_FIELDS]
+    }
+}
+
 /// Walks over the head of a file, then over each client, then over each account. The first field that is
 /// absent or wrong is the fault.
-#[tactic(auto, using(crate::proofs::Faults::walk_steps), unfolding(crate::specs::Walk::file_fields, crate::specs::Walk::client_fields, crate::specs::Walk::account_fields))]
+#[tactic(auto, using(crate::proofs::Faults::walk_steps), unfolding(crate::specs::Walk::file_fields, crate::specs::Walk::client_fields))]
 pub(crate) fn walk<H: Fields, C: Fields, A: Fields>(
+    version: u64,
     head: &H,
     clients: &[C],
     accounts: &[A],
 ) -> Result<(), ConfigFault>
-    ensures { result_err result ≡ first_fault (walk (H.given_of head.now) (map C.given_of clients.now) (map A.given_of accounts.now)) }
+    ensures { result_err result ≡ first_fault (
+        walk version (H.given_of head.now) (map C.given_of clients.now) (map A.given_of accounts.now)) }
 {
     walk_one(&FILE_FIELDS, head)?;
     walk_each(&CLIENT_FIELDS, clients)?;
-    walk_each(&ACCOUNT_FIELDS, accounts)
+    walk_each(account_fields(version), accounts)
 }
 
 #[tactic(auto, using(crate::proofs::Faults::loop_steps))]

@@ -65,8 +65,8 @@ fn asker(
         return None;
     }
     let account = account_named(config, attributes)?;
-    let secret = config.client_at(client).secret.as_bytes();
-    let password = config.entry(account).password.as_bytes();
+    let secret = config.client_at(client).secret.expose();
+    let password = config.entry(account).password.expose();
     if shows_password(secret, authenticator, attributes, password) {
         Some(account)
     } else {

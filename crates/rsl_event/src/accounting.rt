@@ -32,7 +32,7 @@ pub(crate) fn accounting_meaning(
     if packet.code != ACCOUNTING_REQUEST {
         return Err(Dropped::WrongCode);
     }
-    let secret = config.client_at(client).secret.as_bytes();
+    let secret = config.client_at(client).secret.expose();
     if !accounting_ok(packet.octets(), secret) {
         return Err(Dropped::BadAuthenticator);
     }

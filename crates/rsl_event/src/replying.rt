@@ -60,7 +60,7 @@ pub fn reply(
     write_repeated(prepared, &mut draft);
     let code = code_of(said(&prepared.meaning, decision));
     let octets = draft.finish(code, &[0; 16]);
-    let secret = config.client_at(prepared.client).secret.as_bytes();
+    let secret = config.client_at(prepared.client).secret.expose();
     with_seal(octets, &prepared.packet.authenticator, secret)
 }
 

@@ -5,7 +5,7 @@ mod drops;
 mod replies;
 
 use crate::{Decision, Dropped, Meaning, Nas, NasName, Port, Source, codes, prepare, reply, room};
-use rsl_accounts::{Client, Config, Entry, Rules, Settings, Text};
+use rsl_accounts::{Client, Config, Entry, Rules, Secret, Settings, Text};
 use rsl_auth::seal;
 use rsl_wire::{Attr, Draft, Octets, build};
 use std::alloc::Global;
@@ -39,7 +39,7 @@ const HIDDEN_ARCTANGENT: [u8; 16] = [
 fn nemo(alloc: Global) -> Result<Entry, Fail> {
     Ok(Entry {
         name: Text::from_str(alloc, "nemo")?,
-        password: Text::from_str(alloc, "arctangent")?,
+        password: Secret::from_str(alloc, "arctangent")?,
         rules: Rules {
             places: 1,
             ports: 1,
@@ -53,6 +53,8 @@ fn nemo(alloc: Global) -> Result<Entry, Fail> {
         framed_protocol: None,
         session_timeout: None,
         idle_timeout: None,
+        own_live: None,
+        own_grace: None,
     })
 }
 
@@ -68,7 +70,8 @@ fn config_of(alloc: Global, entry: Entry) -> Result<Config, Fail> {
     };
     let client = Client {
         address: SOURCE.address,
-        secret: Text::from_str(alloc, "xyzzy5461")?,
+        secret: Secret::from_str(alloc, "xyzzy5461")?,
+        signed: false,
     };
     let clients = Vec::from_array(alloc, [client])?;
     let accounts = Vec::from_array(alloc, [entry])?;

@@ -132,7 +132,7 @@ fn secret_at(config: &Config, address: [u8; 4]) -> &[u8]
     ensures { result.now ≡ secret_at config.now address }
 {
     match config.client(address) {
-        Some(client) => config.client_at(client).secret.as_bytes(),
+        Some(client) => config.client_at(client).secret.expose(),
         None => NO_SECRET,
     }
 }

@@ -1,5 +1,5 @@
 -- What a line of a script says.
-use Rattle.std.specs.Prelude.{ℕ, List, [], ◌∷◌, if◌then◌else◌, Option, None, Some, option_map}
+use Rattle.std.specs.Prelude.{ℕ, false, List, [], ◌∷◌, if◌then◌else◌, Option, None, Some, option_map}
 use Rattle.rsl_accounts.specs.Address.{address_of}
 use Rattle.rsl_accounts.specs.declared.entry.Entry.{Entry}
 use Rattle.rsl_script.specs.declared.line.Line.{Line}
@@ -24,7 +24,7 @@ set_line _ = None
 unfoldable pub client_line : (words : List (List ℕ)) → Option Line
 client_line (address ∷ secret ∷ []) = do
   address ← address_of address
-  Some (lines.Client (record { address = address; secret = secret }))
+  Some (lines.Client (record { address = address; secret = secret; signed = false }))
 client_line _ = None
 
 -- an account whose times are those of the settings, and whose accepts have no more attributes
@@ -37,6 +37,8 @@ account_with name password places ports = record {
   framed_protocol = None;
   session_timeout = None;
   idle_timeout = None;
+  own_live = None;
+  own_grace = None;
 }
 
 -- an account: NAME PASSWORD PLACES [PORTS], where one port is meant if none are given

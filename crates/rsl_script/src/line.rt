@@ -8,7 +8,7 @@ use crate::happening::event_of;
 use crate::values::{address_of, number_of};
 use crate::verb::{Setting, Verb, setting_of, verb_of};
 use crate::words::{are_words, is_silent, text_of, words_of};
-use rsl_accounts::{Client, Entry, Rules, Text};
+use rsl_accounts::{Client, Entry, Rules, Secret, Text};
 use rsl_wire::NoMemory;
 use std::alloc::Global;
 
@@ -96,7 +96,8 @@ fn client_line(alloc: Global, words: &[&str]) -> Result<Line, LineFault>
     match words {
         [address, secret] => Ok(Line::Client(Client {
             address: address_of(address).ok_or(LineFault::Wrong)?,
-            secret: Text::from_str(alloc, secret)?,
+            secret: Secret::from_str(alloc, secret)?,
+            signed: false,
         })),
         _ => Err(LineFault::Wrong),
     }
@@ -133,7 +134,7 @@ fn account_with(
 {
     Ok(Entry {
         name: Text::from_str(alloc, name)?,
-        password: Text::from_str(alloc, password)?,
+        password: Secret::from_str(alloc, password)?,
         rules: Rules {
             places,
             ports,
@@ -147,5 +148,7 @@ fn account_with(
         framed_protocol: None,
         session_timeout: None,
         idle_timeout: None,
+        own_live: None,
+        own_grace: None,
     })
 }

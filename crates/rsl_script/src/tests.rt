@@ -57,9 +57,9 @@ fn reads_the_configuration(rt: HostRuntime) -> Result<(), Fail> {
     assert!(rt; script.clients.len() == 2 && script.accounts.len() == 2);
     assert!(rt; script.events.is_empty());
     assert_eq!(rt; script.clients[1].address, [10, 0, 0, 1]);
-    assert_eq!(rt; script.clients[1].secret.as_str(), "s");
+    assert_eq!(rt; script.clients[1].secret.expose(), b"s".as_slice());
     assert_eq!(rt; script.accounts[0].name.as_str(), "u");
-    assert_eq!(rt; script.accounts[1].password.as_str(), "secret");
+    assert_eq!(rt; script.accounts[1].password.expose(), b"secret".as_slice());
     assert_eq!(rt; script.accounts[0].rules.ports, 1);
     assert_eq!(rt;
         (

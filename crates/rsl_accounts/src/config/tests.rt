@@ -1,6 +1,7 @@
 use super::*;
 use crate::field::Field;
 use crate::rules::Rules;
+use crate::secret::Secret;
 use crate::text::Text;
 use rsl_wire::NoMemory;
 use std::test::Fail;
@@ -20,14 +21,15 @@ fn settings() -> Settings {
 fn client(alloc: Global, address: [u8; 4], secret: &str) -> Result<Client, NoMemory> {
     Ok(Client {
         address,
-        secret: Text::from_str(alloc, secret)?,
+        secret: Secret::from_str(alloc, secret)?,
+        signed: false,
     })
 }
 
 fn entry(alloc: Global, name: &str, password: &str) -> Result<Entry, NoMemory> {
     Ok(Entry {
         name: Text::from_str(alloc, name)?,
-        password: Text::from_str(alloc, password)?,
+        password: Secret::from_str(alloc, password)?,
         rules: Rules {
             places: 1,
             ports: 1,
@@ -41,6 +43,8 @@ fn entry(alloc: Global, name: &str, password: &str) -> Result<Entry, NoMemory> {
         framed_protocol: None,
         session_timeout: None,
         idle_timeout: None,
+        own_live: None,
+        own_grace: None,
     })
 }
 
@@ -110,9 +114,12 @@ fn finds_the_client_and_the_account(rt: HostRuntime) -> Result<(), Fail> {
         (0, 1, 0)
     );
     assert!(rt; config.clients() == 2 && config.accounts() == 2);
-    assert_eq!(rt; config.client_at(1).secret.as_str(), "xyzzy5461");
+    assert_eq!(rt;
+        config.client_at(1).secret.expose(),
+        b"xyzzy5461".as_slice()
+    );
     let nemo = config.entry(0);
-    assert_eq!(rt; nemo.password.as_str(), "arctangent");
+    assert_eq!(rt; nemo.password.expose(), b"arctangent".as_slice());
     let filled = Rules {
         places: 1,
         ports: 1,
@@ -131,7 +138,7 @@ fn finds_the_client_and_the_account(rt: HostRuntime) -> Result<(), Fail> {
 fn numbers_at_their_limits(rt: HostRuntime) -> Result<(), Fail> {
     let alloc = rt.alloc();
     let limits = [
-        (Field::Version, 1, 1),
+        (Field::Version, 1, 2),
         (Field::Shards, 1, 4),
         (Field::ReserveSecs, 1, 86_400),
         (Field::LiveSecs, 1, 86_400),

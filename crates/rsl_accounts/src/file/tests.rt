@@ -54,9 +54,12 @@ fn reads_the_sample(rt: HostRuntime) -> Result<(), Fail> {
     assert_eq!(rt; config.account(b"nemo"), Some(0));
     assert_eq!(rt; config.client([192, 168, 1, 16]), Some(0));
     assert!(rt; config.clients() == 1 && config.accounts() == 1);
-    assert_eq!(rt; config.client_at(0).secret.as_str(), "xyzzy5461");
+    assert_eq!(rt;
+        config.client_at(0).secret.expose(),
+        b"xyzzy5461".as_slice()
+    );
     let nemo = config.entry(0);
-    assert_eq!(rt; nemo.password.as_str(), "arctangent");
+    assert_eq!(rt; nemo.password.expose(), b"arctangent".as_slice());
     assert_eq!(rt;
         (nemo.rules.places, nemo.rules.ports, nemo.rules.closed),
         (1, 1, 3600)
@@ -83,11 +86,7 @@ fn names_the_first_fault(rt: HostRuntime) -> Result<(), Fail> {
             "version = 3",
             Some(ConfigFault::BadValue(Field::Version)),
         ),
-        (
-            "version = 1",
-            "version = 2",
-            Some(ConfigFault::BadValue(Field::Version)),
-        ),
+        ("version = 1", "version = 2", None),
         (
             "version = 1",
             "version = \"1\"",

@@ -4,7 +4,7 @@ use crate::tests::{
     dropped, means, nemo, with_proxy_states,
 };
 use crate::{Act, Dropped, Key, Meaning, Nas, NasName, Port};
-use rsl_accounts::{Config, Text};
+use rsl_accounts::{Config, Secret};
 use rsl_wire::{Attr, Octets};
 use std::alloc::Global;
 use std::test::Fail;
@@ -86,7 +86,7 @@ fn request_of_an_account_with_another_password_is_rejected(rt: HostRuntime) -> R
     let alloc = rt.alloc();
     for password in ["arctange", "arctangent1", "Arctangent"] {
         let mut entry = nemo(alloc)?;
-        entry.password = Text::from_str(alloc, password)?;
+        entry.password = Secret::from_str(alloc, password)?;
         let config = config_of(alloc, entry)?;
         assert!(rt; is_answered(alloc, &config, &REQUEST, false), "{password}");
     }

@@ -4,7 +4,7 @@ use crate::tests::{
     config_of, identified, nemo, reply_to, with_proxy_states,
 };
 use crate::{Act, Decision, Key, Meaning, Port, Said, said};
-use rsl_accounts::Text;
+use rsl_accounts::Secret;
 use rsl_wire::Octets;
 use std::test::Fail;
 
@@ -102,7 +102,7 @@ fn accept_has_the_attributes_of_its_entry_in_order(rt: HostRuntime) -> Result<()
 fn request_with_another_password_is_rejected(rt: HostRuntime) -> Result<(), Fail> {
     let alloc = rt.alloc();
     let mut entry = nemo(alloc)?;
-    entry.password = Text::from_str(alloc, "arctange")?;
+    entry.password = Secret::from_str(alloc, "arctange")?;
     let config = config_of(alloc, entry)?;
     let reject = reply_to(alloc, &config, Port::Auth, &REQUEST, Decision::Done)?;
     assert_eq!(rt; reject.as_slice(), REJECT.as_slice());
