@@ -1,4 +1,6 @@
 pub mod AuthenticatorLemmas
 pub mod ChapLemmas
 pub mod DigestLemmas
+pub mod HmacLemmas
 pub mod PasswordLemmas
+pub mod SignatureLemmas

@@ -1,4 +1,4 @@
-ghost use Rattle.std.specs.Prelude.{◌≡◌, ◌↔◌, ◌≤◌, IsTrue, length, replicate};
+ghost use Rattle.std.specs.Prelude.{◌≡◌, ◌↔◌, ◌≤◌, IsTrue, length, replicate, vec_len};
 ghost use Rattle.rsl_auth.specs.Authenticator.{
   accounting_authenticator,
   authenticator,
@@ -10,10 +10,10 @@ ghost use Rattle.rsl_auth.specs.Authenticator.{
 use md5::{Digest, Md5};
 
 /// Octets of Code, Identifier and Length (RFC 2865 section 3).
-const AUTHENTICATOR_START: usize = 4;
+pub(crate) const AUTHENTICATOR_START: usize = 4;
 
 /// Octets before the Attributes.
-const ATTRIBUTES_START: usize = 20;
+pub(crate) const ATTRIBUTES_START: usize = 20;
 
 /// Writes the Response Authenticator, MD5(Code, Identifier, Length, Request Authenticator,
 /// Attributes, Secret), into octets 4 to 19 of a packet (RFC 2865 section 3). The other octets
@@ -27,6 +27,15 @@ pub fn seal(packet: &mut [u8], request_auth: &[u8; 16], secret: &[u8])
 {
     let digest = authenticator_of(packet, request_auth, secret);
     packet[AUTHENTICATOR_START..ATTRIBUTES_START].copy_from_slice(&digest);
+}
+
+/// The packet with its Response Authenticator: `seal` of octets that are moved in. It takes no memory.
+pub fn sealed(mut packet: Vec<u8>, request_auth: &[u8; 16], secret: &[u8]) -> Vec<u8>
+    requires { 20 ≤ vec_len packet }
+    ensures { result.items ≡ sealed packet.items request_auth.now secret.now }
+{
+    seal(packet.as_mut_slice(), request_auth, secret);
+    packet
 }
 
 /// Whether octets 4 to 19 of an Accounting-Request are its Request Authenticator, MD5(Code,

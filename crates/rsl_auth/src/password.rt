@@ -25,7 +25,8 @@ const MAX_LEN: usize = 128;
 
 /// The User-Password value that hides a password of 1 to 128 octets: padded with NULs to blocks of
 /// 16, each xor MD5(Secret, the hidden block before), the first xor MD5(Secret, Request
-/// Authenticator) (RFC 2865 section 5.2). It fails only where memory is refused.
+/// Authenticator) (RFC 2865 section 5.2). It has 16, 32, .. or 128 octets. It fails only where memory is
+/// refused.
 pub fn hide(
     alloc: Global,
     password: &[u8],
@@ -35,6 +36,7 @@ pub fn hide(
     requires not_empty { 1 ≤ length password.now }
     requires not_long { length password.now ≤ 128 }
     ensures value { IfOk result (λ value. value.items ≡ hidden password.now secret.now request_auth.now) }
+    ensures length { IfOk result (λ value. IsPasswordLength (length value.items)) }
     ensures reveals { IfOk result (λ value. IsTrue (matches_password value.items secret.now request_auth.now password.now)) }
 {
     let buffer = pad(password);

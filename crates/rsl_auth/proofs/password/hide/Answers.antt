@@ -1,8 +1,8 @@
 -- The hidden blocks are those of the padded password, and they reveal it.
 use Rattle.std.proofs.Common.{◌≡◌, ◌≤◌, ℕ, List, length, take, Result, Vec, Global, IfOk, IsTrue}
 use Rattle.std.proofs.lemmas.Result.{IfOk-weaker}
-use Rattle.rsl_auth.specs.Password.{padded, hidden, matches_password}
-use Rattle.rsl_auth.proofs.PasswordLemmas.{padded_from_buffer, hidden_from_blocks, matches_password-hidden}
+use Rattle.rsl_auth.specs.Password.{padded, hidden, IsPasswordLength, matches_password}
+use Rattle.rsl_auth.proofs.PasswordLemmas.{padded_from_buffer, hidden_from_blocks, matches_password-Decides, matches_password-hidden}
 use Rattle.rsl_auth.proofs.password.hide.Goals as goal
 
 pub returns-clause-value : goal.returns-clause-value
@@ -27,3 +27,15 @@ pub returns-clause-reveals : goal.returns-clause-reveals
 returns-clause-reveals c =
     reveals c.hide_blocks.result c.args.password.now c.args.secret.now c.args.request_auth.now
     c.requires.not_empty c.requires.not_long (returns-clause-value c)
+
+lengths : {E : Type 0} (r : Result (Vec ℕ Global) E) (password secret request_auth : List ℕ)
+    → IfOk r (λ value. IsTrue (matches_password value.items secret request_auth password))
+    → IfOk r (λ value. IsPasswordLength (length value.items))
+lengths r password secret request_auth =
+    IfOk-weaker r (λ value. IsTrue (matches_password value.items secret request_auth password))
+    (λ value. IsPasswordLength (length value.items))
+    (λ value matches. ((matches_password-Decides value.items secret request_auth password).0 matches).0)
+
+pub returns-clause-length : goal.returns-clause-length
+returns-clause-length c =
+    lengths c.hide_blocks.result c.args.password.now c.args.secret.now c.args.request_auth.now (returns-clause-reveals c)

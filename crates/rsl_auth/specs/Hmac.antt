@@ -1,0 +1,20 @@
+-- HMAC-MD5 (RFC 2104 section 2): MD5(K xor opad, MD5(K xor ipad, message)), where K is the key with zeros after it to
+-- the 64 octets of a block of MD5. A key of more than 64 octets is hashed first.
+use Rattle.std.specs.Prelude.{ℕ, ◌-◌, nat_le, if◌then◌else◌, List, ◌++◌, length, map, replicate, bit_xor}
+use Rattle.md5.specs.Md5.{md5}
+
+-- the key, or its digest where it has more than 64 octets
+abbrev pub short_key : (key : List ℕ) → List ℕ
+short_key key = if nat_le (length key) 64 then key else md5 key
+
+-- K
+abbrev pub key_block : (key : List ℕ) → List ℕ
+key_block key = short_key key ++ replicate (64 - length (short_key key)) 0
+
+-- K xor a pad, which is one octet again and again
+abbrev pub key_xor : (key : List ℕ) (pad : ℕ) → List ℕ
+key_xor key pad = map (λ octet. bit_xor octet pad) (key_block key)
+
+-- ipad is 0x36 and opad 0x5c
+unfoldable pub hmac_md5 : (key message : List ℕ) → List ℕ
+hmac_md5 key message = md5 (key_xor key 0x5c ++ md5 (key_xor key 0x36 ++ message))
