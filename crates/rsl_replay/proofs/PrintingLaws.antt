@@ -6,7 +6,7 @@ use Rattle.rsl_accounts.specs.Configuration.{Configuration}
 use Rattle.rsl_script.specs.declared.event_line.EventLine.{EventLine}
 use Rattle.rsl_replay.specs.Printing.{line_text, word_of, printed_from}
 use Rattle.rsl_replay.specs.Stepping.{step_count}
-use Rattle.rsl_replay.specs.declared.step.Answer.{Answer}
+use Rattle.rsl_steps.specs.declared.step.Answer.{Answer}
 
 -- the answers that are left are those of the lines that are left
 pub record IsLeft (config : Configuration) (lines : List EventLine) (index : ℕ) (rest : List Answer) (all : List ℕ) (text : List ℕ) : Type 0 where

@@ -13,8 +13,8 @@ use Rattle.rsl_script.specs.declared.event_line.Happening.TheVariants as happeni
 use Rattle.rsl_script.specs.declared.request.Status.{Status}
 use Rattle.rsl_replay.specs.Accounting.{accounting_octets}
 use Rattle.rsl_replay.specs.Stepping.{nas_of, is_restart, sweeps_by, sweeps_before, secret_at, datagram, steps_at, steps_of_line, steps_of_lines, sweep_count, count_of, step_count}
-use Rattle.rsl_replay.specs.declared.step.Step.{Step}
-use Rattle.rsl_replay.specs.declared.step.Step.TheVariants as steps
+use Rattle.rsl_steps.specs.declared.step.Step.{Step}
+use Rattle.rsl_steps.specs.declared.step.Step.TheVariants as steps
 
 length-sweeps : (config : Configuration) (moment : ℕ) (name : Option (List ℕ)) (status : Status) (client : Option ℕ)
     → length (cond (is_restart status) (sweeps_by config moment name client) []) ≡ sweep_count config status client

@@ -2,9 +2,6 @@ pub mod Access
 pub mod Accounting
 pub mod Attributes
 pub mod Fault
-pub mod Own
 pub mod Printing
 pub mod Replay
-pub mod Run
 pub mod Stepping
-pub mod Taking

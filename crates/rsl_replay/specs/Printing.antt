@@ -11,9 +11,9 @@ use Rattle.rsl_script.specs.declared.event_line.EventLine.{EventLine}
 use Rattle.rsl_script.specs.declared.event_line.Happening.{Happening}
 use Rattle.rsl_script.specs.declared.event_line.Happening.TheVariants as happenings
 use Rattle.rsl_replay.specs.Stepping.{step_count}
-use Rattle.rsl_replay.specs.declared.step.Answer.{Answer}
-use Rattle.rsl_replay.specs.declared.step.Answer.TheVariants as answers
-use Rattle.rsl_replay.specs.declared.step.Answer.TheVariants.{Reply}
+use Rattle.rsl_steps.specs.declared.step.Answer.{Answer}
+use Rattle.rsl_steps.specs.declared.step.Answer.TheVariants as answers
+use Rattle.rsl_steps.specs.declared.step.Answer.TheVariants.{Reply}
 use Rattle.rsl_replay.specs.declared.word.Word.{Word}
 use Rattle.rsl_replay.specs.declared.word.Word.TheVariants as words
 

@@ -5,13 +5,13 @@ use Rattle.rsl_accounts.specs.declared.fault.ConfigFault.{ConfigFault}
 use Rattle.rsl_script.specs.Script.{Contents, script_of}
 use Rattle.rsl_script.specs.declared.fault.ScriptFault.TheVariants.{Line as wrong_line}
 use Rattle.rsl_replay.specs.Printing.{printed}
-use Rattle.rsl_replay.specs.Run.{AreAnswers}
+use Rattle.rsl_steps.specs.Run.{AreAnswers}
 use Rattle.rsl_replay.specs.Stepping.{steps_of_lines}
 use Rattle.rsl_replay.specs.declared.fault.ReplayFault.{ReplayFault}
 use Rattle.rsl_replay.specs.declared.fault.ReplayFault.TheVariants.{Line, TooLong, Config, InputOutput, NoMemory}
 use Rattle.rsl_replay.specs.declared.input.TheConstants.{MAX_SCRIPT_LEN}
 use Rattle.rsl_replay.specs.declared.replaying.TheConstants.{BOOT}
-use Rattle.rsl_replay.specs.declared.step.Answer.{Answer}
+use Rattle.rsl_steps.specs.declared.step.Answer.{Answer}
 
 -- The text is a right script of a right configuration, and not too long; each step of its event lines has its answer, and what is
 -- written tells for each event line what it was answered.

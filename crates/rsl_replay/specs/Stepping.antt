@@ -15,9 +15,9 @@ use Rattle.rsl_script.specs.declared.request.Status.{Status}
 use Rattle.rsl_script.specs.declared.request.Status.TheVariants.{On, Off}
 use Rattle.rsl_replay.specs.Access.{access_octets}
 use Rattle.rsl_replay.specs.Accounting.{accounting_octets}
-use Rattle.rsl_replay.specs.declared.step.Step.{Step}
-use Rattle.rsl_replay.specs.declared.step.Step.TheVariants as steps
-use Rattle.rsl_replay.specs.declared.step.Step.TheVariants.{Datagram}
+use Rattle.rsl_steps.specs.declared.step.Step.{Step}
+use Rattle.rsl_steps.specs.declared.step.Step.TheVariants as steps
+use Rattle.rsl_steps.specs.declared.step.Step.TheVariants.{Datagram}
 
 -- the secret that a packet from an address is made with: its client's, or `none` where no client has the address
 abbrev pub secret_by : Configuration → (client : Option ℕ) → List ℕ

@@ -3,11 +3,11 @@ ghost use Rattle.std.specs.List.{list_any};
 ghost use Rattle.rsl_replay.specs.Printing.{answer_word, is_refused, line_text, printed, word_of};
 ghost use Rattle.rsl_replay.specs.Stepping.{step_count};
 
-use crate::step::Answer;
 use crate::stepping::step_count;
 use crate::word::Word;
 use rsl_accounts::Config;
 use rsl_script::{EventLine, Happening};
+use rsl_steps::Answer;
 use std::alloc::{AllocError, Global};
 
 /// The text that is printed of event lines and the answers to their steps, one answer for each step in

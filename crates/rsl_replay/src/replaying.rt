@@ -6,10 +6,10 @@ ghost use Rattle.rsl_replay.specs.declared.input.TheConstants.{MAX_SCRIPT_LEN};
 use crate::fault::ReplayFault;
 use crate::input::read_text;
 use crate::printing::lines_of;
-use crate::running::run;
 use crate::stepping::steps_of;
 use rsl_accounts::Config;
 use rsl_script::Script;
+use rsl_steps::run;
 use std::alloc::Global;
 use std::io::{Read, Write};
 

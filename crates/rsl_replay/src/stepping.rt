@@ -20,10 +20,10 @@ ghost use Rattle.rsl_replay.specs.Stepping.{
 
 use crate::access::access_octets;
 use crate::accounting::accounting_octets;
-use crate::step::Step;
 use rsl_accounts::Config;
 use rsl_event::{Nas, NasName, Port, Source};
 use rsl_script::{AccessRequest, AccountingRequest, EventLine, Happening, Status};
+use rsl_steps::Step;
 use rsl_wire::{NoMemory, Octets};
 use std::alloc::Global;
 

@@ -1,6 +1,6 @@
 use Rattle.std.proofs.Common.{◌∷◌, ◌++◌, [], ap, ◌∙◌}
 use Rattle.rsl_event.specs.declared.nas.Nas.{Nas}
-use Rattle.rsl_replay.specs.declared.step.Step.TheVariants as steps
+use Rattle.rsl_steps.specs.declared.step.Step.TheVariants as steps
 use Rattle.rsl_replay.proofs.SteppingLaws.{shard_more}
 use Rattle.rsl_replay.proofs.stepping.push_sweeps.Goals as goal
 

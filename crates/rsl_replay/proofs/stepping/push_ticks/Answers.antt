@@ -1,4 +1,4 @@
-use Rattle.rsl_replay.specs.declared.step.Step.TheVariants as steps
+use Rattle.rsl_steps.specs.declared.step.Step.TheVariants as steps
 use Rattle.rsl_replay.proofs.SteppingLaws.{shard_more}
 use Rattle.rsl_replay.proofs.stepping.push_ticks.Goals as goal
 

@@ -3,7 +3,7 @@ use Rattle.std.specs.List.{flat_map}
 use Rattle.std.proofs.lemmas.List.{take_all}
 use Rattle.rsl_script.specs.declared.event_line.EventLine.{EventLine}
 use Rattle.rsl_replay.specs.Stepping.{steps_of_line}
-use Rattle.rsl_replay.specs.declared.step.Step.{Step}
+use Rattle.rsl_steps.specs.declared.step.Step.{Step}
 use Rattle.rsl_replay.proofs.StepCounts.{length-steps_of_lines}
 use Rattle.rsl_replay.proofs.SteppingLaws.{line_more}
 use Rattle.rsl_replay.proofs.stepping.steps_of.Goals as goal

@@ -1,0 +1,4 @@
+pub mod Keeping
+pub mod Limits
+pub mod OwnEvents
+pub mod Snoc

@@ -1,0 +1,33 @@
+-- What the steps of a run are to one account.
+use Rattle.std.specs.Prelude.{ℕ, ◌==◌, ◌%◌, Bool, List, [], ◌∷◌, ◌++◌, Option, Some, None, Result, Ok, if◌then◌else◌}
+use Rattle.std.specs.Option.{option_to_list}
+use Rattle.rsl_accounts.specs.Configuration.{Configuration}
+use Rattle.rsl_event.specs.Meaning.{meaning}
+use Rattle.rsl_event.specs.declared.event.Event.{Event}
+use Rattle.rsl_event.specs.declared.meaning.Meaning.{Meaning}
+use Rattle.rsl_event.specs.declared.meaning.Meaning.TheVariants.{Own}
+use Rattle.rsl_event.specs.declared.meaning.Dropped.{Dropped}
+use Rattle.rsl_steps.specs.declared.step.Step.{Step}
+use Rattle.rsl_steps.specs.declared.step.Step.TheVariants as steps
+use Rattle.rsl_steps.specs.declared.step.Step.TheVariants.{Datagram}
+use Rattle.rsl_event.specs.declared.event.Act.TheVariants as acts
+
+-- a meaning is an account's own event, or none of its
+abbrev pub event_in : (account moment : ℕ) → Result Meaning Dropped → Option Event
+event_in account moment (Ok (Own other act)) = if other == account then Some (record { moment = moment; act = act }) else None
+event_in account moment _ = None
+
+-- whether the account is of the shard
+abbrev pub is_of_shard : Configuration → (account shard : ℕ) → Bool
+is_of_shard config account shard = account % config.settings.shards == shard
+
+-- what a step is to an account: its own packet, or a sweep or a tick of its shard
+abbrev pub event_of : Configuration → (boot account : ℕ) → Step → Option Event
+event_of config boot account (Datagram moment port source octets) = event_in account moment (meaning config boot port source octets)
+event_of config boot account (steps.Sweep shard moment nas) = if is_of_shard config account shard then Some (record { moment = moment; act = acts.Sweep nas }) else None
+event_of config boot account (steps.Tick shard moment) = if is_of_shard config account shard then Some (record { moment = moment; act = acts.Tick }) else None
+
+-- An account's own events among steps. The steps are listed newest first, and the events in their order.
+unfoldable pub own : Configuration → (boot account : ℕ) → List Step → List Event
+own config boot account [] = []
+own config boot account (step ∷ before) = own config boot account before ++ option_to_list (event_of config boot account step)
