@@ -8,7 +8,7 @@ use Rattle.rsl_accounts.specs.declared.rules.Rules.{Rules}
 use Rattle.rsl_event.specs.declared.event.Event.{Event}
 use Rattle.rsl_session.specs.declared.past_event.PastEvent.{PastEvent}
 use Rattle.rsl_session.specs.declared.outcome.Outcome.{Outcome}
-use Rattle.rsl_session.specs.declared.outcome.Outcome.TheVariants.{Accepted, Refused, Repeated, Opened, Took, Renewed, Ignored, Over, Passed}
+use Rattle.rsl_session.specs.declared.outcome.Outcome.TheVariants.{Accepted, AcceptedInPlace, Refused, Repeated, Opened, Took, Renewed, Ignored, Over, Passed}
 use Rattle.rsl_session.specs.declared.session.Session.{Session}
 use Rattle.rsl_session.specs.Past.{Past, looking_back}
 use Rattle.rsl_session.specs.Clock.{clock, clock_at}
@@ -66,6 +66,7 @@ unfolding binds taken_by
 binds-none link place Opened later beyond = ne_eqb link place (λ same. omega (arith, same))
 binds-none link place (Took taken) later beyond = ne_eqb link taken (λ same. omega (arith, same))
 binds-none link place (Accepted number) later beyond = refl
+binds-none link place (AcceptedInPlace number yielded) later beyond = refl
 binds-none link place Refused later beyond = refl
 binds-none link place (Repeated decision) later beyond = refl
 binds-none link place (Renewed renewed) later beyond = refl
@@ -90,6 +91,7 @@ unbound xs link furthest later is beyond = bound-none (looking_back xs) link (om
 touches_own : (place : ℕ) (outcome : Outcome) → opens outcome ≡ true → touches place place outcome ≡ true
 unfolding opens touches
 touches_own place (Accepted number) opened = eq-eqb place place refl
+touches_own place (AcceptedInPlace number yielded) opened = eq-eqb place place refl
 touches_own place Opened opened = eq-eqb place place refl
 touches_own place Refused opened = cc
 touches_own place (Repeated decision) opened = cc
@@ -118,22 +120,22 @@ furthest_none = ap furthest_taken looking_back-none
 pub ruleset holding_none = (standings_none, clock_none, furthest_none)
 
 -- what is held after one more entry
-left_by-lasting : (rules : Rules) (past : Past) (event : Event) → left_by rules past event ≡ lasting rules past event
-left_by-lasting rules past event = sym (left_by-held rules past event)
+left_by-lasting : (rules : Rules) (entry : PastEvent) (past : Past) → left_by rules entry past ≡ lasting rules entry past
+left_by-lasting rules entry past = sym (left_by-held rules entry past)
 
 pub carried_quiet : (rules : Rules) (past : Past) (x : PastEvent) → opens x.outcome ≡ false
-    → standings (x ∷ past) (held_links rules (x ∷ past)) ≡ standings (x ∷ past) (lasting rules past x.event)
-carried_quiet rules past x quiet = ap (λ ls. standings (x ∷ past) ls) (held-quiet rules x past quiet ∙ left_by-lasting rules past x.event)
+    → standings (x ∷ past) (held_links rules (x ∷ past)) ≡ standings (x ∷ past) (lasting rules x past)
+carried_quiet rules past x quiet = ap (λ ls. standings (x ∷ past) ls) (held-quiet rules x past quiet ∙ left_by-lasting rules x past)
 
 pub carried_opened : (rules : Rules) (xs : List PastEvent) (x : PastEvent) (standing : Standing) → opens x.outcome ≡ true → standing ≡ standing_of (length xs + 1) (x ∷ looking_back xs)
     → standings (x ∷ looking_back xs) (held_links rules (x ∷ looking_back xs))
-    ≡ standings (x ∷ looking_back xs) (lasting rules (looking_back xs) x.event) ++ (record { link = length xs + 1; standing = standing }) ∷ []
+    ≡ standings (x ∷ looking_back xs) (lasting rules x (looking_back xs)) ++ (record { link = length xs + 1; standing = standing }) ∷ []
 unfolding standings
 carried_opened rules xs x standing opened stands =
     let as_item : ℕ → HeldLink = λ link. record { link = link; standing = standing_of link (x ∷ looking_back xs) } in
     let place : suc (length (looking_back xs)) ≡ length xs + 1 = omega (arith, length_all xs) in
-    rw stands (ap (map as_item) (held-opened rules x (looking_back xs) opened ∙ ap (λ ls. ls ++ suc (length (looking_back xs)) ∷ []) (left_by-lasting rules (looking_back xs) x.event) ∙ ap (λ n. lasting rules (looking_back xs) x.event ++ n ∷ []) place)
-    ∙ map-append as_item (lasting rules (looking_back xs) x.event) ((length xs + 1) ∷ []))
+    rw stands (ap (map as_item) (held-opened rules x (looking_back xs) opened ∙ ap (λ ls. ls ++ suc (length (looking_back xs)) ∷ []) (left_by-lasting rules x (looking_back xs)) ∙ ap (λ n. lasting rules x (looking_back xs) ++ n ∷ []) place)
+    ∙ map-append as_item (lasting rules x (looking_back xs)) ((length xs + 1) ∷ []))
 
 pub clock_next : (past : Past) (x : PastEvent) → clock (x ∷ past) ≡ max (clock past) x.event.moment
 unfolding clock

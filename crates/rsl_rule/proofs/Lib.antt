@@ -1,11 +1,15 @@
 pub mod Lists
 pub mod Looking
 pub mod Carried
+pub mod Standings
 pub mod Counted
 pub mod Kept
 pub mod Whole
 pub mod Numbers
 pub mod Repeats
 pub mod Shift
+pub mod TickHeld
+pub mod TickKept
 pub mod EarlyTick
 pub mod Lowest
+pub mod Yielded

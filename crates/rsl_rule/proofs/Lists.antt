@@ -23,6 +23,8 @@ find_no p xs i x within is misses =
 pub find_end : {A : Type 0} (p : A → Bool) (xs : List A) (i : ℕ) → length xs ≤ i → find p (drop i xs) ≡ None
 find_end p xs i past = ap (find p) (drop_all i xs past)
 
+pub ruleset filter_steps = (filter_yes, filter_no, take_all)
+
 pub ruleset map_steps = (map_more, take_all)
 
 pub ruleset find_steps = (find_yes, find_no, find_end)

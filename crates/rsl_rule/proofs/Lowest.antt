@@ -8,7 +8,7 @@ use Rattle.rsl_event.specs.declared.event.Event.{Event}
 use Rattle.rsl_event.specs.declared.nas.Nas.{Nas}
 use Rattle.rsl_session.specs.declared.past_event.PastEvent.{PastEvent}
 use Rattle.rsl_session.specs.declared.outcome.Outcome.{Outcome}
-use Rattle.rsl_session.specs.declared.outcome.Outcome.TheVariants.{Accepted, Refused, Repeated, Opened, Took, Renewed, Ignored, Over, Passed}
+use Rattle.rsl_session.specs.declared.outcome.Outcome.TheVariants.{Accepted, AcceptedInPlace, Refused, Repeated, Opened, Took, Renewed, Ignored, Over, Passed}
 use Rattle.rsl_session.specs.Past.{Past}
 use Rattle.rsl_session.specs.Link.{links, opens, number_of, number_at}
 use Rattle.rsl_session.specs.Binding.{is_reserved}
@@ -82,7 +82,7 @@ found_in_order p q implies (x ∷ xs) a b ascending one other = by_cases (p x) (
   by_cases false true both one other rest = let contradiction : false ≡ true = both refl in cc
   by_cases false false both one other rest = rest one other
 
-found_passes : (p : ℕ → Bool) (xs : List ℕ) (a : ℕ) → find p xs ≡ Some a → p a ≡ true
+pub found_passes : (p : ℕ → Bool) (xs : List ℕ) (a : ℕ) → find p xs ≡ Some a → p a ≡ true
 found_passes p [] a found = cc
 found_passes p (x ∷ xs) a found = by_cases (p x) refl found (found_passes p xs a) where
   by_cases : (here : Bool) → p x ≡ here → cond here (Some x) (find p xs) ≡ Some a → (find p xs ≡ Some a → p a ≡ true) → p a ≡ true
@@ -93,6 +93,7 @@ found_passes p (x ∷ xs) a found = by_cases (p x) refl found (found_passes p xs
 next_is : (past : Past) (outcome : Outcome) (a : ℕ) → IsNext past outcome → number_of outcome ≡ Some a → a ≡ accepts past
 unfolding IsNext number_of
 next_is past (Accepted number) a next given = let same : number ≡ a = cc in sym same ∙ next
+next_is past (AcceptedInPlace number yielded) a next given = let same : number ≡ a = cc in sym same ∙ next
 next_is past Refused a next given = cc
 next_is past (Repeated decision) a next given = cc
 next_is past Opened a next given = cc

@@ -1,5 +1,5 @@
 -- Accept numbers count up from 0.
-use Rattle.std.proofs.Common.{◌≡◌, ℕ, ◌+◌, ◌-◌, ◌^◌, List, [], ◌∷◌, ◌++◌, length, Bool, true, false, cond, ◌&&◌, refl, ap, sym, ◌∙◌, subst, inl, inr, arith, append-nil}
+use Rattle.std.proofs.Common.{◌≡◌, ℕ, ◌+◌, ◌-◌, ◌^◌, List, [], ◌∷◌, ◌++◌, length, Bool, true, false, cond, refl, ap, sym, ◌∙◌, subst, inl, inr, arith, append-nil}
 use Rattle.std.specs.Prelude.{Option, Some, None, is_some, ⊤, nat_lt, EachIndex, slice_index}
 use Rattle.std.proofs.lemmas.Bool.{cases_lt}
 use Rattle.std.proofs.lemmas.List.{get_or_append_left, get_or_push, length_push}
@@ -10,12 +10,12 @@ use Rattle.rsl_event.specs.declared.event.Act.{Act}
 use Rattle.rsl_event.specs.declared.event.Act.TheVariants.{Ask, Alive, Stop, Sweep, Tick}
 use Rattle.rsl_session.specs.declared.past_event.PastEvent.{PastEvent}
 use Rattle.rsl_session.specs.declared.outcome.Outcome.{Outcome}
-use Rattle.rsl_session.specs.declared.outcome.Outcome.TheVariants.{Accepted, Refused, Repeated, Opened, Took, Renewed, Ignored, Over, Passed}
+use Rattle.rsl_session.specs.declared.outcome.Outcome.TheVariants.{Accepted, AcceptedInPlace, Refused, Repeated, Opened, Took, Renewed, Ignored, Over, Passed}
 use Rattle.rsl_session.specs.declared.kept.KeptAsk.{KeptAsk}
 use Rattle.rsl_session.specs.declared.session.Session.{Session}
 use Rattle.rsl_session.specs.Past.{Past}
 use Rattle.rsl_session.specs.Link.{number_of}
-use Rattle.rsl_session.specs.Ask.{accepts, ask_outcome, has_a_place, repeated_ask}
+use Rattle.rsl_session.specs.Ask.{accepts, ask_outcome, fresh_outcome, has_a_place, has_a_place_without, repeated_ask, unfitting_outcome, yielding_link}
 use Rattle.rsl_session.specs.Alive.{alive_outcome, unbound_outcome, reservation_of, has_room}
 use Rattle.rsl_session.specs.Closed.{is_closed}
 use Rattle.rsl_session.specs.Rule.{IsRuled, outcome_of, outcome_by, past_of}
@@ -25,17 +25,30 @@ use Rattle.rsl_rule.specs.Laws.{accept_numbers}
 -- the number that an outcome gives is how many were accepted before
 unfoldable pub IsNext : Past → Outcome → Type 0
 IsNext past (Accepted number) = number ≡ accepts past
+IsNext past (AcceptedInPlace number yielded) = number ≡ accepts past
 IsNext past _ = ⊤
 
 pub IsNext-outcome_of : (rules : Rules) (past : Past) (event : Event) → IsNext past (outcome_of rules past event)
-unfolding IsNext outcome_of
+unfolding IsNext outcome_of fresh_outcome
 IsNext-outcome_of rules past event = by_act event.act where
   of_ask : (found : Option KeptAsk) → IsNext past (ask_outcome rules past event found)
   of_ask (Some ask) = tt
-  of_ask None = fresh (has_a_place rules past event && nat_lt (accepts past) (2 ^ 64 - 1)) where
-    fresh : (free : Bool) → IsNext past (cond free (Accepted (accepts past)) Refused)
-    fresh true = refl
-    fresh false = tt
+  of_ask None = numbered (nat_lt (accepts past) (2 ^ 64 - 1)) where
+    without : (link : ℕ) (fits : Bool) → IsNext past (cond fits (AcceptedInPlace (accepts past) link) Refused)
+    without link true = refl
+    without link false = tt
+
+    unfitting : (found : Option ℕ) → IsNext past (unfitting_outcome rules past event found)
+    unfitting None = tt
+    unfitting (Some link) = without link (has_a_place_without rules past event link)
+
+    by_place : (free : Bool) → IsNext past (cond free (Accepted (accepts past)) (unfitting_outcome rules past event (yielding_link rules past event)))
+    by_place true = refl
+    by_place false = unfitting _
+
+    numbered : (left : Bool) → IsNext past (cond left (fresh_outcome rules past event) Refused)
+    numbered true = by_place (has_a_place rules past event)
+    numbered false = tt
 
   unbound : (found : Option ℕ) → IsNext past (unbound_outcome rules past event found)
   unbound (Some link) = tt
@@ -93,6 +106,7 @@ numbered entry past number some next counted =
 count_more : (entry : PastEvent) (past : Past) (outcome : Outcome) → entry.outcome ≡ outcome → IsNext past outcome → Counted past → Counted (entry ∷ past)
 unfolding IsNext number_of
 count_more entry past (Accepted number) is next counted = numbered entry past number (ap number_of is) next counted
+count_more entry past (AcceptedInPlace number yielded) is next counted = numbered entry past number (ap number_of is) next counted
 count_more entry past Refused is next counted = unnumbered entry past Refused is refl counted
 count_more entry past (Repeated decision) is next counted = unnumbered entry past (Repeated decision) is refl counted
 count_more entry past Opened is next counted = unnumbered entry past Opened is refl counted

@@ -10,13 +10,13 @@ use Rattle.rsl_event.specs.declared.event.Decision.{Decision}
 use Rattle.rsl_event.specs.declared.event.Event.{Event}
 use Rattle.rsl_event.specs.declared.event.Key.{Key}
 use Rattle.rsl_session.specs.declared.past_event.PastEvent.{PastEvent}
-use Rattle.rsl_session.specs.declared.outcome.Outcome.TheVariants.{Accepted, Refused, Repeated, Opened, Ignored, Over}
+use Rattle.rsl_session.specs.declared.outcome.Outcome.TheVariants.{Accepted, AcceptedInPlace, Refused, Repeated, Opened, Ignored, Over}
 use Rattle.rsl_session.specs.declared.kept.KeptAsk.{KeptAsk}
 use Rattle.rsl_session.specs.declared.session.Session.{Session}
 use Rattle.rsl_session.specs.Past.{Past}
 use Rattle.rsl_session.specs.Same.{same_key}
 use Rattle.rsl_session.specs.Clock.{clock, clock_at}
-use Rattle.rsl_session.specs.Ask.{accepts, ask_outcome, fresh_asks, fresh_decision, has_a_place, kept_ask, repeated_ask, repeats, KEPT_ASKS}
+use Rattle.rsl_session.specs.Ask.{accepts, ask_outcome, fresh_outcome, has_a_place_without, unfitting_outcome, yielding_link, fresh_asks, fresh_decision, has_a_place, kept_ask, repeated_ask, repeats, KEPT_ASKS}
 use Rattle.rsl_session.specs.Alive.{alive_outcome, unbound_outcome, reservation_of, has_room}
 use Rattle.rsl_session.specs.Closed.{is_closed}
 use Rattle.rsl_session.specs.Rule.{outcome_of, outcome_by}
@@ -88,17 +88,29 @@ repeated_is rules past event key ask found =
     subst (λ (k : Key). Any (IsDecided (Some k) ask.decision) past) same is.1
 
 pub repeats_are : (rules : Rules) (past : Past) (event : Event) (decision : Decision) → outcome_of rules past event ≡ Repeated decision → Any (IsDecided (key_of event.act) decision) past
-unfolding outcome_of
+unfolding outcome_of fresh_outcome
 repeats_are rules past event decision = by_act event.act where
-  fresh : (free : Bool) → cond free (Accepted (accepts past)) Refused ≡ Repeated decision → ⊥
-  fresh true is = cc
-  fresh false is = cc
+  without : (link : ℕ) (fits : Bool) → cond fits (AcceptedInPlace (accepts past) link) Refused ≡ Repeated decision → ⊥
+  without link true is = cc
+  without link false is = cc
+
+  unfitting : (found : Option ℕ) → unfitting_outcome rules past event found ≡ Repeated decision → ⊥
+  unfitting None is = cc
+  unfitting (Some link) is = without link (has_a_place_without rules past event link) is
+
+  by_place : (free : Bool) → cond free (Accepted (accepts past)) (unfitting_outcome rules past event (yielding_link rules past event)) ≡ Repeated decision → ⊥
+  by_place true is = cc
+  by_place false is = unfitting (yielding_link rules past event) is
+
+  numbered : (left : Bool) → cond left (fresh_outcome rules past event) Refused ≡ Repeated decision → ⊥
+  numbered true is = by_place (has_a_place rules past event) is
+  numbered false is = cc
 
   of_ask : (key : Key) (found : Option KeptAsk) → repeated_ask rules past event key ≡ found → ask_outcome rules past event found ≡ Repeated decision → Any (IsDecided (Some key) decision) past
   of_ask key (Some ask) found is =
       let same : ask.decision ≡ decision = cc in
       subst (λ (d : Decision). Any (IsDecided (Some key) d) past) same (repeated_is rules past event key ask found)
-  of_ask key None found is = absurd (fresh (has_a_place rules past event && nat_lt (accepts past) (2 ^ 64 - 1)) is)
+  of_ask key None found is = absurd (numbered (nat_lt (accepts past) (2 ^ 64 - 1)) is)
 
   opened : (room : Bool) → cond room Opened Over ≡ Repeated decision → ⊥
   opened true is = cc

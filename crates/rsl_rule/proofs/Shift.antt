@@ -13,7 +13,7 @@ use Rattle.rsl_event.specs.declared.event.Act.TheVariants.{Ask, Alive, Stop, Swe
 use Rattle.rsl_event.specs.declared.nas.Nas.{Nas}
 use Rattle.rsl_session.specs.declared.past_event.PastEvent.{PastEvent}
 use Rattle.rsl_session.specs.declared.outcome.Outcome.{Outcome}
-use Rattle.rsl_session.specs.declared.outcome.Outcome.TheVariants.{Accepted, Refused, Repeated, Opened, Took, Renewed, Ignored, Over, Passed}
+use Rattle.rsl_session.specs.declared.outcome.Outcome.TheVariants.{Accepted, AcceptedInPlace, Refused, Repeated, Opened, Took, Renewed, Ignored, Over, Passed}
 use Rattle.rsl_session.specs.declared.session.Session.{Session}
 use Rattle.rsl_session.specs.declared.bundle.Bundle.{Bundle}
 use Rattle.rsl_session.specs.Past.{Past, entry_at}
@@ -21,8 +21,8 @@ use Rattle.rsl_session.specs.Clock.{clock, clock_at}
 use Rattle.rsl_session.specs.Link.{links, opens, nas_of, nas_at, number_of, number_at}
 use Rattle.rsl_session.specs.Binding.{binds, touches, bound_by, bundled_by, session_at, bundle_at, is_reserved, is_bound_to}
 use Rattle.rsl_session.specs.Touch.{touched_at}
-use Rattle.rsl_session.specs.Lapse.{lapses}
-use Rattle.rsl_session.specs.Held.{is_at, ended_by}
+use Rattle.rsl_session.specs.Lapse.{is_idle, lapses}
+use Rattle.rsl_session.specs.Held.{is_at, ended_by, yields}
 use Rattle.rsl_session.specs.Rule.{IsRuled}
 use Rattle.rsl_session.proofs.Ruled.{bound-later, bundle_at-later, touched-later, is_in, is_in-true, links-in}
 
@@ -51,7 +51,7 @@ shift-injective n a b same =
       ]
     ]
 
-eqb-shift : (n a b : ℕ) → eqb (shift n a) (shift n b) ≡ eqb a b
+pub eqb-shift : (n a b : ℕ) → eqb (shift n a) (shift n b) ≡ eqb a b
 eqb-shift n a b =
     elim (cases_eq a b) [
       | inl same ↦ eq-eqb (shift n a) (shift n b) (ap (shift n) same) ∙ sym (eq-eqb a b same)
@@ -72,6 +72,7 @@ shift_later f d n link none =
 
 unfoldable pub shift_outcome : ℕ → Outcome → Outcome
 shift_outcome n (Accepted number) = Accepted number
+shift_outcome n (AcceptedInPlace number yielded) = AcceptedInPlace number (shift n yielded)
 shift_outcome n Refused = Refused
 shift_outcome n (Repeated decision) = Repeated decision
 shift_outcome n Opened = Opened
@@ -129,6 +130,7 @@ clock_next moment older newer entry early =
 binds-shift : (n k link : ℕ) (outcome : Outcome) → n < k → binds (shift n link) (suc k) (shift_outcome n outcome) ≡ binds link k outcome
 unfolding binds shift_outcome
 binds-shift n k link (Accepted number) new = refl
+binds-shift n k link (AcceptedInPlace number yielded) new = refl
 binds-shift n k link Refused new = refl
 binds-shift n k link (Repeated decision) new = refl
 binds-shift n k link Opened new = eqb_next n k link new
@@ -141,6 +143,7 @@ binds-shift n k link Passed new = refl
 touches-shift : (n k link : ℕ) (outcome : Outcome) → n < k → touches (shift n link) (suc k) (shift_outcome n outcome) ≡ touches link k outcome
 unfolding touches shift_outcome
 touches-shift n k link (Accepted number) new = eqb_next n k link new
+touches-shift n k link (AcceptedInPlace number yielded) new = eqb_next n k link new
 touches-shift n k link Refused new = refl
 touches-shift n k link (Repeated decision) new = refl
 touches-shift n k link Opened new = eqb_next n k link new
@@ -149,6 +152,20 @@ touches-shift n k link (Renewed renewed) new = eqb-shift n link renewed
 touches-shift n k link Ignored new = refl
 touches-shift n k link Over new = refl
 touches-shift n k link Passed new = refl
+
+-- what yields to an event
+pub yields-shift : (n link : ℕ) (outcome : Outcome) → yields (shift n link) (shift_outcome n outcome) ≡ yields link outcome
+unfolding yields shift_outcome
+yields-shift n link (Accepted number) = refl
+yields-shift n link (AcceptedInPlace number yielded) = eqb-shift n link yielded
+yields-shift n link Refused = refl
+yields-shift n link (Repeated decision) = refl
+yields-shift n link Opened = refl
+yields-shift n link (Took taken) = refl
+yields-shift n link (Renewed renewed) = refl
+yields-shift n link Ignored = refl
+yields-shift n link Over = refl
+yields-shift n link Passed = refl
 
 -- the entry at a place: its access server and number
 nas_cons : (place : ℕ) (entry : PastEvent) (past : Past) → nas_at place (entry ∷ past) ≡ cond (eqb place (suc (length past))) (nas_of entry.event.act) (nas_at place past)
@@ -186,6 +203,7 @@ number_later (entry ∷ past) place later =
 pub number_of-shift : (n : ℕ) (outcome : Outcome) → number_of (shift_outcome n outcome) ≡ number_of outcome
 unfolding number_of shift_outcome
 number_of-shift n (Accepted number) = refl
+number_of-shift n (AcceptedInPlace number yielded) = refl
 number_of-shift n Refused = refl
 number_of-shift n (Repeated decision) = refl
 number_of-shift n Opened = refl
@@ -198,6 +216,7 @@ number_of-shift n Passed = refl
 opens-shift : (n : ℕ) (outcome : Outcome) → opens (shift_outcome n outcome) ≡ opens outcome
 unfolding opens shift_outcome
 opens-shift n (Accepted number) = refl
+opens-shift n (AcceptedInPlace number yielded) = refl
 opens-shift n Refused = refl
 opens-shift n (Repeated decision) = refl
 opens-shift n Opened = refl
@@ -297,6 +316,12 @@ module _ (rules : Rules) (moment : ℕ) (older : Past) (ruled : IsRuled rules ol
       → lapses rules (after_tick moment older newer) event (shift (length older) link) ≡ lapses rules (newer ++ older) event link
   unfolding lapses
   lapses-after_tick newer early event at link =
+      rw (bound-after_tick newer link, clock_at-after_tick moment older newer event at, touched-after_tick newer early link) refl
+
+  pub is_idle-after_tick : (newer : Past) → AllByRecursion (λ (entry : PastEvent). moment ≤ entry.event.moment) newer → (event : Event) → moment ≤ event.moment → (link : ℕ)
+      → is_idle rules (after_tick moment older newer) event (shift (length older) link) ≡ is_idle rules (newer ++ older) event link
+  unfolding is_idle
+  is_idle-after_tick newer early event at link =
       rw (bound-after_tick newer link, clock_at-after_tick moment older newer event at, touched-after_tick newer early link) refl
 
   pub is_bound_to-after_tick : (newer : Past) (session : Session) (link : ℕ) → is_bound_to (after_tick moment older newer) session (shift (length older) link) ≡ is_bound_to (newer ++ older) session link

@@ -1,12 +1,12 @@
 -- What is held after some events, as one pass over them carries it.
-use Rattle.std.specs.Prelude.{◌≡◌, ℕ, List, [], ◌∷◌, filter, map, max, not}
+use Rattle.std.specs.Prelude.{◌≡◌, ℕ, List, [], ◌∷◌, filter, map, max, ◌||◌, not}
 use Rattle.rsl_accounts.specs.declared.rules.Rules.{Rules}
-use Rattle.rsl_event.specs.declared.event.Event.{Event}
+use Rattle.rsl_session.specs.declared.past_event.PastEvent.{PastEvent}
 use Rattle.rsl_session.specs.declared.outcome.Outcome.{Outcome}
 use Rattle.rsl_session.specs.declared.outcome.Outcome.TheVariants.{Took}
 use Rattle.rsl_session.specs.Past.{Past}
 use Rattle.rsl_session.specs.Clock.{clock}
-use Rattle.rsl_session.specs.Held.{ends, held_links}
+use Rattle.rsl_session.specs.Held.{ends, held_links, yields}
 use Rattle.rsl_rule.specs.Standing.{standing_of}
 use Rattle.rsl_rule.specs.declared.holding.HeldLink.{HeldLink}
 use Rattle.rsl_rule.specs.declared.holding.Holding.{Holding}
@@ -15,9 +15,9 @@ use Rattle.rsl_rule.specs.declared.holding.Holding.{Holding}
 unfoldable pub standings : Past → List ℕ → List HeldLink
 standings past links = map (λ link. record { link = link; standing = standing_of link past }) links
 
--- the held links that do not end at an event
-abbrev pub lasting : Rules → Past → Event → List ℕ
-lasting rules past event = filter (λ link. not (ends rules past event link)) (held_links rules past)
+-- the held links that an event leaves
+abbrev pub lasting : Rules → PastEvent → Past → List ℕ
+lasting rules entry past = filter (λ link. not (ends rules past entry.event link || yields link entry.outcome)) (held_links rules past)
 
 -- the number of the link that an event took, 0 where it took none
 unfoldable pub taken_by : Outcome → ℕ

@@ -11,11 +11,12 @@ use Rattle.rsl_event.specs.declared.event.Event.{Event}
 use Rattle.rsl_event.specs.declared.event.Key.{Key}
 use Rattle.rsl_event.specs.declared.nas.Nas.{Nas}
 use Rattle.rsl_session.specs.declared.past_event.PastEvent.{PastEvent}
-use Rattle.rsl_session.specs.declared.outcome.Outcome.TheVariants.{Repeated}
+use Rattle.rsl_session.specs.declared.outcome.Outcome.TheVariants.{AcceptedInPlace, Repeated}
 use Rattle.rsl_session.specs.Past.{Past}
 use Rattle.rsl_session.specs.Alive.{reservation_of}
 use Rattle.rsl_session.specs.Ask.{fresh_decision}
 use Rattle.rsl_session.specs.Link.{number_at, number_of}
+use Rattle.rsl_rule.specs.Yielding.{HasYielded}
 use Rattle.rsl_session.specs.Rule.{IsRuled, decisions, outcome_of, past_of, places_after}
 
 -- after each event of a list, the places are at most the account's
@@ -39,10 +40,12 @@ LowestReservationIsTaken = (rules : Rules) (events : List Event) (event : Event)
     → reservation_of rules (past_of rules events) event nas None ≡ Some link → number_at link (past_of rules events) ≡ Some a
     → reservation_of rules (past_of rules events) event nas (Some b) ≡ Some other → a ≤ b
 
--- equal lists of events have equal decisions and places
-abbrev pub EqualListsAreDecidedAlike : Type 0
-EqualListsAreDecidedAlike = (rules : Rules) (one other : List Event) → one ≡ other
-    → (decisions rules one ≡ decisions rules other) × (places_after rules one ≡ places_after rules other)
+-- a link that yields to an event was stale then, no stale link was touched before it, and the places after
+-- the event are at most the account's
+abbrev pub StaleLinksYield : Type 0
+StaleLinksYield = (rules : Rules) (events : List Event) (event : Event) (number link : ℕ) → RulesFit rules
+    → outcome_of rules (past_of rules events) event ≡ AcceptedInPlace number link
+    → HasYielded rules (past_of rules events) event link × (places_after rules (events ++ event ∷ []) ≤ rules.places)
 
 -- the accept numbers of the fresh asks that were accepted, in the order in which they were given
 unfoldable pub accept_numbers : Past → List ℕ
@@ -70,8 +73,8 @@ RepeatsAreDecidedAsAFreshAsk = (rules : Rules) (events : List Event) (event : Ev
     → outcome_of rules (past_of rules events) event ≡ Repeated decision
     → Any (IsDecided (key_of event.act) decision) (past_of rules events)
 
--- a tick that is put into a list where no event behind it has a lower moment leaves every decision
--- as it was, and the places after each event behind it
+-- a tick that is put into a list where no event after it has a lower moment leaves every decision
+-- as it was, and the places after each event after it
 abbrev pub EarlyTicksChangeNothing : Type 0
 EarlyTicksChangeNothing = (rules : Rules) (events : List Event) (n moment : ℕ) → n ≤ length events
     → All (λ (event : Event). moment ≤ event.moment) (drop n events)

@@ -1,38 +1,32 @@
 ghost use Rattle.std.specs.Prelude.{◌≡◌, IfOk};
 ghost use Rattle.rsl_accounts.specs.Limits.{RulesFit};
 ghost use Rattle.rsl_session.specs.Past.{looking_back};
-ghost use Rattle.rsl_session.specs.Alive.{alive_outcome, has_room, is_chosen, is_number, link_of, reservation_of, unbound_outcome};
+ghost use Rattle.rsl_session.specs.Alive.{alive_outcome, has_room, is_number, link_of, reservation_of, unbound_outcome};
+ghost use Rattle.rsl_session.specs.Binding.{is_session};
+ghost use Rattle.rsl_session.specs.Held.{held_before};
+ghost use Rattle.rsl_rule.specs.Holding.{standings};
+ghost use Rattle.rsl_rule.specs.Standing.{is_taken_so, link_where};
 
-use crate::binding::{bundle_of_act, is_link_bound_to, is_link_reserved};
+use crate::binding::bundle_of_act;
 use crate::closed::is_session_closed;
 use crate::count::{bundles_of, places_taken};
-use crate::held::links_before;
+use crate::held::{links_before, numbers_of};
+use crate::holding::HeldLink;
 use crate::link::{is_link_at, number_of_link};
 use rsl_accounts::Rules;
 use rsl_event::{Event, Nas};
-use rsl_session::{PastEvent, Outcome, Session};
+use rsl_session::{Outcome, PastEvent, Session};
 use rsl_wire::NoMemory;
 use std::alloc::Global;
 
-/// The link that a session is bound to.
-#[tactic(auto, using(crate::proofs::Lists::find_steps), unfolding(rsl_session::specs::Alive::link_of))]
-fn link_of_session(
-    alloc: Global,
-    rules: &Rules,
-    past: &[PastEvent],
-    event: &Event,
-    session: &Session,
-) -> Result<Option<usize>, NoMemory>
-    requires { RulesFit rules.now }
-    ensures { IfOk result (λ link. link ≡ link_of rules.now (looking_back past.now) event.now session.now) }
+/// The link that a session is bound to, of those that are held when its alive comes.
+fn link_of_session(before: &[HeldLink], session: &Session) -> Option<usize>
+    ensures { result ≡ link_where (λ held. is_session held.standing.session session.now) before.now }
 {
-    let links = links_before(alloc, rules, past, event)?;
-    for link in &links {
-        if is_link_bound_to(alloc, past, session, *link)? {
-            return Ok(Some(*link));
-        }
-    }
-    Ok(None)
+    before
+        .iter()
+        .find(|held| held.standing.is_bound_to(&session.nas, &session.id))
+        .map(|held| held.link)
 }
 
 /// Whether an accept number is the one that a class names; no class names any.
@@ -46,51 +40,45 @@ fn is_named(class: Option<u64>, number: Option<u64>) -> bool
     }
 }
 
-/// Whether a link is a reservation that an alive can take.
-#[tactic(auto, unfolding(rsl_session::specs::Alive::is_chosen))]
-fn can_take(
-    alloc: Global,
-    past: &[PastEvent],
-    nas: &Nas,
-    class: Option<u64>,
-    link: usize,
-) -> Result<bool, NoMemory>
-    ensures { IfOk result (λ answer. answer ≡ is_chosen (looking_back past.now) nas.now class link) }
+/// Whether a held link is a reservation that an alive can take.
+fn can_take(history: &[PastEvent], nas: &Nas, class: Option<u64>, held: &HeldLink) -> bool
+    ensures { result ≡ is_taken_so (looking_back history.now) nas.now class held.now }
 {
-    let reserved = is_link_reserved(alloc, past, link)?;
-    Ok(reserved && is_link_at(past, nas, link) && is_named(class, number_of_link(link, past)))
+    held.standing.session.is_none()
+        && is_link_at(history, nas, held.link)
+        && is_named(class, number_of_link(held.link, history))
 }
 
 /// The reservation that an alive takes.
-#[tactic(auto, using(crate::proofs::Lists::find_steps), unfolding(rsl_session::specs::Alive::reservation_of))]
 fn chosen_reservation(
-    alloc: Global,
-    rules: &Rules,
-    past: &[PastEvent],
-    event: &Event,
+    history: &[PastEvent],
+    before: &[HeldLink],
     nas: &Nas,
     class: Option<u64>,
-) -> Result<Option<usize>, NoMemory>
-    requires { RulesFit rules.now }
-    ensures { IfOk result (λ link. link ≡ reservation_of rules.now (looking_back past.now) event.now nas.now class) }
+) -> Option<usize>
+    ensures { result ≡ link_where (is_taken_so (looking_back history.now) nas.now class) before.now }
 {
-    let links = links_before(alloc, rules, past, event)?;
-    for link in &links {
-        if can_take(alloc, past, nas, class, *link)? {
-            return Ok(Some(*link));
-        }
-    }
-    Ok(None)
+    before
+        .iter()
+        .find(|held| can_take(history, nas, class, held))
+        .map(|held| held.link)
 }
 
 /// Whether one more link with the event's bundle can open.
 #[tactic(auto, unfolding(rsl_session::specs::Alive::has_room))]
-fn can_open(alloc: Global, rules: &Rules, past: &[PastEvent], event: &Event) -> Result<bool, NoMemory>
-    requires { RulesFit rules.now }
-    ensures { IfOk result (λ room. room ≡ has_room rules.now (looking_back past.now) event.now) }
+fn can_open(
+    alloc: Global,
+    rules: &Rules,
+    history: &[PastEvent],
+    event: &Event,
+    before: &[HeldLink],
+) -> Result<bool, NoMemory>
+    requires rules_fit { RulesFit rules.now }
+    requires stand_so { before.now ≡ standings (looking_back history.now) (held_before rules.now (looking_back history.now) event.now) }
+    ensures { IfOk result (λ room. room ≡ has_room rules.now (looking_back history.now) event.now) }
 {
-    let links = links_before(alloc, rules, past, event)?;
-    let mut bundles = bundles_of(alloc, past, &links)?;
+    let links = numbers_of(alloc, before)?;
+    let mut bundles = bundles_of(alloc, history, &links)?;
     bundles.push(bundle_of_act(alloc, &event.act)?)?;
     Ok(places_taken(rules.ports, &bundles) <= rules.places)
 }
@@ -99,18 +87,20 @@ fn can_open(alloc: Global, rules: &Rules, past: &[PastEvent], event: &Event) -> 
 fn outcome_of_unbound(
     alloc: Global,
     rules: &Rules,
-    past: &[PastEvent],
+    history: &[PastEvent],
     event: &Event,
+    before: &[HeldLink],
     nas: &Nas,
     class: Option<u64>,
 ) -> Result<Outcome, NoMemory>
-    requires { RulesFit rules.now }
-    ensures { IfOk result (λ outcome. outcome ≡ unbound_outcome rules.now (looking_back past.now) event.now (reservation_of rules.now (looking_back past.now) event.now nas.now class)) }
+    requires rules_fit { RulesFit rules.now }
+    requires stand_so { before.now ≡ standings (looking_back history.now) (held_before rules.now (looking_back history.now) event.now) }
+    ensures { IfOk result (λ outcome. outcome ≡ unbound_outcome rules.now (looking_back history.now) event.now (reservation_of rules.now (looking_back history.now) event.now nas.now class)) }
 {
-    if let Some(link) = chosen_reservation(alloc, rules, past, event, nas, class)? {
+    if let Some(link) = chosen_reservation(history, before, nas, class) {
         return Ok(Outcome::Took(link));
     }
-    if can_open(alloc, rules, past, event)? {
+    if can_open(alloc, rules, history, event, before)? {
         Ok(Outcome::Opened)
     } else {
         Ok(Outcome::Over)
@@ -121,19 +111,20 @@ fn outcome_of_unbound(
 pub(crate) fn outcome_of_alive(
     alloc: Global,
     rules: &Rules,
-    past: &[PastEvent],
+    history: &[PastEvent],
     event: &Event,
     session: &Session,
     class: Option<u64>,
 ) -> Result<Outcome, NoMemory>
     requires { RulesFit rules.now }
-    ensures { IfOk result (λ outcome. outcome ≡ alive_outcome rules.now (looking_back past.now) event.now session.now class (link_of rules.now (looking_back past.now) event.now session.now)) }
+    ensures { IfOk result (λ outcome. outcome ≡ alive_outcome rules.now (looking_back history.now) event.now session.now class (link_of rules.now (looking_back history.now) event.now session.now)) }
 {
-    if let Some(link) = link_of_session(alloc, rules, past, event, session)? {
+    let before = links_before(alloc, rules, history, event)?;
+    if let Some(link) = link_of_session(&before, session) {
         return Ok(Outcome::Renewed(link));
     }
-    if is_session_closed(alloc, rules, past, event, session)? {
+    if is_session_closed(alloc, rules, history, event, session)? {
         return Ok(Outcome::Ignored);
     }
-    outcome_of_unbound(alloc, rules, past, event, &session.nas, class)
+    outcome_of_unbound(alloc, rules, history, event, &before, &session.nas, class)
 }

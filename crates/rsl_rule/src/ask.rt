@@ -2,18 +2,19 @@ ghost use Rattle.std.specs.Prelude.{◌≡◌, [], ◌<◌, IfOk, length, take};
 ghost use Rattle.std.specs.Option.{option_map};
 ghost use Rattle.rsl_accounts.specs.Limits.{RulesFit};
 ghost use Rattle.rsl_session.specs.Past.{looking_back};
-ghost use Rattle.rsl_session.specs.Ask.{accepts, ask_outcome, fresh_asks, fresh_decision, has_a_place, kept_ask, repeated_ask, repeats};
+ghost use Rattle.rsl_session.specs.Ask.{accepts, ask_outcome, fresh_asks, fresh_decision, fresh_outcome, kept_ask, repeated_ask, repeats};
 ghost use Rattle.rsl_session.specs.Sweep.{is_sweep_of, swept_in};
 ghost use Rattle.rsl_session.specs.Clock.{clock};
 
 use crate::clock::{clock_of, clock_with};
-use crate::count::{bundles_of, places_taken};
-use crate::held::links_before;
+use crate::count::has_place_beside;
+use crate::held::{links_before, links_but, numbers_of};
 use crate::link::accept_number;
 use crate::same::{is_same_key, is_same_nas};
+use crate::yielding::yielding_link;
 use rsl_accounts::Rules;
 use rsl_event::{Act, Decision, Event, Key, Nas};
-use rsl_session::{PastEvent, KeptAsk, Outcome};
+use rsl_session::{KeptAsk, Outcome, PastEvent};
 use rsl_wire::NoMemory;
 use std::alloc::Global;
 
@@ -44,7 +45,9 @@ fn decision_of_fresh(outcome: Outcome) -> Option<Decision>
     ensures { result ≡ fresh_decision outcome }
 {
     match outcome {
-        Outcome::Accepted(number) => Some(Decision::Accept(number)),
+        Outcome::Accepted(number) | Outcome::AcceptedInPlace { number, .. } => Some(
+            Decision::Accept(number),
+        ),
         Outcome::Refused => Some(Decision::LimitReject),
         _ => None,
     }
@@ -53,19 +56,19 @@ fn decision_of_fresh(outcome: Outcome) -> Option<Decision>
 /// A fresh ask as it is kept, by the past up to it and the entries since.
 fn keep_ask(
     alloc: Global,
-    past: &[PastEvent],
+    history: &[PastEvent],
     since: &[PastEvent],
     act: &Act,
     decision: Option<Decision>,
 ) -> Result<Option<KeptAsk>, NoMemory>
-    ensures { IfOk result (λ ask. ask ≡ kept_ask (clock (looking_back past.now)) since.now act.now decision) }
+    ensures { IfOk result (λ ask. ask ≡ kept_ask (clock (looking_back history.now)) since.now act.now decision) }
 {
     match (act, decision) {
         (Act::Ask { key, nas }, Some(decision)) => Ok(Some(KeptAsk {
             key: *key,
             nas: nas.try_copy(alloc)?,
             decision,
-            at: clock_of(past),
+            at: clock_of(history),
             swept: is_swept_in(since, nas),
         })),
         _ => Ok(None),
@@ -74,17 +77,17 @@ fn keep_ask(
 
 /// The last fresh asks of a past, newest first, as many as can be repeated.
 #[tactic(auto, using(crate::proofs::Kept::asks_steps))]
-fn asks_of(alloc: Global, past: &[PastEvent]) -> Result<Vec<KeptAsk>, NoMemory>
-    ensures { IfOk result (λ asks. asks.items ≡ take KEPT_ASKS (fresh_asks [] (looking_back past.now))) }
+fn asks_of(alloc: Global, history: &[PastEvent]) -> Result<Vec<KeptAsk>, NoMemory>
+    ensures { IfOk result (λ asks. asks.items ≡ take KEPT_ASKS (fresh_asks [] (looking_back history.now))) }
 {
     let mut asks = Vec::new(alloc);
-    let mut at = past.len();
+    let mut at = history.len();
     while at > 0 && asks.len() < KEPT_ASKS {
         at -= 1;
-        let entry = &past[at];
+        let entry = &history[at];
         let decision = decision_of_fresh(entry.outcome);
         let act = &entry.event.act;
-        if let Some(ask) = keep_ask(alloc, &past[..at + 1], &past[at + 1..], act, decision)? {
+        if let Some(ask) = keep_ask(alloc, &history[..at + 1], &history[at + 1..], act, decision)? {
             asks.push(ask)?;
         }
     }
@@ -100,18 +103,18 @@ fn is_repeat_of(rules: &Rules, key: &Key, now: u64, ask: &KeptAsk) -> bool
 }
 
 /// The decision of the latest fresh ask that an ask of this key repeats.
-#[tactic(auto, using(crate::proofs::Lists::find_steps), unfolding(rsl_session::specs::Ask::repeated))]
+#[tactic(auto, using(crate::proofs::Lists::find_steps), unfolding(rsl_session::specs::Ask::repeated_ask))]
 fn repeated_decision(
     alloc: Global,
     rules: &Rules,
-    past: &[PastEvent],
+    history: &[PastEvent],
     event: &Event,
     key: &Key,
 ) -> Result<Option<Decision>, NoMemory>
-    ensures { IfOk result (λ decision. decision ≡ option_map (λ ask. ask.decision) (repeated_ask rules.now (looking_back past.now) event.now key.now)) }
+    ensures { IfOk result (λ decision. decision ≡ option_map (λ ask. ask.decision) (repeated_ask rules.now (looking_back history.now) event.now key.now)) }
 {
-    let now = clock_with(past, event);
-    let asks = asks_of(alloc, past)?;
+    let now = clock_with(history, event);
+    let asks = asks_of(alloc, history)?;
     for ask in &asks {
         if is_repeat_of(rules, key, now, ask) {
             return Ok(Some(ask.decision));
@@ -122,11 +125,11 @@ fn repeated_decision(
 
 /// How many fresh asks were accepted.
 #[tactic(auto, unfolding(rsl_session::specs::Ask::accepts), using(crate::proofs::Looking::accepts_steps))]
-fn accepted(past: &[PastEvent]) -> u64
-    ensures { result ≡ accepts (looking_back past.now) }
+fn accepted(history: &[PastEvent]) -> u64
+    ensures { result ≡ accepts (looking_back history.now) }
 {
     let mut accepted = 0;
-    for entry in past {
+    for entry in history {
         if accept_number(entry.outcome).is_some() {
             accepted += 1;
         }
@@ -134,34 +137,54 @@ fn accepted(past: &[PastEvent]) -> u64
     accepted
 }
 
-/// Whether one more link without a bundle can open.
-#[tactic(auto, unfolding(rsl_session::specs::Ask::has_a_place))]
-fn has_place(alloc: Global, rules: &Rules, past: &[PastEvent], event: &Event) -> Result<bool, NoMemory>
-    requires { RulesFit rules.now }
-    ensures { IfOk result (λ free. free ≡ has_a_place rules.now (looking_back past.now) event.now) }
+/// What a fresh ask does, while there is an accept number for it.
+fn outcome_of_fresh(
+    alloc: Global,
+    rules: &Rules,
+    history: &[PastEvent],
+    event: &Event,
+    number: u64,
+) -> Result<Outcome, NoMemory>
+    requires rules_fit { RulesFit rules.now }
+    requires next { number ≡ accepts (looking_back history.now) }
+    ensures { IfOk result (λ did. did ≡ fresh_outcome rules.now (looking_back history.now) event.now) }
 {
-    let links = links_before(alloc, rules, past, event)?;
-    let bundles = bundles_of(alloc, past, &links)?;
-    Ok(places_taken(rules.ports, &bundles) < rules.places)
+    let before = links_before(alloc, rules, history, event)?;
+    let links = numbers_of(alloc, &before)?;
+    if has_place_beside(alloc, rules, history, &links)? {
+        return Ok(Outcome::Accepted(number));
+    }
+    let Some(link) = yielding_link(rules, event, &before) else {
+        return Ok(Outcome::Refused);
+    };
+    let others = links_but(alloc, &links, link)?;
+    if has_place_beside(alloc, rules, history, &others)? {
+        Ok(Outcome::AcceptedInPlace {
+            number,
+            yielded: link,
+        })
+    } else {
+        Ok(Outcome::Refused)
+    }
 }
 
 /// What an ask does.
 pub(crate) fn outcome_of_ask(
     alloc: Global,
     rules: &Rules,
-    past: &[PastEvent],
+    history: &[PastEvent],
     event: &Event,
     key: &Key,
 ) -> Result<Outcome, NoMemory>
     requires { RulesFit rules.now }
-    ensures { IfOk result (λ outcome. outcome ≡ ask_outcome rules.now (looking_back past.now) event.now (repeated_ask rules.now (looking_back past.now) event.now key.now)) }
+    ensures { IfOk result (λ outcome. outcome ≡ ask_outcome rules.now (looking_back history.now) event.now (repeated_ask rules.now (looking_back history.now) event.now key.now)) }
 {
-    if let Some(decision) = repeated_decision(alloc, rules, past, event, key)? {
+    if let Some(decision) = repeated_decision(alloc, rules, history, event, key)? {
         return Ok(Outcome::Repeated(decision));
     }
-    let number = accepted(past);
-    if has_place(alloc, rules, past, event)? && number < u64::MAX {
-        Ok(Outcome::Accepted(number))
+    let number = accepted(history);
+    if number < u64::MAX {
+        outcome_of_fresh(alloc, rules, history, event, number)
     } else {
         Ok(Outcome::Refused)
     }

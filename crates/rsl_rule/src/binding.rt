@@ -1,12 +1,11 @@
 ghost use Rattle.std.specs.Prelude.{◌≡◌, IfOk, is_some};
 ghost use Rattle.std.specs.Option.{option_or};
 ghost use Rattle.rsl_session.specs.Past.{looking_back};
-ghost use Rattle.rsl_session.specs.Binding.{binds, session_of, bundle_of, bound_by, bundled_by, session_at, bundle_at, is_bound_to, is_reserved};
+ghost use Rattle.rsl_session.specs.Binding.{binds, session_of, bundle_of, bound_by, bundled_by, session_at, bundle_at};
 
 use crate::link::touches_link;
-use crate::same::is_session_at;
 use rsl_event::Act;
-use rsl_session::{Bundle, PastEvent, Outcome, Session};
+use rsl_session::{Bundle, Outcome, PastEvent, Session};
 use rsl_wire::NoMemory;
 use std::alloc::Global;
 
@@ -96,7 +95,7 @@ pub(crate) fn session_after(
     place: usize,
     entry: &PastEvent,
 ) -> Result<Option<Session>, NoMemory>
-    ensures { IfOk result (λ session. session ≡ option_or session_at (bound_by link place entry.now)) }
+    ensures { IfOk result (λ session. session ≡ option_or bound (bound_by link place entry.now)) }
 {
     match bound {
         Some(session) => Ok(Some(session)),
@@ -109,11 +108,11 @@ pub(crate) fn session_after(
 pub(crate) fn session_of_link(
     alloc: Global,
     link: usize,
-    past: &[PastEvent],
+    history: &[PastEvent],
 ) -> Result<Option<Session>, NoMemory>
-    ensures { IfOk result (λ session. session ≡ session_at link (looking_back past.now)) }
+    ensures { IfOk result (λ session. session ≡ session_at link (looking_back history.now)) }
 {
-    for (at, entry) in past.iter().enumerate() {
+    for (at, entry) in history.iter().enumerate() {
         let session = session_bound(alloc, link, at + 1, entry)?;
         if session.is_some() {
             return Ok(session);
@@ -127,39 +126,15 @@ pub(crate) fn session_of_link(
 pub(crate) fn bundle_of_link(
     alloc: Global,
     link: usize,
-    past: &[PastEvent],
+    history: &[PastEvent],
 ) -> Result<Option<Bundle>, NoMemory>
-    ensures { IfOk result (λ bundle. bundle ≡ bundle_at link (looking_back past.now)) }
+    ensures { IfOk result (λ bundle. bundle ≡ bundle_at link (looking_back history.now)) }
 {
-    for (at, entry) in past.iter().enumerate() {
+    for (at, entry) in history.iter().enumerate() {
         let bundle = bundle_touched(alloc, link, at + 1, entry)?;
         if bundle.is_some() {
             return Ok(bundle);
         }
     }
     Ok(None)
-}
-
-/// Whether a link is reserved: bound to no session yet.
-#[tactic(auto, unfolding(rsl_session::specs::Binding::is_reserved))]
-pub(crate) fn is_link_reserved(alloc: Global, past: &[PastEvent], link: usize) -> Result<bool, NoMemory>
-    ensures { IfOk result (λ reserved. reserved ≡ is_reserved (looking_back past.now) link) }
-{
-    Ok(session_of_link(alloc, link, past)?.is_none())
-}
-
-/// Whether a link is bound to a session.
-#[tactic(auto, unfolding(rsl_session::specs::Binding::is_bound_to, rsl_session::specs::Same::same_session))]
-pub(crate) fn is_link_bound_to(
-    alloc: Global,
-    past: &[PastEvent],
-    session: &Session,
-    link: usize,
-) -> Result<bool, NoMemory>
-    ensures { IfOk result (λ is_bound. is_bound ≡ is_bound_to (looking_back past.now) session.now link) }
-{
-    match session_of_link(alloc, link, past)? {
-        Some(other) => Ok(is_session_at(&other, &session.nas, &session.id)),
-        None => Ok(false),
-    }
 }

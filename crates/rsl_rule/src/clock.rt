@@ -7,11 +7,11 @@ use rsl_session::PastEvent;
 
 /// The clock of an account: the greatest moment of its events, 0 before the first.
 #[tactic(auto, using(crate::proofs::Looking::clock_steps))]
-pub(crate) fn clock_of(past: &[PastEvent]) -> u64
-    ensures { result ≡ clock (looking_back past.now) }
+pub(crate) fn clock_of(history: &[PastEvent]) -> u64
+    ensures { result ≡ clock (looking_back history.now) }
 {
     let mut now = 0u64;
-    for entry in past {
+    for entry in history {
         now = now.max(entry.event.moment);
     }
     now
@@ -19,8 +19,8 @@ pub(crate) fn clock_of(past: &[PastEvent]) -> u64
 
 /// The clock when an event has come.
 #[tactic(auto, unfolding(rsl_session::specs::Clock::clock_at))]
-pub(crate) fn clock_with(past: &[PastEvent], event: &Event) -> u64
-    ensures { result ≡ clock_at (looking_back past.now) event.now }
+pub(crate) fn clock_with(history: &[PastEvent], event: &Event) -> u64
+    ensures { result ≡ clock_at (looking_back history.now) event.now }
 {
-    clock_of(past).max(event.moment)
+    clock_of(history).max(event.moment)
 }

@@ -8,7 +8,7 @@ use crate::clock::{clock_of, clock_with};
 use crate::same::is_same_session;
 use rsl_accounts::Rules;
 use rsl_event::{Act, Event};
-use rsl_session::{PastEvent, KeptStop, Session};
+use rsl_session::{KeptStop, PastEvent, Session};
 use rsl_wire::NoMemory;
 use std::alloc::Global;
 
@@ -18,11 +18,11 @@ const KEPT_STOPS: usize = 16;
 /// A stop as it is kept, by the past up to it and the entries since.
 fn keep_stop(
     alloc: Global,
-    past: &[PastEvent],
+    history: &[PastEvent],
     since: &[PastEvent],
     act: &Act,
 ) -> Result<Option<KeptStop>, NoMemory>
-    ensures { IfOk result (λ stop. stop ≡ kept_stop (clock (looking_back past.now)) since.now act.now) }
+    ensures { IfOk result (λ stop. stop ≡ kept_stop (clock (looking_back history.now)) since.now act.now) }
 {
     match act {
         Act::Stop { nas, session } => Ok(Some(KeptStop {
@@ -30,7 +30,7 @@ fn keep_stop(
                 nas: nas.try_copy(alloc)?,
                 id: session.try_copy(alloc)?,
             },
-            at: clock_of(past),
+            at: clock_of(history),
             swept: is_swept_in(since, nas),
         })),
         _ => Ok(None),
@@ -39,16 +39,16 @@ fn keep_stop(
 
 /// The last stops of a past, newest first, as many as can close a session.
 #[tactic(auto, using(crate::proofs::Kept::stops_steps))]
-fn stops_of(alloc: Global, past: &[PastEvent]) -> Result<Vec<KeptStop>, NoMemory>
-    ensures { IfOk result (λ each. each.items ≡ take KEPT_STOPS (stops [] (looking_back past.now))) }
+fn stops_of(alloc: Global, history: &[PastEvent]) -> Result<Vec<KeptStop>, NoMemory>
+    ensures { IfOk result (λ each. each.items ≡ take KEPT_STOPS (stops [] (looking_back history.now))) }
 {
     let mut each = Vec::new(alloc);
-    let mut at = past.len();
+    let mut at = history.len();
     while at > 0 && each.len() < KEPT_STOPS {
         at -= 1;
-        let entry = &past[at];
+        let entry = &history[at];
         let act = &entry.event.act;
-        if let Some(stop) = keep_stop(alloc, &past[..at + 1], &past[at + 1..], act)? {
+        if let Some(stop) = keep_stop(alloc, &history[..at + 1], &history[at + 1..], act)? {
             each.push(stop)?;
         }
     }
@@ -70,14 +70,14 @@ fn is_closed_by(rules: &Rules, session: &Session, now: u64, stop: &KeptStop) -> 
 pub(crate) fn is_session_closed(
     alloc: Global,
     rules: &Rules,
-    past: &[PastEvent],
+    history: &[PastEvent],
     event: &Event,
     session: &Session,
 ) -> Result<bool, NoMemory>
-    ensures { IfOk result (λ answer. answer ≡ is_closed rules.now (looking_back past.now) event.now session.now) }
+    ensures { IfOk result (λ answer. answer ≡ is_closed rules.now (looking_back history.now) event.now session.now) }
 {
-    let now = clock_with(past, event);
-    let stops = stops_of(alloc, past)?;
+    let now = clock_with(history, event);
+    let stops = stops_of(alloc, history)?;
     Ok(
         stops
             .iter()

@@ -2,6 +2,7 @@ ghost use Rattle.std.specs.Prelude.{◌≡◌, ◌<◌, IfOk, count_by};
 ghost use Rattle.rsl_session.specs.Past.{looking_back};
 ghost use Rattle.std.specs.Int.{div_ceil};
 ghost use Rattle.rsl_accounts.specs.Limits.{RulesFit};
+ghost use Rattle.rsl_session.specs.Ask.{has_place_beside};
 ghost use Rattle.rsl_session.specs.Places.{bundles, is_bundle, places, places_of};
 
 use crate::binding::bundle_of_link;
@@ -16,14 +17,14 @@ use std::alloc::Global;
 #[tactic(auto, using(crate::proofs::Lists::map_steps), unfolding(rsl_session::specs::Places::bundles))]
 pub(crate) fn bundles_of(
     alloc: Global,
-    past: &[PastEvent],
+    history: &[PastEvent],
     links: &[usize],
 ) -> Result<Vec<Option<Bundle>>, NoMemory>
-    ensures { IfOk result (λ each. each.items ≡ bundles (looking_back past.now) links.now) }
+    ensures { IfOk result (λ each. each.items ≡ bundles (looking_back history.now) links.now) }
 {
     let mut each = Vec::new(alloc);
     for link in links {
-        each.push(bundle_of_link(alloc, *link, past)?)?;
+        each.push(bundle_of_link(alloc, *link, history)?)?;
     }
     Ok(each)
 }
@@ -76,13 +77,32 @@ pub(crate) fn places_taken(ports: u64, bundles: &[Option<Bundle>]) -> u64
     places
 }
 
+/// Whether one more link without a bundle can open beside some links.
+#[tactic(auto, unfolding(rsl_session::specs::Ask::has_place_beside))]
+pub(crate) fn has_place_beside(
+    alloc: Global,
+    rules: &Rules,
+    history: &[PastEvent],
+    links: &[usize],
+) -> Result<bool, NoMemory>
+    requires { RulesFit rules.now }
+    ensures { IfOk result (λ free. free ≡ has_place_beside rules.now (looking_back history.now) links.now) }
+{
+    let bundles = bundles_of(alloc, history, links)?;
+    Ok(places_taken(rules.ports, &bundles) < rules.places)
+}
+
 /// The places that are held.
 #[tactic(auto, unfolding(rsl_session::specs::Places::places))]
-pub(crate) fn places_held(alloc: Global, rules: &Rules, past: &[PastEvent]) -> Result<u64, NoMemory>
+pub(crate) fn places_held(
+    alloc: Global,
+    rules: &Rules,
+    history: &[PastEvent],
+) -> Result<u64, NoMemory>
     requires { RulesFit rules.now }
-    ensures { IfOk result (λ held. held_links ≡ places rules.now (looking_back past.now)) }
+    ensures { IfOk result (λ held. held ≡ places rules.now (looking_back history.now)) }
 {
-    let links = held_links(alloc, rules, past)?;
-    let bundles = bundles_of(alloc, past, &links)?;
+    let links = held_links(alloc, rules, history)?;
+    let bundles = bundles_of(alloc, history, &links)?;
     Ok(places_taken(rules.ports, &bundles))
 }

@@ -8,7 +8,7 @@ use crate::ask::outcome_of_ask;
 use crate::count::places_held;
 use rsl_accounts::Rules;
 use rsl_event::{Act, Decision, Event};
-use rsl_session::{PastEvent, Outcome, Session};
+use rsl_session::{Outcome, PastEvent, Session};
 use rsl_wire::NoMemory;
 use std::alloc::Global;
 
@@ -19,14 +19,14 @@ use std::alloc::Global;
 pub fn outcome(
     alloc: Global,
     rules: &Rules,
-    past: &[PastEvent],
+    history: &[PastEvent],
     event: &Event,
 ) -> Result<Outcome, NoMemory>
     requires { RulesFit rules.now }
-    ensures { IfOk result (λ did. did ≡ outcome_of rules.now (looking_back past.now) event.now) }
+    ensures { IfOk result (λ did. did ≡ outcome_of rules.now (looking_back history.now) event.now) }
 {
     match &event.act {
-        Act::Ask { key, .. } => outcome_of_ask(alloc, rules, past, event, key),
+        Act::Ask { key, .. } => outcome_of_ask(alloc, rules, history, event, key),
         Act::Alive {
             nas,
             session,
@@ -37,7 +37,7 @@ pub fn outcome(
                 nas: nas.try_copy(alloc)?,
                 id: session.try_copy(alloc)?,
             };
-            outcome_of_alive(alloc, rules, past, event, &alive, *class)
+            outcome_of_alive(alloc, rules, history, event, &alive, *class)
         }
         Act::Stop { .. } | Act::Sweep { .. } | Act::Tick => Ok(Outcome::Passed),
     }
@@ -57,17 +57,17 @@ fn copy_of(alloc: Global, event: &Event) -> Result<Event, NoMemory>
 #[tactic(auto, using(crate::proofs::Whole::past_steps))]
 fn past_after(alloc: Global, rules: &Rules, events: &[Event]) -> Result<Vec<PastEvent>, NoMemory>
     requires { RulesFit rules.now }
-    ensures { IfOk result (λ past. looking_back past.items ≡ past_of rules.now events.now) }
+    ensures { IfOk result (λ history. looking_back history.items ≡ past_of rules.now events.now) }
 {
-    let mut past = Vec::new(alloc);
+    let mut history = Vec::new(alloc);
     for event in events {
-        let did = outcome(alloc, rules, &past, event)?;
-        past.push(PastEvent {
+        let did = outcome(alloc, rules, &history, event)?;
+        history.push(PastEvent {
             event: copy_of(alloc, event)?,
             outcome: did,
         })?;
     }
-    Ok(past)
+    Ok(history)
 }
 
 /// The decision on an event, by what it did. This takes no memory.
@@ -75,7 +75,9 @@ pub fn decision(outcome: Outcome) -> Decision
     ensures { result ≡ decision_of outcome }
 {
     match outcome {
-        Outcome::Accepted(number) => Decision::Accept(number),
+        Outcome::Accepted(number) | Outcome::AcceptedInPlace { number, .. } => Decision::Accept(
+            number,
+        ),
         Outcome::Refused => Decision::LimitReject,
         Outcome::Repeated(decision) => decision,
         _ => Decision::Done,
@@ -90,9 +92,9 @@ pub fn decide(alloc: Global, rules: &Rules, events: &[Event]) -> Result<Vec<Deci
     requires { RulesFit rules.now }
     ensures { IfOk result (λ answer. answer.items ≡ decisions rules.now events.now) }
 {
-    let past = past_after(alloc, rules, events)?;
+    let history = past_after(alloc, rules, events)?;
     let mut decisions = Vec::new(alloc);
-    for entry in &past {
+    for entry in &history {
         decisions.push(decision(entry.outcome))?;
     }
     Ok(decisions)
@@ -104,9 +106,9 @@ pub fn decide(alloc: Global, rules: &Rules, events: &[Event]) -> Result<Vec<Deci
 #[tactic(auto, using(crate::proofs::Whole::places_steps))]
 pub fn places(alloc: Global, rules: &Rules, events: &[Event]) -> Result<u32, NoMemory>
     requires { RulesFit rules.now }
-    ensures exact { IfOk result (λ held. held_links ≡ places_after rules.now events.now) }
-    ensures limit { IfOk result (λ held. held_links ≤ rules.now.places) }
+    ensures exact { IfOk result (λ held. held ≡ places_after rules.now events.now) }
+    ensures limit { IfOk result (λ held. held ≤ rules.now.places) }
 {
-    let past = past_after(alloc, rules, events)?;
-    Ok(places_held(alloc, rules, &past)? as u32)
+    let history = past_after(alloc, rules, events)?;
+    Ok(places_held(alloc, rules, &history)? as u32)
 }

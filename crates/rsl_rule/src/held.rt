@@ -1,47 +1,72 @@
-ghost use Rattle.std.specs.Prelude.{◌≡◌, IfOk};
+ghost use Rattle.std.specs.Prelude.{◌≡◌, ◌==◌, filter, map, not, IfOk};
 ghost use Rattle.rsl_accounts.specs.Limits.{RulesFit};
 ghost use Rattle.rsl_session.specs.Past.{looking_back};
 ghost use Rattle.rsl_session.specs.Held.{held_links, held_before};
+ghost use Rattle.rsl_rule.specs.Holding.{standings};
+ghost use Rattle.rsl_rule.specs.declared.holding.HeldLink.{HeldLink};
 
-use crate::holding::holding_after;
+use crate::holding::{HeldLink, holding_after};
 use rsl_accounts::Rules;
 use rsl_event::Event;
 use rsl_session::PastEvent;
 use rsl_wire::NoMemory;
 use std::alloc::Global;
 
-/// The links that are held, in the order in which they opened.
-pub(crate) fn held_links(
-    alloc: Global,
-    rules: &Rules,
-    past: &[PastEvent],
-) -> Result<Vec<usize>, NoMemory>
-    requires { RulesFit rules.now }
-    ensures { IfOk result (λ links. links.items ≡ held_links rules.now (looking_back past.now)) }
+/// The numbers of some held links.
+#[tactic(auto, using(crate::proofs::Lists::map_steps))]
+pub(crate) fn numbers_of(alloc: Global, held: &[HeldLink]) -> Result<Vec<usize>, NoMemory>
+    ensures { IfOk result (λ links. links.items ≡ map (λ (one : HeldLink). one.link) held.now) }
 {
-    let holding = holding_after(alloc, rules, past)?;
     let mut links = Vec::new(alloc);
-    for held in &holding.links {
-        links.push(held.link)?;
+    for one in held {
+        links.push(one.link)?;
     }
     Ok(links)
 }
 
-/// The links that are still held when an event comes: those that do not lapse then.
+/// Some links but one.
+#[tactic(auto, using(crate::proofs::Lists::filter_steps))]
+pub(crate) fn links_but(alloc: Global, links: &[usize], but: usize) -> Result<Vec<usize>, NoMemory>
+    ensures { IfOk result (λ others. others.items ≡ filter (λ other. not (other == but)) links.now) }
+{
+    let mut others = Vec::new(alloc);
+    for other in links {
+        if *other != but {
+            others.push(*other)?;
+        }
+    }
+    Ok(others)
+}
+
+/// The links that are held, in the order in which they opened.
+#[tactic(auto, using(crate::proofs::Standings::numbers))]
+pub(crate) fn held_links(
+    alloc: Global,
+    rules: &Rules,
+    history: &[PastEvent],
+) -> Result<Vec<usize>, NoMemory>
+    requires { RulesFit rules.now }
+    ensures { IfOk result (λ links. links.items ≡ held_links rules.now (looking_back history.now)) }
+{
+    let holding = holding_after(alloc, rules, history)?;
+    numbers_of(alloc, &holding.links)
+}
+
+/// The links that are still held when an event comes, each as it stands: those that do not lapse then.
 pub(crate) fn links_before(
     alloc: Global,
     rules: &Rules,
-    past: &[PastEvent],
+    history: &[PastEvent],
     event: &Event,
-) -> Result<Vec<usize>, NoMemory>
+) -> Result<Vec<HeldLink>, NoMemory>
     requires { RulesFit rules.now }
-    ensures { IfOk result (λ links. links.items ≡ held_before rules.now (looking_back past.now) event.now) }
+    ensures { IfOk result (λ links. links.items ≡ standings (looking_back history.now) (held_before rules.now (looking_back history.now) event.now)) }
 {
-    let holding = holding_after(alloc, rules, past)?;
+    let holding = holding_after(alloc, rules, history)?;
     let mut links = Vec::new(alloc);
-    for held in &holding.links {
+    for held in holding.links {
         if !held.standing.lapses(rules, event) {
-            links.push(held.link)?;
+            links.push(held)?;
         }
     }
     Ok(links)

@@ -1,11 +1,11 @@
-ghost use Rattle.std.specs.Prelude.{◌≡◌, [], ◌∷◌, ◌<◌, ◌+◌, length, max, true, IfOk};
+ghost use Rattle.std.specs.Prelude.{◌≡◌, [], ◌∷◌, ◌<◌, ◌+◌, ◌||◌, length, max, true, IfOk};
 ghost use Rattle.rsl_accounts.specs.Limits.{RulesFit};
 ghost use Rattle.rsl_accounts.specs.declared.rules.Rules.{Rules};
 ghost use Rattle.rsl_session.specs.Past.{looking_back};
 ghost use Rattle.rsl_session.specs.Clock.{clock};
 ghost use Rattle.rsl_session.specs.Link.{opens};
 ghost use Rattle.rsl_session.specs.Binding.{session_at};
-ghost use Rattle.rsl_session.specs.Held.{ended_by, ends, held_links};
+ghost use Rattle.rsl_session.specs.Held.{ended_by, ends, held_links, yields};
 ghost use Rattle.rsl_rule.specs.Standing.{standing_of};
 ghost use Rattle.rsl_rule.specs.Holding.{IsHolding, furthest_taken, lasting, standings, taken_by};
 
@@ -14,7 +14,7 @@ use crate::link::{is_link_at, opens_link};
 use crate::standing::Standing;
 use rsl_accounts::Rules;
 use rsl_event::{Act, Event};
-use rsl_session::{PastEvent, Outcome, Session};
+use rsl_session::{Outcome, PastEvent, Session};
 use rsl_wire::NoMemory;
 use std::alloc::Global;
 
@@ -40,44 +40,76 @@ pub(crate) struct Holding {
 
 /// Whether an act ends a link that stands so.
 #[tactic(auto, unfolding(rsl_session::specs::Held::ended_by, rsl_session::specs::Binding::is_bound_to, crate::specs::Standing::standing_of))]
-fn is_ended_by(past: &[PastEvent], act: &Act, link: usize, standing: &Standing) -> bool
-    requires { standing.now ≡ standing_of link (looking_back past.now) }
-    ensures { result ≡ ended_by (looking_back past.now) act.now link }
+fn is_ended_by(history: &[PastEvent], act: &Act, link: usize, standing: &Standing) -> bool
+    requires { standing.now ≡ standing_of link (looking_back history.now) }
+    ensures { result ≡ ended_by (looking_back history.now) act.now link }
 {
     match act {
         Act::Stop { nas, session } => standing.is_bound_to(nas, session),
-        Act::Sweep { nas } => is_link_at(past, nas, link),
+        Act::Sweep { nas } => is_link_at(history, nas, link),
         _ => false,
     }
 }
 
 /// Whether a link that stands so ends at an event.
 #[tactic(auto, unfolding(rsl_session::specs::Held::ends, rsl_session::specs::Lapse::lapses, rsl_session::specs::Clock::clock_at, crate::specs::Standing::standing_of))]
-fn ends_at(rules: &Rules, past: &[PastEvent], event: &Event, link: usize, standing: &Standing) -> bool
+fn ends_at(
+    rules: &Rules,
+    history: &[PastEvent],
+    event: &Event,
+    link: usize,
+    standing: &Standing,
+) -> bool
     requires rules_fit { RulesFit rules.now }
-    requires stands_so { standing.now ≡ standing_of link (looking_back past.now) }
-    ensures { result ≡ ends rules.now (looking_back past.now) event.now link }
+    requires stands_so { standing.now ≡ standing_of link (looking_back history.now) }
+    ensures { result ≡ ends rules.now (looking_back history.now) event.now link }
 {
-    standing.lapses(rules, event) || is_ended_by(past, &event.act, link, standing)
+    standing.lapses(rules, event) || is_ended_by(history, &event.act, link, standing)
 }
 
-/// The held links that do not end at the entry that comes next, each as it stands after it.
+/// Whether a link yields to an event, by what the event did.
+#[tactic(auto, unfolding(rsl_session::specs::Held::yields))]
+fn yields_to(link: usize, outcome: Outcome) -> bool
+    ensures { result ≡ yields link outcome }
+{
+    match outcome {
+        Outcome::AcceptedInPlace { yielded, .. } => link == yielded,
+        _ => false,
+    }
+}
+
+/// Whether a link that stands so is held no more after the entry that comes next.
+fn is_freed_by(
+    rules: &Rules,
+    history: &[PastEvent],
+    entry: &PastEvent,
+    link: usize,
+    standing: &Standing,
+) -> bool
+    requires rules_fit { RulesFit rules.now }
+    requires stands_so { standing.now ≡ standing_of link (looking_back history.now) }
+    ensures { result ≡ (ends rules.now (looking_back history.now) entry.now.event link || yields link entry.now.outcome) }
+{
+    ends_at(rules, history, &entry.event, link, standing) || yields_to(link, entry.outcome)
+}
+
+/// The held links that the entry that comes next does not free, each as it stands after it.
 fn links_left(
     alloc: Global,
     rules: &Rules,
-    past: &[PastEvent],
+    history: &[PastEvent],
     entry: &PastEvent,
     links: Vec<HeldLink>,
 ) -> Result<Vec<HeldLink>, NoMemory>
     requires rules_fit { RulesFit rules.now }
-    requires stand_so { links.items ≡ standings (looking_back past.now) (held_links rules.now (looking_back past.now)) }
-    ensures { IfOk result (λ left. left.items ≡ standings (entry.now ∷ looking_back past.now) (lasting rules.now (looking_back past.now) entry.now.event)) }
+    requires stand_so { links.items ≡ standings (looking_back history.now) (held_links rules.now (looking_back history.now)) }
+    ensures { IfOk result (λ left. left.items ≡ standings (entry.now ∷ looking_back history.now) (lasting rules.now entry.now (looking_back history.now))) }
 {
     let mut left = Vec::new(alloc);
     for held in links {
         let link = held.link;
-        if !ends_at(rules, past, &entry.event, link, &held.standing) {
-            let standing = held.standing.after(alloc, link, past, entry)?;
+        if !is_freed_by(rules, history, entry, link, &held.standing) {
+            let standing = held.standing.after(alloc, link, history, entry)?;
             left.push(HeldLink { link, standing })?;
         }
     }
@@ -103,17 +135,17 @@ fn link_taken(outcome: Outcome) -> usize
 fn session_before(
     alloc: Global,
     link: usize,
-    past: &[PastEvent],
+    history: &[PastEvent],
     furthest: usize,
 ) -> Result<Option<Session>, NoMemory>
-    requires unopened { length past.now < link }
-    requires greatest { furthest ≡ furthest_taken (looking_back past.now) }
-    ensures { IfOk result (λ session. session ≡ session_at link (looking_back past.now)) }
+    requires unopened { length history.now < link }
+    requires greatest { furthest ≡ furthest_taken (looking_back history.now) }
+    ensures { IfOk result (λ session. session ≡ session_at link (looking_back history.now)) }
 {
     if furthest < link {
         Ok(None)
     } else {
-        session_of_link(alloc, link, past)
+        session_of_link(alloc, link, history)
     }
 }
 
@@ -121,18 +153,18 @@ fn session_before(
 #[tactic(auto, using(crate::proofs::Carried::opened_stands))]
 fn standing_of_opened(
     alloc: Global,
-    past: &[PastEvent],
+    history: &[PastEvent],
     entry: &PastEvent,
     now: u64,
     furthest: usize,
 ) -> Result<Standing, NoMemory>
     requires opened { opens entry.now.outcome ≡ true }
-    requires at { now ≡ max (clock (looking_back past.now)) entry.now.event.moment }
-    requires greatest { furthest ≡ furthest_taken (looking_back past.now) }
-    ensures { IfOk result (λ standing. standing ≡ standing_of (length past.now + 1) (entry.now ∷ looking_back past.now)) }
+    requires at { now ≡ max (clock (looking_back history.now)) entry.now.event.moment }
+    requires greatest { furthest ≡ furthest_taken (looking_back history.now) }
+    ensures { IfOk result (λ standing. standing ≡ standing_of (length history.now + 1) (entry.now ∷ looking_back history.now)) }
 {
-    let link = past.len() + 1;
-    let bound = session_before(alloc, link, past, furthest)?;
+    let link = history.len() + 1;
+    let bound = session_before(alloc, link, history, furthest)?;
     let session = session_after(alloc, bound, link, link, entry)?;
     Ok(Standing {
         clock: now,
@@ -159,19 +191,19 @@ impl Holding {
         self,
         alloc: Global,
         rules: &Rules,
-        past: &[PastEvent],
+        history: &[PastEvent],
         entry: &PastEvent,
     ) -> Result<Holding, NoMemory>
         requires rules_fit { RulesFit rules.now }
-        requires held_so { IsHolding rules.now (looking_back past.now) self }
-        ensures { IfOk result (λ next. IsHolding rules.now (entry.now ∷ looking_back past.now) next) }
+        requires held_so { IsHolding rules.now (looking_back history.now) self }
+        ensures { IfOk result (λ next. IsHolding rules.now (entry.now ∷ looking_back history.now) next) }
     {
         let clock = self.clock.max(entry.event.moment);
         let furthest = self.furthest;
-        let mut links = links_left(alloc, rules, past, entry, self.links)?;
+        let mut links = links_left(alloc, rules, history, entry, self.links)?;
         if opens_link(entry.outcome) {
-            let link = past.len() + 1;
-            let standing = standing_of_opened(alloc, past, entry, clock, furthest)?;
+            let link = history.len() + 1;
+            let standing = standing_of_opened(alloc, history, entry, clock, furthest)?;
             links.push(HeldLink { link, standing })?;
         }
         Ok(Holding {
@@ -186,14 +218,14 @@ impl Holding {
 pub(crate) fn holding_after(
     alloc: Global,
     rules: &Rules,
-    past: &[PastEvent],
+    history: &[PastEvent],
 ) -> Result<Holding, NoMemory>
     requires { RulesFit rules.now }
-    ensures { IfOk result (λ holding. IsHolding rules.now (looking_back past.now) holding) }
+    ensures { IfOk result (λ holding. IsHolding rules.now (looking_back history.now) holding) }
 {
     let mut holding = Holding::new(alloc);
-    for (at, entry) in past.iter().enumerate() {
-        holding = holding.after(alloc, rules, &past[..at], entry)?;
+    for (at, entry) in history.iter().enumerate() {
+        holding = holding.after(alloc, rules, &history[..at], entry)?;
     }
     Ok(holding)
 }

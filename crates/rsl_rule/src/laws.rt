@@ -1,20 +1,21 @@
 //! Laws of the session rule, over every list of an account's events. Each is the contract of a function
 //! that does nothing.
 
-ghost use Rattle.rsl_rule.specs.Laws.{AcceptNumbersCountUp, EarlyTicksChangeNothing, EqualListsAreDecidedAlike, LowestReservationIsTaken, OnePastFollowsTheRule, PastsFollowTheRule, PlacesStayWithinTheLimit, RepeatsAreDecidedAsAFreshAsk};
+ghost use Rattle.rsl_rule.specs.Laws.{AcceptNumbersCountUp, EarlyTicksChangeNothing, LowestReservationIsTaken, OnePastFollowsTheRule, PastsFollowTheRule, PlacesStayWithinTheLimit, RepeatsAreDecidedAsAFreshAsk, StaleLinksYield};
 
 /// After each event of a list, and not only after the last, the places held are at most the account's.
 pub fn places_stay_within_the_limit()
     ensures { PlacesStayWithinTheLimit }
 {}
 
-/// Determinism: the decisions and the places are a function of the rules and the list of events.
-pub fn equal_lists_are_decided_alike()
-    ensures { EqualListsAreDecidedAlike }
+/// A link that yields to a fresh ask was stale when the ask came, no stale link was touched before it, and
+/// the places held after the ask are at most the account's.
+pub fn stale_links_yield()
+    ensures { StaleLinksYield }
 {}
 
-/// A tick may be put into a list where none of the events behind it has a lower moment: every
-/// decision stays as it was, and so do the places after each event behind it.
+/// A tick may be put into a list where none of the events after it has a lower moment: every
+/// decision stays as it was, and so do the places after each event after it.
 pub fn early_ticks_change_nothing()
     ensures { EarlyTicksChangeNothing }
 {}

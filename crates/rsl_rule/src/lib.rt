@@ -17,5 +17,6 @@ mod same;
 mod standing;
 #[cfg(test)]
 mod tests;
+mod yielding;
 
 pub use decisions::{decide, decision, outcome, places};

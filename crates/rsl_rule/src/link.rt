@@ -8,14 +8,17 @@ ghost use Rattle.rsl_session.specs.Link.{nas_of};
 
 use crate::same::is_same_nas;
 use rsl_event::{Act, Nas};
-use rsl_session::{PastEvent, Outcome};
+use rsl_session::{Outcome, PastEvent};
 
 /// Whether an event opened a link.
 #[tactic(auto, unfolding(rsl_session::specs::Link::opens))]
 pub(crate) fn opens_link(outcome: Outcome) -> bool
     ensures { result ≡ opens outcome }
 {
-    matches!(outcome, Outcome::Accepted(_) | Outcome::Opened)
+    matches!(
+        outcome,
+        Outcome::Accepted(_) | Outcome::AcceptedInPlace { .. } | Outcome::Opened
+    )
 }
 
 /// The accept number that an event gave.
@@ -24,7 +27,7 @@ pub(crate) fn accept_number(outcome: Outcome) -> Option<u64>
     ensures { result ≡ number_of outcome }
 {
     match outcome {
-        Outcome::Accepted(number) => Some(number),
+        Outcome::Accepted(number) | Outcome::AcceptedInPlace { number, .. } => Some(number),
         _ => None,
     }
 }
@@ -35,7 +38,7 @@ pub(crate) fn touches_link(link: usize, place: usize, outcome: Outcome) -> bool
     ensures { result ≡ touches link place outcome }
 {
     match outcome {
-        Outcome::Accepted(_) | Outcome::Opened => link == place,
+        Outcome::Accepted(_) | Outcome::AcceptedInPlace { .. } | Outcome::Opened => link == place,
         Outcome::Took(touched) | Outcome::Renewed(touched) => link == touched,
         _ => false,
     }
@@ -49,7 +52,7 @@ pub(crate) fn touch_after(
     clock: u64,
     touched: u64,
 ) -> u64
-    ensures { result ≡ if touches link place outcome then clock else touched_at }
+    ensures { result ≡ if touches link place outcome then clock else touched }
 {
     if touches_link(link, place, outcome) {
         clock
@@ -60,13 +63,13 @@ pub(crate) fn touch_after(
 
 /// The entry at a place.
 #[tactic(auto, using(crate::proofs::Looking::entry_steps))]
-pub(crate) fn entry_of(place: usize, past: &[PastEvent]) -> Option<&PastEvent>
-    ensures { option_copied result ≡ entry_at place (looking_back past.now) }
+pub(crate) fn entry_of(place: usize, history: &[PastEvent]) -> Option<&PastEvent>
+    ensures { option_copied result ≡ entry_at place (looking_back history.now) }
 {
     if place == 0 {
         None
     } else {
-        past.get(place - 1)
+        history.get(place - 1)
     }
 }
 
@@ -86,10 +89,10 @@ fn is_act_at(act: &Act, nas: &Nas) -> bool
 
 /// Whether a link is at an access server.
 #[tactic(auto, unfolding(rsl_session::specs::Held::is_at, rsl_session::specs::Link::nas_at))]
-pub(crate) fn is_link_at(past: &[PastEvent], nas: &Nas, link: usize) -> bool
-    ensures { result ≡ is_at (looking_back past.now) nas.now link }
+pub(crate) fn is_link_at(history: &[PastEvent], nas: &Nas, link: usize) -> bool
+    ensures { result ≡ is_at (looking_back history.now) nas.now link }
 {
-    match entry_of(link, past) {
+    match entry_of(link, history) {
         Some(entry) => is_act_at(&entry.event.act, nas),
         None => false,
     }
@@ -97,10 +100,10 @@ pub(crate) fn is_link_at(past: &[PastEvent], nas: &Nas, link: usize) -> bool
 
 /// The accept number of a link that an ask opened.
 #[tactic(auto, unfolding(rsl_session::specs::Link::number_at))]
-pub(crate) fn number_of_link(link: usize, past: &[PastEvent]) -> Option<u64>
-    ensures { result ≡ number_at link (looking_back past.now) }
+pub(crate) fn number_of_link(link: usize, history: &[PastEvent]) -> Option<u64>
+    ensures { result ≡ number_at link (looking_back history.now) }
 {
-    match entry_of(link, past) {
+    match entry_of(link, history) {
         Some(entry) => accept_number(entry.outcome),
         None => None,
     }

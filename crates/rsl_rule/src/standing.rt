@@ -3,7 +3,7 @@ ghost use Rattle.rsl_accounts.specs.Limits.{RulesFit};
 ghost use Rattle.rsl_session.specs.Past.{looking_back};
 ghost use Rattle.rsl_session.specs.Binding.{is_session};
 ghost use Rattle.rsl_session.specs.Lapse.{standing_time};
-ghost use Rattle.rsl_rule.specs.Standing.{standing_of};
+ghost use Rattle.rsl_rule.specs.Standing.{is_idle_so, standing_of};
 
 use crate::binding::session_after;
 use crate::link::touch_after;
@@ -32,13 +32,13 @@ impl Standing {
         self,
         alloc: Global,
         link: usize,
-        past: &[PastEvent],
+        history: &[PastEvent],
         entry: &PastEvent,
     ) -> Result<Standing, NoMemory>
-        requires { self ≡ standing_of link (looking_back past.now) }
-        ensures { IfOk result (λ next. next ≡ standing_of link (entry.now ∷ looking_back past.now)) }
+        requires { self ≡ standing_of link (looking_back history.now) }
+        ensures { IfOk result (λ next. next ≡ standing_of link (entry.now ∷ looking_back history.now)) }
     {
-        let place = past.len() + 1;
+        let place = history.len() + 1;
         let clock = self.clock.max(entry.event.moment);
         let touched = touch_after(link, place, entry.outcome, clock, self.touched);
         let session = session_after(alloc, self.session, link, place, entry)?;
@@ -57,6 +57,14 @@ impl Standing {
             Some(session) => is_session_at(session, nas, id),
             None => false,
         }
+    }
+
+    /// Whether the link is idle when an event comes: bound, and its live time is over then.
+    pub fn is_idle(&self, rules: &Rules, event: &Event) -> bool
+        ensures { result ≡ is_idle_so rules.now event.now self.now }
+    {
+        let untouched = self.clock.max(event.moment).saturating_sub(self.touched);
+        self.session.is_some() && rules.live <= untouched
     }
 
     /// Whether the link lapses when an event comes.

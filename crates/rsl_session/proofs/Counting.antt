@@ -292,7 +292,7 @@ pub places_of_front : (ports : ℕ) (x : Option Bundle) (xs ys : List (Option Bu
 places_of_front ports x [] ys some = refl
 places_of_front ports x (y ∷ xs) ys some =
     let rest = places_of_front ports x xs ys some in
-    let behind = places_of-cons ports y (xs ++ x ∷ ys) some in
+    let later = places_of-cons ports y (xs ++ x ∷ ys) some in
     let moved = adds_front ports x y xs ys in
     let front = places_of-cons ports x (xs ++ ys) some in
     let before = places_of-cons ports y (xs ++ ys) some in

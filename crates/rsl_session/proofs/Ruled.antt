@@ -186,6 +186,11 @@ IsOfPast-outcome_of rules past event = by_act event.act where
   by_act (Sweep nas) = tt
   by_act Tick = tt
 
+-- a link that yields has opened
+pub yielded-le : (rules : Rules) (past : Past) (event : Event) (number link : ℕ) → outcome_of rules past event ≡ AcceptedInPlace number link → link ≤ length past
+unfolding IsOfPast
+yielded-le rules past event number link is = subst (IsOfPast past) is (IsOfPast-outcome_of rules past event)
+
 -- what an event does touches no link that opens later
 pub touches_later : (past : Past) (outcome : Outcome) (link : ℕ) → IsOfPast past outcome → suc (length past) < link → touches link (suc (length past)) outcome ≡ false
 unfolding IsOfPast touches

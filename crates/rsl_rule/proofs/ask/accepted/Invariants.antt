@@ -4,4 +4,4 @@ use Rattle.rsl_session.specs.Ask.{accepts}
 use Rattle.rsl_rule.proofs.ask.accepted.Given as goal
 
 abbrev pub invariant-loop-entry : goal.invariant-loop-entry
-invariant-loop-entry l = (l.accepted ≡ accepts (looking_back (take l.entry-index l.past))) × (l.accepted ≤ l.entry-index)
+invariant-loop-entry l = (l.accepted ≡ accepts (looking_back (take l.entry-index l.history))) × (l.accepted ≤ l.entry-index)

@@ -4,7 +4,7 @@ use Rattle.rsl_session.specs.Ask.{fresh_asks, KEPT_ASKS}
 use Rattle.rsl_rule.proofs.ask.asks_of.Given as goal
 
 abbrev pub invariant-loop-at : goal.invariant-loop-at
-invariant-loop-at l = (l.at ≤ length l.past) × (l.asks.items ++ fresh_asks (drop l.at l.past) (looking_back (take l.at l.past)) ≡ fresh_asks [] (looking_back l.past)) × (length l.asks.items ≤ KEPT_ASKS)
+invariant-loop-at l = (l.at ≤ length l.history) × (l.asks.items ++ fresh_asks (drop l.at l.history) (looking_back (take l.at l.history)) ≡ fresh_asks [] (looking_back l.history)) × (length l.asks.items ≤ KEPT_ASKS)
 
 abbrev pub decreases-loop-at : goal.decreases-loop-at
 decreases-loop-at l = l.at

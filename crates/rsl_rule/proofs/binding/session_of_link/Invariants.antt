@@ -5,4 +5,4 @@ use Rattle.rsl_session.specs.Binding.{session_at}
 use Rattle.rsl_rule.proofs.binding.session_of_link.Given as goal
 
 abbrev pub invariant-loop-at : goal.invariant-loop-at
-invariant-loop-at l = session_at l.link (looking_back (take l.at l.past)) ≡ None
+invariant-loop-at l = session_at l.link (looking_back (take l.at l.history)) ≡ None

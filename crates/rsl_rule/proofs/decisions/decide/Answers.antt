@@ -9,4 +9,4 @@ pub returns : goal.returns
 returns c =
     c.loop-entry.invariant
     ∙ ap (map (λ (entry : PastEvent). decision_of entry.outcome)) (take_all c.loop-entry.entry-index c.deref-entry-items.result.now c.loop-entry-test.false ∙ c.deref-entry-items.ensures.value)
-    ∙ noted_all c.args.rules.now c.in_ok-past.past.items c.args.events.now c.in_ok-past.ensures
+    ∙ noted_all c.args.rules.now c.in_ok-history.history.items c.args.events.now c.in_ok-history.ensures

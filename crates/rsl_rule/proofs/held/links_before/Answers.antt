@@ -1,34 +1,57 @@
-use Rattle.std.proofs.Common.{ℕ, ap, not, sym, ◌∙◌}
+use Rattle.std.proofs.Common.{ℕ, length, ap, sym, ◌∙◌, not, arith}
 use Rattle.std.specs.Prelude.{filter}
+use Rattle.std.proofs.lemmas.Iterator.Adapters.{YieldsList-from_vec}
+use Rattle.std.proofs.lemmas.Iterator.Consumers.{YieldsList-turn, YieldsList-end}
+use Rattle.std.proofs.lemmas.List.{length_push}
 use Rattle.rsl_session.specs.Past.{looking_back}
 use Rattle.rsl_session.specs.Lapse.{lapses}
 use Rattle.rsl_session.specs.Held.{held_links, held_before}
-use Rattle.rsl_rule.proofs.Lists.{filter_yes, filter_no}
-use Rattle.rsl_rule.proofs.Carried.{standings_at, number_all, lapses_so}
+use Rattle.rsl_rule.specs.Holding.{standings}
+use Rattle.rsl_rule.proofs.Carried.{standings_at, left_yes, left_no, number_all, lapses_so}
 use Rattle.rsl_rule.proofs.held.links_before.Goals as goal
-use Rattle.rsl_rule.proofs.held.links_before.Goals.{then-not-lapses+in_ok-push, else-not-lapses}
+
+pub loop-held-init : goal.loop-held-init
+unfolding standings
+loop-held-init c = c.new-links.ensures.items
 
 pub loop-held-preserved : goal.loop-held-preserved
 loop-held-preserved c =
-    let past = looking_back c.args.past.now in
+    let each = YieldsList-from_vec {s = c.into_iter-held-iterator.result} c.in_ok-holding.holding.links.items c.into_iter-held-iterator.ensures.into_iter_gives.0 (c.into_iter-held-iterator.ensures.into_iter_gives.1 ∙ c.in_ok-holding.holding.links.ok.0) in
+    let at = YieldsList-turn each c.loop-held.yielded c.loop-held.held-iterator c.loop-held.yielded_by c.next.result c.next.new.self c.in-Some.held c.in-Some.is c.next.ensures.steps in
+    let past = looking_back c.args.history.now in
     let links = held_links c.args.rules.now past in
     let stays = λ (link : ℕ). not (lapses c.args.rules.now past c.args.event.now link) in
-    let stand_so = c.deref-held-items.ensures.value ∙ c.in_ok-holding.ensures.each in
-    let at = standings_at past links c.deref-held-items.result.now stand_so c.loop-held.held-index c.held-item.result c.loop-held-test.true c.held-item.is in
-    let answer = c.lapses.ensures ∙ lapses_so c.args.rules.now past c.args.event.now c.held-item.result.link c.held-item.result.standing at.2 in
-    elim c.if-not-lapses.branch [
-      | then-not-lapses+in_ok-push w ↦
-          let kept = filter_yes stays links c.loop-held.held-index c.held-item.result.link at.0 at.1 (ap not (sym answer ∙ w.if-not-lapses.true)) in
-          rw w.links-is (w.in_ok-push.ensures.items ∙ rw c.loop-held.invariant (sym kept))
-      | else-not-lapses w ↦
-          let left = filter_no stays links c.loop-held.held-index c.held-item.result.link at.0 at.1 (ap not (sym answer ∙ w.if-not-lapses.false)) in
-          rw w.links-is (c.loop-held.invariant ∙ sym left)
-    ]
+    let here = standings_at past links c.in_ok-holding.holding.links.items c.in_ok-holding.ensures.each (length c.loop-held.yielded) c.in-Some.held at.0 at.1 in
+    let answer = c.lapses.ensures ∙ lapses_so c.args.rules.now past c.args.event.now c.in-Some.held.link c.in-Some.held.standing here.2 in
+    rw length_push (c.loop-held.invariant ∙ sym (left_no stays past past links c.in_ok-holding.holding.links.items c.in_ok-holding.ensures.each (length c.loop-held.yielded) c.in-Some.held at.0 at.1 (ap not (sym answer ∙ c.if-not-lapses.false))))
+
+pub loop-held-preserved-else-not-lapses : goal.loop-held-preserved-else-not-lapses
+loop-held-preserved-else-not-lapses c =
+    let each = YieldsList-from_vec {s = c.into_iter-held-iterator.result} c.in_ok-holding.holding.links.items c.into_iter-held-iterator.ensures.into_iter_gives.0 (c.into_iter-held-iterator.ensures.into_iter_gives.1 ∙ c.in_ok-holding.holding.links.ok.0) in
+    let at = YieldsList-turn each c.loop-held.yielded c.loop-held.held-iterator c.loop-held.yielded_by c.next.result c.next.new.self c.in-Some.held c.in-Some.is c.next.ensures.steps in
+    let past = looking_back c.args.history.now in
+    let links = held_links c.args.rules.now past in
+    let stays = λ (link : ℕ). not (lapses c.args.rules.now past c.args.event.now link) in
+    let here = standings_at past links c.in_ok-holding.holding.links.items c.in_ok-holding.ensures.each (length c.loop-held.yielded) c.in-Some.held at.0 at.1 in
+    let answer = c.lapses.ensures ∙ lapses_so c.args.rules.now past c.args.event.now c.in-Some.held.link c.in-Some.held.standing here.2 in
+    rw length_push (c.loop-held.invariant ∙ sym (left_no stays past past links c.in_ok-holding.holding.links.items c.in_ok-holding.ensures.each (length c.loop-held.yielded) c.in-Some.held at.0 at.1 (ap not (sym answer ∙ c.if-not-lapses.false))))
+
+pub loop-held-preserved-in-Continue-branch-2 : goal.loop-held-preserved-in-Continue-branch-2
+loop-held-preserved-in-Continue-branch-2 c =
+    let each = YieldsList-from_vec {s = c.into_iter-held-iterator.result} c.in_ok-holding.holding.links.items c.into_iter-held-iterator.ensures.into_iter_gives.0 (c.into_iter-held-iterator.ensures.into_iter_gives.1 ∙ c.in_ok-holding.holding.links.ok.0) in
+    let at = YieldsList-turn each c.loop-held.yielded c.loop-held.held-iterator c.loop-held.yielded_by c.next.result c.next.new.self c.in-Some.held c.in-Some.is c.next.ensures.steps in
+    let past = looking_back c.args.history.now in
+    let links = held_links c.args.rules.now past in
+    let stays = λ (link : ℕ). not (lapses c.args.rules.now past c.args.event.now link) in
+    let here = standings_at past links c.in_ok-holding.holding.links.items c.in_ok-holding.ensures.each (length c.loop-held.yielded) c.in-Some.held at.0 at.1 in
+    let answer = c.lapses.ensures ∙ lapses_so c.args.rules.now past c.args.event.now c.in-Some.held.link c.in-Some.held.standing here.2 in
+    rw length_push (c.in_ok-push.ensures.items ∙ rw c.loop-held.invariant (sym (left_yes stays past past links c.in_ok-holding.holding.links.items c.in_ok-holding.ensures.each (length c.loop-held.yielded) c.in-Some.held at.0 at.1 (ap not (sym answer ∙ c.if-not-lapses.true)) c.in-Some.held.standing here.2)))
 
 pub returns : goal.returns
 unfolding held_before
 returns c =
-    let past = looking_back c.args.past.now in
+    let each = YieldsList-from_vec {s = c.into_iter-held-iterator.result} c.in_ok-holding.holding.links.items c.into_iter-held-iterator.ensures.into_iter_gives.0 (c.into_iter-held-iterator.ensures.into_iter_gives.1 ∙ c.in_ok-holding.holding.links.ok.0) in
+    let all = YieldsList-end each c.loop-held.yielded c.loop-held.held-iterator c.loop-held.yielded_by c.next.result c.next.new.self c.in-None.is c.next.ensures.steps in
+    let past = looking_back c.args.history.now in
     let stays = λ (link : ℕ). not (lapses c.args.rules.now past c.args.event.now link) in
-    let stand_so = c.deref-held-items.ensures.value ∙ c.in_ok-holding.ensures.each in
-    c.loop-held.invariant ∙ ap (filter stays) (number_all past (held_links c.args.rules.now past) c.deref-held-items.result.now stand_so c.loop-held.held-index c.loop-held-test.false)
+    c.loop-held.invariant ∙ ap (λ ls. standings past (filter stays ls)) (number_all past (held_links c.args.rules.now past) c.in_ok-holding.holding.links.items c.in_ok-holding.ensures.each (length c.loop-held.yielded) (omega arith))
