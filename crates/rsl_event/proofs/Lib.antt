@@ -1,2 +1,3 @@
 pub mod PreparedLaws
+pub mod SignatureLaws
 pub mod WritingLaws

@@ -9,11 +9,12 @@ use Rattle.rsl_auth.specs.Authenticator.{is_accounting_authentic}
 use Rattle.rsl_wire.specs.Attributes.{Attribute, attribute_list, attributes_in, first_of, number_in}
 use Rattle.rsl_wire.specs.Packet.{Fields, packet_octets, packet_of}
 use Rattle.rsl_wire.specs.declared.packet.WireFault.{WireFault}
-use Rattle.rsl_event.specs.Request.{nas_of, named_account, proxy_len, secret_of, password_of}
-use Rattle.rsl_event.specs.Access.{asks_once, if_shown, shows_password, asker, ask_or_reject, access_by, access_meaning}
-use Rattle.rsl_event.specs.Accounting.{is_alive, is_stop, is_restart, text_of, note_of, unless_empty, class_of, session_act, session_meaning, status_meaning, if_status, accounting_by, accounting_meaning}
+use Rattle.rsl_event.specs.Request.{access_server_of, named_account, proxy_len, secret_of, account_password, text_of}
+use Rattle.rsl_event.specs.Access.{asks_once, if_shown, shows_password, asker, ask_or_reject, unless_dropped, request_meaning, access_by, access_meaning}
+use Rattle.rsl_event.specs.Signature.{must_sign, signature_drop}
+use Rattle.rsl_event.specs.Accounting.{is_alive, is_stop, is_on_or_off, note_of, unless_empty, class_in, session_act, session_meaning, status_meaning, if_status, accounting_by, accounting_meaning}
 use Rattle.rsl_event.specs.Meaning.{packet_meaning, if_client, if_packet, meaning}
-use Rattle.rsl_event.specs.Prepared.{HasProxyStates, HasAccount, HasRoom, IsOfOneAccount, HasOwnAct}
+use Rattle.rsl_event.specs.Prepared.{HasProxyStates, HasAccount, HasRoomForReply, IsOfOneAccount, HasOwnAct}
 use Rattle.rsl_event.specs.declared.event.Act.TheVariants.{Alive, Stop}
 use Rattle.rsl_event.specs.declared.event.Source.{Source}
 use Rattle.rsl_event.specs.declared.meaning.Port.{Port}
@@ -27,7 +28,7 @@ use Rattle.rsl_event.specs.declared.codes.TheConstants.{ACCESS_REQUEST, ACCOUNTI
 -- what a reply can be made to
 pub record IsMeant (config : Configuration) (attributes : List ℕ) (meaning : Meaning) : Type 0 where
   pub account : HasAccount config meaning
-  pub room : HasRoom attributes meaning
+  pub room : HasRoomForReply attributes meaning
   pub own : HasOwnAct meaning
 
 abbrev Meant : Type 0
@@ -41,6 +42,10 @@ passed false d r m e = (refl, e)
 held : (b : Bool) (d : Dropped) (r : Meant) (m : Meaning) → cond b r (Err d) ≡ Ok m → (b ≡ true) × (r ≡ Ok m)
 held true d r m e = (refl, e)
 held false d r m e = absurd cc
+
+undropped : (o : Option Dropped) (r : Meant) (m : Meaning) → unless_dropped o r ≡ Ok m → r ≡ Ok m
+undropped None r m e = e
+undropped (Some d) r m e = absurd cc
 
 abbrev done : Meaning → Meant
 done m = Ok m
@@ -70,7 +75,7 @@ some_of false x y e = absurd cc
 
 shown_is : (config : Configuration) (secret authenticator : List ℕ) (attributes : List Attribute) (found : Option ℕ) (account : ℕ) → option_and_then (if_shown config secret authenticator attributes) found ≡ Some account → found ≡ Some account
 shown_is config secret authenticator attributes None account e = absurd cc
-shown_is config secret authenticator attributes (Some other) account e = ap (λ (x : ℕ). Some x) (some_of (shows_password secret authenticator attributes (password_of config other)) other account e)
+shown_is config secret authenticator attributes (Some other) account e = ap (λ (x : ℕ). Some x) (some_of (shows_password secret authenticator attributes (account_password config other)) other account e)
 
 asked_is : (b : Bool) (found : Option ℕ) (account : ℕ) → cond b found None ≡ Some account → found ≡ Some account
 asked_is true found account e = e
@@ -99,10 +104,13 @@ asked_meant config source client fields attributes (Some account) has e = record
 
 access_by_meant : (config : Configuration) (source : Source) (client : ℕ) (fields : Fields) (r : Result (List Attribute) ℕ) (m : Meaning) → attribute_list fields.attributes ≡ r
     → access_by config source client fields r ≡ Ok m → IsMeant config fields.attributes m
-access_by_meant config source client fields (Err at) m is e = subst (IsMeant config fields.attributes) (ok_is Bare m e) (record { account = tt; room = tt; own = tt })
+access_by_meant config source client fields (Err at) m is e =
+    let p = passed (must_sign config client) drops.Unsigned (done Bare) m e in
+    subst (IsMeant config fields.attributes) (ok_is Bare m p.1) (record { account = tt; room = tt; own = tt })
 access_by_meant config source client fields (Ok attributes) m is e =
     let account = asker config client fields.authenticator attributes in
-    let p = passed (ltb 3900 (proxy_len attributes)) drops.ProxyTooLong (Ok (ask_or_reject source client fields attributes account)) m e in
+    let signed = undropped (signature_drop config client fields attributes) (request_meaning config source client fields attributes) m e in
+    let p = passed (ltb 3900 (proxy_len attributes)) drops.ProxyTooLong (Ok (ask_or_reject source client fields attributes account)) m signed in
     let has = has_proxy_states fields.attributes attributes is (ltb-false _ _ p.0) in
     subst (IsMeant config fields.attributes) (ok_is (ask_or_reject source client fields attributes account) m p.1) (asked_meant config source client fields attributes account has refl)
 
@@ -117,7 +125,7 @@ access_meant config source client fields m e =
 session_own : (boot client status : ℕ) (attributes : List Attribute) → IsOfOneAccount (session_act boot client status attributes)
 session_own boot client status attributes = by (is_stop status)
   where
-    by : (stop : Bool) → IsOfOneAccount (cond stop (Stop (nas_of client attributes) (text_of ACCT_SESSION_ID attributes)) (Alive (nas_of client attributes) (text_of ACCT_SESSION_ID attributes) (unless_empty (first_of ACCT_MULTI_SESSION_ID attributes)) (class_of boot attributes)))
+    by : (stop : Bool) → IsOfOneAccount (cond stop (Stop (access_server_of client attributes) (text_of ACCT_SESSION_ID attributes)) (Alive (access_server_of client attributes) (text_of ACCT_SESSION_ID attributes) (unless_empty (first_of ACCT_MULTI_SESSION_ID attributes)) (class_in boot attributes)))
     by true = tt
     by false = tt
 
@@ -130,12 +138,12 @@ status_meant : (config : Configuration) (boot client status : ℕ) (octets : Lis
     → status_meaning config boot client status attributes ≡ Ok m → IsMeant config octets m
 unfolding status_meaning
 status_meant config boot client status octets attributes m has e =
-    by (is_restart status) (is_alive status || is_stop status) (length (text_of ACCT_SESSION_ID attributes) == 0) e
+    by (is_on_or_off status) (is_alive status || is_stop status) (length (text_of ACCT_SESSION_ID attributes) == 0) e
   where
     by : (restart session empty : Bool)
-        → cond restart (Ok (Restart (nas_of client attributes))) (cond session (cond empty (Err drops.NoSession) (Ok (session_meaning boot client status attributes (named_account config attributes)))) (Ok (Stray (note_of client status attributes)))) ≡ Ok m
+        → cond restart (Ok (Restart (access_server_of client attributes))) (cond session (cond empty (Err drops.NoSession) (Ok (session_meaning boot client status attributes (named_account config attributes)))) (Ok (Stray (note_of client status attributes)))) ≡ Ok m
         → IsMeant config octets m
-    by true session empty e = subst (IsMeant config octets) (ok_is (Restart (nas_of client attributes)) m e) (record { account = tt; room = has; own = tt })
+    by true session empty e = subst (IsMeant config octets) (ok_is (Restart (access_server_of client attributes)) m e) (record { account = tt; room = has; own = tt })
     by false true true e = absurd cc
     by false true false e = subst (IsMeant config octets) (ok_is (session_meaning boot client status attributes (named_account config attributes)) m e) (session_meant config boot client status octets attributes (named_account config attributes) has refl)
     by false false empty e = subst (IsMeant config octets) (ok_is (Stray (note_of client status attributes)) m e) (record { account = tt; room = has; own = tt })

@@ -1,5 +1,5 @@
 -- What is written into a reply, one part after another.
-use Rattle.std.proofs.Common.{◌≡◌, ℕ, List, [], ◌∷◌, ◌++◌, length, Option, Some, sym, ap, ◌∙◌, arith, take, drop}
+use Rattle.std.proofs.Common.{◌≡◌, ℕ, Bool, append_assoc, List, [], ◌∷◌, ◌++◌, length, Option, Some, sym, ap, ◌∙◌, arith, take, drop}
 use Rattle.std.specs.Prelude.{replicate, slice_get}
 use Rattle.std.specs.Option.{option_map_or}
 use Rattle.std.proofs.lemmas.List.{append-nil, drop_all, take_all}
@@ -11,7 +11,8 @@ use Rattle.rsl_auth.specs.Authenticator.{sealed}
 use Rattle.rsl_wire.specs.Attributes.{Attribute, attribute_octets, list_octets, attributes_in}
 use Rattle.rsl_wire.specs.Begun.{Begun}
 use Rattle.rsl_wire.specs.Packet.{Fields, packet_octets}
-use Rattle.rsl_event.specs.Answer.{number_attribute, optional_attribute, class_attribute, accept_attributes, said, code_of, said_attributes, repeated_attributes, reply_attributes, answer}
+use Rattle.rsl_event.specs.Answer.{number_attribute, optional_attribute, class_attribute, accept_attributes, said, code_of, said_attributes, repeated_attributes, signed_if, answer}
+use Rattle.rsl_event.specs.Signature.{is_reply_signed, signature_if}
 use Rattle.rsl_event.specs.Request.{proxy_states, proxy_len, secret_of}
 use Rattle.rsl_event.specs.declared.event.Decision.{Decision}
 use Rattle.rsl_event.specs.declared.meaning.Meaning.{Meaning}
@@ -22,32 +23,39 @@ use Rattle.rsl_event.specs.declared.codes.TheConstants.{PORT_LIMIT, SERVICE_TYPE
 abbrev pub with_attributes : Begun → List ℕ → Begun
 with_attributes draft octets = record { id = draft.id; attributes = octets }
 
-then_octets : (xs os : List Attribute) (before : List ℕ) → before ≡ list_octets xs → before ++ list_octets os ≡ list_octets (xs ++ os)
-then_octets xs os before e = ap (λ (x : List ℕ). x ++ list_octets os) e ∙ sym (flat_map-append attribute_octets xs os)
+then_octets : (front : List ℕ) (xs os : List Attribute) (before : List ℕ) → before ≡ front ++ list_octets xs → before ++ list_octets os ≡ front ++ list_octets (xs ++ os)
+then_octets front xs os before e =
+    ap (λ (x : List ℕ). x ++ list_octets os) e ∙ append_assoc front (list_octets xs) (list_octets os)
+    ∙ ap (λ (x : List ℕ). front ++ x) (sym (flat_map-append attribute_octets xs os))
+
+-- one attribute is a list of one
+one_octets : (attribute : Attribute) → attribute_octets attribute ≡ list_octets (attribute ∷ [])
+one_octets attribute = sym (append-nil (attribute_octets attribute))
 
 -- the parts of an accept, written one after another
-pub accept_written : (boot number : ℕ) (entry : Entry) (start a b c d e f : Begun) → start.attributes ≡ []
+pub accept_written : (boot number : ℕ) (entry : Entry) (start a b c d e f : Begun)
     → a ≡ with_attributes start (start.attributes ++ attribute_octets (class_attribute boot number))
     → b ≡ with_attributes a (a.attributes ++ attribute_octets (number_attribute PORT_LIMIT entry.rules.ports))
     → c ≡ with_attributes b (b.attributes ++ list_octets (optional_attribute SERVICE_TYPE entry.service_type))
     → d ≡ with_attributes c (c.attributes ++ list_octets (optional_attribute FRAMED_PROTOCOL entry.framed_protocol))
     → e ≡ with_attributes d (d.attributes ++ list_octets (optional_attribute SESSION_TIMEOUT entry.session_timeout))
     → f ≡ with_attributes e (e.attributes ++ list_octets (optional_attribute IDLE_TIMEOUT entry.idle_timeout))
-    → f ≡ with_attributes start (list_octets (accept_attributes boot number entry))
+    → f ≡ with_attributes start (start.attributes ++ list_octets (accept_attributes boot number entry))
 unfolding accept_attributes
-accept_written boot number entry start a b c d e f empty ea eb ec ed ee ef =
+accept_written boot number entry start a b c d e f ea eb ec ed ee ef =
+    let front = start.attributes in
     let class = class_attribute boot number in
     let port = number_attribute PORT_LIMIT entry.rules.ports in
     let s = optional_attribute SERVICE_TYPE entry.service_type in
     let p = optional_attribute FRAMED_PROTOCOL entry.framed_protocol in
     let t = optional_attribute SESSION_TIMEOUT entry.session_timeout in
     let i = optional_attribute IDLE_TIMEOUT entry.idle_timeout in
-    let a_is : a.attributes ≡ attribute_octets class = ap (λ (x : Begun). x.attributes) ea ∙ ap (λ (x : List ℕ). x ++ attribute_octets class) empty in
-    let b_is : b.attributes ≡ list_octets (class ∷ port ∷ []) = ap (λ (x : Begun). x.attributes) eb ∙ ap (λ (x : List ℕ). x ++ attribute_octets port) a_is ∙ ap (λ (x : List ℕ). attribute_octets class ++ x) (sym (append-nil (attribute_octets port))) in
-    let c_is : c.attributes ≡ list_octets (class ∷ port ∷ s) = ap (λ (x : Begun). x.attributes) ec ∙ then_octets (class ∷ port ∷ []) s b.attributes b_is in
-    let d_is : d.attributes ≡ list_octets (class ∷ port ∷ s ++ p) = ap (λ (x : Begun). x.attributes) ed ∙ then_octets (class ∷ port ∷ s) p c.attributes c_is in
-    let e_is : e.attributes ≡ list_octets (class ∷ port ∷ s ++ p ++ t) = ap (λ (x : Begun). x.attributes) ee ∙ then_octets (class ∷ port ∷ s ++ p) t d.attributes d_is in
-    let f_is : f.attributes ≡ list_octets (class ∷ port ∷ s ++ p ++ t ++ i) = ap (λ (x : Begun). x.attributes) ef ∙ then_octets (class ∷ port ∷ s ++ p ++ t) i e.attributes e_is in
+    let a_is : a.attributes ≡ front ++ list_octets (class ∷ []) = ap (λ (x : Begun). x.attributes) ea ∙ ap (λ (x : List ℕ). front ++ x) (one_octets class) in
+    let b_is : b.attributes ≡ front ++ list_octets (class ∷ port ∷ []) = ap (λ (x : Begun). x.attributes) eb ∙ ap (λ (x : List ℕ). a.attributes ++ x) (one_octets port) ∙ then_octets front (class ∷ []) (port ∷ []) a.attributes a_is in
+    let c_is : c.attributes ≡ front ++ list_octets (class ∷ port ∷ s) = ap (λ (x : Begun). x.attributes) ec ∙ then_octets front (class ∷ port ∷ []) s b.attributes b_is in
+    let d_is : d.attributes ≡ front ++ list_octets (class ∷ port ∷ s ++ p) = ap (λ (x : Begun). x.attributes) ed ∙ then_octets front (class ∷ port ∷ s) p c.attributes c_is in
+    let e_is : e.attributes ≡ front ++ list_octets (class ∷ port ∷ s ++ p ++ t) = ap (λ (x : Begun). x.attributes) ee ∙ then_octets front (class ∷ port ∷ s ++ p) t d.attributes d_is in
+    let f_is : f.attributes ≡ front ++ list_octets (class ∷ port ∷ s ++ p ++ t ++ i) = ap (λ (x : Begun). x.attributes) ef ∙ then_octets front (class ∷ port ∷ s ++ p ++ t) i e.attributes e_is in
     let id_is : f.id ≡ start.id = ap (λ (x : Begun). x.id) ef ∙ ap (λ (x : Begun). x.id) ee ∙ ap (λ (x : Begun). x.id) ed ∙ ap (λ (x : Begun). x.id) ec ∙ ap (λ (x : Begun). x.id) eb ∙ ap (λ (x : Begun). x.id) ea in
     λ k. record { id = id_is k; attributes = f_is k }
 
@@ -55,15 +63,16 @@ accept_written boot number entry start a b c d e f empty ea eb ec ed ee ef =
 pub length-proxy_states : (attributes : List Attribute) → length (list_octets (proxy_states attributes)) ≡ proxy_len attributes
 length-proxy_states attributes = length-flat_map attribute_octets (proxy_states attributes)
 
--- the packet of a reply, from the drafts before it
-pub packet_written : (code id : ℕ) (zeros : List ℕ) (said repeated : List Attribute) (start first second : Begun) (packet : List ℕ) → start ≡ record { id = id; attributes = [] }
-    → first ≡ with_attributes start (list_octets said) → second ≡ with_attributes first (first.attributes ++ list_octets repeated)
-    → packet ≡ packet_octets (record { code = code; id = second.id; authenticator = zeros; attributes = second.attributes })
-    → packet ≡ packet_octets (record { code = code; id = id; authenticator = zeros; attributes = list_octets (said ++ repeated) })
-packet_written code id zeros said repeated start first second packet e0 e1 e2 e3 =
-    let id_is : second.id ≡ id = ap (λ (x : Begun). x.id) e2 ∙ ap (λ (x : Begun). x.id) e1 ∙ ap (λ (x : Begun). x.id) e0 in
-    let attributes_are : second.attributes ≡ list_octets (said ++ repeated) = ap (λ (x : Begun). x.attributes) e2 ∙ then_octets said repeated first.attributes (ap (λ (x : Begun). x.attributes) e1) in
-    e3 ∙ (λ k. packet_octets (record { code = code; id = id_is k; authenticator = zeros; attributes = attributes_are k }))
+-- the attributes of a reply, from the drafts before it
+pub reply_written : (id : ℕ) (signature said repeated : List Attribute) (start first second third : Begun) → start ≡ record { id = id; attributes = [] }
+    → first ≡ with_attributes start (list_octets signature) → second ≡ with_attributes first (first.attributes ++ list_octets said)
+    → third ≡ with_attributes second (second.attributes ++ list_octets repeated)
+    → third ≡ record { id = id; attributes = list_octets (signature ++ said ++ repeated) }
+reply_written id signature said repeated start first second third e0 e1 e2 e3 =
+    let id_is : third.id ≡ id = ap (λ (x : Begun). x.id) e3 ∙ ap (λ (x : Begun). x.id) e2 ∙ ap (λ (x : Begun). x.id) e1 ∙ ap (λ (x : Begun). x.id) e0 in
+    let second_is : second.attributes ≡ list_octets (signature ++ said) = ap (λ (x : Begun). x.attributes) e2 ∙ then_octets [] signature said first.attributes (ap (λ (x : Begun). x.attributes) e1) in
+    let third_is : third.attributes ≡ list_octets (signature ++ said ++ repeated) = ap (λ (x : Begun). x.attributes) e3 ∙ then_octets [] (signature ++ said) repeated second.attributes second_is in
+    λ k. record { id = id_is k; attributes = third_is k }
 
 -- a list that was written over one as long
 pub put_back : (n : ℕ) (was now : List ℕ) → length now ≡ n → length was ≡ n → take n (now ++ drop (length now) was) ≡ now
@@ -72,17 +81,26 @@ put_back n was now e f =
     ap (λ (x : List ℕ). take n (now ++ x)) none ∙ ap (take n) (append-nil now) ∙ take_all n now (omega arith)
 
 -- the reply, from the drafts before it
-pub answer_is : (config : Configuration) (boot client : ℕ) (fields : Fields) (meaning : Meaning) (decision : Decision) (word : Said) (code : ℕ) (start first second : Begun) (packet secret result : List ℕ) (found : Client)
-    → start ≡ record { id = fields.id; attributes = [] } → first ≡ with_attributes start (list_octets (said_attributes config boot meaning decision))
-    → second ≡ with_attributes first (first.attributes ++ list_octets (repeated_attributes (attributes_in fields.attributes) meaning))
-    → word ≡ said meaning decision → code ≡ code_of word
-    → packet ≡ packet_octets (record { code = code; id = second.id; authenticator = replicate 16 0; attributes = second.attributes })
-    → slice_get config.clients client ≡ Some found → secret ≡ found.secret → result ≡ sealed packet fields.authenticator secret
+pub answer_is : (config : Configuration) (boot client : ℕ) (fields : Fields) (meaning : Meaning) (decision : Decision) (word : Said) (code : ℕ) (is_signed : Bool)
+    (start first second third : Begun) (packet secret result : List ℕ) (found : Client)
+    → start ≡ record { id = fields.id; attributes = [] } → first ≡ with_attributes start (list_octets (signature_if is_signed))
+    → second ≡ with_attributes first (first.attributes ++ list_octets (said_attributes config boot meaning decision))
+    → third ≡ with_attributes second (second.attributes ++ list_octets (repeated_attributes (attributes_in fields.attributes) meaning))
+    → word ≡ said meaning decision → is_signed ≡ is_reply_signed word (attributes_in fields.attributes) → code ≡ code_of word
+    → slice_get config.clients client ≡ Some found → secret ≡ found.secret
+    → packet ≡ signed_if is_signed (packet_octets (record { code = code; id = third.id; authenticator = replicate 16 0; attributes = third.attributes })) fields.authenticator secret
+    → result ≡ sealed packet fields.authenticator secret
     → result ≡ answer config boot client fields meaning decision
 unfolding answer
-answer_is config boot client fields meaning decision word code start first second packet secret result found e0 e1 e2 ew ec e3 ef es er =
+answer_is config boot client fields meaning decision word code is_signed start first second third packet secret result found e0 e1 e2 e3 ew eg ec ef es ep er =
+    let attributes = attributes_in fields.attributes in
+    let said_are = said_attributes config boot meaning decision in
+    let repeated = repeated_attributes attributes meaning in
     let code_is : code ≡ code_of (said meaning decision) = ec ∙ ap code_of ew in
-    let written = packet_written code fields.id (replicate 16 0) (said_attributes config boot meaning decision) (repeated_attributes (attributes_in fields.attributes) meaning) start first second packet e0 e1 e2 e3 in
+    let signed_is : is_signed ≡ is_reply_signed (said meaning decision) attributes = eg ∙ ap (λ (w : Said). is_reply_signed w attributes) ew in
     let secret_is : secret ≡ secret_of config client = es ∙ sym (ap (λ (o : Option Client). option_map_or (λ c. c.secret) o []) ef) in
-    let packet_is = written ∙ ap (λ (n : ℕ). packet_octets (record { code = n; id = fields.id; authenticator = replicate 16 0; attributes = list_octets (reply_attributes config boot (attributes_in fields.attributes) meaning decision) })) code_is in
+    let third_is = reply_written fields.id (signature_if is_signed) said_are repeated start first second third e0 e1 e2 e3 in
+    let written = ap (λ (x : Begun). packet_octets (record { code = code; id = x.id; authenticator = replicate 16 0; attributes = x.attributes })) third_is in
+    let unsigned = written ∙ (λ k. packet_octets (record { code = code_is k; id = fields.id; authenticator = replicate 16 0; attributes = list_octets (signature_if (signed_is k) ++ said_are ++ repeated) })) in
+    let packet_is = ep ∙ (λ k. signed_if (signed_is k) (unsigned k) fields.authenticator (secret_is k)) in
     er ∙ (λ k. sealed (packet_is k) fields.authenticator (secret_is k))

@@ -1,29 +1,26 @@
 -- What an Access-Request means (RFC 2865 section 4.1).
-use Rattle.std.specs.Prelude.{ℕ, ◌+◌, ◌==◌, ◌&&◌, nat_le, nat_lt, Bool, false, List, count_by, unwrap_or, option_and_then, if◌then◌else◌, Option, Some, None, Result, Ok, Err}
+use Rattle.std.specs.Prelude.{ℕ, ◌+◌, ◌==◌, ◌&&◌, nat_le, nat_lt, Bool, false, List, unwrap_or, option_and_then, if◌then◌else◌, Option, Some, None, Result, Ok, Err}
 use Rattle.rsl_accounts.specs.Configuration.{Configuration}
 use Rattle.rsl_auth.specs.Chap.{matches_chap}
 use Rattle.rsl_auth.specs.Password.{matches_password}
-use Rattle.rsl_wire.specs.Attributes.{Attribute, is_kind, first_of, attribute_list}
+use Rattle.rsl_wire.specs.Attributes.{Attribute, first_of, attribute_list}
 use Rattle.rsl_wire.specs.Packet.{Fields}
-use Rattle.rsl_event.specs.Request.{nas_of, named_account, proxy_len, secret_of, password_of}
+use Rattle.rsl_event.specs.Request.{attribute_count, access_server_of, named_account, proxy_len, secret_of, account_password}
+use Rattle.rsl_event.specs.Signature.{must_sign, signature_drop}
 use Rattle.rsl_event.specs.declared.event.Source.{Source}
 use Rattle.rsl_event.specs.declared.event.Act.TheVariants.{Ask}
 use Rattle.rsl_event.specs.declared.meaning.Meaning.{Meaning}
 use Rattle.rsl_event.specs.declared.meaning.Meaning.TheVariants.{Bare, Reject, Own}
 use Rattle.rsl_event.specs.declared.meaning.Dropped.{Dropped}
-use Rattle.rsl_event.specs.declared.meaning.Dropped.TheVariants.{WrongCode, ProxyTooLong}
+use Rattle.rsl_event.specs.declared.meaning.Dropped.TheVariants.{WrongCode, ProxyTooLong, Unsigned}
 use Rattle.rsl_event.specs.declared.codes.TheConstants.{ACCESS_REQUEST, USER_NAME, USER_PASSWORD, CHAP_PASSWORD, CHAP_CHALLENGE, MAX_PROXY_STATE_LEN}
-
--- how many attributes of a Type there are
-abbrev pub count_of : ℕ → List Attribute → ℕ
-count_of kind attributes = count_by (is_kind kind) attributes
 
 -- exactly one User-Name, exactly one password, of either kind, and at most one CHAP-Challenge
 abbrev pub asks_once : List Attribute → Bool
 asks_once attributes =
-    count_of USER_NAME attributes == 1
-    && count_of USER_PASSWORD attributes + count_of CHAP_PASSWORD attributes == 1
-    && nat_le (count_of CHAP_CHALLENGE attributes) 1
+    attribute_count USER_NAME attributes == 1
+    && attribute_count USER_PASSWORD attributes + attribute_count CHAP_PASSWORD attributes == 1
+    && nat_le (attribute_count CHAP_CHALLENGE attributes) 1
 
 -- the CHAP challenge: the CHAP-Challenge where there is one, else the Request Authenticator (RFC 2865 section 5.3)
 abbrev pub challenge_of : List ℕ → List Attribute → List ℕ
@@ -43,7 +40,7 @@ shows_password secret authenticator attributes password =
 -- the account, if its password is shown
 abbrev pub if_shown : Configuration → (secret authenticator : List ℕ) → List Attribute → (account : ℕ) → Option ℕ
 if_shown config secret authenticator attributes account =
-    if shows_password secret authenticator attributes (password_of config account) then Some account else None
+    if shows_password secret authenticator attributes (account_password config account) then Some account else None
 
 -- the account that the request asks for, with its password
 unfoldable pub asker : Configuration → (client : ℕ) → (authenticator : List ℕ) → List Attribute → Option ℕ
@@ -55,14 +52,24 @@ asker config client authenticator attributes =
 abbrev pub ask_or_reject : Source → (client : ℕ) → Fields → List Attribute → (account : Option ℕ) → Meaning
 ask_or_reject source client fields attributes None = Reject
 ask_or_reject source client fields attributes (Some account) =
-    Own account (Ask (record { source = source; id = fields.id; authenticator = fields.authenticator }) (nas_of client attributes))
+    Own account (Ask (record { source = source; id = fields.id; authenticator = fields.authenticator }) (access_server_of client attributes))
 
--- by the attributes, or the fault in their list
-abbrev pub access_by : Configuration → Source → (client : ℕ) → Fields → Result (List Attribute) ℕ → Result Meaning Dropped
-access_by config source client fields (Err at) = Ok Bare
-access_by config source client fields (Ok attributes) =
+-- by the cause to drop the request, if there is one
+abbrev pub unless_dropped : Option Dropped → Result Meaning Dropped → Result Meaning Dropped
+unless_dropped None meaning = meaning
+unless_dropped (Some dropped) meaning = Err dropped
+
+-- a request that is signed, or does not have to be
+abbrev pub request_meaning : Configuration → Source → (client : ℕ) → Fields → List Attribute → Result Meaning Dropped
+request_meaning config source client fields attributes =
     if nat_lt MAX_PROXY_STATE_LEN (proxy_len attributes) then Err ProxyTooLong
     else Ok (ask_or_reject source client fields attributes (asker config client fields.authenticator attributes))
+
+-- by the attributes, or the fault in their list: a malformed list has no Message-Authenticator
+abbrev pub access_by : Configuration → Source → (client : ℕ) → Fields → Result (List Attribute) ℕ → Result Meaning Dropped
+access_by config source client fields (Err at) = if must_sign config client then Err Unsigned else Ok Bare
+access_by config source client fields (Ok attributes) =
+    unless_dropped (signature_drop config client fields attributes) (request_meaning config source client fields attributes)
 
 -- what a packet on the authentication port means
 unfoldable pub access_meaning : Configuration → Source → (client : ℕ) → Fields → Result Meaning Dropped

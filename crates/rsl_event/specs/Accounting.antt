@@ -1,12 +1,12 @@
 -- What an Accounting-Request means (RFC 2866 section 4.1).
-use Rattle.std.specs.Prelude.{ℕ, ◌==◌, ◌&&◌, ◌||◌, nat_lt, Bool, List, [], ◌∷◌, length, take, drop, unwrap_or, if◌then◌else◌, Option, Some, None, Result, Ok, Err}
+use Rattle.std.specs.Prelude.{ℕ, ◌==◌, ◌&&◌, ◌||◌, nat_lt, Bool, List, [], ◌∷◌, length, take, drop, if◌then◌else◌, Option, Some, None, Result, Ok, Err}
 use Rattle.std.specs.Int.{w64, from_be_bytes}
 use Rattle.std.specs.Option.{option_or}
 use Rattle.rsl_accounts.specs.Configuration.{Configuration}
 use Rattle.rsl_auth.specs.Authenticator.{is_accounting_authentic}
 use Rattle.rsl_wire.specs.Attributes.{Attribute, first_of, number_in, attribute_list}
 use Rattle.rsl_wire.specs.Packet.{Fields, packet_octets}
-use Rattle.rsl_event.specs.Request.{nas_of, named_account, proxy_len, secret_of}
+use Rattle.rsl_event.specs.Request.{access_server_of, named_account, proxy_len, secret_of, text_of}
 use Rattle.rsl_event.specs.declared.event.Act.{Act}
 use Rattle.rsl_event.specs.declared.event.Act.TheVariants.{Alive, Stop}
 use Rattle.rsl_event.specs.declared.meaning.Note.{Note}
@@ -23,20 +23,16 @@ class_number boot value =
     if length value == 16 && from_be_bytes w64 (take 8 value) == boot then Some (from_be_bytes w64 (drop 8 value)) else None
 
 -- the accept number of the first Class that is this server's; others are passed over
-abbrev pub class_of : (boot : ℕ) → List Attribute → Option ℕ
-class_of boot [] = None
-class_of boot (attribute ∷ attributes) =
-    if attribute.kind == CLASS then option_or (class_number boot attribute.value) (class_of boot attributes) else class_of boot attributes
+abbrev pub class_in : (boot : ℕ) → List Attribute → Option ℕ
+class_in boot [] = None
+class_in boot (attribute ∷ attributes) =
+    if attribute.kind == CLASS then option_or (class_number boot attribute.value) (class_in boot attributes) else class_in boot attributes
 
 -- a bundle's id; an empty one is none
 abbrev pub unless_empty : Option (List ℕ) → Option (List ℕ)
 unless_empty None = None
 unless_empty (Some []) = None
 unless_empty (Some (octet ∷ id)) = Some (octet ∷ id)
-
--- the first value of a Type, or no octets
-abbrev pub text_of : ℕ → List Attribute → List ℕ
-text_of kind attributes = unwrap_or (first_of kind attributes) []
 
 -- a session goes on: Start and Interim-Update
 abbrev pub is_alive : ℕ → Bool
@@ -47,13 +43,13 @@ abbrev pub is_stop : ℕ → Bool
 is_stop status = status == codes.STOP
 
 -- an access server has restarted: Accounting-On and Accounting-Off
-abbrev pub is_restart : ℕ → Bool
-is_restart status = status == codes.ACCOUNTING_ON || status == codes.ACCOUNTING_OFF
+abbrev pub is_on_or_off : ℕ → Bool
+is_on_or_off status = status == codes.ACCOUNTING_ON || status == codes.ACCOUNTING_OFF
 
 -- what is noted of a packet
 abbrev pub note_of : (client status : ℕ) → List Attribute → Note
 note_of client status attributes = record {
-  nas = nas_of client attributes;
+  nas = access_server_of client attributes;
   status = status;
   name = text_of USER_NAME attributes;
   session = text_of ACCT_SESSION_ID attributes;
@@ -62,8 +58,8 @@ note_of client status attributes = record {
 -- the session of a packet has ended, or goes on
 abbrev pub session_act : (boot client status : ℕ) → List Attribute → Act
 session_act boot client status attributes =
-    if is_stop status then Stop (nas_of client attributes) (text_of ACCT_SESSION_ID attributes)
-    else Alive (nas_of client attributes) (text_of ACCT_SESSION_ID attributes) (unless_empty (first_of ACCT_MULTI_SESSION_ID attributes)) (class_of boot attributes)
+    if is_stop status then Stop (access_server_of client attributes) (text_of ACCT_SESSION_ID attributes)
+    else Alive (access_server_of client attributes) (text_of ACCT_SESSION_ID attributes) (unless_empty (first_of ACCT_MULTI_SESSION_ID attributes)) (class_in boot attributes)
 
 -- that is the act of the account that the packet names, if there is one
 abbrev pub session_meaning : (boot client status : ℕ) → List Attribute → (account : Option ℕ) → Meaning
@@ -73,7 +69,7 @@ session_meaning boot client status attributes (Some account) = Own account (sess
 -- by the status; a session's packet names the session
 unfoldable pub status_meaning : Configuration → (boot client status : ℕ) → List Attribute → Result Meaning Dropped
 status_meaning config boot client status attributes =
-    if is_restart status then Ok (Restart (nas_of client attributes))
+    if is_on_or_off status then Ok (Restart (access_server_of client attributes))
     else if is_alive status || is_stop status then
     (if length (text_of ACCT_SESSION_ID attributes) == 0 then Err NoSession
     else Ok (session_meaning boot client status attributes (named_account config attributes)))

@@ -1,13 +1,15 @@
 -- What is answered: the octets of a reply (RFC 2865 sections 4.2 and 4.3, RFC 2866 section 4.2), and its word.
-use Rattle.std.specs.Prelude.{ℕ, List, [], ◌∷◌, ◌++◌, replicate, codes, slice_get, Option, Some, None}
+use Rattle.std.specs.Prelude.{ℕ, Bool, List, [], ◌∷◌, ◌++◌, replicate, codes, slice_get, if◌then◌else◌, Option, Some, None}
 use Rattle.std.specs.Option.{option_map_or}
 use Rattle.std.specs.Int.{w32, w64, to_be_bytes}
 use Rattle.rsl_accounts.specs.Configuration.{Configuration}
 use Rattle.rsl_accounts.specs.declared.entry.Entry.{Entry}
 use Rattle.rsl_auth.specs.Authenticator.{sealed}
+use Rattle.rsl_auth.specs.Signature.{signed}
 use Rattle.rsl_wire.specs.Attributes.{Attribute, attribute_of, attributes_in, list_octets}
 use Rattle.rsl_wire.specs.Packet.{Fields, packet_octets}
 use Rattle.rsl_event.specs.Request.{proxy_states, secret_of}
+use Rattle.rsl_event.specs.Signature.{is_reply_signed, signature_if}
 use Rattle.rsl_event.specs.declared.event.Act.{Act}
 use Rattle.rsl_event.specs.declared.event.Act.TheVariants.{Ask}
 use Rattle.rsl_event.specs.declared.event.Decision.{Decision}
@@ -92,18 +94,33 @@ abbrev pub repeated_attributes : List Attribute → Meaning → List Attribute
 repeated_attributes attributes Bare = []
 repeated_attributes attributes _ = proxy_states attributes
 
--- the attributes of a reply: Proxy-States stand last, as they came
+-- the attributes of a reply, its Message-Authenticator not yet signed: this stands first, and Proxy-States last, as they came
 abbrev pub reply_attributes : Configuration → (boot : ℕ) → List Attribute → Meaning → Decision → List Attribute
-reply_attributes config boot attributes meaning decision = said_attributes config boot meaning decision ++ repeated_attributes attributes meaning
+reply_attributes config boot attributes meaning decision =
+    signature_if (is_reply_signed (said meaning decision) attributes)
+    ++ said_attributes config boot meaning decision
+    ++ repeated_attributes attributes meaning
 
--- the octets of the reply to a packet of a client, sealed with the client's secret
+-- the reply before it is signed and sealed
+abbrev pub unsigned_reply : Configuration → (boot : ℕ) → Fields → Meaning → Decision → List ℕ
+unsigned_reply config boot fields meaning decision = packet_octets (record {
+  code = code_of (said meaning decision);
+  id = fields.id;
+  authenticator = replicate 16 0;
+  attributes = list_octets (reply_attributes config boot (attributes_in fields.attributes) meaning decision);
+})
+
+-- a packet, signed if it is to be: the value of its Message-Authenticator stands at octet 22, and the Request Authenticator
+-- counts as its Authenticator (RFC 3579 section 3.2)
+abbrev pub signed_if : Bool → (packet request_auth secret : List ℕ) → List ℕ
+signed_if is_signed packet request_auth secret = if is_signed then signed packet 22 request_auth secret else packet
+
+-- the octets of the reply to a packet of a client: signed if the request was, and then sealed, with the client's secret
 unfoldable pub answer : Configuration → (boot client : ℕ) → Fields → Meaning → Decision → List ℕ
 answer config boot client fields meaning decision =
     sealed
-    (packet_octets (record {
-      code = code_of (said meaning decision);
-      id = fields.id;
-      authenticator = replicate 16 0;
-      attributes = list_octets (reply_attributes config boot (attributes_in fields.attributes) meaning decision);
-    }))
+    (signed_if
+    (is_reply_signed (said meaning decision) (attributes_in fields.attributes))
+    (unsigned_reply config boot fields meaning decision)
+    fields.authenticator (secret_of config client))
     fields.authenticator (secret_of config client)

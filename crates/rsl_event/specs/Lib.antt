@@ -1,4 +1,5 @@
 pub mod Request
+pub mod Signature
 pub mod Access
 pub mod Accounting
 pub mod Meaning

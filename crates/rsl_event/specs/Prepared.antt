@@ -28,9 +28,9 @@ HasAccount config (Own account act) = account < length config.accounts
 HasAccount config _ = Unit {0}
 
 -- a reply that repeats Proxy-States has room for them
-abbrev pub HasRoom : (attributes : List ℕ) → Meaning → Type 0
-HasRoom attributes Bare = Unit {0}
-HasRoom attributes _ = HasProxyStates attributes
+abbrev pub HasRoomForReply : (attributes : List ℕ) → Meaning → Type 0
+HasRoomForReply attributes Bare = Unit {0}
+HasRoomForReply attributes _ = HasProxyStates attributes
 
 -- an act of one account: an ask, an alive or a stop
 abbrev pub IsOfOneAccount : Act → Type 0
@@ -47,4 +47,4 @@ HasOwnAct _ = Unit {0}
 pub record IsPrepared (config : Configuration) (prepared : Prepared) : Type 0 where
   pub client : prepared.client < length config.clients
   pub account : HasAccount config prepared.meaning
-  pub room : HasRoom prepared.packet.attrs.now prepared.meaning
+  pub room : HasRoomForReply prepared.packet.attrs.now prepared.meaning

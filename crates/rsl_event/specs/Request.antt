@@ -1,5 +1,5 @@
 -- What both kinds of request say: which access server, which account, and what the reply repeats.
-use Rattle.std.specs.Prelude.{ℕ, List, [], length, sum_by, filter, slice_get, option_and_then, Option, Some, None}
+use Rattle.std.specs.Prelude.{ℕ, List, [], length, count_by, sum_by, filter, slice_get, unwrap_or, option_and_then, Option, Some, None}
 use Rattle.std.specs.Option.{option_map_or}
 use Rattle.rsl_accounts.specs.Configuration.{Configuration, account_number}
 use Rattle.rsl_wire.specs.Attributes.{Attribute, attribute_octets, is_kind, first_of}
@@ -8,15 +8,23 @@ use Rattle.rsl_event.specs.declared.nas.NasName.{NasName}
 use Rattle.rsl_event.specs.declared.nas.NasName.TheVariants.{Identifier, Address, Unnamed}
 use Rattle.rsl_event.specs.declared.codes.TheConstants.{USER_NAME, NAS_IDENTIFIER, NAS_IP_ADDRESS, PROXY_STATE}
 
+-- how many attributes of a Type there are
+abbrev pub attribute_count : ℕ → List Attribute → ℕ
+attribute_count kind attributes = count_by (is_kind kind) attributes
+
+-- the first value of a Type, or no octets
+abbrev pub text_of : ℕ → List Attribute → List ℕ
+text_of kind attributes = unwrap_or (first_of kind attributes) []
+
 -- the first NAS-Identifier if there is one, else the first NAS-IP-Address, else no name
-abbrev pub name_of : Option (List ℕ) → Option (List ℕ) → NasName
-name_of (Some identifier) address = Identifier identifier
-name_of None (Some address) = Address address
-name_of None None = Unnamed
+abbrev pub nas_name_of : Option (List ℕ) → Option (List ℕ) → NasName
+nas_name_of (Some identifier) address = Identifier identifier
+nas_name_of None (Some address) = Address address
+nas_name_of None None = Unnamed
 
 -- the access server of a packet of this client
-abbrev pub nas_of : ℕ → List Attribute → Nas
-nas_of client attributes = record { client = client; name = name_of (first_of NAS_IDENTIFIER attributes) (first_of NAS_IP_ADDRESS attributes) }
+abbrev pub access_server_of : ℕ → List Attribute → Nas
+access_server_of client attributes = record { client = client; name = nas_name_of (first_of NAS_IDENTIFIER attributes) (first_of NAS_IP_ADDRESS attributes) }
 
 -- the account that has the first User-Name
 abbrev pub named_account : Configuration → List Attribute → Option ℕ
@@ -35,5 +43,5 @@ abbrev pub secret_of : Configuration → ℕ → List ℕ
 secret_of config client = option_map_or (λ found. found.secret) (slice_get config.clients client) []
 
 -- the password of an account
-abbrev pub password_of : Configuration → ℕ → List ℕ
-password_of config account = option_map_or (λ found. found.password) (slice_get config.accounts account) []
+abbrev pub account_password : Configuration → ℕ → List ℕ
+account_password config account = option_map_or (λ found. found.password) (slice_get config.accounts account) []

@@ -7,7 +7,8 @@ ghost use Rattle.rsl_event.specs.Request.{secret_of};
 use crate::codes::{ACCESS_REQUEST, CHAP_CHALLENGE, CHAP_PASSWORD, USER_NAME, USER_PASSWORD};
 use crate::event::{Act, Key, Source};
 use crate::meaning::{Dropped, Meaning};
-use crate::request::{account_named, has_long_proxy_states, nas_of};
+use crate::request::{access_server_of, account_named, has_long_proxy_states};
+use crate::signature::signature_drop;
 use rsl_accounts::Config;
 use rsl_auth::{chap_ok, pap_ok};
 use rsl_wire::{Attrs, Packet};
@@ -29,8 +30,15 @@ pub(crate) fn access_meaning(
         return Err(Dropped::WrongCode);
     }
     let Ok(attributes) = packet.attributes() else {
-        return Ok(Meaning::Bare);
+        return if config.client_at(client).signed {
+            Err(Dropped::Unsigned)
+        } else {
+            Ok(Meaning::Bare)
+        };
     };
+    if let Some(dropped) = signature_drop(config, client, packet, &attributes) {
+        return Err(dropped);
+    }
     if has_long_proxy_states(&attributes) {
         return Err(Dropped::ProxyTooLong);
     }
@@ -42,7 +50,7 @@ pub(crate) fn access_meaning(
         id: packet.id,
         authenticator: packet.authenticator,
     };
-    let nas = nas_of(alloc, client, &attributes)?;
+    let nas = access_server_of(alloc, client, &attributes)?;
     Ok(Meaning::Own {
         account,
         act: Act::Ask { key, nas },

@@ -2,7 +2,7 @@ ghost use Rattle.std.specs.Prelude.{◌≡◌, ◌<◌, IfOk, length};
 ghost use Rattle.std.specs.Int.{w64, from_be_bytes};
 ghost use Rattle.rsl_wire.specs.Attributes.{first_of};
 ghost use Rattle.rsl_wire.specs.Seen.{fields_of};
-ghost use Rattle.rsl_event.specs.Accounting.{class_number, class_of, unless_empty, text_of, note_of, session_act, status_meaning, accounting_meaning};
+ghost use Rattle.rsl_event.specs.Accounting.{class_number, class_in, unless_empty, note_of, session_act, status_meaning, accounting_meaning};
 ghost use Rattle.rsl_event.specs.Meaning.{Gives};
 
 use crate::codes::{
@@ -11,7 +11,7 @@ use crate::codes::{
 };
 use crate::event::Act;
 use crate::meaning::{Dropped, Meaning, Note};
-use crate::request::{account_named, has_long_proxy_states, nas_of};
+use crate::request::{access_server_of, account_named, has_long_proxy_states, text_of};
 use rsl_accounts::Config;
 use rsl_auth::accounting_ok;
 use rsl_wire::{Attrs, NoMemory, Octets, Packet};
@@ -62,7 +62,7 @@ fn status_meaning(
 {
     match status {
         ACCOUNTING_ON | ACCOUNTING_OFF => Ok(Meaning::Restart {
-            nas: nas_of(alloc, client, attributes)?,
+            nas: access_server_of(alloc, client, attributes)?,
         }),
         START | INTERIM_UPDATE | STOP => {
             if text_of(attributes, ACCT_SESSION_ID).is_empty() {
@@ -90,13 +90,13 @@ fn session_act(
 ) -> Result<Act, NoMemory>
     ensures { IfOk result (λ act. act ≡ session_act boot client status attributes.now) }
 {
-    let nas = nas_of(alloc, client, attributes)?;
+    let nas = access_server_of(alloc, client, attributes)?;
     let session = Octets::from_slice(alloc, text_of(attributes, ACCT_SESSION_ID))?;
     if status == STOP {
         return Ok(Act::Stop { nas, session });
     }
-    let bundle = bundle_of(alloc, attributes)?;
-    let class = class_of(boot, attributes);
+    let bundle = bundle_in(alloc, attributes)?;
+    let class = class_in(boot, attributes);
     Ok(Act::Alive {
         nas,
         session,
@@ -106,7 +106,7 @@ fn session_act(
 }
 
 /// The first Acct-Multi-Session-Id, if it is not empty.
-fn bundle_of(alloc: Global, attributes: &Attrs<'_>) -> Result<Option<Octets>, NoMemory>
+fn bundle_in(alloc: Global, attributes: &Attrs<'_>) -> Result<Option<Octets>, NoMemory>
     ensures { IfOk result (λ bundle. bundle ≡ unless_empty (first_of ACCT_MULTI_SESSION_ID attributes.now)) }
 {
     match attributes.first(ACCT_MULTI_SESSION_ID) {
@@ -116,8 +116,8 @@ fn bundle_of(alloc: Global, attributes: &Attrs<'_>) -> Result<Option<Octets>, No
 }
 
 /// The accept number of the first Class that is this server's.
-fn class_of(boot: u64, attributes: &Attrs<'_>) -> Option<u64>
-    ensures { result ≡ class_of boot attributes.now }
+fn class_in(boot: u64, attributes: &Attrs<'_>) -> Option<u64>
+    ensures { result ≡ class_in boot attributes.now }
 {
     for (kind, value) in attributes.iter() {
         if kind == CLASS {
@@ -164,16 +164,9 @@ fn note_of(
     ensures { IfOk result (λ note. note ≡ note_of client status attributes.now) }
 {
     Ok(Note {
-        nas: nas_of(alloc, client, attributes)?,
+        nas: access_server_of(alloc, client, attributes)?,
         status,
         name: Octets::from_slice(alloc, text_of(attributes, USER_NAME))?,
         session: Octets::from_slice(alloc, text_of(attributes, ACCT_SESSION_ID))?,
     })
-}
-
-/// The first value of a Type, or no octets.
-fn text_of<'a>(attributes: &Attrs<'a>, kind: u8) -> &'a [u8]
-    ensures { result.now ≡ text_of kind attributes.now }
-{
-    attributes.first(kind).unwrap_or(&[])
 }

@@ -45,6 +45,8 @@ pub const ACCT_MULTI_SESSION_ID: u8 = 50;
 pub const CHAP_CHALLENGE: u8 = 60;
 /// Port-Limit (RFC 2865 section 5.42).
 pub const PORT_LIMIT: u8 = 62;
+/// Message-Authenticator (RFC 3579 section 3.2).
+pub const MESSAGE_AUTHENTICATOR: u8 = 80;
 
 /// Acct-Status-Type Start: the session begins (RFC 2866 section 5.1).
 pub const START: u32 = 1;
@@ -56,6 +58,9 @@ pub const INTERIM_UPDATE: u32 = 3;
 pub const ACCOUNTING_ON: u32 = 7;
 /// Acct-Status-Type Accounting-Off: the access server is about to stop.
 pub const ACCOUNTING_OFF: u32 = 8;
+
+/// Octets of an attribute's Type and Length (RFC 2865 section 5).
+pub(crate) const ATTR_HEADER_LEN: usize = 2;
 
 /// The most octets of Proxy-State attributes, with their headers, that a request may have: so a reply
 /// has room for them.

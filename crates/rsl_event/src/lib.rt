@@ -15,8 +15,7 @@ mod nas;
 mod preparing;
 mod replying;
 mod request;
-#[cfg(test)]
-mod tests;
+mod signature;
 mod words;
 mod writing;
 

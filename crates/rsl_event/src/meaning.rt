@@ -76,6 +76,14 @@ pub enum Dropped {
     /// Accounting: the attributes are malformed.
     #[error("Malformed")]
     Malformed,
+    /// Access-Request: there is a Message-Authenticator, and not exactly one that has 16 octets and is
+    /// right (RFC 3579 section 3.2).
+    #[error("BadSignature")]
+    BadSignature,
+    /// Access-Request of a client that has to sign: the attributes are malformed, or there is no
+    /// Message-Authenticator.
+    #[error("Unsigned")]
+    Unsigned,
     /// The Proxy-State attributes have over 3,900 octets.
     #[error("ProxyTooLong")]
     ProxyTooLong,

@@ -1,18 +1,22 @@
-ghost use Rattle.std.specs.Prelude.{◌≡◌, ◌++◌, ◌<◌, ◌≤◌, ◌+◌, [], length, vec_len, IfOk};
+ghost use Rattle.std.specs.Prelude.{◌≡◌, ◌++◌, ◌<◌, ◌≤◌, ◌+◌, [], length, replicate, vec_len, IfOk, IsTrue};
 ghost use Rattle.rsl_auth.specs.Authenticator.{sealed};
+ghost use Rattle.rsl_auth.specs.Signature.{signed};
 ghost use Rattle.rsl_wire.specs.Attributes.{attributes_in, list_octets};
+ghost use Rattle.rsl_wire.specs.Packet.{packet_octets};
 ghost use Rattle.rsl_wire.specs.Seen.{fields_of};
-ghost use Rattle.rsl_event.specs.Answer.{answer, said, code_of, decided_attributes, said_attributes, repeated_attributes};
-ghost use Rattle.rsl_event.specs.Prepared.{HasAccount, HasRoom, IsPrepared};
+ghost use Rattle.rsl_event.specs.Answer.{answer, said, code_of, decided_attributes, said_attributes, repeated_attributes, signed_if};
+ghost use Rattle.rsl_event.specs.Signature.{is_reply_signed};
+ghost use Rattle.rsl_event.specs.Prepared.{HasAccount, HasRoomForReply, IsPrepared};
 
 use crate::codes::{ACCESS_ACCEPT, ACCESS_REJECT, ACCOUNTING_RESPONSE};
 use crate::event::{Act, Decision};
 use crate::meaning::{Meaning, Prepared};
 use crate::words::Said;
-use crate::writing::{push_accept, push_limit_message, push_proxy_states};
+use crate::signature::{FIRST_SIGNATURE_PLACE, has_signature};
+use crate::writing::{push_accept, push_limit_message, push_proxy_states, push_signature_if};
 use rsl_accounts::Config;
-use rsl_auth::seal;
-use rsl_wire::{Draft, NoMemory};
+use rsl_auth::{seal, sign};
+use rsl_wire::{Draft, NoMemory, Packet};
 use std::alloc::Global;
 
 /// What is answered to a meaning, in a word. The decision tells of an ask alone; an ask that is `Done`
@@ -55,13 +59,68 @@ pub fn reply(
     requires room { draft ≡ record { id = prepared.now.packet.id; attributes = [] } }
     ensures { result.items ≡ answer config.now boot prepared.now.client (fields_of prepared.now.packet) prepared.now.meaning decision }
 {
+    let word = said(&prepared.meaning, decision);
+    let is_signed = is_reply_signed(word, &prepared.packet);
     let mut draft = draft;
+    push_signature_if(is_signed, &mut draft);
     write_said(config, boot, &prepared.meaning, decision, &mut draft);
     write_repeated(prepared, &mut draft);
-    let code = code_of(said(&prepared.meaning, decision));
-    let octets = draft.finish(code, &[0; 16]);
+    let request_auth = &prepared.packet.authenticator;
     let secret = config.client_at(prepared.client).secret.expose();
-    with_seal(octets, &prepared.packet.authenticator, secret)
+    let octets = finish(draft, code_of(word), is_signed, request_auth, secret);
+    with_seal(octets, request_auth, secret)
+}
+
+/// Whether a reply with this word is signed: it answers an Access-Request of which the well-formed list
+/// has a Message-Authenticator.
+fn is_reply_signed(word: Said, request: &Packet<'_>) -> bool
+    ensures { result ≡ is_reply_signed word (attributes_in request.now.attrs.now) }
+{
+    if let Said::Account = word {
+        return false;
+    }
+    match request.attributes() {
+        Ok(attributes) => has_signature(&attributes),
+        Err(_) => false,
+    }
+}
+
+/// The octets of a reply, with the value of its Message-Authenticator, if it has one as its first
+/// attribute, and without the Response Authenticator.
+fn finish(
+    draft: Draft,
+    code: u8,
+    is_signed: bool,
+    request_auth: &[u8; 16],
+    secret: &[u8],
+) -> Vec<u8>
+    requires { IsTrue is_signed → 18 ≤ length draft.attributes }
+    ensures octets { result.items ≡ signed_if is_signed
+        (packet_octets (record {
+          code = code;
+          id = draft.id;
+          authenticator = replicate 16 0;
+          attributes = draft.attributes;
+        }))
+        request_auth.now secret.now }
+    ensures header { 20 ≤ vec_len result }
+{
+    let octets = draft.finish(code, &[0; 16]);
+    if is_signed {
+        with_signature(octets, request_auth, secret)
+    } else {
+        octets
+    }
+}
+
+/// The octets of a reply with the value of its Message-Authenticator, which is the first attribute.
+fn with_signature(mut octets: Vec<u8>, request_auth: &[u8; 16], secret: &[u8]) -> Vec<u8>
+    requires { 38 ≤ vec_len octets }
+    ensures signed { result.items ≡ signed octets.items 22 request_auth.now secret.now }
+    ensures len { vec_len result ≡ vec_len octets }
+{
+    sign(octets.as_mut_slice(), FIRST_SIGNATURE_PLACE, request_auth, secret);
+    octets
 }
 
 /// The octets of a reply with its Response Authenticator.
@@ -84,12 +143,15 @@ fn code_of(said: Said) -> u8
     }
 }
 
-/// Writes what the server says into an empty draft.
+/// Writes what the server says into a draft that has at most a Message-Authenticator.
 fn write_said(config: &Config, boot: u64, meaning: &Meaning, decision: Decision, draft: &mut Draft)
     requires meant { HasAccount config.now meaning.now }
-    requires empty { draft.old.attributes ≡ [] }
-    ensures written { draft.new ≡ record draft.old { attributes = list_octets (said_attributes config.now boot meaning.now decision) } }
-    ensures short { length draft.new.attributes ≤ 48 }
+    requires room { length draft.old.attributes ≤ 18 }
+    ensures written { draft.new ≡ record draft.old {
+      attributes = draft.old.attributes ++ list_octets (said_attributes config.now boot meaning.now decision);
+    } }
+    ensures short { length draft.new.attributes ≤ 66 }
+    ensures kept { length draft.old.attributes ≤ length draft.new.attributes }
 {
     if let Meaning::Own {
         account,
@@ -102,9 +164,14 @@ fn write_said(config: &Config, boot: u64, meaning: &Meaning, decision: Decision,
 
 /// Writes what the reply repeats of the request: its Proxy-States.
 fn write_repeated(prepared: &Prepared<'_>, draft: &mut Draft)
-    requires room { HasRoom prepared.now.packet.attrs.now prepared.now.meaning }
-    requires short { length draft.old.attributes ≤ 48 }
-    ensures { draft.new ≡ record draft.old { attributes = draft.old.attributes ++ list_octets (repeated_attributes (attributes_in prepared.now.packet.attrs.now) prepared.now.meaning) } }
+    requires room { HasRoomForReply prepared.now.packet.attrs.now prepared.now.meaning }
+    requires short { length draft.old.attributes ≤ 66 }
+    ensures written { draft.new ≡ record draft.old {
+      attributes =
+          draft.old.attributes
+          ++ list_octets (repeated_attributes (attributes_in prepared.now.packet.attrs.now) prepared.now.meaning);
+    } }
+    ensures kept { length draft.old.attributes ≤ length draft.new.attributes }
 {
     if let Meaning::Bare = prepared.meaning {
         return;
@@ -117,9 +184,11 @@ fn write_repeated(prepared: &Prepared<'_>, draft: &mut Draft)
 /// Writes what a decision on an ask says.
 fn write_decision(config: &Config, boot: u64, account: u32, decision: Decision, draft: &mut Draft)
     requires account { account < length config.now.accounts }
-    requires empty { draft.old.attributes ≡ [] }
-    ensures written { draft.new ≡ record draft.old { attributes = list_octets (decided_attributes config.now boot account decision) } }
-    ensures short { length draft.new.attributes ≤ 48 }
+    requires room { length draft.old.attributes ≤ 18 }
+    ensures written { draft.new ≡ record draft.old {
+      attributes = draft.old.attributes ++ list_octets (decided_attributes config.now boot account decision);
+    } }
+    ensures short { length draft.new.attributes ≤ 66 }
 {
     match decision {
         Decision::Accept(number) => push_accept(draft, boot, number, config.entry(account)),

@@ -1,7 +1,9 @@
 ghost use Rattle.std.specs.Prelude.{◌≡◌, ◌<◌, IfOk, IfSome, length, nat_lt};
-ghost use Rattle.rsl_event.specs.Request.{nas_of, named_account, proxy_len};
+ghost use Rattle.rsl_event.specs.Request.{access_server_of, named_account, proxy_len, text_of};
 
-use crate::codes::{MAX_PROXY_STATE_LEN, NAS_IDENTIFIER, NAS_IP_ADDRESS, PROXY_STATE, USER_NAME};
+use crate::codes::{
+    ATTR_HEADER_LEN, MAX_PROXY_STATE_LEN, NAS_IDENTIFIER, NAS_IP_ADDRESS, PROXY_STATE, USER_NAME,
+};
 use crate::nas::{Nas, NasName};
 use rsl_accounts::Config;
 use rsl_wire::{Attrs, NoMemory, Octets};
@@ -9,8 +11,8 @@ use std::alloc::Global;
 
 /// The access server of a packet of this client: its first NAS-Identifier, else its first
 /// NAS-IP-Address, else unnamed.
-pub(crate) fn nas_of(alloc: Global, client: u32, attributes: &Attrs<'_>) -> Result<Nas, NoMemory>
-    ensures { IfOk result (λ nas. nas ≡ nas_of client attributes.now) }
+pub(crate) fn access_server_of(alloc: Global, client: u32, attributes: &Attrs<'_>) -> Result<Nas, NoMemory>
+    ensures { IfOk result (λ nas. nas ≡ access_server_of client attributes.now) }
 {
     let name = if let Some(identifier) = attributes.first(NAS_IDENTIFIER) {
         NasName::Identifier(Octets::from_slice(alloc, identifier)?)
@@ -33,6 +35,13 @@ pub(crate) fn account_named(config: &Config, attributes: &Attrs<'_>) -> Option<u
     }
 }
 
+/// The first value of a Type, or no octets.
+pub(crate) fn text_of<'a>(attributes: &Attrs<'a>, kind: u8) -> &'a [u8]
+    ensures { result.now ≡ text_of kind attributes.now }
+{
+    attributes.first(kind).unwrap_or(&[])
+}
+
 /// Whether the Proxy-State attributes have over 3,900 octets, with their headers.
 pub(crate) fn has_long_proxy_states(attributes: &Attrs<'_>) -> bool
     ensures { result ≡ nat_lt MAX_PROXY_STATE_LEN (proxy_len attributes.now) }
@@ -40,7 +49,7 @@ pub(crate) fn has_long_proxy_states(attributes: &Attrs<'_>) -> bool
     let mut len = 0usize;
     for (kind, value) in attributes.iter() {
         if kind == PROXY_STATE {
-            len += 2 + value.len();
+            len += ATTR_HEADER_LEN + value.len();
             if len > MAX_PROXY_STATE_LEN {
                 return true;
             }

@@ -1,23 +1,37 @@
-ghost use Rattle.std.specs.Prelude.{◌≡◌, ◌+◌, ◌≤◌, ◌++◌, [], length};
+ghost use Rattle.std.specs.Prelude.{◌≡◌, ◌+◌, ◌≤◌, ◌++◌, [], length, IsTrue};
 ghost use Rattle.std.specs.List.{AllByRecursion};
 ghost use Rattle.rsl_accounts.specs.Limits.{RulesFit};
 ghost use Rattle.rsl_wire.specs.Attributes.{IsAttribute, attribute_octets, list_octets};
 ghost use Rattle.rsl_event.specs.Answer.{number_attribute, optional_attribute, class_attribute, accept_attributes, limit_attributes};
 ghost use Rattle.rsl_event.specs.Request.{proxy_states, proxy_len};
+ghost use Rattle.rsl_event.specs.Signature.{signature_if};
 
 use crate::codes::{
-    CLASS, FRAMED_PROTOCOL, IDLE_TIMEOUT, PORT_LIMIT, PROXY_STATE, REPLY_MESSAGE, SERVICE_TYPE,
+    CLASS, FRAMED_PROTOCOL, IDLE_TIMEOUT, MESSAGE_AUTHENTICATOR, PORT_LIMIT, PROXY_STATE, REPLY_MESSAGE, SERVICE_TYPE,
     SESSION_TIMEOUT,
 };
+use crate::signature::SIGNATURE_LEN;
 use rsl_accounts::Entry;
 use rsl_wire::{Attrs, Draft};
 
+/// Writes the Message-Authenticator of a reply, if it gets one, with zeros for its value.
+pub(crate) fn push_signature_if(is_signed: bool, draft: &mut Draft)
+    requires empty { draft.old.attributes ≡ [] }
+    ensures written { draft.new ≡ record draft.old { attributes = list_octets (signature_if is_signed) } }
+    ensures short { length draft.new.attributes ≤ 18 }
+    ensures room { IsTrue is_signed → 18 ≤ length draft.new.attributes }
+{
+    if is_signed {
+        draft.push(MESSAGE_AUTHENTICATOR, &[0; SIGNATURE_LEN]).unwrap();
+    }
+}
+
 /// Writes the attributes of an accept of this account.
 pub(crate) fn push_accept(draft: &mut Draft, boot: u64, number: u64, entry: &Entry)
-    requires empty { draft.old.attributes ≡ [] }
+    requires room { length draft.old.attributes ≤ 18 }
     requires limits { RulesFit entry.now.rules }
-    ensures written { draft.new ≡ record draft.old { attributes = list_octets (accept_attributes boot number entry.now) } }
-    ensures short { length draft.new.attributes ≤ 48 }
+    ensures written { draft.new ≡ record draft.old { attributes = draft.old.attributes ++ list_octets (accept_attributes boot number entry.now) } }
+    ensures short { length draft.new.attributes ≤ 66 }
 {
     push_class(draft, boot, number);
     push_number(draft, PORT_LIMIT, entry.rules.ports as u32);
@@ -29,9 +43,9 @@ pub(crate) fn push_accept(draft: &mut Draft, boot: u64, number: u64, entry: &Ent
 
 /// Writes what a limit reject says.
 pub(crate) fn push_limit_message(draft: &mut Draft)
-    requires empty { draft.old.attributes ≡ [] }
-    ensures written { draft.new ≡ record draft.old { attributes = list_octets limit_attributes } }
-    ensures short { length draft.new.attributes ≤ 48 }
+    requires room { length draft.old.attributes ≤ 18 }
+    ensures written { draft.new ≡ record draft.old { attributes = draft.old.attributes ++ list_octets limit_attributes } }
+    ensures short { length draft.new.attributes ≤ 66 }
 {
     draft.push(REPLY_MESSAGE, b"Session limit reached").unwrap();
 }
@@ -51,7 +65,7 @@ pub(crate) fn push_proxy_states(draft: &mut Draft, attributes: &Attrs<'_>)
 
 /// Writes the Class of an accept: the boot number and the accept number, eight octets each.
 fn push_class(draft: &mut Draft, boot: u64, number: u64)
-    requires { length draft.old.attributes ≤ 48 }
+    requires { length draft.old.attributes ≤ 66 }
     ensures written { draft.new ≡ record draft.old { attributes = draft.old.attributes ++ attribute_octets (class_attribute boot number) } }
     ensures length { length draft.new.attributes ≡ length draft.old.attributes + 18 }
 {
@@ -63,7 +77,7 @@ fn push_class(draft: &mut Draft, boot: u64, number: u64)
 
 /// Writes an attribute whose value is a number of four octets, the high octet first.
 fn push_number(draft: &mut Draft, kind: u8, number: u32)
-    requires { length draft.old.attributes ≤ 48 }
+    requires { length draft.old.attributes ≤ 66 }
     ensures written { draft.new ≡ record draft.old { attributes = draft.old.attributes ++ attribute_octets (number_attribute kind number) } }
     ensures length { length draft.new.attributes ≡ length draft.old.attributes + 6 }
 {
@@ -72,7 +86,7 @@ fn push_number(draft: &mut Draft, kind: u8, number: u32)
 
 /// Writes such an attribute if there is a number.
 fn push_optional(draft: &mut Draft, kind: u8, number: Option<u32>)
-    requires { length draft.old.attributes ≤ 48 }
+    requires { length draft.old.attributes ≤ 66 }
     ensures written { draft.new ≡ record draft.old { attributes = draft.old.attributes ++ list_octets (optional_attribute kind number) } }
     ensures length { length draft.new.attributes ≤ length draft.old.attributes + 6 }
 {

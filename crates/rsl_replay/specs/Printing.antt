@@ -4,7 +4,7 @@ use Rattle.std.specs.Fmt.{decimal}
 use Rattle.std.specs.List.{list_any}
 use Rattle.rsl_accounts.specs.Configuration.{Configuration}
 use Rattle.rsl_event.specs.declared.meaning.Dropped.{Dropped}
-use Rattle.rsl_event.specs.declared.meaning.Dropped.TheVariants.{Short, BadLength, UnknownClient, WrongCode, BadAuthenticator, Malformed, ProxyTooLong, NoStatus, NoSession, NoMemory}
+use Rattle.rsl_event.specs.declared.meaning.Dropped.TheVariants.{Short, BadLength, UnknownClient, WrongCode, BadAuthenticator, Malformed, BadSignature, Unsigned, ProxyTooLong, NoStatus, NoSession, NoMemory}
 use Rattle.rsl_event.specs.declared.words.Said.{Said}
 use Rattle.rsl_event.specs.declared.words.Said.TheVariants.{Accept, LimitReject, Reject, Account}
 use Rattle.rsl_script.specs.declared.event_line.EventLine.{EventLine}
@@ -25,6 +25,8 @@ drop_name UnknownClient = codes "UnknownClient"
 drop_name WrongCode = codes "WrongCode"
 drop_name BadAuthenticator = codes "BadAuthenticator"
 drop_name Malformed = codes "Malformed"
+drop_name BadSignature = codes "BadSignature"
+drop_name Unsigned = codes "Unsigned"
 drop_name ProxyTooLong = codes "ProxyTooLong"
 drop_name NoStatus = codes "NoStatus"
 drop_name NoSession = codes "NoSession"

@@ -2,7 +2,7 @@
 use Rattle.std.specs.Prelude.{ℕ, ◌+◌, Bool, true, false, List, [], ◌∷◌, ◌++◌, map, codes, Option, Some, None, if◌then◌else◌}
 use Rattle.std.specs.List.{flat_map, range_with_len}
 use Rattle.rsl_accounts.specs.Configuration.{Configuration, client_number}
-use Rattle.rsl_event.specs.Request.{name_of, secret_of}
+use Rattle.rsl_event.specs.Request.{nas_name_of, secret_of}
 use Rattle.rsl_event.specs.declared.nas.Nas.{Nas}
 use Rattle.rsl_event.specs.declared.meaning.Port.{Port}
 use Rattle.rsl_event.specs.declared.meaning.Port.TheVariants.{Auth, Acct}
@@ -43,7 +43,7 @@ sweeps config moment nas = for_each_shard config (λ shard. steps.Sweep shard mo
 
 -- the access server of a client: it has no name where the line has no NAS
 abbrev pub nas_of : (client : ℕ) → (name : Option (List ℕ)) → Nas
-nas_of client name = record { client = client; name = name_of name None }
+nas_of client name = record { client = client; name = nas_name_of name None }
 
 -- whether a status says that the access server has restarted
 abbrev pub is_restart : Status → Bool

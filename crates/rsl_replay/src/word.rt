@@ -47,6 +47,8 @@ fn name_of(dropped: Dropped) -> &'static str
         Dropped::WrongCode => "WrongCode",
         Dropped::BadAuthenticator => "BadAuthenticator",
         Dropped::Malformed => "Malformed",
+        Dropped::BadSignature => "BadSignature",
+        Dropped::Unsigned => "Unsigned",
         Dropped::ProxyTooLong => "ProxyTooLong",
         Dropped::NoStatus => "NoStatus",
         Dropped::NoSession => "NoSession",

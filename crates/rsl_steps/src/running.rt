@@ -151,6 +151,8 @@ fn answer_to_drop(dropped: Dropped) -> Answer
         | Dropped::WrongCode
         | Dropped::BadAuthenticator
         | Dropped::Malformed
+        | Dropped::BadSignature
+        | Dropped::Unsigned
         | Dropped::ProxyTooLong
         | Dropped::NoStatus
         | Dropped::NoSession => Answer::Dropped(dropped),

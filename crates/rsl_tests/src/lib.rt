@@ -7,6 +7,8 @@
 #![tactic(auto)]
 
 #[cfg(test)]
+mod event;
+#[cfg(test)]
 mod support;
 #[cfg(test)]
 mod wire;

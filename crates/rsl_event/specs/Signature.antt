@@ -1,0 +1,62 @@
+-- Message-Authenticators (RFC 3579 section 3.2): what an Access-Request has to have, and which replies get one.
+use Rattle.std.specs.Prelude.{ℕ, ◌+◌, ◌==◌, ◌&&◌, nat_lt, Bool, true, false, List, [], ◌∷◌, length, replicate, slice_get, if◌then◌else◌, Option, Some, None}
+use Rattle.std.specs.Option.{option_map_or}
+use Rattle.rsl_accounts.specs.Configuration.{Configuration}
+use Rattle.rsl_auth.specs.Signature.{is_signed}
+use Rattle.rsl_wire.specs.Attributes.{Attribute, attribute_of, attribute_octets}
+use Rattle.rsl_wire.specs.Packet.{Fields, packet_octets}
+use Rattle.rsl_event.specs.Request.{attribute_count, secret_of, text_of}
+use Rattle.rsl_event.specs.declared.meaning.Dropped.{Dropped}
+use Rattle.rsl_event.specs.declared.meaning.Dropped.TheVariants.{BadSignature, Unsigned}
+use Rattle.rsl_event.specs.declared.words.Said.{Said}
+use Rattle.rsl_event.specs.declared.words.Said.TheVariants as words
+use Rattle.rsl_event.specs.declared.codes.TheConstants.{MESSAGE_AUTHENTICATOR}
+
+-- whether a client has to sign its requests
+abbrev pub must_sign : Configuration → (client : ℕ) → Bool
+must_sign config client = option_map_or (λ found. found.signed) (slice_get config.clients client) false
+
+-- whether there is a Message-Authenticator among the attributes
+abbrev pub has_signature : List Attribute → Bool
+has_signature attributes = nat_lt 0 (attribute_count MESSAGE_AUTHENTICATOR attributes)
+
+-- how many octets the attributes before the first Message-Authenticator have
+abbrev pub octets_before_signature : List Attribute → ℕ
+octets_before_signature [] = 0
+octets_before_signature (attribute ∷ attributes) =
+    if attribute.kind == MESSAGE_AUTHENTICATOR then 0 else length (attribute_octets attribute) + octets_before_signature attributes
+
+-- where its value stands in the packet: after the header of 20 octets, those attributes, its Type and its Length
+abbrev pub signature_place : List Attribute → ℕ
+signature_place attributes = 22 + octets_before_signature attributes
+
+-- there is exactly one Message-Authenticator, of 16 octets, and it is that of the packet
+unfoldable pub has_right_signature : Fields → List Attribute → (secret : List ℕ) → Bool
+has_right_signature fields attributes secret =
+    attribute_count MESSAGE_AUTHENTICATOR attributes == 1
+    && length (text_of MESSAGE_AUTHENTICATOR attributes) == 16
+    && is_signed (packet_octets fields) (signature_place attributes) secret
+
+-- why a request with these attributes is dropped, if it is for its Message-Authenticator
+abbrev pub signature_drop : Configuration → (client : ℕ) → Fields → List Attribute → Option Dropped
+signature_drop config client fields attributes =
+    if has_signature attributes then (if has_right_signature fields attributes (secret_of config client) then None else Some BadSignature)
+    else (if must_sign config client then Some Unsigned else None)
+
+-- an Access-Accept or an Access-Reject may be signed, and an Accounting-Response never is
+abbrev pub is_access : Said → Bool
+is_access words.Account = false
+is_access _ = true
+
+-- whether a reply is signed: it answers an Access-Request that carried a Message-Authenticator
+abbrev pub is_reply_signed : Said → (request : List Attribute) → Bool
+is_reply_signed word request = is_access word && has_signature request
+
+-- its Message-Authenticator, before the value is known: the first attribute
+abbrev pub unsigned_signature : Attribute
+unsigned_signature = attribute_of MESSAGE_AUTHENTICATOR (replicate 16 0)
+
+-- that of a reply, if it is signed
+abbrev pub signature_if : Bool → List Attribute
+signature_if false = []
+signature_if true = unsigned_signature ∷ []

@@ -1,0 +1,83 @@
+ghost use Rattle.std.specs.Prelude.{◌≡◌, ◌+◌, ◌<◌, ◌≤◌, length};
+ghost use Rattle.rsl_wire.specs.Attributes.{AreAttributes, list_octets};
+ghost use Rattle.rsl_wire.specs.Seen.{fields_of};
+ghost use Rattle.rsl_event.specs.Request.{secret_of};
+ghost use Rattle.rsl_event.specs.Signature.{has_signature, octets_before_signature, has_right_signature, signature_drop};
+
+use crate::codes::{ATTR_HEADER_LEN, MESSAGE_AUTHENTICATOR};
+use crate::meaning::Dropped;
+use crate::request::text_of;
+use rsl_accounts::Config;
+use rsl_auth::signature_ok;
+use rsl_wire::{Attrs, Packet};
+
+/// Octets of the value of a Message-Authenticator (RFC 3579 section 3.2).
+pub(crate) const SIGNATURE_LEN: usize = 16;
+
+/// Where that value stands in a packet of which the Message-Authenticator is the first attribute: after
+/// the header, its Type and its Length.
+pub(crate) const FIRST_SIGNATURE_PLACE: usize = 22;
+
+/// Why a request with these attributes is dropped, if it is for its Message-Authenticator.
+pub(crate) fn signature_drop(
+    config: &Config,
+    client: u32,
+    packet: &Packet<'_>,
+    attributes: &Attrs<'_>,
+) -> Option<Dropped>
+    requires client { client < length config.now.clients }
+    requires attributes { AreAttributes packet.now.attrs.now attributes.now }
+    ensures { result ≡ signature_drop config.now client (fields_of packet.now) attributes.now }
+{
+    let client = config.client_at(client);
+    if has_signature(attributes) {
+        if has_right_signature(packet, attributes, client.secret.expose()) {
+            None
+        } else {
+            Some(Dropped::BadSignature)
+        }
+    } else if client.signed {
+        Some(Dropped::Unsigned)
+    } else {
+        None
+    }
+}
+
+/// Whether there is a Message-Authenticator among the attributes.
+pub(crate) fn has_signature(attributes: &Attrs<'_>) -> bool
+    ensures { result ≡ has_signature attributes.now }
+{
+    attributes.count(MESSAGE_AUTHENTICATOR) > 0
+}
+
+/// Whether there is exactly one Message-Authenticator, of 16 octets, and it is that of the packet.
+#[tactic(auto, unfolding(crate::specs::Signature::has_right_signature))]
+fn has_right_signature(packet: &Packet<'_>, attributes: &Attrs<'_>, secret: &[u8]) -> bool
+    requires { AreAttributes packet.now.attrs.now attributes.now }
+    ensures { result ≡ has_right_signature (fields_of packet.now) attributes.now secret.now }
+{
+    if attributes.count(MESSAGE_AUTHENTICATOR) != 1 {
+        return false;
+    }
+    if text_of(attributes, MESSAGE_AUTHENTICATOR).len() != SIGNATURE_LEN {
+        return false;
+    }
+    let at = FIRST_SIGNATURE_PLACE + octets_before_signature(attributes);
+    signature_ok(packet.octets(), at, secret)
+}
+
+/// How many octets the attributes before the first Message-Authenticator have.
+fn octets_before_signature(attributes: &Attrs<'_>) -> usize
+    requires { length (list_octets attributes.now) ≤ 4096 }
+    ensures count { result ≡ octets_before_signature attributes.now }
+    ensures short { result ≤ 4096 }
+{
+    let mut len = 0usize;
+    for (kind, value) in attributes.iter() {
+        if kind == MESSAGE_AUTHENTICATOR {
+            return len;
+        }
+        len += ATTR_HEADER_LEN + value.len();
+    }
+    len
+}
