@@ -1,9 +1,21 @@
--- The exit status of the program.
-use Rattle.std.specs.Prelude.{ℕ, Result, Ok, Err}
+-- The exit status of the program, and what its faults say.
+use Rattle.std.specs.Prelude.{ℕ, ⊤, List, Result, Ok, Err}
+use Rattle.rsl_app.specs.declared.fault.Fault.{Fault}
+use Rattle.rsl_app.specs.declared.fault.Fault.TheVariants.{Usage, Replay}
 use Rattle.rsl_replay.specs.Fault.{status_of}
-use Rattle.rsl_replay.specs.declared.fault.ReplayFault.{ReplayFault}
+use Rattle.rsl_replay.specs.Replay.{IsFaultOf}
 
--- the status of a process whose replay came to this
-abbrev pub status_after : {T : Type 0} → Result T ReplayFault → ℕ
+-- 1 where the arguments are wrong; else the status of the replay's fault
+abbrev pub fault_status : Fault → ℕ
+fault_status Usage = 1
+fault_status (Replay fault) = status_of fault
+
+-- the status of a process whose work came to this
+abbrev pub status_after : {T : Type 0} → Result T Fault → ℕ
 status_after (Ok value) = 0
-status_after (Err fault) = status_of fault
+status_after (Err fault) = fault_status fault
+
+-- a fault of the script that was read is there; wrong arguments are no fault of a script
+abbrev pub IsFaultOfText : (text : List ℕ) → Fault → Type 0
+IsFaultOfText text Usage = ⊤
+IsFaultOfText text (Replay fault) = IsFaultOf text fault

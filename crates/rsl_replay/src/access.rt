@@ -42,7 +42,7 @@ fn authenticator(request: &AccessRequest) -> [u8; 16]
     ensures { result ≡ md5 request.now.text }
 {
     let mut hasher = Md5::new();
-    hasher.update(request.text.as_slice());
+    hasher.update(request.text.expose());
     hasher.finalize()
 }
 
@@ -54,7 +54,7 @@ fn user_password(alloc: Global, request: &AccessRequest, secret: &[u8]) -> Resul
 {
     hide(
         alloc,
-        request.password.as_slice(),
+        request.password.expose(),
         secret,
         &authenticator(request),
     )
@@ -68,7 +68,7 @@ fn chap_password(request: &AccessRequest) -> [u8; CHAP_PASSWORD_LEN]
 {
     let mut hasher = Md5::new();
     hasher.update(&[request.id]);
-    hasher.update(request.password.as_slice());
+    hasher.update(request.password.expose());
     hasher.update(&authenticator(request));
     let mut value = [request.id; CHAP_PASSWORD_LEN];
     value[1..].copy_from_slice(&hasher.finalize());

@@ -1,6 +1,5 @@
 pub mod Numbers
-pub mod Addresses
-pub mod Behind
+pub mod RestAfter
 pub mod Printed
 pub mod Mapped
 pub mod Fits

@@ -1,20 +1,20 @@
 -- Requests that are made of the values of their words.
 use Rattle.std.proofs.Common.{◌≡◌, ℕ, ◌+◌, ◌<◌, ◌≤◌, List, [], ◌∷◌, length, map, take, drop, ◌-◌, get_or, Bor, Option, None, Some, ap, sym, ◌∙◌, arith}
 use Rattle.std.proofs.lemmas.List.{drop_more, drop_all, take_rest}
-use Rattle.rsl_script.specs.declared.accounting.Links.{Links}
+use Rattle.rsl_script.specs.declared.accounting.Ties.{Ties}
 use Rattle.rsl_script.specs.declared.request.AccessRequest.{AccessRequest}
 use Rattle.rsl_script.specs.declared.request.AccountingRequest.{AccountingRequest}
 use Rattle.rsl_script.specs.declared.request.Method.{Method}
 use Rattle.rsl_script.specs.declared.request.Status.{Status}
 use Rattle.rsl_script.specs.Access.{access_request}
-use Rattle.rsl_script.specs.Accounting.{links_at, server_report, session_report}
-use Rattle.rsl_script.specs.Values.{id_of, name_of, nas_of, password_of}
+use Rattle.rsl_script.specs.Accounting.{ties_at, server_report, session_report}
+use Rattle.rsl_script.specs.Values.{read_id, read_name, read_nas, read_password}
 use Rattle.rsl_script.proofs.Fits.{access_fields, accounting_fields, fitting_access_is, fitting_accounting_is}
 
 abbrev pub seen : List (Bor (List ℕ)) → List (List ℕ)
 seen words = map (λ word. word.now) words
 
--- the word at a place, and those behind it
+-- the word at a place, and those after it
 pub seen_next : (words : List (Bor (List ℕ))) (i : ℕ) (d : Bor (List ℕ)) → i < length words → seen (drop i words) ≡ (get_or words i d).now ∷ seen (drop (i + 1) words)
 seen_next words i d below = ap seen (drop_more words i d below)
 
@@ -44,10 +44,10 @@ pub access_request_made :
     (method : Method) (text : List ℕ) (words : List (List ℕ)) (nas name password id given_text : List ℕ) (given_nas : Option (List ℕ)) (given_name given_password : List ℕ) (given_id : ℕ) (request : AccessRequest)
     → text ≡ given_text
     → words ≡ nas ∷ name ∷ password ∷ id ∷ []
-    → nas_of nas ≡ Some given_nas
-    → name_of name ≡ Some given_name
-    → password_of password ≡ Some given_password
-    → id_of id ≡ Some given_id
+    → read_nas nas ≡ Some given_nas
+    → read_name name ≡ Some given_name
+    → read_password password ≡ Some given_password
+    → read_id id ≡ Some given_id
     → access_fields request ≡ record { method = method; text = given_text; nas = given_nas; name = given_name; password = given_password; id = given_id }
     → access_request method text words ≡ Some request
 unfolding access_request
@@ -64,13 +64,13 @@ server_report_made status nas words request same_words fields =
     rw (same_words, sym fields) (fitting_accounting_is request)
 
 pub session_report_made :
-    (status : Status) (nas : Option (List ℕ)) (words : List (List ℕ)) (name session given_name given_session : List ℕ) (rest : List (List ℕ)) (links : Links) (request : AccountingRequest)
+    (status : Status) (nas : Option (List ℕ)) (words : List (List ℕ)) (name session given_name given_session : List ℕ) (rest : List (List ℕ)) (ties : Ties) (request : AccountingRequest)
     → words ≡ name ∷ session ∷ rest
-    → name_of name ≡ Some given_name
-    → name_of session ≡ Some given_session
-    → links_at status rest ≡ Some links
-    → accounting_fields request ≡ record { status = status; nas = nas; name = Some given_name; session = Some given_session; bundle = links.bundle; class = links.class }
+    → read_name name ≡ Some given_name
+    → read_name session ≡ Some given_session
+    → ties_at status rest ≡ Some ties
+    → accounting_fields request ≡ record { status = status; nas = nas; name = Some given_name; session = Some given_session; bundle = ties.bundle; class = ties.class }
     → session_report status nas words ≡ Some request
 unfolding session_report
-session_report_made status nas words name session given_name given_session rest links request same_words same_name same_session same_links fields =
-    rw (same_words, same_name, same_session, same_links, sym fields) (fitting_accounting_is request)
+session_report_made status nas words name session given_name given_session rest ties request same_words same_name same_session same_ties fields =
+    rw (same_words, same_name, same_session, same_ties, sym fields) (fitting_accounting_is request)

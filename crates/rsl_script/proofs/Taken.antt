@@ -18,7 +18,7 @@ use Rattle.rsl_script.specs.declared.fault.ScriptFault.{ScriptFault}
 use Rattle.rsl_script.specs.declared.fault.LineFault.{LineFault}
 use Rattle.rsl_script.specs.declared.fault.LineFault.TheVariants.{Wrong, NoMemory as line_no_memory}
 use Rattle.rsl_script.specs.Reads.{script_fault_at}
-use Rattle.rsl_script.specs.Taking.{taken, taken_said, with_line}
+use Rattle.rsl_script.specs.Taking.{with_next_line, with_said, with_line}
 
 -- one line more at the end
 
@@ -57,7 +57,7 @@ events_held : (front : List (List ℕ)) → (contents_of (filter_map line_of fro
 unfolding contents_of
 events_held front = refl
 
--- whether a line behind others is wrong, by what they hold
+-- whether a line after others is wrong, by what they hold
 wrong_by : (front : List (List ℕ)) (line : Line) → is_wrong (map line_of front) (Some line) ≡ (is_configuration line && nat_lt 0 (length (contents_of (filter_map line_of front)).events))
 wrong_by front line = ap (λ begun. is_configuration line && begun) (begun_is front ∙ ap (λ (events : List EventLine). nat_lt 0 (length events)) (sym (events_held front)))
 
@@ -77,12 +77,12 @@ named_where_wrong : (before rest : List (Option Line)) (said : Option Line) → 
 unfolding first_wrong
 named_where_wrong before rest said wrong = rw wrong
 
-taken_held : (held after : Contents) (line : Line) (wrong : Bool) → (is_configuration line && nat_lt 0 (length held.events)) ≡ wrong → taken held line ≡ Some after → (wrong ≡ false) × (with_line held line ≡ after)
+taken_held : (held after : Contents) (line : Line) (wrong : Bool) → (is_configuration line && nat_lt 0 (length held.events)) ≡ wrong → with_next_line held line ≡ Some after → (wrong ≡ false) × (with_line held line ≡ after)
 taken_held held after line true is took = cc
 taken_held held after line false is took = (refl, cc)
 
-pub taken_more : (front : List (List ℕ)) (line : List ℕ) (rest : List (List ℕ)) (after : Contents) (said : Option Line) → line_of line ≡ said → taken_said (contents_of (filter_map line_of front)) said ≡ Some after → IsTaken front line rest after
-unfolding taken_said
+pub taken_more : (front : List (List ℕ)) (line : List ℕ) (rest : List (List ℕ)) (after : Contents) (said : Option Line) → line_of line ≡ said → with_said (contents_of (filter_map line_of front)) said ≡ Some after → IsTaken front line rest after
+unfolding with_said
 taken_more front line rest after None is took = cc
 taken_more front line rest after (Some said) is took =
     let held = contents_of (filter_map line_of front) in
@@ -93,16 +93,16 @@ taken_more front line rest after (Some said) is took =
       passed = rw is (passed_where_right (map line_of front) (map line_of rest) (Some said) (wrong_by front said ∙ right)) ∙ ap (λ before. first_wrong before (map line_of rest)) (sym (said_last front line));
     }
 
-refused : (held : Contents) (line : Line) (wrong : Bool) → (is_configuration line && nat_lt 0 (length held.events)) ≡ wrong → taken held line ≡ None → wrong ≡ true
+refused : (held : Contents) (line : Line) (wrong : Bool) → (is_configuration line && nat_lt 0 (length held.events)) ≡ wrong → with_next_line held line ≡ None → wrong ≡ true
 refused held line true is none = refl
 refused held line false is none = cc
 
-pub wrong_named : (front : List (List ℕ)) (line : List ℕ) (rest : List (List ℕ)) (said : Option Line) → line_of line ≡ said → taken_said (contents_of (filter_map line_of front)) said ≡ None → first_wrong (map line_of front) (line_of line ∷ map line_of rest) ≡ Some (length front + 1)
-unfolding taken_said
+pub wrong_named : (front : List (List ℕ)) (line : List ℕ) (rest : List (List ℕ)) (said : Option Line) → line_of line ≡ said → with_said (contents_of (filter_map line_of front)) said ≡ None → first_wrong (map line_of front) (line_of line ∷ map line_of rest) ≡ Some (length front + 1)
+unfolding with_said
 wrong_named front line rest said is none =
     rw is (named_where_wrong (map line_of front) (map line_of rest) said (by said none)) ∙ ap (λ len. Some (len + 1)) (length-map front line_of)
   where
-    by : (said : Option Line) → taken_said (contents_of (filter_map line_of front)) said ≡ None → is_wrong (map line_of front) said ≡ true
+    by : (said : Option Line) → with_said (contents_of (filter_map line_of front)) said ≡ None → is_wrong (map line_of front) said ≡ true
     by None none = refl
     by (Some line) none = wrong_by front line ∙ refused (contents_of (filter_map line_of front)) line _ refl none
 
@@ -114,7 +114,7 @@ pub record Stands (all : List (List ℕ)) (k : ℕ) (held : Contents) : Type 0 w
 pub stands_first : (all : List (List ℕ)) (held : Contents) → held ≡ contents_of [] → Stands all 0 held
 stands_first all held is = record { held_is = is; wrong_is = refl }
 
-pub stands_more : (all : List (List ℕ)) (k : ℕ) (line : List ℕ) (held after : Contents) → Stands all k held → k < length all → line ≡ get_or all k line → taken_said held (line_of line) ≡ Some after → Stands all (k + 1) after
+pub stands_more : (all : List (List ℕ)) (k : ℕ) (line : List ℕ) (held after : Contents) → Stands all k held → k < length all → line ≡ get_or all k line → with_said held (line_of line) ≡ Some after → Stands all (k + 1) after
 stands_more all k line held after s below is took =
     let front = take k all in
     let rest = drop (k + 1) all in
@@ -127,7 +127,7 @@ stands_more all k line held after s below is took =
     }
 
 -- what the loop answers
-pub script_refused : (text : List ℕ) (k : ℕ) (line : List ℕ) (held : Contents) → Stands (lines_of text) k held → k < length (lines_of text) → line ≡ get_or (lines_of text) k line → taken_said held (line_of line) ≡ None → script_of text ≡ Err (line_fault (k + 1))
+pub script_refused : (text : List ℕ) (k : ℕ) (line : List ℕ) (held : Contents) → Stands (lines_of text) k held → k < length (lines_of text) → line ≡ get_or (lines_of text) k line → with_said held (line_of line) ≡ None → script_of text ≡ Err (line_fault (k + 1))
 unfolding script_of
 script_refused text k line held s below is none =
     let all = lines_of text in

@@ -1,4 +1,4 @@
--- The Access-Request of a line `ask` or `chap`: its words behind the moment are CLIENT NAS NAME PASSWORD ID.
+-- The Access-Request of a line `ask` or `chap`: its words after the moment are CLIENT NAS NAME PASSWORD ID.
 use Rattle.std.specs.Prelude.{ℕ, List, [], ◌∷◌, codes, Option, None, Some}
 use Rattle.std.specs.List.{join_with_byte}
 use Rattle.rsl_accounts.specs.Address.{address_of}
@@ -9,7 +9,7 @@ use Rattle.rsl_script.specs.declared.request.Method.{Method}
 use Rattle.rsl_script.specs.declared.request.Method.TheVariants.{Pap, Chap}
 use Rattle.rsl_script.specs.Fitting.{fitting_access}
 use Rattle.rsl_script.specs.Reads.{◌>>=◌}
-use Rattle.rsl_script.specs.Values.{id_of, name_of, nas_of, password_of}
+use Rattle.rsl_script.specs.Values.{read_id, read_name, read_nas, read_password}
 
 -- the first word of the line
 abbrev pub word_of : Method → List ℕ
@@ -23,17 +23,17 @@ text_without_moment method words = join_with_byte 32 (word_of method ∷ words)
 -- the request that NAS NAME PASSWORD ID say, on a line with this text
 unfoldable pub access_request : Method → (text : List ℕ) → (words : List (List ℕ)) → Option AccessRequest
 access_request method text (nas ∷ name ∷ password ∷ id ∷ []) = do
-  nas ← nas_of nas
-  name ← name_of name
-  password ← password_of password
-  id ← id_of id
+  nas ← read_nas nas
+  name ← read_name name
+  password ← read_password password
+  id ← read_id id
   fitting_access (record { method = method; text = text; nas = nas; name = name; password = password; id = id })
 access_request method text _ = None
 
--- what the words behind the moment say
-unfoldable pub access_of : Method → (words : List (List ℕ)) → Option Happening
-access_of method [] = None
-access_of method (client ∷ rest) = do
+-- what the words after the moment say
+unfoldable pub read_access : Method → (words : List (List ℕ)) → Option Happening
+read_access method [] = None
+read_access method (client ∷ rest) = do
   address ← address_of client
   request ← access_request method (text_without_moment method (client ∷ rest)) rest
   Some (Access address request)

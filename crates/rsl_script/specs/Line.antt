@@ -1,14 +1,15 @@
 -- What a line of a script says.
-use Rattle.std.specs.Prelude.{ℕ, false, List, [], ◌∷◌, if◌then◌else◌, Option, None, Some, option_map}
+use Rattle.std.specs.Prelude.{ℕ, ◌==◌, Bool, true, false, List, [], ◌∷◌, length, codes, bytes_eq, if◌then◌else◌, Option, None, Some, option_map, unwrap_or}
 use Rattle.rsl_accounts.specs.Address.{address_of}
 use Rattle.rsl_accounts.specs.declared.entry.Entry.{Entry}
 use Rattle.rsl_script.specs.declared.line.Line.{Line}
+use Rattle.rsl_script.specs.declared.line.Options.{Options}
 use Rattle.rsl_script.specs.declared.line.Line.TheVariants as lines
 use Rattle.rsl_script.specs.declared.verb.Verb.{Verb}
 use Rattle.rsl_script.specs.declared.verb.Verb.TheVariants.{Set, Client, Account, Event}
-use Rattle.rsl_script.specs.Event.{event_of}
+use Rattle.rsl_script.specs.Event.{read_event}
 use Rattle.rsl_script.specs.Reads.{◌>>=◌}
-use Rattle.rsl_script.specs.Values.{number_of}
+use Rattle.rsl_script.specs.Values.{leading_number, read_number}
 use Rattle.rsl_script.specs.Verb.{setting_of, verb_of}
 use Rattle.rsl_script.specs.Words.{is_printed, is_silent, are_words, words_of}
 
@@ -16,48 +17,61 @@ use Rattle.rsl_script.specs.Words.{is_printed, is_silent, are_words, words_of}
 unfoldable pub set_line : (words : List (List ℕ)) → Option Line
 set_line (name ∷ value ∷ []) = do
   setting ← setting_of name
-  value ← number_of value
+  value ← read_number value
   Some (lines.Set setting value)
 set_line _ = None
 
--- a client: ADDRESS SECRET
+-- whether the client's requests must be signed: no word, or the word `signed`
+unfoldable pub read_signed : (words : List (List ℕ)) → Option Bool
+read_signed [] = Some false
+read_signed (word ∷ []) = if bytes_eq word (codes "signed") then Some true else None
+read_signed _ = None
+
+-- a client: ADDRESS SECRET [signed]
 unfoldable pub client_line : (words : List (List ℕ)) → Option Line
-client_line (address ∷ secret ∷ []) = do
+client_line (address ∷ secret ∷ rest) = do
   address ← address_of address
-  Some (lines.Client (record { address = address; secret = secret; signed = false }))
+  signed ← read_signed rest
+  Some (lines.Client (record { address = address; secret = secret; signed = signed }))
 client_line _ = None
 
--- an account whose times are those of the settings, and whose accepts have no more attributes
-abbrev pub account_with : (name password : List ℕ) (places ports : ℕ) → Entry
-account_with name password places ports = record {
+-- what an account may have: [PORTS] [live=N] [grace=N], each at most once and in this order
+unfoldable pub read_options : (words : List (List ℕ)) → Option Options
+read_options words =
+    let ports = leading_number (codes "") words in
+    let live = leading_number (codes "live=") ports.1 in
+    let grace = leading_number (codes "grace=") live.1 in
+    if length grace.1 == 0 then Some (record { ports = ports.0; live = live.0; grace = grace.0 }) else None
+
+-- an account of one port, if no ports are given, whose other times are those of the settings, and whose accepts have no
+-- more attributes
+abbrev pub account_with : (name password : List ℕ) → (places : ℕ) → Options → Entry
+account_with name password places options = record {
   name = name;
   password = password;
-  rules = record { places = places; ports = ports; reserve = 0; live = 0; grace = 0; closed = 0; keep = 0 };
+  rules = record { places = places; ports = unwrap_or options.ports 1; reserve = 0; live = 0; grace = 0; closed = 0; keep = 0 };
   service_type = None;
   framed_protocol = None;
   session_timeout = None;
   idle_timeout = None;
-  own_live = None;
-  own_grace = None;
+  own_live = options.live;
+  own_grace = options.grace;
 }
 
--- an account: NAME PASSWORD PLACES [PORTS], where one port is meant if none are given
+-- an account: NAME PASSWORD PLACES, and what it may have
 unfoldable pub account_line : (words : List (List ℕ)) → Option Line
-account_line (name ∷ password ∷ places ∷ []) = do
-  places ← number_of places
-  Some (lines.Account (account_with name password places 1))
-account_line (name ∷ password ∷ places ∷ ports ∷ []) = do
-  places ← number_of places
-  ports ← number_of ports
-  Some (lines.Account (account_with name password places ports))
+account_line (name ∷ password ∷ places ∷ rest) = do
+  places ← read_number places
+  options ← read_options rest
+  Some (lines.Account (account_with name password places options))
 account_line _ = None
 
--- what the words behind the first say
+-- what the words after the first say
 unfoldable pub said_about : Verb → (words : List (List ℕ)) → Option Line
 said_about Set words = set_line words
 said_about Client words = client_line words
 said_about Account words = account_line words
-said_about (Event kind) words = option_map lines.Event (event_of kind words)
+said_about (Event kind) words = option_map lines.Event (read_event kind words)
 
 -- what the words of a line say
 unfoldable pub said_in : (words : List (List ℕ)) → Option Line

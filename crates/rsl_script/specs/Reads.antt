@@ -5,7 +5,7 @@ use Rattle.rsl_script.specs.declared.fault.LineFault.TheVariants.{Wrong, NoMemor
 use Rattle.rsl_script.specs.declared.fault.ScriptFault.{ScriptFault}
 use Rattle.rsl_script.specs.declared.fault.ScriptFault.TheVariants.{Line, NoMemory}
 
--- a part, and then what stands behind it: nothing is said where either says nothing
+-- a part, and then what stands after it: nothing is said where either says nothing
 infixl 10 ◌>>=◌
 abbrev pub ◌>>=◌ : {A B : Type 0} → Option A → (A → Option B) → Option B
 part >>= next = option_and_then next part

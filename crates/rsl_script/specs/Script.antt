@@ -69,7 +69,7 @@ setting_in setting otherwise said = last_of otherwise (filter_map (value_in sett
 unfoldable pub contents_of : List Line → Contents
 contents_of said = record {
   settings = record {
-    version = 1;
+    version = 2;
     shards = setting_in Shards 1 said;
     reserve = setting_in Reserve 60 said;
     live = setting_in Live 900 said;
@@ -92,12 +92,12 @@ abbrev pub is_event : Option Line → Bool
 is_event (Some (lines.Event event)) = true
 is_event _ = false
 
--- whether a line behind these is wrong: it says nothing right, or is one of the configuration behind an event line
+-- whether a line after these is wrong: it says nothing right, or is one of the configuration after an event line
 abbrev pub is_wrong : (before : List (Option Line)) → Option Line → Bool
 is_wrong before None = true
 is_wrong before (Some line) = is_configuration line && list_any is_event before
 
--- the number of the first wrong line, of lines behind these. Lines are numbered from 1
+-- the number of the first wrong line, of lines after these. Lines are numbered from 1
 unfoldable pub first_wrong : (before : List (Option Line)) → List (Option Line) → Option ℕ
 first_wrong before [] = None
 first_wrong before (line ∷ rest) = if is_wrong before line then Some (length before + 1) else first_wrong (before ++ line ∷ []) rest

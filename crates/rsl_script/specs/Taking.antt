@@ -24,10 +24,10 @@ with_line held line = record {
   events = held.events ++ option_to_list (event_in line);
 }
 
--- a line of the configuration behind an event line is not taken
-abbrev pub taken : Contents → Line → Option Contents
-taken held line = if is_configuration line && nat_lt 0 (length held.events) then None else Some (with_line held line)
+-- a line of the configuration after an event line is not taken
+abbrev pub with_next_line : Contents → Line → Option Contents
+with_next_line held line = if is_configuration line && nat_lt 0 (length held.events) then None else Some (with_line held line)
 
 -- nor is a line that says nothing right
-unfoldable pub taken_said : Contents → Option Line → Option Contents
-taken_said held said = option_and_then (taken held) said
+unfoldable pub with_said : Contents → Option Line → Option Contents
+with_said held said = option_and_then (with_next_line held) said

@@ -1,28 +1,29 @@
 //! The lines `ask` and `chap`.
 ghost use Rattle.std.specs.Prelude.{◌≡◌, IfOk, map};
-ghost use Rattle.rsl_script.specs.Access.{access_of, access_request, text_without_moment, word_of};
+ghost use Rattle.rsl_script.specs.Access.{read_access, access_request, text_without_moment, word_of};
 ghost use Rattle.rsl_script.specs.Reads.{Reads};
 
 use crate::event_line::Happening;
 use crate::fault::LineFault;
 use crate::request::{AccessRequest, Method};
-use crate::values::{address_of, id_of, name_of, nas_of, password_of};
-use rsl_wire::{NoMemory, Octets};
+use crate::values::{read_id, read_name, read_nas, read_password};
+use rsl_accounts::{Secret, address_of};
+use rsl_wire::NoMemory;
 use std::alloc::Global;
 
-/// What the words `CLIENT NAS NAME PASSWORD ID` behind a moment say.
-#[tactic(auto, unfolding(crate::specs::Access::access_of))]
-pub(crate) fn access_of(
+/// What the words `CLIENT NAS NAME PASSWORD ID` after a moment say.
+#[tactic(auto, unfolding(crate::specs::Access::read_access))]
+pub(crate) fn read_access(
     alloc: Global,
     method: Method,
     words: &[&str],
 ) -> Result<Happening, LineFault>
-    ensures { Reads (access_of method (map (λ word. word.now) words.now)) result }
+    ensures { Reads (read_access method (map (λ word. word.now) words.now)) result }
 {
     match words {
         [] => Err(LineFault::Wrong),
         [client, rest @ ..] => {
-            let address = address_of(client).ok_or(LineFault::Wrong)?;
+            let address = address_of(client.as_bytes()).ok_or(LineFault::Wrong)?;
             let text = text_without_moment(alloc, method, words)?;
             let request = access_request(alloc, method, text, rest)?;
             Ok(Happening::Access { address, request })
@@ -35,7 +36,7 @@ pub(crate) fn access_of(
 fn access_request(
     alloc: Global,
     method: Method,
-    text: Octets,
+    text: Secret,
     words: &[&str],
 ) -> Result<AccessRequest, LineFault>
     ensures { Reads (access_request method text (map (λ word. word.now) words.now)) result }
@@ -44,27 +45,27 @@ fn access_request(
         [nas, name, password, id] => Ok(AccessRequest {
             method,
             text,
-            nas: nas_of(alloc, nas)?,
-            name: name_of(alloc, name)?,
-            password: password_of(alloc, password)?,
-            id: id_of(id).ok_or(LineFault::Wrong)?,
+            nas: read_nas(alloc, nas)?,
+            name: read_name(alloc, name)?,
+            password: read_password(alloc, password)?,
+            id: read_id(id).ok_or(LineFault::Wrong)?,
         }),
         _ => Err(LineFault::Wrong),
     }
 }
 
-/// A line without its moment: its first word and the words behind the moment, joined by one space. It
+/// A line without its moment: its first word and the words after the moment, joined by one space. It
 /// fails only where memory is refused.
 #[tactic(auto, unfolding(crate::specs::Access::text_without_moment))]
-fn text_without_moment(alloc: Global, method: Method, words: &[&str]) -> Result<Octets, NoMemory>
+fn text_without_moment(alloc: Global, method: Method, words: &[&str]) -> Result<Secret, NoMemory>
     ensures { IfOk result (λ text. text ≡ text_without_moment method (map (λ word. word.now) words.now)) }
 {
-    let mut text = Vec::from_slice(alloc, word_of(method).as_bytes())?;
+    let mut text = String::from_str(alloc, word_of(method))?;
     for word in words {
-        text.push(b' ')?;
-        text.extend_from_slice(word.as_bytes())?;
+        text.push_str(" ")?;
+        text.push_str(word)?;
     }
-    Ok(Octets::from(text))
+    Ok(Secret::from(text))
 }
 
 /// The first word of a line.

@@ -1,39 +1,40 @@
 //! The lines `start`, `interim`, `stop`, `on` and `off`.
 ghost use Rattle.std.specs.Prelude.{◌≤◌, IfOk, length, map};
 ghost use Rattle.std.specs.Option.{ForSome};
-ghost use Rattle.rsl_script.specs.Accounting.{accounting_of, links_at, links_of, one_link, report_of, server_report, session_report};
+ghost use Rattle.rsl_script.specs.Accounting.{read_accounting, ties_at, ties_of, one_tie, report_of, server_report, session_report};
 ghost use Rattle.rsl_script.specs.Reads.{Reads};
-ghost use Rattle.rsl_script.specs.Values.{bundle_of, class_of};
+ghost use Rattle.rsl_script.specs.Values.{read_bundle, read_class};
 
 use crate::event_line::Happening;
 use crate::fault::LineFault;
 use crate::request::{AccountingRequest, Status};
-use crate::values::{address_of, bundle_of, class_of, name_of, nas_of};
+use crate::values::{read_bundle, read_class, read_name, read_nas};
+use rsl_accounts::address_of;
 use rsl_wire::Octets;
 use std::alloc::Global;
 
 /// What ties a session to its bundle and to its accept.
 #[derive(Drop)]
-pub(crate) struct Links {
+pub(crate) struct Ties {
     /// The Acct-Multi-Session-Id, where the line has a word `multi=`.
     bundle: Option<Octets>,
     /// The number of the Class, where the line has a word `class=`.
     class: Option<u64>,
 }
 
-/// What the words behind a moment say: `CLIENT NAS`, and then those of the status.
-#[tactic(auto, unfolding(crate::specs::Accounting::accounting_of))]
-pub(crate) fn accounting_of(
+/// What the words after a moment say: `CLIENT NAS`, and then those of the status.
+#[tactic(auto, unfolding(crate::specs::Accounting::read_accounting))]
+pub(crate) fn read_accounting(
     alloc: Global,
     status: Status,
     words: &[&str],
 ) -> Result<Happening, LineFault>
-    ensures { Reads (accounting_of status (map (λ word. word.now) words.now)) result }
+    ensures { Reads (read_accounting status (map (λ word. word.now) words.now)) result }
 {
     match words {
         [client, nas, rest @ ..] => {
-            let address = address_of(client).ok_or(LineFault::Wrong)?;
-            let nas = nas_of(alloc, nas)?;
+            let address = address_of(client.as_bytes()).ok_or(LineFault::Wrong)?;
+            let nas = read_nas(alloc, nas)?;
             let request = report_of(alloc, status, nas, rest)?;
             Ok(Happening::Accounting { address, request })
         }
@@ -41,7 +42,7 @@ pub(crate) fn accounting_of(
     }
 }
 
-/// The report that the words behind the access server say.
+/// The report that the words after the access server say.
 #[tactic(auto, unfolding(crate::specs::Accounting::report_of))]
 fn report_of(
     alloc: Global,
@@ -81,7 +82,7 @@ fn server_report(
     }
 }
 
-/// The report on a session: `NAME SESSION`, and its links.
+/// The report on a session: `NAME SESSION`, and then `multi=M` and `class=N`.
 #[tactic(auto, unfolding(crate::specs::Accounting::session_report))]
 fn session_report(
     alloc: Global,
@@ -94,66 +95,66 @@ fn session_report(
 {
     match words {
         [name, session, rest @ ..] => {
-            let name = name_of(alloc, name)?;
-            let session = name_of(alloc, session)?;
-            let links = links_at(alloc, status, rest)?;
+            let name = read_name(alloc, name)?;
+            let session = read_name(alloc, session)?;
+            let ties = ties_at(alloc, status, rest)?;
             Ok(AccountingRequest {
                 status,
                 nas,
                 name: Some(name),
                 session: Some(session),
-                bundle: links.bundle,
-                class: links.class,
+                bundle: ties.bundle,
+                class: ties.class,
             })
         }
         _ => Err(LineFault::Wrong),
     }
 }
 
-/// The links of a session, which its end does not have.
-#[tactic(auto, unfolding(crate::specs::Accounting::links_at))]
-fn links_at(alloc: Global, status: Status, words: &[&str]) -> Result<Links, LineFault>
-    ensures reads { Reads (links_at status (map (λ word. word.now) words.now)) result }
-    ensures fits { IfOk result (λ links. ForSome links.bundle (λ bundle. length bundle ≤ 253)) }
+/// What ties a session to its bundle and to its accept, which its end does not have.
+#[tactic(auto, unfolding(crate::specs::Accounting::ties_at))]
+fn ties_at(alloc: Global, status: Status, words: &[&str]) -> Result<Ties, LineFault>
+    ensures reads { Reads (ties_at status (map (λ word. word.now) words.now)) result }
+    ensures fits { IfOk result (λ ties. ForSome ties.bundle (λ bundle. length bundle ≤ 253)) }
 {
     match (status, words) {
         (Status::Stop, [_, ..]) => Err(LineFault::Wrong),
-        _ => links_of(alloc, words),
+        _ => ties_of(alloc, words),
     }
 }
 
-/// The links that the words say: `multi=M` and `class=N`, in this order and where they stand.
-#[tactic(auto, unfolding(crate::specs::Accounting::links_of))]
-fn links_of(alloc: Global, words: &[&str]) -> Result<Links, LineFault>
-    ensures reads { Reads (links_of (map (λ word. word.now) words.now)) result }
-    ensures fits { IfOk result (λ links. ForSome links.bundle (λ bundle. length bundle ≤ 253)) }
+/// What the words `multi=M` and `class=N` say, in this order and where they stand.
+#[tactic(auto, unfolding(crate::specs::Accounting::ties_of))]
+fn ties_of(alloc: Global, words: &[&str]) -> Result<Ties, LineFault>
+    ensures reads { Reads (ties_of (map (λ word. word.now) words.now)) result }
+    ensures fits { IfOk result (λ ties. ForSome ties.bundle (λ bundle. length bundle ≤ 253)) }
 {
     match words {
-        [] => Ok(Links {
+        [] => Ok(Ties {
             bundle: None,
             class: None,
         }),
-        [word] => one_link(alloc, word),
-        [multi, class] => Ok(Links {
-            bundle: Some(bundle_of(alloc, multi)?),
-            class: Some(class_of(class).ok_or(LineFault::Wrong)?),
+        [word] => one_tie(alloc, word),
+        [multi, class] => Ok(Ties {
+            bundle: Some(read_bundle(alloc, multi)?),
+            class: Some(read_class(class).ok_or(LineFault::Wrong)?),
         }),
         _ => Err(LineFault::Wrong),
     }
 }
 
-/// The link that a word alone says.
-fn one_link(alloc: Global, word: &str) -> Result<Links, LineFault>
-    ensures reads { Reads (one_link (class_of word.now) (bundle_of word.now)) result }
-    ensures fits { IfOk result (λ links. ForSome links.bundle (λ bundle. length bundle ≤ 253)) }
+/// What one of the two words alone says.
+fn one_tie(alloc: Global, word: &str) -> Result<Ties, LineFault>
+    ensures reads { Reads (one_tie (read_class word.now) (read_bundle word.now)) result }
+    ensures fits { IfOk result (λ ties. ForSome ties.bundle (λ bundle. length bundle ≤ 253)) }
 {
-    match class_of(word) {
-        Some(class) => Ok(Links {
+    match read_class(word) {
+        Some(class) => Ok(Ties {
             bundle: None,
             class: Some(class),
         }),
-        None => Ok(Links {
-            bundle: Some(bundle_of(alloc, word)?),
+        None => Ok(Ties {
+            bundle: Some(read_bundle(alloc, word)?),
             class: None,
         }),
     }

@@ -3,14 +3,14 @@
 //!
 //! `Script::read` answers exactly what its definition says, `script_of` of `specs/Script.antt`: the
 //! script of a text whose lines are all right, or the number of its first wrong line; or it answers that
-//! memory was refused. What a line says stands in `specs/Line.antt`, and behind it `specs/Event.antt`,
+//! memory was refused. What a line says stands in `specs/Line.antt`, and after it `specs/Event.antt`,
 //! `specs/Access.antt` and `specs/Accounting.antt`; the values of words in `specs/Values.antt`.
 //!
 //! | words of a line | says |
 //! |---|---|
 //! | `set NAME VALUE` | a setting has this value; the last line of a name counts |
-//! | `client ADDRESS SECRET` | there is this client |
-//! | `account NAME PASSWORD PLACES [PORTS]` | there is this account, of one port if no `PORTS` are given |
+//! | `client ADDRESS SECRET [signed]` | there is this client, whose requests must be signed if so it says |
+//! | `account NAME PASSWORD PLACES [PORTS] [live=N] [grace=N]` | there is this account, of one port if no `PORTS` are given, with these times of its own |
 //! | `ask MOMENT CLIENT NAS NAME PASSWORD ID`, `chap` the same | an Access-Request comes |
 //! | `start MOMENT CLIENT NAS NAME SESSION [multi=M] [class=N]`, `interim` the same | an Accounting-Request comes |
 //! | `stop MOMENT CLIENT NAS NAME SESSION` | the same |

@@ -1,16 +1,37 @@
 ghost use Rattle.std.specs.Prelude.{◌≡◌, IfOk, map};
-ghost use Rattle.rsl_script.specs.Line.{account_line, account_with, client_line, line_of, said_about, said_in, set_line};
+ghost use Rattle.rsl_script.specs.Line.{
+  account_line,
+  account_with,
+  client_line,
+  line_of,
+  read_options,
+  read_signed,
+  said_about,
+  said_in,
+  set_line,
+};
 ghost use Rattle.rsl_script.specs.Reads.{Reads};
 
 use crate::event_line::EventLine;
 use crate::fault::LineFault;
-use crate::happening::event_of;
-use crate::values::{address_of, number_of};
+use crate::happening::read_event;
+use crate::values::{leading_number, read_number};
 use crate::verb::{Setting, Verb, setting_of, verb_of};
 use crate::words::{are_words, is_silent, text_of, words_of};
-use rsl_accounts::{Client, Entry, Rules, Secret, Text};
+use rsl_accounts::{Client, Entry, Rules, Secret, Text, address_of};
 use rsl_wire::NoMemory;
 use std::alloc::Global;
+
+/// What the line of an account may have after its places.
+#[derive(Clone, Copy)]
+struct Options {
+    /// Its ports.
+    ports: Option<u64>,
+    /// Its own live time, in seconds.
+    live: Option<u64>,
+    /// Its own grace time, in seconds.
+    grace: Option<u64>,
+}
 
 /// What a line of a script says.
 #[derive(Drop)]
@@ -60,7 +81,7 @@ fn said_in(alloc: Global, words: &[&str]) -> Result<Line, LineFault>
     }
 }
 
-/// What the words behind the first say.
+/// What the words after the first say.
 #[tactic(auto, unfolding(crate::specs::Line::said_about))]
 fn said_about(alloc: Global, verb: Verb, words: &[&str]) -> Result<Line, LineFault>
     ensures { Reads (said_about verb (map (λ word. word.now) words.now)) result }
@@ -69,7 +90,7 @@ fn said_about(alloc: Global, verb: Verb, words: &[&str]) -> Result<Line, LineFau
         Verb::Set => set_line(words),
         Verb::Client => client_line(alloc, words),
         Verb::Account => account_line(alloc, words),
-        Verb::Event(kind) => Ok(Line::Event(event_of(alloc, kind, words)?)),
+        Verb::Event(kind) => Ok(Line::Event(read_event(alloc, kind, words)?)),
     }
 }
 
@@ -81,63 +102,86 @@ fn set_line(words: &[&str]) -> Result<Line, LineFault>
     match words {
         [name, value] => {
             let setting = setting_of(name).ok_or(LineFault::Wrong)?;
-            let value = number_of(value).ok_or(LineFault::Wrong)?;
+            let value = read_number(value).ok_or(LineFault::Wrong)?;
             Ok(Line::Set(setting, value))
         }
         _ => Err(LineFault::Wrong),
     }
 }
 
-/// A client: `ADDRESS SECRET`.
+/// A client: `ADDRESS SECRET [signed]`.
 #[tactic(auto, unfolding(crate::specs::Line::client_line))]
 fn client_line(alloc: Global, words: &[&str]) -> Result<Line, LineFault>
     ensures { Reads (client_line (map (λ word. word.now) words.now)) result }
 {
     match words {
-        [address, secret] => Ok(Line::Client(Client {
-            address: address_of(address).ok_or(LineFault::Wrong)?,
+        [address, secret, rest @ ..] => Ok(Line::Client(Client {
+            address: address_of(address.as_bytes()).ok_or(LineFault::Wrong)?,
+            signed: read_signed(rest).ok_or(LineFault::Wrong)?,
             secret: Secret::from_str(alloc, secret)?,
-            signed: false,
         })),
         _ => Err(LineFault::Wrong),
     }
 }
 
-/// An account: `NAME PASSWORD PLACES [PORTS]`.
+/// Whether the requests of a client must be signed: no word, or the word `signed`.
+#[tactic(auto, unfolding(crate::specs::Line::read_signed))]
+fn read_signed(words: &[&str]) -> Option<bool>
+    ensures { result ≡ read_signed (map (λ word. word.now) words.now) }
+{
+    match words {
+        [] => Some(false),
+        [word] if *word == "signed" => Some(true),
+        _ => None,
+    }
+}
+
+/// An account: `NAME PASSWORD PLACES [PORTS] [live=N] [grace=N]`.
 #[tactic(auto, unfolding(crate::specs::Line::account_line))]
 fn account_line(alloc: Global, words: &[&str]) -> Result<Line, LineFault>
     ensures { Reads (account_line (map (λ word. word.now) words.now)) result }
 {
     match words {
-        [name, password, places] => {
-            let places = number_of(places).ok_or(LineFault::Wrong)?;
-            Ok(Line::Account(account_with(alloc, name, password, places, 1)?))
-        }
-        [name, password, places, ports] => {
-            let places = number_of(places).ok_or(LineFault::Wrong)?;
-            let ports = number_of(ports).ok_or(LineFault::Wrong)?;
-            Ok(Line::Account(account_with(alloc, name, password, places, ports)?))
+        [name, password, places, rest @ ..] => {
+            let places = read_number(places).ok_or(LineFault::Wrong)?;
+            let options = read_options(rest).ok_or(LineFault::Wrong)?;
+            Ok(Line::Account(account_with(alloc, name, password, places, options)?))
         }
         _ => Err(LineFault::Wrong),
     }
 }
 
-/// An account whose times are those of the settings. It fails only where memory is refused.
+/// What an account may have: `[PORTS] [live=N] [grace=N]`, in this order.
+#[tactic(auto, unfolding(crate::specs::Line::read_options))]
+fn read_options(words: &[&str]) -> Option<Options>
+    ensures { result ≡ read_options (map (λ word. word.now) words.now) }
+{
+    let (ports, words) = leading_number("", words);
+    let (live, words) = leading_number("live=", words);
+    let (grace, words) = leading_number("grace=", words);
+    if !words.is_empty() {
+        return None;
+    }
+    Some(Options { ports, live, grace })
+}
+
+/// An account of one port, if no ports are given, whose other times are those of the settings. It fails
+/// only where memory is refused.
 fn account_with(
     alloc: Global,
     name: &str,
     password: &str,
     places: u64,
-    ports: u64,
+    options: Options,
 ) -> Result<Entry, NoMemory>
-    ensures { IfOk result (λ entry. entry ≡ account_with name.now password.now places ports) }
+    ensures { IfOk result (λ entry. entry ≡ account_with name.now password.now places options) }
 {
     Ok(Entry {
         name: Text::from_str(alloc, name)?,
         password: Secret::from_str(alloc, password)?,
         rules: Rules {
             places,
-            ports,
+            ports: options.ports.unwrap_or(1),
             reserve: 0,
             live: 0,
             grace: 0,
@@ -148,7 +192,7 @@ fn account_with(
         framed_protocol: None,
         session_timeout: None,
         idle_timeout: None,
-        own_live: None,
-        own_grace: None,
+        own_live: options.live,
+        own_grace: options.grace,
     })
 }

@@ -1,6 +1,7 @@
 ghost use Rattle.std.specs.Prelude.{◌≤◌, length};
 ghost use Rattle.std.specs.Option.{ForSome};
 
+use rsl_accounts::Secret;
 use rsl_wire::Octets;
 
 /// How a request shows that it knows the password.
@@ -18,14 +19,15 @@ pub struct AccessRequest {
     /// How it shows that it knows the password.
     pub method: Method,
     /// The line without its moment, its words joined by one space. Its MD5 is the Request
-    /// Authenticator: the same words at another moment are the same packet, sent again.
-    pub text: Octets,
+    /// Authenticator: the same words at another moment are the same packet, sent again. It has the
+    /// password, so it is a secret too.
+    pub text: Secret,
     /// The NAS-Identifier: 1 to 253 octets, or none.
     pub nas: Option<Octets>,
     /// The User-Name: 1 to 253 octets.
     pub name: Octets,
     /// The password: 1 to 128 octets (RFC 2865 section 5.2).
-    pub password: Octets,
+    pub password: Secret,
     /// The Identifier, and the CHAP Ident.
     pub id: u8,
     ghost nas_fits: { ForSome nas (λ nas. length nas ≤ 253) },

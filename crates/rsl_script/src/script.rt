@@ -1,7 +1,7 @@
 ghost use Rattle.std.specs.Prelude.{◌≡◌, ◌≢◌, None, Some, Ok, Err, [], IfErr, IfOk, IsErrOf, OnOk};
 ghost use Rattle.rsl_script.specs.Line.{line_of};
 ghost use Rattle.rsl_script.specs.Script.{contents, contents_of, script_of};
-ghost use Rattle.rsl_script.specs.Taking.{taken, taken_said, with_line};
+ghost use Rattle.rsl_script.specs.Taking.{with_next_line, with_said, with_line};
 
 use crate::event_line::EventLine;
 use crate::fault::{LineFault, ScriptFault};
@@ -47,7 +47,7 @@ impl Script {
     {
         Script {
             settings: Settings {
-                version: 1,
+                version: 2,
                 shards: 1,
                 reserve: 60,
                 live: 900,
@@ -62,18 +62,18 @@ impl Script {
     }
 
     /// Takes the next line of the text.
-    #[tactic(auto, unfolding(crate::specs::Taking::taken_said))]
+    #[tactic(auto, unfolding(crate::specs::Taking::with_said))]
     fn read_line(&mut self, alloc: Global, line: &[u8]) -> Result<(), LineFault>
-        ensures taken { OnOk result (taken_said (contents self.old) (line_of line.now) ≡ Some (contents self.new)) }
-        ensures wrong { IsErrOf result LineFault.Wrong → taken_said (contents self.old) (line_of line.now) ≡ None }
+        ensures taken { OnOk result (with_said (contents self.old) (line_of line.now) ≡ Some (contents self.new)) }
+        ensures wrong { IsErrOf result LineFault.Wrong → with_said (contents self.old) (line_of line.now) ≡ None }
     {
         self.take(Line::read(alloc, line)?)
     }
 
-    /// Takes what a line says. A line of the configuration behind an event line is wrong.
+    /// Takes what a line says. A line of the configuration after an event line is wrong.
     fn take(&mut self, line: Line) -> Result<(), LineFault>
-        ensures taken { OnOk result (taken (contents self.old) line ≡ Some (contents self.new)) }
-        ensures wrong { IsErrOf result LineFault.Wrong → taken (contents self.old) line ≡ None }
+        ensures taken { OnOk result (with_next_line (contents self.old) line ≡ Some (contents self.new)) }
+        ensures wrong { IsErrOf result LineFault.Wrong → with_next_line (contents self.old) line ≡ None }
     {
         match line {
             Line::Silent => {}

@@ -1,14 +1,13 @@
-ghost use Rattle.std.specs.Prelude.{◌≡◌, ◌≤◌, IfOk, length, option_copied};
+ghost use Rattle.std.specs.Prelude.{◌≡◌, ◌≤◌, IfOk, length, map, option_copied};
 ghost use Rattle.std.specs.Option.{ForSome};
-ghost use Rattle.rsl_accounts.specs.Address.{address_of};
 ghost use Rattle.rsl_script.specs.Reads.{Reads};
-ghost use Rattle.rsl_script.specs.Values.{number_of, id_of, up_to, name_of, password_of, nas_of, octets_of, behind, bundle_of, class_of};
+ghost use Rattle.rsl_script.specs.Values.{read_number, read_id, up_to, read_name, read_password, read_nas, read_octets, rest_after, read_bundle, read_class, number_after, leading_number};
 
 use crate::fault::LineFault;
 use hex::FromHexError;
+use rsl_accounts::Secret;
 use rsl_wire::Octets;
 use std::alloc::Global;
-use std::net::Ipv4Addr;
 
 /// The most octets of a text that fits an attribute (RFC 2865 section 5).
 const MAX_NAME_LEN: usize = 253;
@@ -18,8 +17,8 @@ const MAX_PASSWORD_LEN: usize = 128;
 
 /// The number that a word of decimal digits writes, where it is under 2^64.
 #[tactic(auto, using(crate::proofs::Numbers::number_of_parsed))]
-pub(crate) fn number_of(word: &str) -> Option<u64>
-    ensures { result ≡ number_of word.now }
+pub(crate) fn read_number(word: &str) -> Option<u64>
+    ensures { result ≡ read_number word.now }
 {
     if word.starts_with('+') {
         return None;
@@ -28,21 +27,11 @@ pub(crate) fn number_of(word: &str) -> Option<u64>
 }
 
 /// The number 0 to 255 that a word writes.
-#[tactic(auto, unfolding(crate::specs::Values::id_of))]
-pub(crate) fn id_of(word: &str) -> Option<u8>
-    ensures { result ≡ id_of word.now }
+#[tactic(auto, unfolding(crate::specs::Values::read_id))]
+pub(crate) fn read_id(word: &str) -> Option<u8>
+    ensures { result ≡ read_id word.now }
 {
-    u8::try_from(number_of(word)?).ok()
-}
-
-/// The IPv4 address that a word writes: four numbers 0 to 255 without leading zeros, joined by dots.
-pub(crate) fn address_of(word: &str) -> Option<[u8; 4]>
-    ensures { result ≡ address_of word.now }
-{
-    match Ipv4Addr::parse_ascii(word.as_bytes()) {
-        Ok(address) => Some(address.octets()),
-        Err(_) => None,
-    }
+    u8::try_from(read_number(word)?).ok()
 }
 
 /// A copy of a word of 1 octet up to so many.
@@ -59,41 +48,47 @@ fn up_to(alloc: Global, most: usize, word: &str) -> Result<Octets, LineFault>
 }
 
 /// A copy of a word that fits an attribute.
-#[tactic(auto, unfolding(crate::specs::Values::name_of))]
-pub(crate) fn name_of(alloc: Global, word: &str) -> Result<Octets, LineFault>
-    ensures reads { Reads (name_of word.now) result }
+#[tactic(auto, unfolding(crate::specs::Values::read_name))]
+pub(crate) fn read_name(alloc: Global, word: &str) -> Result<Octets, LineFault>
+    ensures reads { Reads (read_name word.now) result }
     ensures fits { IfOk result (λ name. length name ≤ 253) }
 {
     up_to(alloc, MAX_NAME_LEN, word)
 }
 
 /// A copy of a word that fits a User-Password.
-#[tactic(auto, unfolding(crate::specs::Values::password_of))]
-pub(crate) fn password_of(alloc: Global, word: &str) -> Result<Octets, LineFault>
-    ensures reads { Reads (password_of word.now) result }
+#[tactic(auto, unfolding(crate::specs::Values::read_password, crate::specs::Values::up_to))]
+pub(crate) fn read_password(alloc: Global, word: &str) -> Result<Secret, LineFault>
+    ensures reads { Reads (read_password word.now) result }
     ensures there { IfOk result (λ password. 1 ≤ length password) }
     ensures fits { IfOk result (λ password. length password ≤ 128) }
 {
-    up_to(alloc, MAX_PASSWORD_LEN, word)
+    if word.is_empty() || MAX_PASSWORD_LEN < word.len() {
+        return Err(LineFault::Wrong);
+    }
+    Ok(Secret::from_str(alloc, word)?)
 }
 
 /// The NAS-Identifier that a word writes, or none at `-`.
-#[tactic(auto, unfolding(crate::specs::Values::nas_of))]
-pub(crate) fn nas_of(alloc: Global, word: &str) -> Result<Option<Octets>, LineFault>
-    ensures reads { Reads (nas_of word.now) result }
+#[tactic(auto, unfolding(crate::specs::Values::read_nas))]
+pub(crate) fn read_nas(alloc: Global, word: &str) -> Result<Option<Octets>, LineFault>
+    ensures reads { Reads (read_nas word.now) result }
     ensures fits { IfOk result (λ nas. ForSome nas (λ nas. length nas ≤ 253)) }
 {
     match word {
         "-" => Ok(None),
-        _ => Ok(Some(name_of(alloc, word)?)),
+        _ => Ok(Some(read_name(alloc, word)?)),
     }
 }
 
-/// The octets that pairs of hexadecimal digits of either case write.
-#[tactic(auto, unfolding(crate::specs::Values::octets_of))]
-pub(crate) fn octets_of(alloc: Global, word: &str) -> Result<Octets, LineFault>
-    ensures { Reads (octets_of word.now) result }
+/// The octets that one pair of hexadecimal digits of either case or more write.
+#[tactic(auto, unfolding(crate::specs::Values::read_octets))]
+pub(crate) fn read_octets(alloc: Global, word: &str) -> Result<Octets, LineFault>
+    ensures { Reads (read_octets word.now) result }
 {
+    if word.is_empty() {
+        return Err(LineFault::Wrong);
+    }
     match hex::decode(alloc, word) {
         Ok(octets) => Ok(Octets::from(octets)),
         Err(FromHexError::OutOfMemory) => Err(LineFault::NoMemory),
@@ -101,27 +96,53 @@ pub(crate) fn octets_of(alloc: Global, word: &str) -> Result<Octets, LineFault>
     }
 }
 
-/// What stands behind this beginning of a word.
-#[tactic(auto, using(crate::proofs::Behind::behind_stripped))]
-fn behind<'a>(beginning: &str, word: &'a str) -> Option<&'a str>
-    ensures { option_copied result ≡ behind beginning.now word.now }
+/// What stands after this beginning of a word.
+#[tactic(auto, using(crate::proofs::RestAfter::rest_after_stripped))]
+fn rest_after<'a>(beginning: &str, word: &'a str) -> Option<&'a str>
+    ensures { option_copied result ≡ rest_after beginning.now word.now }
 {
     word.strip_prefix(beginning)
 }
 
 /// The bundle of a word `multi=M`.
-#[tactic(auto, unfolding(crate::specs::Values::bundle_of))]
-pub(crate) fn bundle_of(alloc: Global, word: &str) -> Result<Octets, LineFault>
-    ensures reads { Reads (bundle_of word.now) result }
+#[tactic(auto, unfolding(crate::specs::Values::read_bundle))]
+pub(crate) fn read_bundle(alloc: Global, word: &str) -> Result<Octets, LineFault>
+    ensures reads { Reads (read_bundle word.now) result }
     ensures fits { IfOk result (λ bundle. length bundle ≤ 253) }
 {
-    name_of(alloc, behind("multi=", word).ok_or(LineFault::Wrong)?)
+    read_name(alloc, rest_after("multi=", word).ok_or(LineFault::Wrong)?)
+}
+
+/// The number that a word writes after this beginning.
+#[tactic(auto, unfolding(crate::specs::Values::number_after))]
+fn number_after(beginning: &str, word: &str) -> Option<u64>
+    ensures { result ≡ number_after beginning.now word.now }
+{
+    read_number(rest_after(beginning, word)?)
 }
 
 /// The number of a word `class=N`.
-#[tactic(auto, unfolding(crate::specs::Values::class_of))]
-pub(crate) fn class_of(word: &str) -> Option<u64>
-    ensures { result ≡ class_of word.now }
+#[tactic(auto, unfolding(crate::specs::Values::read_class))]
+pub(crate) fn read_class(word: &str) -> Option<u64>
+    ensures { result ≡ read_class word.now }
 {
-    number_of(behind("class=", word)?)
+    number_after("class=", word)
+}
+
+/// The number of the first word, if it writes one after this beginning, and the words that are left.
+#[tactic(auto, unfolding(crate::specs::Values::leading_number))]
+pub(crate) fn leading_number<'a, 'b>(
+    beginning: &str,
+    words: &'a [&'b str],
+) -> (Option<u64>, &'a [&'b str])
+    ensures number { result.0 ≡ (leading_number beginning.now (map (λ word. word.now) words.now)).0 }
+    ensures rest { map (λ word. word.now) result.1.now ≡ (leading_number beginning.now (map (λ word. word.now) words.now)).1 }
+{
+    let [word, rest @ ..] = words else {
+        return (None, words);
+    };
+    match number_after(beginning, word) {
+        Some(number) => (Some(number), rest),
+        None => (None, words),
+    }
 }

@@ -1,0 +1,39 @@
+use rsl_replay::ReplayFault;
+use thiserror::Error;
+
+/// Why the program does not end well. It prints as the line for standard error.
+#[derive(Clone, Copy, Debug, PartialEq, Eq, Error)]
+pub(crate) enum Fault {
+    /// The arguments are wrong.
+    #[error("usage: radlimit replay or radlimit serve FILE ADDRESS AUTHPORT ACCTPORT TURNS")]
+    Usage,
+    /// The script was not replayed.
+    #[error("{0}")]
+    Replay(ReplayFault),
+}
+
+impl Fault {
+    ghost use Rattle.std.specs.Prelude.{◌≡◌};
+    ghost use Rattle.rsl_app.specs.Status.{fault_status};
+
+    /// The status with which the process ends.
+    pub(crate) fn status(self) -> u8
+        ensures { result ≡ fault_status self }
+    {
+        match self {
+            Fault::Usage => 1,
+            Fault::Replay(fault) => fault.status(),
+        }
+    }
+}
+
+impl From<ReplayFault> for Fault {
+    ghost use Rattle.std.specs.Prelude.{◌≡◌};
+    ghost use Rattle.rsl_app.specs.declared.fault.Fault.TheVariants.{Replay};
+
+    ghost from_gives = { λ fault made. made ≡ Replay fault };
+
+    fn from(fault: ReplayFault) -> Fault {
+        Fault::Replay(fault)
+    }
+}
