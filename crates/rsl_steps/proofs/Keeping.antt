@@ -1,9 +1,10 @@
 -- What a step adds to what is kept, and to each account's own events.
 use Rattle.std.proofs.Common.{◌≡◌, ℕ, ◌+◌, ◌<◌, ◌≤◌, List, [], ◌∷◌, ◌++◌, length, get_or, drop, Bool, true, false, ◌==◌, if◌then◌else◌, Option, Some, None, Result, Ok, Err, refl, sym, ap, subst, ◌∙◌, append_assoc}
-use Rattle.std.specs.Prelude.{slice_get, unwrap_or}
+use Rattle.std.specs.Prelude.{reverse, filter_map, slice_get, unwrap_or}
 use Rattle.std.specs.Option.{option_map_or, option_to_list}
 use Rattle.std.specs.List.{cons_option}
-use Rattle.std.proofs.lemmas.List.{append-nil, drop_more, drop_all}
+use Rattle.std.proofs.lemmas.List.{append-nil, drop_more, drop_all, reverse-append}
+use Rattle.std.proofs.lemmas.List.Elements.{filter_map-append}
 use Rattle.std.proofs.lemmas.Bool.{eqb-true}
 use Rattle.rsl_accounts.specs.Configuration.{Configuration, client_number}
 use Rattle.rsl_accounts.specs.declared.entry.Entry.{Entry as Account}
@@ -30,7 +31,7 @@ use Rattle.rsl_event.specs.declared.meaning.Dropped.{Dropped}
 use Rattle.rsl_event.specs.declared.meaning.Dropped.TheVariants as drops
 use Rattle.rsl_event.specs.declared.meaning.Meaning.{Meaning}
 use Rattle.rsl_event.specs.declared.meaning.Meaning.TheVariants.{Bare, Reject, Own, Restart, Stray}
-use Rattle.rsl_steps.specs.Own.{event_in, is_of_shard, event_of, own}
+use Rattle.rsl_steps.specs.Own.{event_in, is_of_shard, event_of, own, own_events}
 use Rattle.rsl_steps.specs.Run.{decision_after, decision_on, octets_by, answer_by}
 use Rattle.rsl_steps.specs.Taking.{passed, entry_kept, past_kept, AreKept, IsTaken, Takes, IsDecided, answer_to_drop, IsQuiet}
 use Rattle.rsl_steps.specs.declared.kept.Kept.{Kept}
@@ -81,12 +82,19 @@ past_kept-end config number all i past whole over so_far =
 
 pub ruleset past_steps = (past_kept-some, past_kept-none, past_kept-end)
 
-own-cons : (config : Configuration) (boot number : ℕ) (step : Step) (before : List Step) → own config boot number (step ∷ before) ≡ own config boot number before ++ option_to_list (event_of config boot number step)
-unfolding own
-own-cons config boot number step before = refl
+pub own-cons : (config : Configuration) (boot number : ℕ) (step : Step) (before : List Step) → own config boot number (step ∷ before) ≡ own config boot number before ++ option_to_list (event_of config boot number step)
+unfolding own own_events
+own-cons config boot number step before =
+    ap (filter_map (event_of config boot number)) (reverse-append (step ∷ []) before)
+    ∙ filter_map-append (event_of config boot number) (reverse before) (step ∷ [])
+    ∙ ap (λ (x : List Event). own config boot number before ++ x) (only (event_of config boot number step))
+  where
+    only : (o : Option Event) → cons_option o [] ≡ option_to_list o
+    only None = refl
+    only (Some event) = refl
 
 -- the past with one event more
-past_of-push : (rules : Rules) (events : List Event) (event : Event) → past_of rules (events ++ event ∷ []) ≡ entry_of rules (past_of rules events) event ∷ past_of rules events
+pub past_of-push : (rules : Rules) (events : List Event) (event : Event) → past_of rules (events ++ event ∷ []) ≡ entry_of rules (past_of rules events) event ∷ past_of rules events
 unfolding past_of past_from
 past_of-push rules events event = past_from-append rules [] events (event ∷ [])
 
@@ -132,7 +140,7 @@ kept_same config boot before step all none are = record {
 
 -- nothing is kept at first
 pub kept_start : (config : Configuration) (boot : ℕ) → AreKept config boot [] []
-unfolding past_kept own looking_back past_of past_from
+unfolding past_kept own own_events looking_back past_of past_from
 kept_start config boot = record { each = λ number account there. refl }
 
 -- ---- one datagram
@@ -155,7 +163,7 @@ passed_over : (config : Configuration) (boot : ℕ) (before : List Step) (moment
 passed_over config boot before moment port source datagram all r is none are =
     kept_same config boot before (Datagram moment port source datagram) all (λ number. ap (event_in number moment) is ∙ no_own number moment r none) are
 
-decision_after-is : (rules : Rules) (events : List Event) (event : Event) → decision_after rules events event ≡ decision_of (outcome_of rules (past_of rules events) event)
+pub decision_after-is : (rules : Rules) (events : List Event) (event : Event) → decision_after rules events event ≡ decision_of (outcome_of rules (past_of rules events) event)
 unfolding decision_after
 decision_after-is rules events event = refl
 

@@ -1,4 +1,9 @@
+pub mod Commuting
+pub mod EarlyTicks
 pub mod Keeping
 pub mod Limits
 pub mod OwnEvents
+pub mod OwnSteps
+pub mod Sharding
 pub mod Snoc
+pub mod Words

@@ -1,3 +1,4 @@
+pub mod Laws
 pub mod Own
 pub mod Run
 pub mod Taking

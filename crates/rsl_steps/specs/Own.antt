@@ -1,6 +1,5 @@
 -- What the steps of a run are to one account.
-use Rattle.std.specs.Prelude.{ℕ, ◌==◌, ◌%◌, Bool, List, [], ◌∷◌, ◌++◌, Option, Some, None, Result, Ok, if◌then◌else◌}
-use Rattle.std.specs.Option.{option_to_list}
+use Rattle.std.specs.Prelude.{ℕ, ◌==◌, ◌%◌, Bool, List, reverse, filter_map, Option, Some, None, Result, Ok, if◌then◌else◌}
 use Rattle.rsl_accounts.specs.Configuration.{Configuration}
 use Rattle.rsl_event.specs.Meaning.{meaning}
 use Rattle.rsl_event.specs.declared.event.Event.{Event}
@@ -27,7 +26,10 @@ event_of config boot account (Datagram moment port source octets) = event_in acc
 event_of config boot account (steps.Sweep shard moment nas) = if is_of_shard config account shard then Some (record { moment = moment; act = acts.Sweep nas }) else None
 event_of config boot account (steps.Tick shard moment) = if is_of_shard config account shard then Some (record { moment = moment; act = acts.Tick }) else None
 
--- An account's own events among steps. The steps are listed newest first, and the events in their order.
-unfoldable pub own : Configuration → (boot account : ℕ) → List Step → List Event
-own config boot account [] = []
-own config boot account (step ∷ before) = own config boot account before ++ option_to_list (event_of config boot account step)
+-- an account's own events among steps, in their order
+unfoldable pub own_events : Configuration → (boot account : ℕ) → List Step → List Event
+own_events config boot account steps = filter_map (event_of config boot account) steps
+
+-- the same where the steps are listed newest first, as those before a step of a run are
+unfoldable pub own : Configuration → (boot account : ℕ) → (before : List Step) → List Event
+own config boot account before = own_events config boot account (reverse before)

@@ -6,9 +6,12 @@
 
 mod deciding;
 mod kept;
+pub mod laws;
+mod own_events;
 mod running;
 mod step;
 
 pub use kept::Kept;
+pub use own_events::own;
 pub use running::run;
 pub use step::{Answer, Ran, Step};

@@ -1,5 +1,5 @@
 ghost use Rattle.std.specs.Prelude.{◌≡◌, ℕ, ◌<◌, ◌≤◌, List, [], length, map, Some, slice_get, IfOk};
-ghost use Rattle.rsl_accounts.specs.declared.past_event.PastEvent.{PastEvent};
+ghost use Rattle.rsl_accounts.specs.declared.entry.Entry.{Entry};
 ghost use Rattle.rsl_session.specs.Rule.{places_after};
 ghost use Rattle.rsl_steps.specs.Own.{own};
 ghost use Rattle.rsl_steps.specs.Run.{AreAnswers, taken};

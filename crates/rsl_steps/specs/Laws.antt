@@ -1,0 +1,111 @@
+-- Laws of runs, each the contract of a function of `laws`.
+use Rattle.std.specs.Prelude.{◌≡◌, ◌≢◌, ℕ, ◌<◌, ◌≤◌, IsTrue, Bool, false, List, [], ◌∷◌, ◌++◌, map, All, slice_get, Some, is_some, if◌then◌else◌}
+use Rattle.std.specs.List.{flat_map, range_with_len}
+use Rattle.rsl_accounts.specs.Configuration.{Configuration}
+use Rattle.rsl_accounts.specs.declared.entry.Entry.{Entry}
+use Rattle.rsl_event.specs.Meaning.{meaning}
+use Rattle.rsl_event.specs.declared.event.Event.{Event}
+use Rattle.rsl_event.specs.declared.event.Source.{Source}
+use Rattle.rsl_event.specs.declared.meaning.Port.{Port}
+use Rattle.rsl_event.specs.declared.nas.Nas.{Nas}
+use Rattle.rsl_event.specs.declared.words.Said.{Said}
+use Rattle.rsl_session.specs.Rule.{places_after}
+use Rattle.rsl_steps.specs.Own.{event_in, own, own_events}
+use Rattle.rsl_steps.specs.Run.{AreAnswers, taken}
+use Rattle.rsl_steps.specs.declared.step.Answer.{Answer}
+use Rattle.rsl_steps.specs.declared.step.Answer.TheVariants.{Reply}
+use Rattle.rsl_steps.specs.declared.step.Step.{Step}
+use Rattle.rsl_steps.specs.declared.step.Step.TheVariants as steps
+use Rattle.rsl_steps.specs.declared.step.Step.TheVariants.{Datagram}
+
+-- ---- equal own events
+
+-- whether a step is an account's own packet
+abbrev pub is_own_packet : Configuration → (boot account : ℕ) → Step → Bool
+is_own_packet config boot account (Datagram moment port source octets) = is_some (event_in account moment (meaning config boot port source octets))
+is_own_packet config boot account _ = false
+
+-- the words of the replies to an account's own packets, in order
+unfoldable pub words_to : Configuration → (boot account : ℕ) → List Step → List Answer → List Said
+words_to config boot account (step ∷ steps) (Reply said octets ∷ answers) =
+    if is_own_packet config boot account step then said ∷ words_to config boot account steps answers
+    else words_to config boot account steps answers
+words_to config boot account (step ∷ steps) (answer ∷ answers) = words_to config boot account steps answers
+words_to config boot account _ _ = []
+
+-- an account of a server, and steps that the server has answered
+pub record Served : Type 0 where
+  pub config : Configuration
+  pub boot : ℕ
+  pub account : ℕ
+  pub entry : Entry
+  pub steps : List Step
+  pub answers : List Answer
+  pub there : slice_get config.accounts account ≡ Some entry
+  pub answered : AreAnswers config boot [] steps answers
+
+-- what is told to the account
+abbrev pub words_of : Served → List Said
+words_of served = words_to served.config served.boot served.account served.steps served.answers
+
+-- its own events, among the steps that were taken
+abbrev pub events_of : Served → List Event
+events_of served = own served.config served.boot served.account (taken [] served.steps served.answers)
+
+-- the places that it holds
+abbrev pub places_of : Served → ℕ
+places_of served = places_after served.entry.rules (events_of served)
+
+-- Two accounts with the same rules and equal own events are told the same, and hold as many places, whatever
+-- else is in their servers' configurations and steps.
+abbrev pub EqualOwnEventsAreAnsweredAlike : Type 0
+EqualOwnEventsAreAnsweredAlike = (one other : Served) → one.entry.rules ≡ other.entry.rules → events_of one ≡ events_of other
+    → (words_of one ≡ words_of other) × (places_of one ≡ places_of other)
+
+-- ---- packets of two accounts
+
+-- where neighbouring packets of two accounts are exchanged, every account's own events stay as they were
+abbrev pub PacketsOfTwoAccountsCommute : Type 0
+PacketsOfTwoAccountsCommute = (config : Configuration) (boot account one other : ℕ) (before after : List Step) (first second : Step)
+    → one ≢ other → IsTrue (is_own_packet config boot one first) → IsTrue (is_own_packet config boot other second)
+    → own_events config boot account (before ++ first ∷ second ∷ after) ≡ own_events config boot account (before ++ second ∷ first ∷ after)
+
+-- ---- the number of shards
+
+-- what comes to a server with any number of shards: a datagram, or a restart or a time to every shard together
+pub data Coming : Type 0 where
+  Packet : (moment : ℕ) → Port → Source → (octets : List ℕ) → Coming
+  Restart : (moment : ℕ) → Nas → Coming
+  Time : (moment : ℕ) → Coming
+
+-- its steps, for this many shard numbers
+abbrev pub steps_to : (shards : ℕ) → Coming → List Step
+steps_to shards (Packet moment port source octets) = Datagram moment port source octets ∷ []
+steps_to shards (Restart moment nas) = map (λ shard. steps.Sweep shard moment nas) (range_with_len 0 shards)
+steps_to shards (Time moment) = map (λ shard. steps.Tick shard moment) (range_with_len 0 shards)
+
+abbrev pub with_shards : Configuration → (shards : ℕ) → Configuration
+with_shards config shards = record config { settings = record config.settings { shards = shards } }
+
+-- for configurations that differ in the number of shards alone, and steps whose sweeps and ticks each go
+-- together to every shard number of both, each account's own events are equal
+abbrev pub TheNumberOfShardsDoesNotMatter : Type 0
+TheNumberOfShardsDoesNotMatter = (config : Configuration) (boot account shards numbers : ℕ) (comings : List Coming)
+    → 0 < config.settings.shards → 0 < shards → config.settings.shards ≤ numbers → shards ≤ numbers
+    → own_events config boot account (flat_map (steps_to numbers) comings) ≡ own_events (with_shards config shards) boot account (flat_map (steps_to numbers) comings)
+
+-- ---- an early tick
+
+abbrev pub moment_of : Step → ℕ
+moment_of (Datagram moment port source octets) = moment
+moment_of (steps.Sweep shard moment nas) = moment
+moment_of (steps.Tick shard moment) = moment
+
+-- A tick that comes before steps none of which has a lower moment: they are answered as without it, octet for
+-- octet, and after its next own event each account holds as many places.
+abbrev pub EarlyTicksChangeNothing : Type 0
+EarlyTicksChangeNothing = (config : Configuration) (boot shard moment : ℕ) (before after : List Step) (answers : List Answer)
+    → All (λ step. moment ≤ moment_of step) after → AreAnswers config boot before after answers
+    → AreAnswers config boot (steps.Tick shard moment ∷ before) after answers
+    × ((account : ℕ) (entry : Entry) → slice_get config.accounts account ≡ Some entry → own config boot account (taken [] after answers) ≢ []
+    → places_after entry.rules (own config boot account (taken (steps.Tick shard moment ∷ before) after answers)) ≡ places_after entry.rules (own config boot account (taken before after answers)))
