@@ -55,9 +55,13 @@ abbrev pub optional_attribute : (kind : ℕ) → Option ℕ → List Attribute
 optional_attribute kind None = []
 optional_attribute kind (Some number) = number_attribute kind number ∷ []
 
--- the Class of an accept: the boot number and the accept number, eight octets each
+-- the value of Class: the boot number and the accept number, eight octets each, the high octet first
+abbrev pub class_octets : (boot number : ℕ) → List ℕ
+class_octets boot number = to_be_bytes w64 boot ++ to_be_bytes w64 number
+
+-- the Class of an accept
 abbrev pub class_attribute : (boot number : ℕ) → Attribute
-class_attribute boot number = attribute_of CLASS (to_be_bytes w64 boot ++ to_be_bytes w64 number)
+class_attribute boot number = attribute_of CLASS (class_octets boot number)
 
 -- the attributes of an accept of an account
 unfoldable pub accept_attributes : (boot number : ℕ) → Entry → List Attribute

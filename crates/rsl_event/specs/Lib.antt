@@ -2,6 +2,9 @@ pub mod Request
 pub mod Signature
 pub mod Access
 pub mod Accounting
+pub mod Dropped
+pub mod Copied
 pub mod Meaning
 pub mod Prepared
 pub mod Answer
+pub mod Same

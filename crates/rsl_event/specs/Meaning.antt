@@ -1,11 +1,12 @@
 -- What a datagram means: its meaning, or why it is dropped, the first cause in the order of the checks.
-use Rattle.std.specs.Prelude.{◌≡◌, ℕ, List, Option, Some, None, Result, Ok, Err, IsOk}
+use Rattle.std.specs.Prelude.{◌≡◌, ℕ, List, Option, Some, None, Result, Ok, Err}
 use Rattle.rsl_accounts.specs.Configuration.{Configuration, client_number}
 use Rattle.rsl_wire.specs.Packet.{Fields, packet_of}
 use Rattle.rsl_wire.specs.declared.packet.WireFault.{WireFault}
 use Rattle.rsl_wire.specs.declared.packet.WireFault.TheVariants as wire
 use Rattle.rsl_event.specs.Access.{access_meaning}
 use Rattle.rsl_event.specs.Accounting.{accounting_meaning}
+use Rattle.rsl_event.specs.Copied.{TakesMemory}
 use Rattle.rsl_event.specs.declared.event.Source.{Source}
 use Rattle.rsl_event.specs.declared.meaning.Port.{Port}
 use Rattle.rsl_event.specs.declared.meaning.Port.TheVariants.{Auth, Acct}
@@ -33,9 +34,9 @@ if_packet config boot port source (Ok fields) = if_client config boot port sourc
 unfoldable pub meaning : Configuration → (boot : ℕ) → Port → Source → (datagram : List ℕ) → Result Meaning Dropped
 meaning config boot port source datagram = if_packet config boot port source (packet_of datagram)
 
--- A drop was answered as it is defined. Memory is refused only where there is a meaning.
+-- A drop was answered as it is defined. Memory is refused only where there is a meaning with octets of its own.
 abbrev pub Fails : Dropped → Result Meaning Dropped → Type 0
-Fails drops.NoMemory defined = IsOk defined
+Fails drops.NoMemory defined = TakesMemory defined
 Fails dropped defined = defined ≡ Err dropped
 
 -- a meaning, or why there is none, was answered as it is defined

@@ -65,3 +65,44 @@ pub(crate) const ATTR_HEADER_LEN: usize = 2;
 /// The most octets of Proxy-State attributes, with their headers, that a request may have: so a reply
 /// has room for them.
 pub const MAX_PROXY_STATE_LEN: usize = 3900;
+
+// The definitions cite these names, so their numbers are said a second time, from the RFCs' own tables.
+// Codes (RFC 2865 section 4, RFC 2866 section 4).
+const _: () = prove!(
+    ACCESS_REQUEST == 1
+        && ACCESS_ACCEPT == 2
+        && ACCESS_REJECT == 3
+        && ACCOUNTING_REQUEST == 4
+        && ACCOUNTING_RESPONSE == 5
+);
+// Types (RFC 2865 section 5, RFC 2866 section 5, RFC 3579 section 3.2).
+const _: () = prove!(
+    USER_NAME == 1
+        && USER_PASSWORD == 2
+        && CHAP_PASSWORD == 3
+        && NAS_IP_ADDRESS == 4
+        && SERVICE_TYPE == 6
+        && FRAMED_PROTOCOL == 7
+        && REPLY_MESSAGE == 18
+        && CLASS == 25
+        && SESSION_TIMEOUT == 27
+        && IDLE_TIMEOUT == 28
+        && NAS_IDENTIFIER == 32
+        && PROXY_STATE == 33
+        && ACCT_STATUS_TYPE == 40
+        && ACCT_SESSION_ID == 44
+        && ACCT_MULTI_SESSION_ID == 50
+        && CHAP_CHALLENGE == 60
+        && PORT_LIMIT == 62
+        && MESSAGE_AUTHENTICATOR == 80
+);
+// Values of Acct-Status-Type (RFC 2866 section 5.1).
+const _: () = prove!(
+    START == 1
+        && STOP == 2
+        && INTERIM_UPDATE == 3
+        && ACCOUNTING_ON == 7
+        && ACCOUNTING_OFF == 8
+);
+// The longest reply, 20 + 18 + 48 + 3,900 octets, is within the 4,096 of a packet.
+const _: () = prove!(MAX_PROXY_STATE_LEN == 3900);

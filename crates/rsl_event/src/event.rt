@@ -1,4 +1,4 @@
-ghost use Rattle.std.specs.Prelude.{◌≡◌, ◌↔◌, IsTrue, IfOk};
+ghost use Rattle.std.specs.Prelude.{◌≡◌, ◌↔◌, IsTrue, IfOk, OnErr};
 
 use crate::nas::Nas;
 use rsl_wire::{NoMemory, Octets};
@@ -83,18 +83,25 @@ pub enum Decision {
 }
 
 impl Key {
+    ghost use Rattle.rsl_event.specs.Same.{same_key};
+
     /// Whether the two are the same key.
+    #[tactic(auto, unfolding(crate::specs::Same::same_key))]
     pub fn is_same(&self, other: &Key) -> bool
-        ensures { IsTrue result ↔ (self.now ≡ other.now) }
+        ensures test { result ≡ same_key self.now other.now }
+        ensures equal { IsTrue result ↔ (self.now ≡ other.now) }
     {
         self == other
     }
 }
 
 impl Act {
-    /// An equal act. It fails only where memory is refused.
+    ghost use Rattle.rsl_event.specs.Copied.{ActHoldsOctets};
+
+    /// An equal act. It fails only where memory is refused; one without octets of its own takes none.
     pub fn try_copy(&self, alloc: Global) -> Result<Act, NoMemory>
-        ensures { IfOk result (λ copy. copy ≡ self.now) }
+        ensures copy { IfOk result (λ copy. copy ≡ self.now) }
+        ensures refused { OnErr result (ActHoldsOctets self.now) }
     {
         Ok(match self {
             Act::Ask { key, nas } => Act::Ask {
@@ -120,6 +127,21 @@ impl Act {
                 nas: nas.try_copy(alloc)?,
             },
             Act::Tick => Act::Tick,
+        })
+    }
+}
+
+impl Event {
+    ghost use Rattle.rsl_event.specs.Copied.{ActHoldsOctets};
+
+    /// An equal event. It fails only where memory is refused; one without octets of its own takes none.
+    pub fn try_copy(&self, alloc: Global) -> Result<Event, NoMemory>
+        ensures copy { IfOk result (λ copy. copy ≡ self.now) }
+        ensures refused { OnErr result (ActHoldsOctets self.now.act) }
+    {
+        Ok(Event {
+            moment: self.moment,
+            act: self.act.try_copy(alloc)?,
         })
     }
 }

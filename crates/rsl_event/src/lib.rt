@@ -25,3 +25,4 @@ pub use nas::{Nas, NasName};
 pub use preparing::prepare;
 pub use replying::{reply, room, said};
 pub use words::Said;
+pub use writing::class_octets;

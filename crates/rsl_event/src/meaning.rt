@@ -5,7 +5,8 @@ use crate::event::Act;
 use crate::nas::Nas;
 use rsl_wire::{NoMemory, Octets, Packet};
 use std::alloc::Global;
-use thiserror::Error;
+use std::error::Error;
+use std::fmt;
 
 /// Which of the server's two ports a datagram came to.
 #[derive(Clone, Copy, Debug, PartialEq, Eq)]
@@ -55,47 +56,35 @@ pub enum Meaning {
 }
 
 /// Why a datagram is dropped without an answer. The first cause in this order that is there is named.
-#[derive(Clone, Copy, Debug, PartialEq, Eq, Error)]
+#[derive(Clone, Copy, Debug, PartialEq, Eq)]
 pub enum Dropped {
     /// It has fewer than 20 octets.
-    #[error("Short")]
     Short,
     /// Its Length is under 20, over 4,096 or over the datagram.
-    #[error("BadLength")]
     BadLength,
     /// No client has the source's address.
-    #[error("UnknownClient")]
     UnknownClient,
     /// It is no Access-Request on the authentication port, or no Accounting-Request on the accounting
     /// port.
-    #[error("WrongCode")]
     WrongCode,
     /// Accounting: the Request Authenticator is wrong (RFC 2866 section 3).
-    #[error("BadAuthenticator")]
     BadAuthenticator,
     /// Accounting: the attributes are malformed.
-    #[error("Malformed")]
     Malformed,
     /// Access-Request: there is a Message-Authenticator, and not exactly one that has 16 octets and is
     /// right (RFC 3579 section 3.2).
-    #[error("BadSignature")]
     BadSignature,
     /// Access-Request of a client that has to sign: the attributes are malformed, or there is no
     /// Message-Authenticator.
-    #[error("Unsigned")]
     Unsigned,
     /// The Proxy-State attributes have over 3,900 octets.
-    #[error("ProxyTooLong")]
     ProxyTooLong,
     /// Accounting: there is no Acct-Status-Type, or the first does not have 4 octets.
-    #[error("NoStatus")]
     NoStatus,
     /// Accounting, of status Start, Stop or Interim-Update: there is no Acct-Session-Id, or the first is
     /// empty.
-    #[error("NoSession")]
     NoSession,
     /// Memory was refused.
-    #[error("NoMemory")]
     NoMemory,
 }
 
@@ -123,6 +112,44 @@ impl Note {
         })
     }
 }
+
+impl Dropped {
+    ghost use Rattle.rsl_event.specs.Dropped.{drop_name};
+
+    /// The name of the cause, as logs and the program print it.
+    pub fn name(self) -> &'static str
+        ensures { result.now ≡ drop_name self }
+    {
+        match self {
+            Dropped::Short => "Short",
+            Dropped::BadLength => "BadLength",
+            Dropped::UnknownClient => "UnknownClient",
+            Dropped::WrongCode => "WrongCode",
+            Dropped::BadAuthenticator => "BadAuthenticator",
+            Dropped::Malformed => "Malformed",
+            Dropped::BadSignature => "BadSignature",
+            Dropped::Unsigned => "Unsigned",
+            Dropped::ProxyTooLong => "ProxyTooLong",
+            Dropped::NoStatus => "NoStatus",
+            Dropped::NoSession => "NoSession",
+            Dropped::NoMemory => "NoMemory",
+        }
+    }
+}
+
+impl fmt::Display for Dropped {
+    ghost use Rattle.std.specs.Prelude.{Some};
+    ghost use Rattle.rsl_event.specs.Dropped.{drop_name};
+
+    ghost output = { λ dropped. Some (drop_name dropped) };
+
+    /// Writes the name of the cause.
+    fn fmt<W: fmt::Write>(&self, f: &mut fmt::Formatter<W>) -> fmt::Result {
+        f.write_str(self.name())
+    }
+}
+
+impl Error for Dropped {}
 
 impl From<NoMemory> for Dropped {
     ghost from_gives = { λ _ dropped. dropped ≡ Dropped.NoMemory };

@@ -1,4 +1,4 @@
-ghost use Rattle.std.specs.Prelude.{◌≡◌, ◌↔◌, IsTrue, IfOk};
+ghost use Rattle.std.specs.Prelude.{◌≡◌, ◌↔◌, IsTrue, IfOk, OnErr};
 
 use rsl_wire::{NoMemory, Octets};
 use std::alloc::Global;
@@ -25,16 +25,22 @@ pub struct Nas {
 }
 
 impl NasName {
+    ghost use Rattle.rsl_event.specs.Copied.{IsNamed};
+    ghost use Rattle.rsl_event.specs.Same.{same_name};
+
     /// Whether the two are the same name.
+    #[tactic(auto, unfolding(crate::specs::Same::same_name))]
     pub fn is_same(&self, other: &NasName) -> bool
-        ensures { IsTrue result ↔ (self.now ≡ other.now) }
+        ensures test { result ≡ same_name self.now other.now }
+        ensures equal { IsTrue result ↔ (self.now ≡ other.now) }
     {
         self == other
     }
 
-    /// An equal name. It fails only where memory is refused.
+    /// An equal name. It fails only where memory is refused; no name takes none.
     pub fn try_copy(&self, alloc: Global) -> Result<NasName, NoMemory>
-        ensures { IfOk result (λ copy. copy ≡ self.now) }
+        ensures copy { IfOk result (λ copy. copy ≡ self.now) }
+        ensures refused { OnErr result (IsNamed self.now) }
     {
         Ok(match self {
             NasName::Identifier(name) => NasName::Identifier(name.try_copy(alloc)?),
@@ -45,16 +51,22 @@ impl NasName {
 }
 
 impl Nas {
+    ghost use Rattle.rsl_event.specs.Copied.{IsNamed};
+    ghost use Rattle.rsl_event.specs.Same.{same_nas};
+
     /// Whether the two are the same access server.
+    #[tactic(auto, unfolding(crate::specs::Same::same_nas))]
     pub fn is_same(&self, other: &Nas) -> bool
-        ensures { IsTrue result ↔ (self.now ≡ other.now) }
+        ensures test { result ≡ same_nas self.now other.now }
+        ensures equal { IsTrue result ↔ (self.now ≡ other.now) }
     {
         self.client == other.client && self.name.is_same(&other.name)
     }
 
-    /// An equal access server. It fails only where memory is refused.
+    /// An equal access server. It fails only where memory is refused; an unnamed one takes none.
     pub fn try_copy(&self, alloc: Global) -> Result<Nas, NoMemory>
-        ensures { IfOk result (λ copy. copy ≡ self.now) }
+        ensures copy { IfOk result (λ copy. copy ≡ self.now) }
+        ensures refused { OnErr result (IsNamed self.now.name) }
     {
         Ok(Nas {
             client: self.client,

@@ -1,4 +1,5 @@
-ghost use Rattle.std.specs.Prelude.{◌≡◌, ◌<◌, IfOk, IfSome, length, nat_lt};
+ghost use Rattle.std.specs.Prelude.{◌≡◌, ◌<◌, IfOk, IfSome, OnErr, length, nat_lt};
+ghost use Rattle.rsl_event.specs.Copied.{IsNamed};
 ghost use Rattle.rsl_event.specs.Request.{access_server_of, named_account, proxy_len, text_of};
 
 use crate::codes::{
@@ -12,7 +13,8 @@ use std::alloc::Global;
 /// The access server of a packet of this client: its first NAS-Identifier, else its first
 /// NAS-IP-Address, else unnamed.
 pub(crate) fn access_server_of(alloc: Global, client: u32, attributes: &Attrs<'_>) -> Result<Nas, NoMemory>
-    ensures { IfOk result (λ nas. nas ≡ access_server_of client attributes.now) }
+    ensures found { IfOk result (λ nas. nas ≡ access_server_of client attributes.now) }
+    ensures refused { OnErr result (IsNamed (access_server_of client attributes.now).name) }
 {
     let name = if let Some(identifier) = attributes.first(NAS_IDENTIFIER) {
         NasName::Identifier(Octets::from_slice(alloc, identifier)?)

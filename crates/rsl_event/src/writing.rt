@@ -2,7 +2,8 @@ ghost use Rattle.std.specs.Prelude.{◌≡◌, ◌+◌, ◌≤◌, ◌++◌, [],
 ghost use Rattle.std.specs.List.{AllByRecursion};
 ghost use Rattle.rsl_accounts.specs.Limits.{RulesFit};
 ghost use Rattle.rsl_wire.specs.Attributes.{IsAttribute, attribute_octets, list_octets};
-ghost use Rattle.rsl_event.specs.Answer.{number_attribute, optional_attribute, class_attribute, accept_attributes, limit_attributes};
+ghost use Rattle.rsl_event.specs.Accounting.{class_number};
+ghost use Rattle.rsl_event.specs.Answer.{number_attribute, optional_attribute, class_attribute, class_octets, accept_attributes, limit_attributes};
 ghost use Rattle.rsl_event.specs.Request.{proxy_states, proxy_len};
 ghost use Rattle.rsl_event.specs.Signature.{signature_if};
 
@@ -69,10 +70,25 @@ fn push_class(draft: &mut Draft, boot: u64, number: u64)
     ensures written { draft.new ≡ record draft.old { attributes = draft.old.attributes ++ attribute_octets (class_attribute boot number) } }
     ensures length { length draft.new.attributes ≡ length draft.old.attributes + 18 }
 {
+    draft.push(CLASS, &class_octets(boot, number)).unwrap();
+}
+
+/// The value of the Class of an accept: the boot number and the accept number, eight octets each, the
+/// high octet first (RFC 2865 section 5.25 leaves the value to the server).
+///
+/// | Octets | Field |
+/// |---|---|
+/// | 0 to 7 | the boot number |
+/// | 8 to 15 | the accept number |
+pub fn class_octets(boot: u64, number: u64) -> [u8; 16]
+    ensures octets { result ≡ class_octets boot number }
+    // An access server that sends it back in accounting is understood.
+    ensures read { class_number boot result ≡ Some number }
+{
     let mut value = [0u8; 16];
     value[..8].copy_from_slice(&boot.to_be_bytes());
     value[8..].copy_from_slice(&number.to_be_bytes());
-    draft.push(CLASS, &value).unwrap();
+    value
 }
 
 /// Writes an attribute whose value is a number of four octets, the high octet first.

@@ -108,12 +108,10 @@ idle_timeout = 600
 /// A row on a datagram: its name, the port, the octets, and what they mean or why they are dropped.
 type Row = (&'static str, Port, &'static str, &'static str);
 
-/// A row on a reply: its name, the source and the port, the octets of the request, the decision, its word,
-/// and the octets of the reply.
+/// A row on a reply: its name, the octets of the request, the decision, its word, and the octets of the
+/// reply.
 type ReplyRow = (
     &'static str,
-    Source,
-    Port,
     &'static str,
     Decision,
     &'static str,
@@ -145,22 +143,39 @@ fn meaning_of(
     })
 }
 
-/// Compares words and replies with what is expected.
-fn check_replies<R: AllocGlobal + Abort>(rt: &R, rows: &[ReplyRow]) -> Result<(), Fail> {
-    let alloc = rt.alloc();
-    let config = Config::read(alloc, FILE.as_bytes())?;
-    for (name, source, port, datagram, decision, word, expected) in rows {
+/// Compares the words and the replies to datagrams from a source with what is expected.
+fn check_replies<R: AllocGlobal + Abort>(
+    rt: &R,
+    source: Source,
+    port: Port,
+    rows: &[ReplyRow],
+) -> Result<(), Fail> {
+    let config = Config::read(rt.alloc(), FILE.as_bytes())?;
+    for (name, datagram, decision, word, expected) in rows {
         let datagram = datagram_of(rt, datagram)?;
-        let prepared = prepare(alloc, &config, BOOT, *port, *source, &datagram)?;
-        let found = format!(in alloc; "{:?}", said(&prepared.meaning, *decision))?;
-        assert_eq!(rt; found.as_str(), *word, "{name}");
-        let draft = room(alloc, &prepared)?;
-        let found = reply(&prepared, &config, BOOT, *decision, draft);
-        let found = hex::encode(alloc, &found)?;
-        let expected = hex::encode(alloc, &datagram_of(rt, expected)?)?;
-        assert_eq!(rt; found, expected, "{name}");
+        let found = reply_of(rt.alloc(), &config, port, source, &datagram, *decision)?;
+        let reply = hex::encode(rt.alloc(), &datagram_of(rt, expected)?)?;
+        let expected = format!(in rt.alloc(); "{word} {reply}")?;
+        assert_eq!(rt; found.as_str(), expected.as_str(), "{name}");
     }
     Ok(())
+}
+
+/// The word of a reply as its Debug, and its octets in hexadecimal digits.
+fn reply_of(
+    alloc: Global,
+    config: &Config,
+    port: Port,
+    source: Source,
+    datagram: &[u8],
+    decision: Decision,
+) -> Result<String, Fail> {
+    let prepared = prepare(alloc, config, BOOT, port, source, datagram)?;
+    let word = said(&prepared.meaning, decision);
+    let draft = room(alloc, &prepared)?;
+    let octets = reply(&prepared, config, BOOT, decision, draft);
+    let digits = hex::encode(alloc, &octets)?;
+    Ok(format!(in alloc; "{word:?} {digits}")?)
 }
 
 /// The octets that words of hexadecimal digits write, where `WORD*N` stands for the word N times.

@@ -1,6 +1,6 @@
 use super::{ACCT, AUTH, BOOT, CLIENT, FILE, OTHER, datagram_of};
 use rsl_accounts::Config;
-use rsl_event::{Act, Key, Meaning, Nas, NasName, Source, prepare};
+use rsl_event::{Act, Event, Key, Meaning, Nas, NasName, Source, prepare};
 use rsl_wire::Octets;
 use std::alloc::Global;
 use std::test::Fail;
@@ -114,7 +114,8 @@ fn copy_of_the_longest_texts_is_equal(rt: HostRuntime) -> Result<(), Fail> {
         },
         session: Octets::from_slice(alloc, &text)?,
     };
-    assert_eq!(rt; act.try_copy(alloc)?, act);
+    let event = Event { moment: 7, act };
+    assert_eq!(rt; event.try_copy(alloc)?, event);
     Ok(())
 }
 

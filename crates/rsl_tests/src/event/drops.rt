@@ -314,13 +314,16 @@ fn drop_prints_its_name(rt: HostRuntime) -> Result<(), Fail> {
         (Dropped::WrongCode, "WrongCode"),
         (Dropped::BadAuthenticator, "BadAuthenticator"),
         (Dropped::Malformed, "Malformed"),
+        (Dropped::BadSignature, "BadSignature"),
+        (Dropped::Unsigned, "Unsigned"),
         (Dropped::ProxyTooLong, "ProxyTooLong"),
         (Dropped::NoStatus, "NoStatus"),
         (Dropped::NoSession, "NoSession"),
         (Dropped::NoMemory, "NoMemory"),
     ] {
-        let found = format!(in rt.alloc(); "{dropped}")?;
-        assert_eq!(rt; found.as_str(), name);
+        let found = format!(in rt.alloc(); "{dropped} {} {dropped:?}", dropped.name())?;
+        let expected = format!(in rt.alloc(); "{name} {name} {name}")?;
+        assert_eq!(rt; found, expected);
     }
     Ok(())
 }

@@ -2,7 +2,7 @@ use super::{ACCT, AUTH, CLIENT, OTHER, check_replies};
 use rsl_event::Decision;
 use std::test::Fail;
 
-// RFC 2865 sections 3 and 5.33, RFC 2866 section 4.2.
+// RFC 2865 sections 3 and 5.33.
 #[test]
 fn reply_has_the_attributes_of_its_decision_and_then_the_proxy_states(
     rt: HostRuntime,
@@ -10,8 +10,6 @@ fn reply_has_the_attributes_of_its_decision_and_then_the_proxy_states(
     let rows = [
         (
             "an accept",
-            CLIENT,
-            AUTH,
             "010000380f403f9473978057bd83d5cb98f4227a01066e656d6f02120dbe708d93d413ce3196e43f\
              782a0aee0406c0a80110050600000003",
             Decision::Accept(0),
@@ -21,8 +19,6 @@ fn reply_has_the_attributes_of_its_decision_and_then_the_proxy_states(
         ),
         (
             "an accept of an account with all attributes",
-            CLIENT,
-            AUTH,
             "0100002c0f403f9473978057bd83d5cb98f4227a010666756c6c02120dbe708d93d413ce3196e43f\
              782a0aee",
             Decision::Accept(7),
@@ -32,8 +28,6 @@ fn reply_has_the_attributes_of_its_decision_and_then_the_proxy_states(
         ),
         (
             "the greatest accept number and Identifier",
-            CLIENT,
-            AUTH,
             "01ff00380f403f9473978057bd83d5cb98f4227a01066e656d6f02120dbe708d93d413ce3196e43f\
              782a0aee0406c0a80110050600000003",
             Decision::Accept(18_446_744_073_709_551_614),
@@ -43,8 +37,6 @@ fn reply_has_the_attributes_of_its_decision_and_then_the_proxy_states(
         ),
         (
             "a limit reject",
-            CLIENT,
-            AUTH,
             "010000380f403f9473978057bd83d5cb98f4227a01066e656d6f02120dbe708d93d413ce3196e43f\
              782a0aee0406c0a80110050600000003",
             Decision::LimitReject,
@@ -54,8 +46,6 @@ fn reply_has_the_attributes_of_its_decision_and_then_the_proxy_states(
         ),
         (
             "an ask that was not decided",
-            CLIENT,
-            AUTH,
             "010000380f403f9473978057bd83d5cb98f4227a01066e656d6f02120dbe708d93d413ce3196e43f\
              782a0aee0406c0a80110050600000003",
             Decision::Done,
@@ -65,8 +55,6 @@ fn reply_has_the_attributes_of_its_decision_and_then_the_proxy_states(
         ),
         (
             "another password",
-            CLIENT,
-            AUTH,
             "0100002f0f403f9473978057bd83d5cb98f4227a010973686f7274657202120dbe708d93d413ce31\
              96e43f782a0aee",
             Decision::Done,
@@ -75,8 +63,6 @@ fn reply_has_the_attributes_of_its_decision_and_then_the_proxy_states(
         ),
         (
             "a reject with Proxy-States",
-            CLIENT,
-            AUTH,
             "010000230f403f9473978057bd83d5cb98f4227a2102010767686f737421037020036e",
             Decision::Done,
             "Reject",
@@ -84,8 +70,6 @@ fn reply_has_the_attributes_of_its_decision_and_then_the_proxy_states(
         ),
         (
             "a malformed request",
-            CLIENT,
-            AUTH,
             "01070016 00*16 0101",
             Decision::Done,
             "Reject",
@@ -93,74 +77,13 @@ fn reply_has_the_attributes_of_its_decision_and_then_the_proxy_states(
         ),
         (
             "a malformed request with a Proxy-State",
-            CLIENT,
-            AUTH,
             "010000180f403f9473978057bd83d5cb98f4227a21020101",
             Decision::Done,
             "Reject",
             "03000014072453aba835418a6fe17de435de3db1",
         ),
         (
-            "a Start",
-            CLIENT,
-            ACCT,
-            "040900270373173c35e93d66ef906392e58a70a028060000000120036e01066e656d6f2c047331",
-            Decision::Done,
-            "Account",
-            "05090014a9beeb330987b2499525f322f7472557",
-        ),
-        (
-            "a Stop with Proxy-States",
-            CLIENT,
-            ACCT,
-            "0400002c4e0c65b85ee2821cd225a9f373502dc1280600000002210220036e01066e656d6f2c0473\
-             31210370",
-            Decision::Done,
-            "Account",
-            "0500001926674c4bfafb3e4e346047e0ff58ec282102210370",
-        ),
-        (
-            "an Accounting-On with Proxy-States",
-            CLIENT,
-            ACCT,
-            "040000226121652410802b7814ab54241d51df33280600000007210220036e210370",
-            Decision::Done,
-            "Account",
-            "05000019d227f2ae7a7b901ac7599a9df5daf69f2102210370",
-        ),
-        (
-            "a stray with a Proxy-State",
-            CLIENT,
-            ACCT,
-            "0400001d86eceb8560a84ba0732ba00dd6e0a4e928060000000f210370",
-            Decision::Done,
-            "Account",
-            "05000017db540bf480c771521f73df8e1e0f50d6210370",
-        ),
-        (
-            "a decision that is no ask's",
-            CLIENT,
-            ACCT,
-            "04000027d16ec3e2c1cc1cd9b6803bd0e9a1099f28060000000120036e01066e656d6f2c047331",
-            Decision::Accept(0),
-            "Account",
-            "05000014476f0010eda87b5dcfb581ddfdcff5a8",
-        ),
-        (
-            "another client's secret",
-            OTHER,
-            AUTH,
-            "0100002c0f403f9473978057bd83d5cb98f4227a01066e656d6f021258c1a5d901c4fc0ae0758bfc\
-             ede9b8d3",
-            Decision::Accept(0),
-            "Accept(0)",
-            "0200002c6373c9b925ddcc424c7e30dea4b24f371912000000000000000100000000000000003e06\
-             00000001",
-        ),
-        (
             "3,900 octets of Proxy-State",
-            CLIENT,
-            AUTH,
             "01000f680f403f9473978057bd83d5cb98f4227a21ff 00*253 21ff 01*253 21ff 02*253 21f\
              f 03*253 21ff 04*253 21ff 05*253 21ff 06*253 21ff 07*253 21ff 08*253 21ff 09*25\
              3 21ff 0a*253 21ff 0b*253 21ff 0c*253 21ff 0d*253 21ff 0e*253 214b 09*73 01066e6\
@@ -174,8 +97,6 @@ fn reply_has_the_attributes_of_its_decision_and_then_the_proxy_states(
         ),
         (
             "the longest accept",
-            CLIENT,
-            AUTH,
             "01000f680f403f9473978057bd83d5cb98f4227a21ff 00*253 21ff 01*253 21ff 02*253 21f\
              f 03*253 21ff 04*253 21ff 05*253 21ff 06*253 21ff 07*253 21ff 08*253 21ff 09*25\
              3 21ff 0a*253 21ff 0b*253 21ff 0c*253 21ff 0d*253 21ff 0e*253 214b 09*73 0106667\
@@ -188,10 +109,52 @@ fn reply_has_the_attributes_of_its_decision_and_then_the_proxy_states(
              8*253 21ff 09*253 21ff 0a*253 21ff 0b*253 21ff 0c*253 21ff 0d*253 21ff 0e*253 21\
              4b 09*73",
         ),
+    ];
+    check_replies(&rt, CLIENT, AUTH, &rows)
+}
+
+// RFC 2866 section 4.2.
+#[test]
+fn accounting_response_has_the_proxy_states(rt: HostRuntime) -> Result<(), Fail> {
+    let rows = [
+        (
+            "a Start",
+            "040900270373173c35e93d66ef906392e58a70a028060000000120036e01066e656d6f2c047331",
+            Decision::Done,
+            "Account",
+            "05090014a9beeb330987b2499525f322f7472557",
+        ),
+        (
+            "a Stop with Proxy-States",
+            "0400002c4e0c65b85ee2821cd225a9f373502dc1280600000002210220036e01066e656d6f2c0473\
+             31210370",
+            Decision::Done,
+            "Account",
+            "0500001926674c4bfafb3e4e346047e0ff58ec282102210370",
+        ),
+        (
+            "an Accounting-On with Proxy-States",
+            "040000226121652410802b7814ab54241d51df33280600000007210220036e210370",
+            Decision::Done,
+            "Account",
+            "05000019d227f2ae7a7b901ac7599a9df5daf69f2102210370",
+        ),
+        (
+            "a stray with a Proxy-State",
+            "0400001d86eceb8560a84ba0732ba00dd6e0a4e928060000000f210370",
+            Decision::Done,
+            "Account",
+            "05000017db540bf480c771521f73df8e1e0f50d6210370",
+        ),
+        (
+            "a decision that is no ask's",
+            "04000027d16ec3e2c1cc1cd9b6803bd0e9a1099f28060000000120036e01066e656d6f2c047331",
+            Decision::Accept(0),
+            "Account",
+            "05000014476f0010eda87b5dcfb581ddfdcff5a8",
+        ),
         (
             "the longest Accounting-Response",
-            CLIENT,
-            ACCT,
             "04000f565f95ae5d2e9a5f0347c6f91ae92e446721ff 00*253 21ff 01*253 21ff 02*253 21f\
              f 03*253 21ff 04*253 21ff 05*253 21ff 06*253 21ff 07*253 21ff 08*253 21ff 09*25\
              3 21ff 0a*253 21ff 0b*253 21ff 0c*253 21ff 0d*253 21ff 0e*253 214b 09*73 2806000\
@@ -203,5 +166,19 @@ fn reply_has_the_attributes_of_its_decision_and_then_the_proxy_states(
              3 21ff 0a*253 21ff 0b*253 21ff 0c*253 21ff 0d*253 21ff 0e*253 214b 09*73",
         ),
     ];
-    check_replies(&rt, &rows)
+    check_replies(&rt, CLIENT, ACCT, &rows)
+}
+
+#[test]
+fn reply_is_sealed_with_the_clients_secret(rt: HostRuntime) -> Result<(), Fail> {
+    let rows = [(
+        "another client's secret",
+        "0100002c0f403f9473978057bd83d5cb98f4227a01066e656d6f021258c1a5d901c4fc0ae0758bfc\
+             ede9b8d3",
+        Decision::Accept(0),
+        "Accept(0)",
+        "0200002c6373c9b925ddcc424c7e30dea4b24f371912000000000000000100000000000000003e06\
+             00000001",
+    )];
+    check_replies(&rt, OTHER, AUTH, &rows)
 }

@@ -287,15 +287,13 @@ fn message_authenticator_in_accounting_is_ignored(rt: HostRuntime) -> Result<(),
     check(&rt, SIGNED, &rows)
 }
 
-// The Message-Authenticator stands first: 62 octets begin with 0201003e, and have 5012 at octet 20. The
-// longest reply has 3,986 octets. What answers a malformed list or accounting is not signed.
+// The Message-Authenticator stands first: the accept's 62 octets begin with 0201003e, and have 5012 at
+// octet 20. The longest reply has 3,986 octets.
 #[test]
 fn reply_to_a_signed_request_is_signed(rt: HostRuntime) -> Result<(), Fail> {
     let rows = [
         (
             "an accept",
-            SIGNED,
-            AUTH,
             "0101004197f904103ebde0e5f6ebd9808bcbc6675012d41b0aaf7ee4468fe951c9b9ccbcf27a0106\
              6e656d6f0212251cae20c3882f95d4c150c188399f0e20036e",
             Decision::Accept(0),
@@ -304,20 +302,7 @@ fn reply_to_a_signed_request_is_signed(rt: HostRuntime) -> Result<(), Fail> {
              000000000000000100000000000000003e0600000001",
         ),
         (
-            "an accept of a client that does not have to sign",
-            CLIENT,
-            AUTH,
-            "0100003e0f403f9473978057bd83d5cb98f4227a01066e656d6f02120dbe708d93d413ce3196e43f\
-             782a0aee501261df374483be2872a88d9586b7a3dcf4",
-            Decision::Accept(0),
-            "Accept(0)",
-            "0200003e2db581e4d36567ab73a9f5ccdf601dff5012581c9f7336a691e5f65f6d9268187d441912\
-             000000000000000100000000000000003e0600000001",
-        ),
-        (
             "a limit reject",
-            SIGNED,
-            AUTH,
             "0100003e0f403f9473978057bd83d5cb98f4227a01066e656d6f5012c812df5a1b15a3ad143f00a5\
              1e0d83eb02120dbe708d93d413ce3196e43f782a0aee",
             Decision::LimitReject,
@@ -327,8 +312,6 @@ fn reply_to_a_signed_request_is_signed(rt: HostRuntime) -> Result<(), Fail> {
         ),
         (
             "a reject",
-            SIGNED,
-            AUTH,
             "010000410f403f9473978057bd83d5cb98f4227a501265c8e4c3f114aee3ca814ac0973eabe20109\
              73686f7274657202120dbe708d93d413ce3196e43f782a0aee",
             Decision::Done,
@@ -336,20 +319,7 @@ fn reply_to_a_signed_request_is_signed(rt: HostRuntime) -> Result<(), Fail> {
             "030000268b2603f419910644078cefadd30786245012fd4912ddce426401b843085aff12f5da",
         ),
         (
-            "a reject with Proxy-States",
-            CLIENT,
-            AUTH,
-            "010000320f403f9473978057bd83d5cb98f4227a2102010767686f73742103705012fe769c865107\
-             f3c0df715be50928b26c",
-            Decision::Done,
-            "Reject",
-            "0300002b681fa16e5b5c29942d02f63c102b77105012b7a7ab833a0ef2b8d923b6a9dd1491642102\
-             210370",
-        ),
-        (
             "the longest accept",
-            SIGNED,
-            AUTH,
             "01000f7a0f403f9473978057bd83d5cb98f4227a21ff 00*253 21ff 01*253 21ff 02*253 21f\
              f 03*253 21ff 04*253 21ff 05*253 21ff 06*253 21ff 07*253 21ff 08*253 21ff 09*25\
              3 21ff 0a*253 21ff 0b*253 21ff 0c*253 21ff 0d*253 21ff 0e*253 214b 09*73 0106667\
@@ -362,26 +332,52 @@ fn reply_to_a_signed_request_is_signed(rt: HostRuntime) -> Result<(), Fail> {
              253 21ff 06*253 21ff 07*253 21ff 08*253 21ff 09*253 21ff 0a*253 21ff 0b*253 21f\
              f 0c*253 21ff 0d*253 21ff 0e*253 214b 09*73",
         ),
+    ];
+    check_replies(&rt, SIGNED, AUTH, &rows)
+}
+
+#[test]
+fn reply_is_signed_where_the_request_was(rt: HostRuntime) -> Result<(), Fail> {
+    let rows = [
+        (
+            "an accept of a client that does not have to sign",
+            "0100003e0f403f9473978057bd83d5cb98f4227a01066e656d6f02120dbe708d93d413ce3196e43f\
+             782a0aee501261df374483be2872a88d9586b7a3dcf4",
+            Decision::Accept(0),
+            "Accept(0)",
+            "0200003e2db581e4d36567ab73a9f5ccdf601dff5012581c9f7336a691e5f65f6d9268187d441912\
+             000000000000000100000000000000003e0600000001",
+        ),
+        (
+            "a reject with Proxy-States",
+            "010000320f403f9473978057bd83d5cb98f4227a2102010767686f73742103705012fe769c865107\
+             f3c0df715be50928b26c",
+            Decision::Done,
+            "Reject",
+            "0300002b681fa16e5b5c29942d02f63c102b77105012b7a7ab833a0ef2b8d923b6a9dd1491642102\
+             210370",
+        ),
         (
             "a malformed request with one",
-            CLIENT,
-            AUTH,
             "010000400f403f9473978057bd83d5cb98f4227a5012 00*16 01066e656d6f02120dbe708d93d41\
              3ce3196e43f782a0aee2003",
             Decision::Done,
             "Reject",
             "03000014072453aba835418a6fe17de435de3db1",
         ),
-        (
-            "an Accounting-Response",
-            SIGNED,
-            ACCT,
-            "04000039ecf63f7e60890af0ff73e06a9630bd6a28060000000120036e01066e656d6f2c04733150\
-             12 00*16",
-            Decision::Done,
-            "Account",
-            "05000014fa8f9682e8a3711b01e00d46f5b00dc8",
-        ),
     ];
-    check_replies(&rt, &rows)
+    check_replies(&rt, CLIENT, AUTH, &rows)
+}
+
+#[test]
+fn accounting_response_is_not_signed(rt: HostRuntime) -> Result<(), Fail> {
+    let rows = [(
+        "an Accounting-Response",
+        "04000039ecf63f7e60890af0ff73e06a9630bd6a28060000000120036e01066e656d6f2c04733150\
+             12 00*16",
+        Decision::Done,
+        "Account",
+        "05000014fa8f9682e8a3711b01e00d46f5b00dc8",
+    )];
+    check_replies(&rt, SIGNED, ACCT, &rows)
 }
