@@ -65,12 +65,13 @@ length-proxy_states attributes = length-flat_map attribute_octets (proxy_states 
 
 -- the attributes of a reply, from the drafts before it
 pub reply_written : (id : ℕ) (signature said repeated : List Attribute) (start first second third : Begun) → start ≡ record { id = id; attributes = [] }
-    → first ≡ with_attributes start (list_octets signature) → second ≡ with_attributes first (first.attributes ++ list_octets said)
+    → first ≡ with_attributes start (start.attributes ++ list_octets signature) → second ≡ with_attributes first (first.attributes ++ list_octets said)
     → third ≡ with_attributes second (second.attributes ++ list_octets repeated)
     → third ≡ record { id = id; attributes = list_octets (signature ++ said ++ repeated) }
 reply_written id signature said repeated start first second third e0 e1 e2 e3 =
     let id_is : third.id ≡ id = ap (λ (x : Begun). x.id) e3 ∙ ap (λ (x : Begun). x.id) e2 ∙ ap (λ (x : Begun). x.id) e1 ∙ ap (λ (x : Begun). x.id) e0 in
-    let second_is : second.attributes ≡ list_octets (signature ++ said) = ap (λ (x : Begun). x.attributes) e2 ∙ then_octets [] signature said first.attributes (ap (λ (x : Begun). x.attributes) e1) in
+    let first_is : first.attributes ≡ list_octets signature = ap (λ (x : Begun). x.attributes) e1 ∙ ap (λ (x : List ℕ). x ++ list_octets signature) (ap (λ (x : Begun). x.attributes) e0) in
+    let second_is : second.attributes ≡ list_octets (signature ++ said) = ap (λ (x : Begun). x.attributes) e2 ∙ then_octets [] signature said first.attributes first_is in
     let third_is : third.attributes ≡ list_octets (signature ++ said ++ repeated) = ap (λ (x : Begun). x.attributes) e3 ∙ then_octets [] (signature ++ said) repeated second.attributes second_is in
     λ k. record { id = id_is k; attributes = third_is k }
 
@@ -83,7 +84,7 @@ put_back n was now e f =
 -- the reply, from the drafts before it
 pub answer_is : (config : Configuration) (boot client : ℕ) (fields : Fields) (meaning : Meaning) (decision : Decision) (word : Said) (code : ℕ) (is_signed : Bool)
     (start first second third : Begun) (packet secret result : List ℕ) (found : Client)
-    → start ≡ record { id = fields.id; attributes = [] } → first ≡ with_attributes start (list_octets (signature_if is_signed))
+    → start ≡ record { id = fields.id; attributes = [] } → first ≡ with_attributes start (start.attributes ++ list_octets (signature_if is_signed))
     → second ≡ with_attributes first (first.attributes ++ list_octets (said_attributes config boot meaning decision))
     → third ≡ with_attributes second (second.attributes ++ list_octets (repeated_attributes (attributes_in fields.attributes) meaning))
     → word ≡ said meaning decision → is_signed ≡ is_reply_signed word (attributes_in fields.attributes) → code ≡ code_of word

@@ -7,4 +7,5 @@ pub mod Copied
 pub mod Meaning
 pub mod Prepared
 pub mod Answer
+pub mod Draft
 pub mod Same

@@ -107,7 +107,8 @@ fn session_act(
 
 /// The first Acct-Multi-Session-Id, if it is not empty.
 fn bundle_in(alloc: Global, attributes: &Attrs<'_>) -> Result<Option<Octets>, NoMemory>
-    ensures { IfOk result (λ bundle. bundle ≡ unless_empty (first_of ACCT_MULTI_SESSION_ID attributes.now)) }
+    ensures { IfOk result (λ bundle.
+        bundle ≡ unless_empty (first_of ACCT_MULTI_SESSION_ID attributes.now)) }
 {
     match attributes.first(ACCT_MULTI_SESSION_ID) {
         None | Some([]) => Ok(None),

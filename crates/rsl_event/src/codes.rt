@@ -98,11 +98,7 @@ const _: () = prove!(
 );
 // Values of Acct-Status-Type (RFC 2866 section 5.1).
 const _: () = prove!(
-    START == 1
-        && STOP == 2
-        && INTERIM_UPDATE == 3
-        && ACCOUNTING_ON == 7
-        && ACCOUNTING_OFF == 8
+    START == 1 && STOP == 2 && INTERIM_UPDATE == 3 && ACCOUNTING_ON == 7 && ACCOUNTING_OFF == 8
 );
 // The longest reply, 20 + 18 + 48 + 3,900 octets, is within the 4,096 of a packet.
 const _: () = prove!(MAX_PROXY_STATE_LEN == 3900);

@@ -3,7 +3,8 @@
 //! The promise: `prepare` gives the meaning of a datagram that `specs/Meaning.antt` defines, or the
 //! first cause in order for which it is dropped; `reply` gives the octets that `specs/Answer.antt`
 //! defines. Both are functions of the octets and the configuration alone. Read those two files first,
-//! and `specs/Access.antt` and `specs/Accounting.antt` for the two ports.
+//! and `specs/Access.antt` and `specs/Accounting.antt` for the two ports; what a client that signs has to
+//! send, and which replies are signed, is in `specs/Signature.antt`.
 #![tactic(auto)]
 
 mod access;

@@ -28,9 +28,11 @@ pub fn prepare<'a>(
     // The meaning, or the drop, is that of the definition.
     ensures meaning { GivesPrepared result (meaning config.now boot port source datagram.now) }
     // The packet is the datagram's.
-    ensures packet { IfOk result (λ prepared. packet_of datagram.now ≡ Ok (fields_of prepared.packet)) }
+    ensures packet { IfOk result (λ prepared.
+        packet_of datagram.now ≡ Ok (fields_of prepared.packet)) }
     // The client is the source's.
-    ensures client { IfOk result (λ prepared. client_number config.now source.address ≡ Some prepared.client) }
+    ensures client { IfOk result (λ prepared.
+        client_number config.now source.address ≡ Some prepared.client) }
     // What is an account's own is an ask, an alive or a stop.
     ensures own { IfOk result (λ prepared. HasOwnAct prepared.meaning) }
     // What `reply` asks for.

@@ -1,21 +1,29 @@
 ghost use Rattle.std.specs.Prelude.{◌≡◌, ◌++◌, ◌<◌, ◌≤◌, ◌+◌, [], length, replicate, vec_len, IfOk, IsTrue};
-ghost use Rattle.rsl_auth.specs.Authenticator.{sealed};
 ghost use Rattle.rsl_auth.specs.Signature.{signed};
 ghost use Rattle.rsl_wire.specs.Attributes.{attributes_in, list_octets};
 ghost use Rattle.rsl_wire.specs.Packet.{packet_octets};
 ghost use Rattle.rsl_wire.specs.Seen.{fields_of};
-ghost use Rattle.rsl_event.specs.Answer.{answer, said, code_of, decided_attributes, said_attributes, repeated_attributes, signed_if};
+ghost use Rattle.rsl_event.specs.Answer.{
+  answer,
+  code_of,
+  decided_attributes,
+  repeated_attributes,
+  said,
+  said_attributes,
+  signed_if,
+};
+ghost use Rattle.rsl_event.specs.Draft.{with_more};
 ghost use Rattle.rsl_event.specs.Signature.{is_reply_signed};
 ghost use Rattle.rsl_event.specs.Prepared.{HasAccount, HasRoomForReply, IsPrepared};
 
 use crate::codes::{ACCESS_ACCEPT, ACCESS_REJECT, ACCOUNTING_RESPONSE};
 use crate::event::{Act, Decision};
 use crate::meaning::{Meaning, Prepared};
-use crate::words::Said;
 use crate::signature::{FIRST_SIGNATURE_PLACE, has_signature};
+use crate::words::Said;
 use crate::writing::{push_accept, push_limit_message, push_proxy_states, push_signature_if};
 use rsl_accounts::Config;
-use rsl_auth::{seal, sign};
+use rsl_auth::{sealed, sign};
 use rsl_wire::{Draft, NoMemory, Packet};
 use std::alloc::Global;
 
@@ -40,14 +48,17 @@ pub fn said(meaning: &Meaning, decision: Decision) -> Said
 /// Room for the longest reply to a request, taken before its step so that `reply` takes no memory. It
 /// fails only where that room is refused.
 pub fn room(alloc: Global, prepared: &Prepared<'_>) -> Result<Draft, NoMemory>
-    ensures { IfOk result (λ draft. draft ≡ record { id = prepared.now.packet.id; attributes = [] }) }
+    ensures { IfOk result (λ draft.
+        draft ≡ record { id = prepared.now.packet.id; attributes = [] }) }
 {
     Draft::new(alloc, prepared.packet.id)
 }
 
 /// The octets of the reply: Code, the request's Identifier, the attributes, and the Response
-/// Authenticator over them and the client's secret (RFC 2865 section 3). Proxy-States stand last, as
-/// they came (RFC 2865 section 5.33). It takes no memory: the draft is that of `room`.
+/// Authenticator over them and the client's secret (RFC 2865 section 3). Where it answers an
+/// Access-Request that has a Message-Authenticator, its own stands first (RFC 3579 section 3.2), and
+/// Proxy-States stand last, as they came (RFC 2865 section 5.33). It takes no memory: the draft is that
+/// of `room`.
 pub fn reply(
     prepared: &Prepared<'_>,
     config: &Config,
@@ -57,7 +68,8 @@ pub fn reply(
 ) -> Vec<u8>
     requires prepared { IsPrepared config.now prepared.now }
     requires room { draft ≡ record { id = prepared.now.packet.id; attributes = [] } }
-    ensures { result.items ≡ answer config.now boot prepared.now.client (fields_of prepared.now.packet) prepared.now.meaning decision }
+    ensures { result.items ≡ answer
+        config.now boot prepared.now.client (fields_of prepared.now.packet) prepared.now.meaning decision }
 {
     let word = said(&prepared.meaning, decision);
     let is_signed = is_reply_signed(word, &prepared.packet);
@@ -68,7 +80,7 @@ pub fn reply(
     let request_auth = &prepared.packet.authenticator;
     let secret = config.client_at(prepared.client).secret.expose();
     let octets = finish(draft, code_of(word), is_signed, request_auth, secret);
-    with_seal(octets, request_auth, secret)
+    sealed(octets, request_auth, secret)
 }
 
 /// Whether a reply with this word is signed: it answers an Access-Request of which the well-formed list
@@ -119,16 +131,12 @@ fn with_signature(mut octets: Vec<u8>, request_auth: &[u8; 16], secret: &[u8]) -
     ensures signed { result.items ≡ signed octets.items 22 request_auth.now secret.now }
     ensures len { vec_len result ≡ vec_len octets }
 {
-    sign(octets.as_mut_slice(), FIRST_SIGNATURE_PLACE, request_auth, secret);
-    octets
-}
-
-/// The octets of a reply with its Response Authenticator.
-fn with_seal(mut octets: Vec<u8>, request_auth: &[u8; 16], secret: &[u8]) -> Vec<u8>
-    requires { 20 ≤ vec_len octets }
-    ensures { result.items ≡ sealed octets.items request_auth.now secret.now }
-{
-    seal(octets.as_mut_slice(), request_auth, secret);
+    sign(
+        octets.as_mut_slice(),
+        FIRST_SIGNATURE_PLACE,
+        request_auth,
+        secret,
+    );
     octets
 }
 
@@ -147,9 +155,8 @@ fn code_of(said: Said) -> u8
 fn write_said(config: &Config, boot: u64, meaning: &Meaning, decision: Decision, draft: &mut Draft)
     requires meant { HasAccount config.now meaning.now }
     requires room { length draft.old.attributes ≤ 18 }
-    ensures written { draft.new ≡ record draft.old {
-      attributes = draft.old.attributes ++ list_octets (said_attributes config.now boot meaning.now decision);
-    } }
+    ensures written { draft.new ≡ with_more draft.old
+        (list_octets (said_attributes config.now boot meaning.now decision)) }
     ensures short { length draft.new.attributes ≤ 66 }
     ensures kept { length draft.old.attributes ≤ length draft.new.attributes }
 {
@@ -166,11 +173,8 @@ fn write_said(config: &Config, boot: u64, meaning: &Meaning, decision: Decision,
 fn write_repeated(prepared: &Prepared<'_>, draft: &mut Draft)
     requires room { HasRoomForReply prepared.now.packet.attrs.now prepared.now.meaning }
     requires short { length draft.old.attributes ≤ 66 }
-    ensures written { draft.new ≡ record draft.old {
-      attributes =
-          draft.old.attributes
-          ++ list_octets (repeated_attributes (attributes_in prepared.now.packet.attrs.now) prepared.now.meaning);
-    } }
+    ensures written { let request = attributes_in prepared.now.packet.attrs.now in
+        draft.new ≡ with_more draft.old (list_octets (repeated_attributes request prepared.now.meaning)) }
     ensures kept { length draft.old.attributes ≤ length draft.new.attributes }
 {
     if let Meaning::Bare = prepared.meaning {
@@ -185,9 +189,8 @@ fn write_repeated(prepared: &Prepared<'_>, draft: &mut Draft)
 fn write_decision(config: &Config, boot: u64, account: u32, decision: Decision, draft: &mut Draft)
     requires account { account < length config.now.accounts }
     requires room { length draft.old.attributes ≤ 18 }
-    ensures written { draft.new ≡ record draft.old {
-      attributes = draft.old.attributes ++ list_octets (decided_attributes config.now boot account decision);
-    } }
+    ensures written { draft.new ≡ with_more draft.old
+        (list_octets (decided_attributes config.now boot account decision)) }
     ensures short { length draft.new.attributes ≤ 66 }
 {
     match decision {

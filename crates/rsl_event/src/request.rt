@@ -12,7 +12,11 @@ use std::alloc::Global;
 
 /// The access server of a packet of this client: its first NAS-Identifier, else its first
 /// NAS-IP-Address, else unnamed.
-pub(crate) fn access_server_of(alloc: Global, client: u32, attributes: &Attrs<'_>) -> Result<Nas, NoMemory>
+pub(crate) fn access_server_of(
+    alloc: Global,
+    client: u32,
+    attributes: &Attrs<'_>,
+) -> Result<Nas, NoMemory>
     ensures found { IfOk result (λ nas. nas ≡ access_server_of client attributes.now) }
     ensures refused { OnErr result (IsNamed (access_server_of client attributes.now).name) }
 {

@@ -3,13 +3,21 @@ ghost use Rattle.std.specs.List.{AllByRecursion};
 ghost use Rattle.rsl_accounts.specs.Limits.{RulesFit};
 ghost use Rattle.rsl_wire.specs.Attributes.{IsAttribute, attribute_octets, list_octets};
 ghost use Rattle.rsl_event.specs.Accounting.{class_number};
-ghost use Rattle.rsl_event.specs.Answer.{number_attribute, optional_attribute, class_attribute, class_octets, accept_attributes, limit_attributes};
+ghost use Rattle.rsl_event.specs.Answer.{
+  accept_attributes,
+  class_attribute,
+  class_octets,
+  limit_attributes,
+  number_attribute,
+  optional_attribute,
+};
+ghost use Rattle.rsl_event.specs.Draft.{with_more};
 ghost use Rattle.rsl_event.specs.Request.{proxy_states, proxy_len};
 ghost use Rattle.rsl_event.specs.Signature.{signature_if};
 
 use crate::codes::{
-    CLASS, FRAMED_PROTOCOL, IDLE_TIMEOUT, MESSAGE_AUTHENTICATOR, PORT_LIMIT, PROXY_STATE, REPLY_MESSAGE, SERVICE_TYPE,
-    SESSION_TIMEOUT,
+    CLASS, FRAMED_PROTOCOL, IDLE_TIMEOUT, MESSAGE_AUTHENTICATOR, PORT_LIMIT, PROXY_STATE,
+    REPLY_MESSAGE, SERVICE_TYPE, SESSION_TIMEOUT,
 };
 use crate::signature::SIGNATURE_LEN;
 use rsl_accounts::Entry;
@@ -18,12 +26,14 @@ use rsl_wire::{Attrs, Draft};
 /// Writes the Message-Authenticator of a reply, if it gets one, with zeros for its value.
 pub(crate) fn push_signature_if(is_signed: bool, draft: &mut Draft)
     requires empty { draft.old.attributes ≡ [] }
-    ensures written { draft.new ≡ record draft.old { attributes = list_octets (signature_if is_signed) } }
+    ensures written { draft.new ≡ with_more draft.old (list_octets (signature_if is_signed)) }
     ensures short { length draft.new.attributes ≤ 18 }
     ensures room { IsTrue is_signed → 18 ≤ length draft.new.attributes }
 {
     if is_signed {
-        draft.push(MESSAGE_AUTHENTICATOR, &[0; SIGNATURE_LEN]).unwrap();
+        draft
+            .push(MESSAGE_AUTHENTICATOR, &[0; SIGNATURE_LEN])
+            .unwrap();
     }
 }
 
@@ -31,7 +41,8 @@ pub(crate) fn push_signature_if(is_signed: bool, draft: &mut Draft)
 pub(crate) fn push_accept(draft: &mut Draft, boot: u64, number: u64, entry: &Entry)
     requires room { length draft.old.attributes ≤ 18 }
     requires limits { RulesFit entry.now.rules }
-    ensures written { draft.new ≡ record draft.old { attributes = draft.old.attributes ++ list_octets (accept_attributes boot number entry.now) } }
+    ensures written { draft.new ≡ with_more draft.old
+        (list_octets (accept_attributes boot number entry.now)) }
     ensures short { length draft.new.attributes ≤ 66 }
 {
     push_class(draft, boot, number);
@@ -45,7 +56,7 @@ pub(crate) fn push_accept(draft: &mut Draft, boot: u64, number: u64, entry: &Ent
 /// Writes what a limit reject says.
 pub(crate) fn push_limit_message(draft: &mut Draft)
     requires room { length draft.old.attributes ≤ 18 }
-    ensures written { draft.new ≡ record draft.old { attributes = draft.old.attributes ++ list_octets limit_attributes } }
+    ensures written { draft.new ≡ with_more draft.old (list_octets limit_attributes) }
     ensures short { length draft.new.attributes ≤ 66 }
 {
     draft.push(REPLY_MESSAGE, b"Session limit reached").unwrap();
@@ -55,7 +66,7 @@ pub(crate) fn push_limit_message(draft: &mut Draft)
 pub(crate) fn push_proxy_states(draft: &mut Draft, attributes: &Attrs<'_>)
     requires each { AllByRecursion IsAttribute attributes.now }
     requires room { 20 + (length draft.old.attributes + proxy_len attributes.now) ≤ 4096 }
-    ensures { draft.new ≡ record draft.old { attributes = draft.old.attributes ++ list_octets (proxy_states attributes.now) } }
+    ensures { draft.new ≡ with_more draft.old (list_octets (proxy_states attributes.now)) }
 {
     for (kind, value) in attributes.iter() {
         if kind == PROXY_STATE {
@@ -67,7 +78,8 @@ pub(crate) fn push_proxy_states(draft: &mut Draft, attributes: &Attrs<'_>)
 /// Writes the Class of an accept: the boot number and the accept number, eight octets each.
 fn push_class(draft: &mut Draft, boot: u64, number: u64)
     requires { length draft.old.attributes ≤ 66 }
-    ensures written { draft.new ≡ record draft.old { attributes = draft.old.attributes ++ attribute_octets (class_attribute boot number) } }
+    ensures written { draft.new ≡ with_more draft.old
+        (attribute_octets (class_attribute boot number)) }
     ensures length { length draft.new.attributes ≡ length draft.old.attributes + 18 }
 {
     draft.push(CLASS, &class_octets(boot, number)).unwrap();
@@ -94,7 +106,8 @@ pub fn class_octets(boot: u64, number: u64) -> [u8; 16]
 /// Writes an attribute whose value is a number of four octets, the high octet first.
 fn push_number(draft: &mut Draft, kind: u8, number: u32)
     requires { length draft.old.attributes ≤ 66 }
-    ensures written { draft.new ≡ record draft.old { attributes = draft.old.attributes ++ attribute_octets (number_attribute kind number) } }
+    ensures written { draft.new ≡ with_more draft.old
+        (attribute_octets (number_attribute kind number)) }
     ensures length { length draft.new.attributes ≡ length draft.old.attributes + 6 }
 {
     draft.push(kind, &number.to_be_bytes()).unwrap();
@@ -103,7 +116,8 @@ fn push_number(draft: &mut Draft, kind: u8, number: u32)
 /// Writes such an attribute if there is a number.
 fn push_optional(draft: &mut Draft, kind: u8, number: Option<u32>)
     requires { length draft.old.attributes ≤ 66 }
-    ensures written { draft.new ≡ record draft.old { attributes = draft.old.attributes ++ list_octets (optional_attribute kind number) } }
+    ensures written { draft.new ≡ with_more draft.old
+        (list_octets (optional_attribute kind number)) }
     ensures length { length draft.new.attributes ≤ length draft.old.attributes + 6 }
 {
     if let Some(number) = number {
