@@ -1,48 +1,66 @@
-//! The program `account_file`: it reads an account file from standard input, and says what is in it, or
-//! what is wrong with it.
+//! The program `account_file`: `account_file FILE..` reads account files and says on standard output, in a line
+//! for each, what is in it or what is wrong with it; `-` is standard input. Without a FILE it reads standard
+//! input alone, and says on standard error what is wrong.
 //!
 //! It tries a file before a server is started with it, and times how reading grows. What is right and
 //! what is wrong is the business of `Config::read`.
 #![tactic(auto)]
 
-use rsl_accounts::{Config, ConfigFault};
-use std::io::Read;
+mod trial;
+
+use std::alloc::Global;
+use std::env::Args;
 use std::process::ExitCode;
-
-/// The status where the file is refused or cannot be read.
-const BAD_FILE: u8 = 1;
-
-/// The status where standard output takes nothing.
-const NO_OUTPUT: u8 = 2;
-
-/// The status where memory is refused.
-const NO_MEMORY: u8 = 3;
+use std::{env, io};
+use trial::{NO_MEMORY, NO_OUTPUT, trial, trial_of_file};
 
 fn main(rt: HostRuntime) -> ExitCode {
-    let mut text = Vec::new(rt.alloc());
-    if rt.stdin().read_to_end(&mut text).is_err() {
-        let _ = rt.eprintln("bad file: unreadable");
-        return ExitCode::from(BAD_FILE);
-    }
-    match Config::read(rt.alloc(), text.as_slice()) {
-        Ok(config) => told(&rt, &config),
-        Err(ConfigFault::NoMemory) => {
-            let _ = rt.eprintln("no memory");
-            ExitCode::from(NO_MEMORY)
-        }
-        Err(fault) => {
-            let _ = eprintln!(rt; "bad file: {fault}");
-            ExitCode::from(BAD_FILE)
-        }
+    let Ok(mut words) = env::args(&rt) else {
+        return ExitCode::from(NO_MEMORY);
+    };
+    let _ = words.next();
+    match trials(&rt, words) {
+        Ok(Some(status)) => ExitCode::from(status),
+        Ok(None) => stdin_tried(&rt),
+        Err(_) => ExitCode::from(NO_OUTPUT),
     }
 }
 
-/// Prints how many clients and accounts there are.
-fn told(rt: &impl Print, config: &Config) -> ExitCode {
-    let clients = config.clients();
-    let accounts = config.accounts();
-    match println!(rt; "clients {clients} accounts {accounts}") {
-        Ok(()) => ExitCode::SUCCESS,
-        Err(_) => ExitCode::from(NO_OUTPUT),
+/// Tries each file and says what it found, in a line. The status is the greatest of theirs; there is none
+/// where there is no file.
+fn trials(rt: &HostRuntime, files: Args<Global>) -> io::Result<Option<u8>> {
+    let mut greatest = None;
+    for file in files {
+        let tried = if file.as_str() == "-" {
+            trial(rt.alloc(), rt.stdin())
+        } else {
+            trial_of_file(rt, rt.alloc(), file.as_str())
+        };
+        let status = match tried {
+            Ok(counts) => {
+                println!(rt; "{file}: {counts}")?;
+                0
+            }
+            Err(problem) => {
+                println!(rt; "{file}: {problem}")?;
+                problem.status()
+            }
+        };
+        greatest = Some(greatest.unwrap_or(0).max(status));
+    }
+    Ok(greatest)
+}
+
+/// Tries standard input: what is in it goes to standard output, and what is wrong to standard error.
+fn stdin_tried(rt: &HostRuntime) -> ExitCode {
+    match trial(rt.alloc(), rt.stdin()) {
+        Ok(counts) => match println!(rt; "{counts}") {
+            Ok(()) => ExitCode::SUCCESS,
+            Err(_) => ExitCode::from(NO_OUTPUT),
+        },
+        Err(problem) => {
+            let _ = eprintln!(rt; "{problem}");
+            ExitCode::from(problem.status())
+        }
     }
 }

@@ -7,3 +7,4 @@ pub mod Addresses
 pub mod Values
 pub mod Files
 pub mod Parts
+pub mod Memory

@@ -1,5 +1,5 @@
 -- The configuration of some settings, clients and accounts: the checks that they have to pass, and what is looked up in it.
-use Rattle.std.specs.Prelude.{ℕ, Bool, false, ◌||◌, if◌then◌else◌, nat_lt, nat_eq, List, [], ◌∷◌, ◌++◌, map, length, position, Option, None, Some, Result, Ok, Err}
+use Rattle.std.specs.Prelude.{◌≡◌, ℕ, Bool, false, ◌||◌, if◌then◌else◌, nat_lt, nat_eq, List, [], ◌∷◌, ◌++◌, map, length, position, Option, None, Some, Result, Ok, Err}
 use Rattle.std.specs.Cmp.Lexicographic.{pointwise}
 use Rattle.std.specs.List.{list_any}
 use Rattle.rsl_accounts.specs.declared.client.Client.{Client}
@@ -51,6 +51,11 @@ checks_of settings clients accounts =
     ∷ fault_if (comes_twice (names accounts)) TwiceAccount
     ∷ fault_if (nat_lt settings.reserve settings.keep) KeepTooLong
     ∷ []
+
+-- the checks before memory is taken for the names pass
+abbrev pub PassesBeforeNames : Settings → List Client → List Entry → Type 0
+PassesBeforeNames settings clients accounts =
+    (first_fault (walk_over settings clients accounts) ≡ None) × (comes_twice (addresses clients) ≡ false)
 
 -- the account, with its times
 abbrev pub with_times : Settings → Entry → Entry

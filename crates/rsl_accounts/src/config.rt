@@ -1,7 +1,7 @@
 ghost use Rattle.std.specs.Prelude.{◌≡◌, ◌≢◌, ◌<◌, ◌%◌, false, true, None, IfOk, IfErr, IfSome, position, length, slice_get, map};
 ghost use Rattle.std.specs.List.{list_any};
 ghost use Rattle.std.specs.Result.{result_err};
-ghost use Rattle.rsl_accounts.specs.Configuration.{same_octets, walk_over, configuration_of, client_number, account_number, comes_twice, addresses, names, with_times};
+ghost use Rattle.rsl_accounts.specs.Configuration.{same_octets, walk_over, configuration_of, PassesBeforeNames, client_number, account_number, comes_twice, addresses, names, with_times};
 ghost use Rattle.rsl_accounts.specs.Walk.{first_fault};
 ghost use Rattle.rsl_accounts.specs.Limits.{IsConfiguration, IsAccount, IsSecret};
 
@@ -39,8 +39,8 @@ impl Model for Config {
 impl Config {
     /// The configuration of these settings, clients and accounts. The rules of each account get its times:
     /// those of the settings, but in version 2 its own live and grace times where it has them. The faults come in this order: `BadValue` of the first field of the walk with a wrong
-    /// value, `TwiceClient`, `TwiceAccount`, `KeepTooLong`. `NoMemory` comes where memory is refused,
-    /// before the checks that follow.
+    /// value, `TwiceClient`, `TwiceAccount`, `KeepTooLong`. `NoMemory` comes where memory is refused, and
+    /// only after the walk and `TwiceClient`.
     pub fn make(
         alloc: Global,
         settings: Settings,
@@ -50,6 +50,8 @@ impl Config {
         ensures ok { IfOk result (λ config. configuration_of settings clients.items accounts.items ≡ Ok config) }
         ensures fault { IfErr result (λ fault. fault ≢ ConfigFault.NoMemory →
             configuration_of settings clients.items accounts.items ≡ Err fault) }
+        ensures memory { IfErr result (λ fault. fault ≡ ConfigFault.NoMemory →
+            PassesBeforeNames settings clients.items accounts.items) }
     {
         walk_over(settings, clients.as_slice(), accounts.as_slice())?;
         Config::assemble(alloc, settings, clients, accounts)
@@ -66,6 +68,8 @@ impl Config {
         ensures ok { IfOk result (λ config. configuration_of settings clients.items accounts.items ≡ Ok config) }
         ensures fault { IfErr result (λ fault. fault ≢ ConfigFault.NoMemory →
             configuration_of settings clients.items accounts.items ≡ Err fault) }
+        ensures memory { IfErr result (λ fault. fault ≡ ConfigFault.NoMemory →
+            PassesBeforeNames settings clients.items accounts.items) }
     {
         if has_twice(clients.as_slice()) {
             return Err(ConfigFault::TwiceClient);
@@ -216,6 +220,3 @@ fn fill_times(settings: &Settings, mut accounts: Vec<Entry>) -> Vec<Entry>
     }
     accounts
 }
-
-#[cfg(test)]
-mod tests;

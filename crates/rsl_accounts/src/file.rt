@@ -284,6 +284,3 @@ fn read_entries(alloc: Global, version: u64, tables: &[Value]) -> Result<Vec<Ent
     }
     Ok(entries)
 }
-
-#[cfg(test)]
-mod tests;

@@ -1,4 +1,5 @@
 ghost use Rattle.std.specs.Prelude.{◌≡◌, IfOk, nat_eq};
+ghost use Rattle.std.specs.Str.{IsUtf8};
 ghost use Rattle.std.specs.Cmp.{partial_equiv_from_equiv};
 ghost use Rattle.std.specs.Cmp.Lexicographic.{pointwise, nat_list_eq_equiv};
 
@@ -33,9 +34,10 @@ impl Secret {
         })
     }
 
-    /// The octets of the secret, lent.
+    /// The octets of the secret, lent. They are UTF-8, as the type keeps.
     pub fn expose(&self) -> &[u8]
-        ensures { result.now ≡ self.now }
+        ensures octets { result.now ≡ self.now }
+        ensures utf8 { IsUtf8 self.now }
     {
         self.text.as_bytes()
     }

@@ -1,4 +1,5 @@
-ghost use Rattle.std.specs.Prelude.{◌≡◌, IsTrue, ◌↔◌, IfOk, nat_eq, length};
+ghost use Rattle.std.specs.Prelude.{◌≡◌, ◌<◌, ◌^◌, IsTrue, ◌↔◌, IfOk, nat_eq, length};
+ghost use Rattle.std.specs.Str.{IsUtf8};
 ghost use Rattle.std.specs.Cmp.{partial_equiv_from_equiv};
 ghost use Rattle.std.specs.Cmp.Lexicographic.{pointwise, nat_list_eq_equiv};
 
@@ -38,16 +39,18 @@ impl Text {
         self.text.as_str()
     }
 
-    /// The octets of the text, lent.
+    /// The octets of the text, lent. They are UTF-8, as the type keeps.
     pub fn as_bytes(&self) -> &[u8]
-        ensures { result.now ≡ self.now }
+        ensures octets { result.now ≡ self.now }
+        ensures utf8 { IsUtf8 self.now }
     {
-        self.text.as_bytes()
+        self.text.as_str().as_bytes()
     }
 
-    /// How many octets there are.
+    /// How many octets there are: less than 2^63, as the type keeps.
     pub fn len(&self) -> usize
-        ensures { result ≡ length self.now }
+        ensures number { result ≡ length self.now }
+        ensures limit { length self.now < 2 ^ 63 }
     {
         self.text.len()
     }

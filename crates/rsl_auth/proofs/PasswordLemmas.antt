@@ -10,7 +10,7 @@ use borrow.Rule.Slice.PartMut.{put_mid}
 use Rattle.std.proofs.lemmas.List.Prefix.{front_rest}
 use Rattle.std.proofs.lemmas.Bool.Decides.{Decides-and, Decides-like, Decides-eqb, nat_tests}
 use Rattle.md5.specs.Md5.{md5}
-use Rattle.rsl_auth.specs.Password.{xor_octets, masked, hidden_blocks, revealed_blocks, hidden, revealed, padded, are_nuls, is_padded, IsPadded, is_password_length, IsPasswordLength, matches_password}
+use Rattle.rsl_auth.specs.Password.{xor_octets, masked, hidden_blocks, revealed_blocks, hidden, revealed, nuls_after, padded_password, are_nuls, is_padded, IsPadded, is_password_length, IsPasswordLength, matches_password}
 use Rattle.rsl_auth.proofs.DigestLemmas.{length-md5}
 
 -- ---- xor
@@ -167,17 +167,31 @@ revealed_blocks_all done octets value secret before request_auth k end held =
     sym (append-nil done) ∙ (rw none at held)
 
 -- the password in a buffer of NULs, up to a multiple of 16 octets
+-- a password and its NULs are whole blocks, at least one and at most eight
+record Blocks (n zeros : ℕ) : Type 0 where
+  whole : (n + zeros) % 16 ≡ 0
+  some : 16 ≤ n + zeros
+  most : n ≤ 128 → n + zeros ≤ 128
+
+blocks_of : (n : ℕ) → Blocks n (nuls_after n)
+blocks_of zero = record { whole = refl; some = omega arith; most = λ fits. omega arith }
+blocks_of (suc n) =
+    let is : nuls_after (suc n) ≡ (16 - suc n % 16) % 16 = grind (arith, nat_tests) in
+    record { whole = omega (arith, is); some = omega (arith, is); most = λ fits. omega (arith, is) }
+
 pub padded_from_buffer : (password buffer : List ℕ) (end : ℕ) → length password ≤ 128
     → buffer ≡ password ++ replicate (128 - length password) 0
-    → end ≡ length password + (16 - length password % 16) % 16
-    → take end buffer ≡ padded password
+    → end ≡ length password + nuls_after (length password)
+    → take end buffer ≡ padded_password password
 padded_from_buffer password buffer end fits filled is =
-    let zeros : ℕ = (16 - length password % 16) % 16 in
+    let n : ℕ = length password in
+    let zeros : ℕ = nuls_after n in
+    let fit : n + zeros ≤ 128 = (blocks_of n).most fits in
     rw (filled, is)
     (take-append-add password (replicate (128 - length password) 0) zeros
-    ∙ ap (λ (r : List ℕ). password ++ r) (take-replicate zeros (128 - length password) 0 (omega arith)))
+    ∙ ap (λ (r : List ℕ). password ++ r) (take-replicate zeros (128 - n) 0 (omega (arith, fit))))
 
-pub hidden_from_blocks : (octets password secret request_auth : List ℕ) → octets ≡ padded password
+pub hidden_from_blocks : (octets password secret request_auth : List ℕ) → octets ≡ padded_password password
     → hidden_blocks (length octets / 16) octets secret request_auth ≡ hidden password secret request_auth
 unfolding hidden
 hidden_from_blocks octets password secret request_auth is = rw is refl
@@ -218,42 +232,46 @@ revealed_blocks-hidden_blocks (suc n) octets secret before fits =
     let whole : take (16 * suc n) octets ≡ take 16 octets ++ take (16 * n) (drop 16 octets) = take_sum 16 (16 * n) (16 * suc n) octets (omega arith) in
     rw (front, back, here, later) (sym whole)
 
-length-padded : (password : List ℕ) → length (padded password) ≡ length password + (16 - length password % 16) % 16
+length-padded : (password : List ℕ) → length (padded_password password) ≡ length password + nuls_after (length password)
 length-padded password =
-    length-append password (replicate ((16 - length password % 16) % 16) 0)
-    ∙ ap (λ (n : ℕ). length password + n) (length-replicate ((16 - length password % 16) % 16) 0)
+    length-append password (replicate (nuls_after (length password)) 0)
+    ∙ ap (λ (n : ℕ). length password + n) (length-replicate (nuls_after (length password)) 0)
 
 length-hidden : (password secret request_auth : List ℕ)
-    → length (hidden password secret request_auth) ≡ length (padded password)
+    → length (hidden password secret request_auth) ≡ length (padded_password password)
 unfolding hidden
 length-hidden password secret request_auth =
-    let blocks = length-hidden_blocks (length (padded password) / 16) (padded password) secret request_auth (omega arith) in
-    omega (arith, blocks, length-padded password)
+    let n : ℕ = length (padded_password password) in
+    let blocks = length-hidden_blocks (n / 16) (padded_password password) secret request_auth (omega arith) in
+    let whole : n % 16 ≡ 0 = rw (length-padded password) (blocks_of (length password)).whole in
+    omega (arith, blocks, whole)
 
-revealed_blocks_of_hidden : (password secret request_auth : List ℕ) (n : ℕ) → n ≡ length (padded password) / 16
-    → 16 * n ≤ length (padded password)
-    → revealed_blocks n (hidden password secret request_auth) secret request_auth ≡ take (16 * n) (padded password)
+revealed_blocks_of_hidden : (password secret request_auth : List ℕ) (n : ℕ) → n ≡ length (padded_password password) / 16
+    → 16 * n ≤ length (padded_password password)
+    → revealed_blocks n (hidden password secret request_auth) secret request_auth ≡ take (16 * n) (padded_password password)
 unfolding hidden
 revealed_blocks_of_hidden password secret request_auth n is fits =
-    rw (← is) (revealed_blocks-hidden_blocks n (padded password) secret request_auth fits)
+    rw (← is) (revealed_blocks-hidden_blocks n (padded_password password) secret request_auth fits)
 
 revealed-hidden : (password secret request_auth : List ℕ)
-    → revealed (hidden password secret request_auth) secret request_auth ≡ padded password
+    → revealed (hidden password secret request_auth) secret request_auth ≡ padded_password password
 unfolding revealed
 revealed-hidden password secret request_auth =
-    let n : ℕ = length (padded password) / 16 in
-    let whole : 16 * n ≡ length (padded password) = omega (arith, length-padded password) in
+    let n : ℕ = length (padded_password password) / 16 in
+    let blocks : length (padded_password password) % 16 ≡ 0 = rw (length-padded password) (blocks_of (length password)).whole in
+    let whole : 16 * n ≡ length (padded_password password) = omega (arith, blocks) in
     rw (length-hidden password secret request_auth)
     (revealed_blocks_of_hidden password secret request_auth n refl (omega arith)
-    ∙ take_all (16 * n) (padded password) (omega arith))
+    ∙ take_all (16 * n) (padded_password password) (omega arith))
 
-pub matches_password-hidden : (password secret request_auth : List ℕ) → 1 ≤ length password → length password ≤ 128
+pub matches_password-hidden : (password secret request_auth : List ℕ) → length password ≤ 128
     → matches_password (hidden password secret request_auth) secret request_auth password ≡ true
-matches_password-hidden password secret request_auth low high =
+matches_password-hidden password secret request_auth high =
     let value : List ℕ = hidden password secret request_auth in
-    let len : length value ≡ length password + (16 - length password % 16) % 16 =
+    let len : length value ≡ length password + nuls_after (length password) =
     length-hidden password secret request_auth ∙ length-padded password in
+    let blocks = blocks_of (length password) in
     (matches_password-Decides value secret request_auth password).1 (
-      (omega arith, omega arith, omega arith),
-      ((16 - length password % 16) % 16, revealed-hidden password secret request_auth),
+      (rw len blocks.whole, rw len blocks.some, rw len (blocks.most high)),
+      (nuls_after (length password), revealed-hidden password secret request_auth),
     )

@@ -1,12 +1,16 @@
 -- User-Password (RFC 2865 section 5.2). The password p1, p2, .. of 16 octets each is hidden as c(1), c(2), .. with
 -- c(1) = p1 xor MD5(S, RA) and c(i) = pi xor MD5(S, c(i-1)), where S is the secret and RA the Request Authenticator.
-use Rattle.std.specs.Prelude.{◌≡◌, ℕ, zero, suc, ◌-◌, ◌/◌, ◌%◌, ◌≤◌, ◌==◌, nat_eq, nat_le, Bool, ◌&&◌, List, [], ◌∷◌, ◌++◌, length, take, drop, replicate, bit_xor}
+use Rattle.std.specs.Prelude.{◌≡◌, ℕ, zero, suc, ◌-◌, ◌/◌, ◌%◌, ◌≤◌, ◌==◌, nat_eq, nat_le, Bool, ◌&&◌, List, [], ◌∷◌, ◌++◌, length, take, drop, replicate, bit_xor, if◌then◌else◌}
 use Rattle.std.specs.List.{starts_with, list_all}
 use Rattle.md5.specs.Md5.{md5}
 
--- the password, padded at its end with NULs to a multiple of 16 octets
-abbrev pub padded : List ℕ → List ℕ
-padded password = password ++ replicate ((16 - length password % 16) % 16) 0
+-- how many NULs come after a password: as few as make a multiple of 16 octets, and 16 after the empty one
+abbrev pub nuls_after : (length : ℕ) → ℕ
+nuls_after n = if n == 0 then 16 else (16 - n % 16) % 16
+
+-- the password and the NULs after it: p1, p2, .. joined
+abbrev pub padded_password : List ℕ → List ℕ
+padded_password password = password ++ replicate (nuls_after (length password)) 0
 
 -- each octet xor the other's at its place
 abbrev pub xor_octets : List ℕ → List ℕ → List ℕ
@@ -33,7 +37,7 @@ revealed_blocks (suc blocks) value secret before =
 
 -- the value that hides a password
 unfoldable pub hidden : (password secret request_auth : List ℕ) → List ℕ
-hidden password secret request_auth = hidden_blocks (length (padded password) / 16) (padded password) secret request_auth
+hidden password secret request_auth = hidden_blocks (length (padded_password password) / 16) (padded_password password) secret request_auth
 
 -- the octets that a value hides
 unfoldable pub revealed : (value secret request_auth : List ℕ) → List ℕ

@@ -10,8 +10,6 @@ mod chap;
 mod hmac;
 mod password;
 mod signature;
-#[cfg(test)]
-mod tests;
 
 pub use authenticator::{accounting_ok, seal, sealed};
 pub use chap::{chap_ok, chap_response};

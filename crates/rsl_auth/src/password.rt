@@ -1,4 +1,4 @@
-ghost use Rattle.std.specs.Prelude.{◌≡◌, ◌↔◌, ◌≤◌, ◌-◌, ◌/◌, ◌++◌, IsTrue, IfOk, length, take, replicate};
+ghost use Rattle.std.specs.Prelude.{◌≡◌, ◌↔◌, ◌≤◌, ◌+◌, ◌-◌, ◌/◌, ◌++◌, IsTrue, IfOk, length, take, replicate};
 ghost use Rattle.rsl_auth.specs.Password.{
   are_nuls,
   hidden,
@@ -9,7 +9,7 @@ ghost use Rattle.rsl_auth.specs.Password.{
   IsPasswordLength,
   masked,
   matches_password,
-  padded,
+  nuls_after,
   revealed,
 };
 
@@ -23,8 +23,8 @@ const BLOCK_LEN: usize = 16;
 /// The longest password, and the longest value.
 const MAX_LEN: usize = 128;
 
-/// The User-Password value that hides a password of 1 to 128 octets: padded with NULs to blocks of
-/// 16, each xor MD5(Secret, the hidden block before), the first xor MD5(Secret, Request
+/// The User-Password value that hides a password of at most 128 octets: padded with NULs to blocks of
+/// 16, at least one, each xor MD5(Secret, the hidden block before), the first xor MD5(Secret, Request
 /// Authenticator) (RFC 2865 section 5.2). It has 16, 32, .. or 128 octets. It fails only where memory is
 /// refused.
 pub fn hide(
@@ -33,14 +33,13 @@ pub fn hide(
     secret: &[u8],
     request_auth: &[u8; 16],
 ) -> Result<Vec<u8>, NoMemory>
-    requires not_empty { 1 ≤ length password.now }
-    requires not_long { length password.now ≤ 128 }
+    requires { length password.now ≤ 128 }
     ensures value { IfOk result (λ value. value.items ≡ hidden password.now secret.now request_auth.now) }
     ensures length { IfOk result (λ value. IsPasswordLength (length value.items)) }
     ensures reveals { IfOk result (λ value. IsTrue (matches_password value.items secret.now request_auth.now password.now)) }
 {
     let buffer = pad(password);
-    let octets = &buffer[..password.len().next_multiple_of(BLOCK_LEN)];
+    let octets = &buffer[..padded_len(password.len())];
     hide_blocks(alloc, octets, secret, request_auth)
 }
 
@@ -57,6 +56,18 @@ pub fn pap_ok(value: &[u8], secret: &[u8], request_auth: &[u8; 16], password: &[
     }
     let buffer = reveal(value, secret, request_auth);
     is_followed_by_nuls(&buffer[..value.len()], password)
+}
+
+// How many octets a password of so many has with its NULs.
+fn padded_len(len: usize) -> usize
+    requires { len ≤ 128 }
+    ensures { result ≡ len + nuls_after len }
+{
+    if len == 0 {
+        BLOCK_LEN
+    } else {
+        len.next_multiple_of(BLOCK_LEN)
+    }
 }
 
 // The password, and NULs after it.

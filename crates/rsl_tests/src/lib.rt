@@ -7,6 +7,10 @@
 #![tactic(auto)]
 
 #[cfg(test)]
+mod accounts;
+#[cfg(test)]
+mod auth;
+#[cfg(test)]
 mod event;
 #[cfg(test)]
 mod support;

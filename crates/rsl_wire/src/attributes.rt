@@ -145,6 +145,3 @@ fn attribute_at_front(octets: &[u8]) -> Option<(u8, &[u8], &[u8])>
     let (value, rest) = rest.split_at(len - ATTR_HEADER_LEN);
     Some((*kind, value, rest))
 }
-
-#[cfg(test)]
-mod tests;

@@ -26,8 +26,6 @@ pub mod laws;
 mod octets;
 mod packet;
 mod reading;
-#[cfg(test)]
-mod tests;
 
 pub use attr::{Attr, MAX_VALUE_LEN};
 pub use attributes::{Attrs, BadAttribute};

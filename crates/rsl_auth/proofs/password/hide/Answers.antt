@@ -1,32 +1,32 @@
 -- The hidden blocks are those of the padded password, and they reveal it.
 use Rattle.std.proofs.Common.{◌≡◌, ◌≤◌, ℕ, List, length, take, Result, Vec, Global, IfOk, IsTrue}
 use Rattle.std.proofs.lemmas.Result.{IfOk-weaker}
-use Rattle.rsl_auth.specs.Password.{padded, hidden, IsPasswordLength, matches_password}
+use Rattle.rsl_auth.specs.Password.{padded_password, hidden, IsPasswordLength, matches_password}
 use Rattle.rsl_auth.proofs.PasswordLemmas.{padded_from_buffer, hidden_from_blocks, matches_password-Decides, matches_password-hidden}
 use Rattle.rsl_auth.proofs.password.hide.Goals as goal
 
 pub returns-clause-value : goal.returns-clause-value
 returns-clause-value c =
-    let octets : List ℕ = take c.next_multiple_of.result c.pad-buffer.result in
-    let is_padded : octets ≡ padded c.args.password.now =
-    padded_from_buffer c.args.password.now c.pad-buffer.result c.next_multiple_of.result c.requires.not_long
-    c.pad-buffer.ensures c.next_multiple_of.ensures.value in
+    let octets : List ℕ = take c.padded_len.result c.pad-buffer.result in
+    let is_padded : octets ≡ padded_password c.args.password.now =
+    padded_from_buffer c.args.password.now c.pad-buffer.result c.padded_len.result c.requires
+    c.pad-buffer.ensures c.padded_len.ensures in
     rw (← hidden_from_blocks octets c.args.password.now c.args.secret.now c.args.request_auth.now is_padded)
     c.hide_blocks.ensures
 
 reveals : {E : Type 0} (r : Result (Vec ℕ Global) E) (password secret request_auth : List ℕ)
-    → 1 ≤ length password → length password ≤ 128
+    → length password ≤ 128
     → IfOk r (λ value. value.items ≡ hidden password secret request_auth)
     → IfOk r (λ value. IsTrue (matches_password value.items secret request_auth password))
-reveals r password secret request_auth low high =
+reveals r password secret request_auth high =
     IfOk-weaker r (λ value. value.items ≡ hidden password secret request_auth)
     (λ value. IsTrue (matches_password value.items secret request_auth password))
-    (λ value made. rw made (matches_password-hidden password secret request_auth low high))
+    (λ value made. rw made (matches_password-hidden password secret request_auth high))
 
 pub returns-clause-reveals : goal.returns-clause-reveals
 returns-clause-reveals c =
     reveals c.hide_blocks.result c.args.password.now c.args.secret.now c.args.request_auth.now
-    c.requires.not_empty c.requires.not_long (returns-clause-value c)
+    c.requires (returns-clause-value c)
 
 lengths : {E : Type 0} (r : Result (Vec ℕ Global) E) (password secret request_auth : List ℕ)
     → IfOk r (λ value. IsTrue (matches_password value.items secret request_auth password))

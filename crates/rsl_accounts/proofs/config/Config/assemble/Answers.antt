@@ -24,6 +24,11 @@ returns-in_err-names-clause-fault c =
     (rw (← c.as_slice.ensures.value) (sym c.if-has_twice.ensures))
     (rw (← c.as_slice-2.ensures.value) twice.1)))
 
+pub returns-in_err-names-clause-memory : goal.returns-in_err-names-clause-memory
+returns-in_err-names-clause-memory c =
+    let p = err_from_is_err_and c.from_residual.result c.from_residual.ensures.1 in
+    rw (p.1, p.2) (λ _. (c.requires, rw (← c.as_slice.ensures.value) (sym c.if-has_twice.ensures)))
+
 pub returns-then-settings-clause-fault : goal.returns-then-settings-clause-fault
 returns-then-settings-clause-fault c = λ _.
     keep_too_long c.args.settings c.args.clients.items c.args.accounts.items
