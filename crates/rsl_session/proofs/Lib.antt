@@ -3,3 +3,14 @@ pub mod Counting
 pub mod Ruled
 pub mod Ending
 pub mod Limit
+pub mod BookLists
+pub mod BookViews
+pub mod BookKept
+pub mod BookKnown
+pub mod BookTests
+pub mod BookGrown
+pub mod BookAt
+pub mod BookAlive
+pub mod BookAsk
+pub mod BookJoined
+pub mod BookBound

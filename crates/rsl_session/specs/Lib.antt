@@ -12,3 +12,8 @@ pub mod Ask
 pub mod Closed
 pub mod Alive
 pub mod Rule
+pub mod Book
+pub mod BookLinks
+pub mod BookStep
+pub mod BookOf
+pub mod BookLaws

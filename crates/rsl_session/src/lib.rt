@@ -4,10 +4,14 @@
 //! The rule is written as definitions, in `specs/`, a file per subject. They look back over the events of
 //! one account, each with what it did, and carry nothing on. This crate has the types that they speak of.
 //! Read `specs/Past.antt` first and `specs/Rule.antt` last.
+//!
+//! Beside them stands the running book, which carries on what an account holds: `specs/Book.antt` and
+//! `specs/BookStep.antt`. The functions of [`laws`] join the two.
 #![tactic(auto)]
 
 mod bundle;
 mod kept;
+pub mod laws;
 mod outcome;
 mod past_event;
 mod session;
