@@ -24,11 +24,14 @@ pub(crate) fn command<E: Env, R: Read, W: Write>(
     ensures replayed { OnOk result (IfSome (R.remaining stdin.old) (λ text.
         (written : List ℕ) × IsReplayed text written × Appends (W.contents stdout.old) (W.contents stdout.new) written)) }
     // A fault of the script is there, and is the first.
-    ensures fault { IfErr result (λ fault. IfSome (R.remaining stdin.old) (λ text. IsFaultOfText text fault)) }
+    ensures fault { IfErr result (λ fault. IfSome (R.remaining stdin.old) (λ text.
+        IsFaultOfText text fault)) }
     // After every other fault than `InputOutput` nothing was written.
-    ensures silent { IfErr result (λ fault. fault ≢ Fault.Replay InputOutput → Keeps (W.contents stdout.old) (W.contents stdout.new)) }
+    ensures silent { IfErr result (λ fault.
+        fault ≢ Fault.Replay InputOutput → Keeps (W.contents stdout.old) (W.contents stdout.new)) }
     // Where the arguments are wrong nothing is read.
-    ensures unread { IsErrOf result Fault.Usage → Keeps (R.remaining stdin.old) (R.remaining stdin.new) }
+    ensures unread { IsErrOf result Fault.Usage →
+        Keeps (R.remaining stdin.old) (R.remaining stdin.new) }
 {
     if !ask_for_a_replay(arguments) {
         return Err(Fault::Usage);

@@ -1,6 +1,6 @@
 pub mod AccountingLaws
 pub mod Consumed
-mod HiddenLemmas
+pub mod AccessLaws
 pub mod PrintingLaws
 pub mod StepCounts
 pub mod SteppingLaws

@@ -12,24 +12,24 @@ use Rattle.rsl_script.specs.declared.event_line.Happening.TheVariants.{Access, A
 use Rattle.rsl_script.specs.declared.event_line.Happening.TheVariants as happenings
 use Rattle.rsl_script.specs.declared.request.Status.{Status}
 use Rattle.rsl_replay.specs.Accounting.{accounting_octets}
-use Rattle.rsl_replay.specs.Stepping.{nas_of, is_restart, sweeps_by, sweeps_before, secret_at, datagram, steps_at, steps_of_line, steps_of_lines, sweep_count, count_of, step_count}
+use Rattle.rsl_replay.specs.Stepping.{nas_named, says_restart, sweeps_by, sweeps_before, secret_at, datagram, steps_at, steps_of_line, steps_of_lines, sweep_count, step_count_of, step_count}
 use Rattle.rsl_steps.specs.declared.step.Step.{Step}
 use Rattle.rsl_steps.specs.declared.step.Step.TheVariants as steps
 
 length-sweeps : (config : Configuration) (moment : ℕ) (name : Option (List ℕ)) (status : Status) (client : Option ℕ)
-    → length (cond (is_restart status) (sweeps_by config moment name client) []) ≡ sweep_count config status client
-length-sweeps config moment name status None = by (is_restart status)
+    → length (cond (says_restart status) (sweeps_by config moment name client) []) ≡ sweep_count config status client
+length-sweeps config moment name status None = by (says_restart status)
   where
     by : (b : Bool) → length (cond b (sweeps_by config moment name None) []) ≡ 0
     by true = refl
     by false = refl
-length-sweeps config moment name status (Some client) = by (is_restart status)
+length-sweeps config moment name status (Some client) = by (says_restart status)
   where
     by : (b : Bool) → length (cond b (sweeps_by config moment name (Some client)) []) ≡ cond b config.settings.shards 0
-    by true = length-map-range_with_len (λ (shard : ℕ). steps.Sweep shard moment (nas_of client name)) 0 config.settings.shards
+    by true = length-map-range_with_len (λ (shard : ℕ). steps.Sweep shard moment (nas_named client name)) 0 config.settings.shards
     by false = refl
 
-length-steps_at : (config : Configuration) (boot moment : ℕ) (happening : Happening) → length (steps_at config boot moment happening) ≡ count_of config happening
+length-steps_at : (config : Configuration) (boot moment : ℕ) (happening : Happening) → length (steps_at config boot moment happening) ≡ step_count_of config happening
 length-steps_at config boot moment (Access address request) = refl
 length-steps_at config boot moment (Accounting address request) =
     let before = sweeps_before config moment address request in

@@ -3,8 +3,7 @@ use Rattle.std.specs.Prelude.{ℕ, ◌+◌, ◌-◌, Bool, true, false, List, []
 use Rattle.std.specs.Fmt.{decimal}
 use Rattle.std.specs.List.{list_any}
 use Rattle.rsl_accounts.specs.Configuration.{Configuration}
-use Rattle.rsl_event.specs.declared.meaning.Dropped.{Dropped}
-use Rattle.rsl_event.specs.declared.meaning.Dropped.TheVariants.{Short, BadLength, UnknownClient, WrongCode, BadAuthenticator, Malformed, BadSignature, Unsigned, ProxyTooLong, NoStatus, NoSession, NoMemory}
+use Rattle.rsl_event.specs.Dropped.{drop_name}
 use Rattle.rsl_event.specs.declared.words.Said.{Said}
 use Rattle.rsl_event.specs.declared.words.Said.TheVariants.{Accept, LimitReject, Reject, Account}
 use Rattle.rsl_script.specs.declared.event_line.EventLine.{EventLine}
@@ -16,21 +15,6 @@ use Rattle.rsl_steps.specs.declared.step.Answer.TheVariants as answers
 use Rattle.rsl_steps.specs.declared.step.Answer.TheVariants.{Reply}
 use Rattle.rsl_replay.specs.declared.word.Word.{Word}
 use Rattle.rsl_replay.specs.declared.word.Word.TheVariants as words
-
--- the name of a reason
-abbrev pub drop_name : Dropped → List ℕ
-drop_name Short = codes "Short"
-drop_name BadLength = codes "BadLength"
-drop_name UnknownClient = codes "UnknownClient"
-drop_name WrongCode = codes "WrongCode"
-drop_name BadAuthenticator = codes "BadAuthenticator"
-drop_name Malformed = codes "Malformed"
-drop_name BadSignature = codes "BadSignature"
-drop_name Unsigned = codes "Unsigned"
-drop_name ProxyTooLong = codes "ProxyTooLong"
-drop_name NoStatus = codes "NoStatus"
-drop_name NoSession = codes "NoSession"
-drop_name NoMemory = codes "NoMemory"
 
 abbrev pub said_text : Said → List ℕ
 said_text (Accept number) = codes "accept " ++ decimal number
@@ -67,7 +51,7 @@ word_of happening answers =
     if list_any is_refused answers then words.Refused
     else taken_word happening (slice_get answers (length answers - 1))
 
--- a number and a word, with a space between them and a line feed behind them
+-- a number and a word, with a space between them and a line feed after them
 abbrev pub line_text : (number : ℕ) → Word → List ℕ
 line_text number word = decimal number ++ 32 ∷ word_text word ++ 10 ∷ []
 

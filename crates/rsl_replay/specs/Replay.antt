@@ -9,9 +9,15 @@ use Rattle.rsl_steps.specs.Run.{AreAnswers}
 use Rattle.rsl_replay.specs.Stepping.{steps_of_lines}
 use Rattle.rsl_replay.specs.declared.fault.ReplayFault.{ReplayFault}
 use Rattle.rsl_replay.specs.declared.fault.ReplayFault.TheVariants.{Line, TooLong, Config, InputOutput, NoMemory}
-use Rattle.rsl_replay.specs.declared.input.TheConstants.{MAX_SCRIPT_LEN}
-use Rattle.rsl_replay.specs.declared.replaying.TheConstants.{BOOT}
 use Rattle.rsl_steps.specs.declared.step.Answer.{Answer}
+
+-- the most octets that a script may have
+abbrev pub most_octets : ℕ
+most_octets = 1048576
+
+-- the boot number of a server that replays a script
+abbrev pub replay_boot : ℕ
+replay_boot = 1
 
 -- The text is a right script of a right configuration, and not too long; each step of its event lines has its answer, and what is
 -- written tells for each event line what it was answered.
@@ -19,10 +25,10 @@ pub record IsReplayed (text written : List ℕ) : Type 0 where
   pub script : Contents
   pub config : Configuration
   pub answers : List Answer
-  pub short : length text ≤ MAX_SCRIPT_LEN
+  pub short : length text ≤ most_octets
   pub read : script_of text ≡ Ok script
   pub made : configuration_of script.settings script.clients script.accounts ≡ Ok config
-  pub answered : AreAnswers config BOOT [] (steps_of_lines config BOOT script.events) answers
+  pub answered : AreAnswers config replay_boot [] (steps_of_lines config replay_boot script.events) answers
   pub printed_lines : written ≡ printed config script.events answers
 
 -- a right script whose configuration has the fault
@@ -34,8 +40,8 @@ pub record IsRefused (text : List ℕ) (fault : ConfigFault) : Type 0 where
 -- A fault of a text is there: too long comes first, then the first wrong line, then the configuration's fault.
 -- Reads, writes and growths may fail at any time.
 abbrev pub IsFaultOf : (text : List ℕ) → ReplayFault → Type 0
-IsFaultOf text TooLong = MAX_SCRIPT_LEN < length text
-IsFaultOf text (Line number) = (length text ≤ MAX_SCRIPT_LEN) × (script_of text ≡ Err (wrong_line number))
-IsFaultOf text (Config fault) = (length text ≤ MAX_SCRIPT_LEN) × IsRefused text fault
+IsFaultOf text TooLong = most_octets < length text
+IsFaultOf text (Line number) = (length text ≤ most_octets) × (script_of text ≡ Err (wrong_line number))
+IsFaultOf text (Config fault) = (length text ≤ most_octets) × IsRefused text fault
 IsFaultOf text InputOutput = ⊤
 IsFaultOf text NoMemory = ⊤

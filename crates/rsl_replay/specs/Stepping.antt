@@ -3,6 +3,7 @@ use Rattle.std.specs.Prelude.{ℕ, ◌+◌, Bool, true, false, List, [], ◌∷�
 use Rattle.std.specs.List.{flat_map, range_with_len}
 use Rattle.rsl_accounts.specs.Configuration.{Configuration, client_number}
 use Rattle.rsl_event.specs.Request.{nas_name_of, secret_of}
+use Rattle.rsl_event.specs.Signature.{must_sign}
 use Rattle.rsl_event.specs.declared.nas.Nas.{Nas}
 use Rattle.rsl_event.specs.declared.meaning.Port.{Port}
 use Rattle.rsl_event.specs.declared.meaning.Port.TheVariants.{Auth, Acct}
@@ -27,6 +28,14 @@ secret_by config (Some client) = secret_of config client
 abbrev pub secret_at : Configuration → (address : List ℕ) → List ℕ
 secret_at config address = secret_by config (client_number config address)
 
+-- whether an Access-Request from an address is signed: where its client's must be
+abbrev pub is_signed_by : Configuration → (client : Option ℕ) → Bool
+is_signed_by config None = false
+is_signed_by config (Some client) = must_sign config client
+
+abbrev pub is_signed_at : Configuration → (address : List ℕ) → Bool
+is_signed_at config address = is_signed_by config (client_number config address)
+
 -- a datagram from port 1024 of an address
 abbrev pub datagram : (moment : ℕ) → Port → (address octets : List ℕ) → Step
 datagram moment port address octets = Datagram moment port (record { address = address; port = 1024 }) octets
@@ -42,28 +51,28 @@ abbrev pub sweeps : Configuration → (moment : ℕ) → Nas → List Step
 sweeps config moment nas = for_each_shard config (λ shard. steps.Sweep shard moment nas)
 
 -- the access server of a client: it has no name where the line has no NAS
-abbrev pub nas_of : (client : ℕ) → (name : Option (List ℕ)) → Nas
-nas_of client name = record { client = client; name = nas_name_of name None }
+abbrev pub nas_named : (client : ℕ) → (name : Option (List ℕ)) → Nas
+nas_named client name = record { client = client; name = nas_name_of name None }
 
 -- whether a status says that the access server has restarted
-abbrev pub is_restart : Status → Bool
-is_restart On = true
-is_restart Off = true
-is_restart _ = false
+abbrev pub says_restart : Status → Bool
+says_restart On = true
+says_restart Off = true
+says_restart _ = false
 
 -- the sweeps before an Accounting-Request from an address: there are none where no client has it
 abbrev pub sweeps_by : Configuration → (moment : ℕ) → (name : Option (List ℕ)) → (client : Option ℕ) → List Step
 sweeps_by config moment name None = []
-sweeps_by config moment name (Some client) = sweeps config moment (nas_of client name)
+sweeps_by config moment name (Some client) = sweeps config moment (nas_named client name)
 
 abbrev pub sweeps_before : Configuration → (moment : ℕ) → (address : List ℕ) → AccountingRequest → List Step
 sweeps_before config moment address request =
-    if is_restart request.status then sweeps_by config moment request.nas (client_number config address) else []
+    if says_restart request.status then sweeps_by config moment request.nas (client_number config address) else []
 
 -- what happens at a moment
 abbrev pub steps_at : Configuration → (boot moment : ℕ) → Happening → List Step
 steps_at config boot moment (Access address request) =
-    datagram moment Auth address (access_octets request (secret_at config address)) ∷ []
+    datagram moment Auth address (access_octets request (is_signed_at config address) (secret_at config address)) ∷ []
 steps_at config boot moment (Accounting address request) =
     sweeps_before config moment address request
     ++ datagram moment Acct address (accounting_octets boot request (secret_at config address)) ∷ []
@@ -80,13 +89,13 @@ steps_of_lines config boot lines = flat_map (steps_of_line config boot) lines
 -- how many steps a line has
 abbrev pub sweep_count : Configuration → Status → (client : Option ℕ) → ℕ
 sweep_count config status None = 0
-sweep_count config status (Some client) = if is_restart status then config.settings.shards else 0
+sweep_count config status (Some client) = if says_restart status then config.settings.shards else 0
 
-abbrev pub count_of : Configuration → Happening → ℕ
-count_of config (Access address request) = 1
-count_of config (Accounting address request) = sweep_count config request.status (client_number config address) + 1
-count_of config (Raw address port octets) = 1
-count_of config happenings.Tick = config.settings.shards
+abbrev pub step_count_of : Configuration → Happening → ℕ
+step_count_of config (Access address request) = 1
+step_count_of config (Accounting address request) = sweep_count config request.status (client_number config address) + 1
+step_count_of config (Raw address port octets) = 1
+step_count_of config happenings.Tick = config.settings.shards
 
 unfoldable pub step_count : Configuration → EventLine → ℕ
-step_count config line = count_of config line.happening
+step_count config line = step_count_of config line.happening

@@ -1,40 +1,49 @@
-ghost use Rattle.std.specs.Prelude.{◌≡◌, ◌≤◌, ◌∷◌, IfOk, length, map};
+ghost use Rattle.std.specs.Prelude.{◌≡◌, ◌≤◌, ◌+◌, ◌++◌, ◌∷◌, [], IfOk, IsTrue, length, vec_len};
 ghost use Rattle.md5.specs.Md5.{md5};
 ghost use Rattle.rsl_auth.specs.Chap.{chap_response};
 ghost use Rattle.rsl_auth.specs.Password.{hidden};
-ghost use Rattle.rsl_wire.specs.Attributes.{attribute_of, list_octets};
-ghost use Rattle.rsl_wire.specs.Building.{seen, FitsPacket};
+ghost use Rattle.rsl_auth.specs.Signature.{signed};
+ghost use Rattle.rsl_wire.specs.Attributes.{attribute_octets, attribute_of, list_octets};
 ghost use Rattle.rsl_wire.specs.Packet.{packet_octets};
-ghost use Rattle.rsl_event.specs.declared.codes.TheConstants.{ACCESS_REQUEST};
-ghost use Rattle.rsl_replay.specs.Access.{access_octets, packet_with};
+ghost use Rattle.rsl_event.specs.Answer.{signed_if};
+ghost use Rattle.rsl_event.specs.Signature.{signature_if};
+ghost use Rattle.rsl_replay.specs.Access.{access_octets, password_kind, password_value, request_attributes};
 
+use crate::accounting::push_text;
 use md5::{Digest, Md5};
-use rsl_auth::hide;
-use rsl_event::codes::{ACCESS_REQUEST, CHAP_PASSWORD, NAS_IDENTIFIER, USER_NAME, USER_PASSWORD};
+use rsl_auth::{chap_response, hide, sign};
+use rsl_event::codes::{
+    ACCESS_REQUEST, CHAP_PASSWORD, MESSAGE_AUTHENTICATOR, NAS_IDENTIFIER, USER_NAME, USER_PASSWORD,
+};
 use rsl_script::{AccessRequest, Method};
-use rsl_wire::{Attr, BuildFault, NoMemory, build};
+use rsl_wire::{Draft, NoMemory};
 use std::alloc::Global;
 
 /// Octets of a CHAP-Password: the CHAP Ident and a response of 16 (RFC 2865 section 5.3).
 const CHAP_PASSWORD_LEN: usize = 17;
 
-/// The octets of the Access-Request, for a client with this secret (RFC 2865 section 4.1). It fails
-/// only where memory is refused.
-#[tactic(auto, unfolding(crate::specs::Access::access_octets))]
+/// Octets of the value of a Message-Authenticator (RFC 3579 section 3.2).
+const SIGNATURE_LEN: usize = 16;
+
+/// The place of the value of a packet's first attribute.
+const FIRST_VALUE: usize = 22;
+
+/// The octets of the Access-Request, for a client with this secret (RFC 2865 section 4.1). If it is
+/// signed, a right Message-Authenticator is its first attribute. It fails only where memory is refused.
 pub(crate) fn access_octets(
     alloc: Global,
     request: &AccessRequest,
+    is_signed: bool,
     secret: &[u8],
 ) -> Result<Vec<u8>, NoMemory>
-    ensures { IfOk result (λ octets. octets.items ≡ access_octets request.now secret.now) }
+    ensures { IfOk result (λ octets. octets.items ≡
+        access_octets request.now is_signed secret.now) }
 {
-    match request.method {
-        Method::Pap => {
-            let value = user_password(alloc, request, secret)?;
-            octets_with(alloc, request, USER_PASSWORD, value.as_slice())
-        }
-        Method::Chap => octets_with(alloc, request, CHAP_PASSWORD, &chap_password(request)),
-    }
+    let value = password_value(alloc, request, secret)?;
+    let mut draft = Draft::new(alloc, request.id)?;
+    push_signature_if(is_signed, &mut draft);
+    push_request(&mut draft, request, value.as_slice());
+    Ok(finish(draft, is_signed, &authenticator(request), secret))
 }
 
 /// The Request Authenticator.
@@ -46,10 +55,26 @@ fn authenticator(request: &AccessRequest) -> [u8; 16]
     hasher.finalize()
 }
 
+/// The value of the attribute that shows that the password is known.
+fn password_value(
+    alloc: Global,
+    request: &AccessRequest,
+    secret: &[u8],
+) -> Result<Vec<u8>, NoMemory>
+    ensures value { IfOk result (λ value.
+        value.items ≡ password_value request.now.method request.now secret.now) }
+    ensures short { IfOk result (λ value. length value.items ≤ 128) }
+{
+    match request.method {
+        Method::Pap => user_password(alloc, request, secret),
+        Method::Chap => Ok(Vec::from_slice(alloc, &chap_password(request))?),
+    }
+}
+
 /// The User-Password (RFC 2865 section 5.2).
-#[tactic(auto, using(crate::proofs::HiddenLemmas::matching_length))]
 fn user_password(alloc: Global, request: &AccessRequest, secret: &[u8]) -> Result<Vec<u8>, NoMemory>
-    ensures value { IfOk result (λ value. value.items ≡ hidden request.now.password secret.now (md5 request.now.text)) }
+    ensures value { IfOk result (λ value.
+        value.items ≡ hidden request.now.password secret.now (md5 request.now.text)) }
     ensures short { IfOk result (λ value. length value.items ≤ 128) }
 {
     hide(
@@ -62,65 +87,95 @@ fn user_password(alloc: Global, request: &AccessRequest, secret: &[u8]) -> Resul
 
 /// The CHAP-Password: the CHAP Ident is the Identifier, and the challenge is the Request Authenticator
 /// (RFC 2865 section 5.3).
-#[tactic(auto, unfolding(rsl_auth::specs::Chap::chap_response))]
 fn chap_password(request: &AccessRequest) -> [u8; CHAP_PASSWORD_LEN]
     ensures { result ≡ request.now.id ∷ chap_response request.now.id request.now.password (md5 request.now.text) }
 {
-    let mut hasher = Md5::new();
-    hasher.update(&[request.id]);
-    hasher.update(request.password.expose());
-    hasher.update(&authenticator(request));
+    let response = chap_response(
+        request.id,
+        request.password.expose(),
+        &authenticator(request),
+    );
     let mut value = [request.id; CHAP_PASSWORD_LEN];
-    value[1..].copy_from_slice(&hasher.finalize());
+    value[1..].copy_from_slice(&response);
     value
 }
 
-/// The octets of the request with this attribute for its password.
-fn octets_with(
-    alloc: Global,
-    request: &AccessRequest,
-    kind: u8,
-    value: &[u8],
-) -> Result<Vec<u8>, NoMemory>
-    requires { length value.now ≤ 128 }
-    ensures { IfOk result (λ octets. octets.items ≡ packet_with request.now (attribute_of kind value.now)) }
+/// Writes a Message-Authenticator with zeros for its value, if the request is signed.
+fn push_signature_if(is_signed: bool, draft: &mut Draft)
+    requires { draft.old.attributes ≡ [] }
+    ensures written { draft.new ≡ record draft.old { attributes = list_octets (signature_if is_signed) } }
+    ensures short { length draft.new.attributes ≤ 18 }
+    ensures room { IsTrue is_signed → 18 ≤ length draft.new.attributes }
 {
-    let authenticator = authenticator(request);
-    let name = Attr {
-        kind: USER_NAME,
-        value: request.name.as_slice(),
-    };
-    let password = Attr { kind, value };
-    match &request.nas {
-        Some(nas) => {
-            let nas = Attr {
-                kind: NAS_IDENTIFIER,
-                value: nas.as_slice(),
-            };
-            built(alloc, request.id, &authenticator, &[name, password, nas])
-        }
-        None => built(alloc, request.id, &authenticator, &[name, password]),
+    if is_signed {
+        draft
+            .push(MESSAGE_AUTHENTICATOR, &[0; SIGNATURE_LEN])
+            .unwrap();
     }
 }
 
-/// An Access-Request with these attributes.
-fn built(
-    alloc: Global,
-    id: u8,
-    authenticator: &[u8; 16],
-    attributes: &[Attr<'_>],
-) -> Result<Vec<u8>, NoMemory>
-    requires { FitsPacket (map seen attributes.now) }
-    ensures { IfOk result (λ octets. octets.items ≡ packet_octets (record {
-      code = ACCESS_REQUEST;
-      id = id;
-      authenticator = authenticator.now;
-      attributes = list_octets (map seen attributes.now);
-    })) }
+/// Writes what the line says, with this value for its password.
+fn push_request(draft: &mut Draft, request: &AccessRequest, value: &[u8])
+    requires room { length draft.old.attributes ≤ 18 }
+    requires short { length value.now ≤ 128 }
+    ensures written { draft.new ≡ record draft.old {
+      attributes = draft.old.attributes ++ list_octets (request_attributes request.now value.now);
+    } }
+    ensures more { length draft.old.attributes ≤ length draft.new.attributes }
 {
-    match build(alloc, ACCESS_REQUEST, id, authenticator, attributes) {
-        Ok(octets) => Ok(octets),
-        Err(BuildFault::NoMemory) => Err(NoMemory),
-        Err(BuildFault::TooLong) => unreachable!(),
+    push_value(draft, USER_NAME, request.name.as_slice());
+    push_value(draft, password_kind(request.method), value);
+    push_text(draft, NAS_IDENTIFIER, &request.nas);
+}
+
+/// The Type of the attribute that shows that the password is known.
+fn password_kind(method: Method) -> u8
+    ensures { result ≡ password_kind method }
+{
+    match method {
+        Method::Pap => USER_PASSWORD,
+        Method::Chap => CHAP_PASSWORD,
     }
+}
+
+/// Writes an attribute.
+fn push_value(draft: &mut Draft, kind: u8, value: &[u8])
+    requires room { length draft.old.attributes ≤ 2048 }
+    requires short { length value.now ≤ 253 }
+    ensures written { draft.new ≡ record draft.old {
+      attributes = draft.old.attributes ++ attribute_octets (attribute_of kind value.now);
+    } }
+    ensures length { length draft.new.attributes ≡
+        length draft.old.attributes + (2 + length value.now) }
+{
+    draft.push(kind, value).unwrap();
+}
+
+/// The octets of the request. If it is signed, its first attribute gets its value.
+fn finish(draft: Draft, is_signed: bool, authenticator: &[u8; 16], secret: &[u8]) -> Vec<u8>
+    requires { IsTrue is_signed → 18 ≤ length draft.attributes }
+    ensures { result.items ≡ signed_if is_signed
+        (packet_octets (record {
+          code = ACCESS_REQUEST;
+          id = draft.id;
+          authenticator = authenticator.now;
+          attributes = draft.attributes;
+        }))
+        authenticator.now secret.now }
+{
+    let octets = draft.finish(ACCESS_REQUEST, authenticator);
+    if is_signed {
+        with_signature(octets, authenticator, secret)
+    } else {
+        octets
+    }
+}
+
+/// The octets of the request, with the value of its first attribute, a Message-Authenticator.
+fn with_signature(mut octets: Vec<u8>, authenticator: &[u8; 16], secret: &[u8]) -> Vec<u8>
+    requires { 38 ≤ vec_len octets }
+    ensures { result.items ≡ signed octets.items 22 authenticator.now secret.now }
+{
+    sign(octets.as_mut_slice(), FIRST_VALUE, authenticator, secret);
+    octets
 }

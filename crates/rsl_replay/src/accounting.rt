@@ -1,6 +1,5 @@
 ghost use Rattle.std.specs.Prelude.{◌≡◌, ◌+◌, ◌≤◌, ◌++◌, [], length, replicate, vec_len, IfOk};
 ghost use Rattle.std.specs.Option.{ForSome};
-ghost use Rattle.std.specs.Int.{w64, to_be_bytes};
 ghost use Rattle.rsl_auth.specs.Authenticator.{sealed};
 ghost use Rattle.rsl_wire.specs.Attributes.{attribute_octets, list_octets};
 ghost use Rattle.rsl_event.specs.Answer.{number_attribute};
@@ -12,7 +11,8 @@ ghost use Rattle.rsl_replay.specs.Accounting.{
   accounting_octets,
 };
 
-use rsl_auth::seal;
+use rsl_auth::sealed;
+use rsl_event::class_octets;
 use rsl_event::codes::{
     ACCOUNTING_OFF, ACCOUNTING_ON, ACCOUNTING_REQUEST, ACCT_MULTI_SESSION_ID, ACCT_SESSION_ID,
     ACCT_STATUS_TYPE, CLASS, INTERIM_UPDATE, NAS_IDENTIFIER, START, STOP, USER_NAME,
@@ -37,23 +37,15 @@ pub(crate) fn accounting_octets(
     let mut draft = Draft::new(alloc, IDENTIFIER)?;
     write_request(&mut draft, boot, request);
     let octets = draft.finish(ACCOUNTING_REQUEST, &[0; 16]);
-    Ok(with_authenticator(octets, secret))
-}
-
-/// The packet, which has sixteen zero octets for it, with its Request Authenticator (RFC 2866
-/// section 3).
-fn with_authenticator(mut octets: Vec<u8>, secret: &[u8]) -> Vec<u8>
-    requires { 20 ≤ vec_len octets }
-    ensures { result.items ≡ sealed octets.items (replicate 16 0) secret.now }
-{
-    seal(octets.as_mut_slice(), &[0; 16], secret);
-    octets
+    Ok(sealed(octets, &[0; 16], secret))
 }
 
 /// Writes the attributes of the request into an empty draft.
 fn write_request(draft: &mut Draft, boot: u64, request: &AccountingRequest)
     requires { draft.old.attributes ≡ [] }
-    ensures { draft.new ≡ record draft.old { attributes = list_octets (accounting_attributes boot request.now) } }
+    ensures { draft.new ≡ record draft.old {
+      attributes = list_octets (accounting_attributes boot request.now);
+    } }
 {
     push_status(draft, request.status);
     push_text(draft, NAS_IDENTIFIER, &request.nas);
@@ -66,7 +58,9 @@ fn write_request(draft: &mut Draft, boot: u64, request: &AccountingRequest)
 /// Writes the Acct-Status-Type.
 fn push_status(draft: &mut Draft, status: Status)
     requires { length draft.old.attributes ≤ 2048 }
-    ensures written { draft.new ≡ record draft.old { attributes = draft.old.attributes ++ attribute_octets (number_attribute ACCT_STATUS_TYPE (status_number status)) } }
+    ensures written { draft.new ≡ record draft.old {
+      attributes = draft.old.attributes ++ attribute_octets (number_attribute ACCT_STATUS_TYPE (status_number status));
+    } }
     ensures length { length draft.new.attributes ≡ length draft.old.attributes + 6 }
 {
     draft
@@ -88,11 +82,14 @@ fn status_number(status: Status) -> u32
 }
 
 /// Writes an attribute whose value is a text, if there is one.
-fn push_text(draft: &mut Draft, kind: u8, text: &Option<Octets>)
+pub(crate) fn push_text(draft: &mut Draft, kind: u8, text: &Option<Octets>)
     requires room { length draft.old.attributes ≤ 2048 }
     requires short { ForSome text.now (λ text. length text ≤ 253) }
-    ensures written { draft.new ≡ record draft.old { attributes = draft.old.attributes ++ list_octets (text_attribute kind text.now) } }
+    ensures written { draft.new ≡ record draft.old {
+      attributes = draft.old.attributes ++ list_octets (text_attribute kind text.now);
+    } }
     ensures length { length draft.new.attributes ≤ length draft.old.attributes + 255 }
+    ensures more { length draft.old.attributes ≤ length draft.new.attributes }
 {
     if let Some(text) = text {
         draft.push(kind, text.as_slice()).unwrap();
@@ -102,19 +99,11 @@ fn push_text(draft: &mut Draft, kind: u8, text: &Option<Octets>)
 /// Writes the Class of the server with this boot number, if there is a class number.
 fn push_class(draft: &mut Draft, boot: u64, number: Option<u64>)
     requires { length draft.old.attributes ≤ 2048 }
-    ensures { draft.new ≡ record draft.old { attributes = draft.old.attributes ++ list_octets (class_attributes boot number) } }
+    ensures { draft.new ≡ record draft.old {
+      attributes = draft.old.attributes ++ list_octets (class_attributes boot number);
+    } }
 {
     if let Some(number) = number {
-        draft.push(CLASS, &class_value(boot, number)).unwrap();
+        draft.push(CLASS, &class_octets(boot, number)).unwrap();
     }
-}
-
-/// The value of a Class: the boot number and the class number, eight octets each.
-fn class_value(boot: u64, number: u64) -> [u8; 16]
-    ensures { result ≡ to_be_bytes w64 boot ++ to_be_bytes w64 number }
-{
-    let mut value = [0u8; 16];
-    value[..8].copy_from_slice(&boot.to_be_bytes());
-    value[8..].copy_from_slice(&number.to_be_bytes());
-    value
 }

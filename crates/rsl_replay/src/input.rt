@@ -1,5 +1,6 @@
 ghost use Rattle.std.specs.Prelude.{◌≡◌, ◌<◌, ◌≤◌, ◌+◌, ◌++◌, ◌↔◌, IfErr, IfOk, IfSome, IsErrOf, OnOk, length, vec_len};
 ghost use Rattle.rsl_replay.specs.Fault.{IsReadFault};
+ghost use Rattle.rsl_replay.specs.Replay.{most_octets};
 
 use crate::fault::ReplayFault;
 use std::alloc::Global;
@@ -20,10 +21,12 @@ const READ_LEN: usize = 4096;
 /// memory is refused. A read that is interrupted is tried again, and counts as a read.
 #[tactic(auto, using(crate::proofs::Consumed::consumed_none, crate::proofs::Consumed::consumed_more, crate::proofs::Consumed::consumed_kept, crate::proofs::Consumed::consumed_all, crate::proofs::Consumed::consumed_over))]
 pub(crate) fn read_text<R: Read>(alloc: Global, reader: &mut R) -> Result<Vec<u8>, ReplayFault>
-    ensures text { IfOk result (λ text. IfSome (R.remaining reader.old) (λ given. text.items ≡ given)) }
-    ensures short { IfOk result (λ text. vec_len text ≤ MAX_SCRIPT_LEN) }
+    ensures text { IfOk result (λ text. IfSome (R.remaining reader.old) (λ given.
+        text.items ≡ given)) }
+    ensures short { IfOk result (λ text. vec_len text ≤ most_octets) }
     ensures fault { IfErr result IsReadFault }
-    ensures too_long { IsErrOf result ReplayFault.TooLong → IfSome (R.remaining reader.old) (λ given. MAX_SCRIPT_LEN < length given) }
+    ensures too_long { IsErrOf result ReplayFault.TooLong →
+        IfSome (R.remaining reader.old) (λ given. most_octets < length given) }
 {
     let mut text = Vec::new(alloc);
     let mut piece = [0u8; READ_LEN];
@@ -43,11 +46,11 @@ pub(crate) fn read_text<R: Read>(alloc: Global, reader: &mut R) -> Result<Vec<u8
 
 /// Puts a piece at the end of a text, unless the text would be too long.
 fn append(text: &mut Vec<u8>, piece: &[u8]) -> Result<(), ReplayFault>
-    requires { vec_len text.old ≤ MAX_SCRIPT_LEN }
-    ensures short { vec_len text.new ≤ MAX_SCRIPT_LEN }
+    requires { vec_len text.old ≤ most_octets }
+    ensures short { vec_len text.new ≤ most_octets }
     ensures appended { OnOk result (text.new.items ≡ text.old.items ++ piece.now) }
     ensures fault { IfErr result IsReadFault }
-    ensures too_long { IsErrOf result ReplayFault.TooLong ↔ (MAX_SCRIPT_LEN < vec_len text.old + length piece.now) }
+    ensures too_long { IsErrOf result ReplayFault.TooLong ↔ (most_octets < vec_len text.old + length piece.now) }
 {
     if MAX_SCRIPT_LEN - text.len() < piece.len() {
         return Err(ReplayFault::TooLong);

@@ -17,5 +17,6 @@ mod stepping;
 mod word;
 
 pub use fault::ReplayFault;
+pub use printing::lines_of;
 pub use replaying::replay;
 pub use stepping::steps_of;

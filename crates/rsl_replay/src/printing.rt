@@ -13,7 +13,7 @@ use std::alloc::{AllocError, Global};
 /// The text that is printed of event lines and the answers to their steps, one answer for each step in
 /// order: for each event line its number, counted from 1, a space, its word and a line feed. It fails
 /// only where memory is refused.
-pub(crate) fn lines_of(
+pub fn lines_of(
     alloc: Global,
     config: &Config,
     lines: &[EventLine],

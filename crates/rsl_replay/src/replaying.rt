@@ -1,7 +1,6 @@
 ghost use Rattle.std.specs.Prelude.{◌≡◌, ◌≢◌, ◌≤◌, ℕ, List, IfErr, IfOk, IfSome, OnOk, length, string_bytes};
 ghost use Rattle.std.specs.Io.KnownBytes.{Appends, Keeps};
-ghost use Rattle.rsl_replay.specs.Replay.{IsFaultOf, IsReplayed};
-ghost use Rattle.rsl_replay.specs.declared.input.TheConstants.{MAX_SCRIPT_LEN};
+ghost use Rattle.rsl_replay.specs.Replay.{IsFaultOf, IsReplayed, most_octets};
 
 use crate::fault::ReplayFault;
 use crate::input::read_text;
@@ -34,9 +33,11 @@ pub fn replay<R: Read, W: Write>(
     ensures replayed { OnOk result (IfSome (R.remaining reader.old) (λ text.
         (written : List ℕ) × IsReplayed text written × Appends (W.contents writer.old) (W.contents writer.new) written)) }
     // A fault of the script is there, and is the first.
-    ensures fault { IfErr result (λ fault. IfSome (R.remaining reader.old) (λ text. IsFaultOf text fault)) }
+    ensures fault { IfErr result (λ fault. IfSome (R.remaining reader.old) (λ text.
+        IsFaultOf text fault)) }
     // After every other fault than `InputOutput` nothing was written.
-    ensures silent { IfErr result (λ fault. fault ≢ ReplayFault.InputOutput → Keeps (W.contents writer.old) (W.contents writer.new)) }
+    ensures silent { IfErr result (λ fault.
+        fault ≢ ReplayFault.InputOutput → Keeps (W.contents writer.old) (W.contents writer.new)) }
 {
     let text = read_text(alloc, reader)?;
     let lines = replay_text(alloc, text.as_slice())?;
@@ -45,9 +46,10 @@ pub fn replay<R: Read, W: Write>(
 
 /// What is printed for the octets of a script.
 fn replay_text(alloc: Global, text: &[u8]) -> Result<String, ReplayFault>
-    requires { length text.now ≤ MAX_SCRIPT_LEN }
+    requires { length text.now ≤ most_octets }
     ensures replayed { IfOk result (λ lines. IsReplayed text.now (string_bytes lines)) }
-    ensures fault { IfErr result (λ fault. (fault ≢ ReplayFault.InputOutput) × IsFaultOf text.now fault) }
+    ensures fault { IfErr result (λ fault.
+        (fault ≢ ReplayFault.InputOutput) × IsFaultOf text.now fault) }
 {
     let script = Script::read(alloc, text)?;
     let config = Config::make(alloc, script.settings, script.clients, script.accounts)?;

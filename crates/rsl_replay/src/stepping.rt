@@ -4,10 +4,11 @@ ghost use Rattle.rsl_event.specs.declared.meaning.Port.TheVariants as Port;
 ghost use Rattle.rsl_replay.specs.Access.{access_octets};
 ghost use Rattle.rsl_replay.specs.Accounting.{accounting_octets};
 ghost use Rattle.rsl_replay.specs.Stepping.{
-  count_of,
+  step_count_of,
   datagram,
-  is_restart,
-  nas_of,
+  says_restart,
+  is_signed_at,
+  nas_named,
   secret_at,
   step_count,
   steps_of_line,
@@ -42,7 +43,8 @@ pub fn steps_of(
     lines: &[EventLine],
 ) -> Result<Vec<Step>, NoMemory>
     ensures steps { IfOk result (λ steps. steps.items ≡ steps_of_lines config.now boot lines.now) }
-    ensures count { IfOk result (λ steps. length steps.items ≡ sum_by (step_count config.now) lines.now) }
+    ensures count { IfOk result (λ steps.
+        length steps.items ≡ sum_by (step_count config.now) lines.now) }
 {
     let mut steps = Vec::new(alloc);
     for line in lines {
@@ -51,7 +53,7 @@ pub fn steps_of(
     Ok(steps)
 }
 
-/// Writes the steps of a line behind those that are there.
+/// Writes the steps of a line after those that are there.
 #[tactic(auto, unfolding(crate::specs::Stepping::steps_of_line))]
 fn push_line(
     alloc: Global,
@@ -60,7 +62,8 @@ fn push_line(
     line: &EventLine,
     steps: &mut Vec<Step>,
 ) -> Result<(), NoMemory>
-    ensures { OnOk result (steps.new.items ≡ steps.old.items ++ steps_of_line config.now boot line.now) }
+    ensures { OnOk result (steps.new.items ≡
+        steps.old.items ++ steps_of_line config.now boot line.now) }
 {
     let moment = line.moment;
     match &line.happening {
@@ -92,9 +95,12 @@ fn access_datagram(
     address: [u8; 4],
     request: &AccessRequest,
 ) -> Result<Step, NoMemory>
-    ensures { IfOk result (λ step. step ≡ datagram moment Port.Auth address (access_octets request.now (secret_at config.now address))) }
+    ensures { IfOk result (λ step. step ≡
+        datagram moment Port.Auth address (access_octets
+        request.now (is_signed_at config.now address) (secret_at config.now address))) }
 {
-    let octets = access_octets(alloc, request, secret_at(config, address))?;
+    let is_signed = is_signed_at(config, address);
+    let octets = access_octets(alloc, request, is_signed, secret_at(config, address))?;
     Ok(datagram(moment, Port::Auth, address, Octets::from(octets)))
 }
 
@@ -107,7 +113,9 @@ fn accounting_datagram(
     address: [u8; 4],
     request: &AccountingRequest,
 ) -> Result<Step, NoMemory>
-    ensures { IfOk result (λ step. step ≡ datagram moment Port.Acct address (accounting_octets boot request.now (secret_at config.now address))) }
+    ensures { IfOk result (λ step. step ≡
+        datagram moment Port.Acct address (accounting_octets
+        boot request.now (secret_at config.now address))) }
 {
     let octets = accounting_octets(alloc, boot, request, secret_at(config, address))?;
     Ok(datagram(moment, Port::Acct, address, Octets::from(octets)))
@@ -137,6 +145,16 @@ fn secret_at(config: &Config, address: [u8; 4]) -> &[u8]
     }
 }
 
+/// Whether an Access-Request from the address must be signed.
+fn is_signed_at(config: &Config, address: [u8; 4]) -> bool
+    ensures { result ≡ is_signed_at config.now address }
+{
+    match config.client(address) {
+        Some(client) => config.client_at(client).signed,
+        None => false,
+    }
+}
+
 /// Writes the sweeps that stand before an Accounting-Request: those of an access server of a client
 /// that has restarted.
 fn push_sweeps_before(
@@ -147,14 +165,15 @@ fn push_sweeps_before(
     request: &AccountingRequest,
     steps: &mut Vec<Step>,
 ) -> Result<(), NoMemory>
-    ensures { OnOk result (steps.new.items ≡ steps.old.items ++ sweeps_before config.now moment address request.now) }
+    ensures { OnOk result (steps.new.items ≡
+        steps.old.items ++ sweeps_before config.now moment address request.now) }
 {
-    if !is_restart(request.status) {
+    if !says_restart(request.status) {
         return Ok(());
     }
     match config.client(address) {
         Some(client) => {
-            let nas = nas(alloc, client, &request.nas)?;
+            let nas = nas_named(alloc, client, &request.nas)?;
             push_sweeps(alloc, config, moment, &nas, steps)
         }
         None => Ok(()),
@@ -162,15 +181,15 @@ fn push_sweeps_before(
 }
 
 /// Whether the access server has restarted.
-fn is_restart(status: Status) -> bool
-    ensures { result ≡ is_restart status }
+fn says_restart(status: Status) -> bool
+    ensures { result ≡ says_restart status }
 {
     matches!(status, Status::On | Status::Off)
 }
 
 /// The access server of a client that a line names, or that has no name.
-fn nas(alloc: Global, client: u32, name: &Option<Octets>) -> Result<Nas, NoMemory>
-    ensures { IfOk result (λ nas. nas ≡ nas_of client name.now) }
+fn nas_named(alloc: Global, client: u32, name: &Option<Octets>) -> Result<Nas, NoMemory>
+    ensures { IfOk result (λ nas. nas ≡ nas_named client name.now) }
 {
     let name = match name {
         Some(name) => NasName::Identifier(name.try_copy(alloc)?),
@@ -212,11 +231,11 @@ pub(crate) fn step_count(config: &Config, line: &EventLine) -> usize
     ensures count { result ≡ step_count config.now line.now }
     ensures steps { (boot : ℕ) → length (steps_of_line config.now boot line.now) ≡ result }
 {
-    count_of(config, &line.happening)
+    step_count_of(config, &line.happening)
 }
 
-fn count_of(config: &Config, happening: &Happening) -> usize
-    ensures { result ≡ count_of config.now happening.now }
+fn step_count_of(config: &Config, happening: &Happening) -> usize
+    ensures { result ≡ step_count_of config.now happening.now }
 {
     match happening {
         Happening::Access { .. } | Happening::Raw { .. } => 1,
@@ -233,7 +252,7 @@ fn sweep_count(config: &Config, status: Status, address: [u8; 4]) -> usize
     ensures few { result ≤ 4 }
 {
     match config.client(address) {
-        Some(_) if is_restart(status) => config.shards() as usize,
+        Some(_) if says_restart(status) => config.shards() as usize,
         _ => 0,
     }
 }

@@ -1,6 +1,3 @@
-ghost use Rattle.std.specs.Prelude.{◌≡◌};
-ghost use Rattle.rsl_replay.specs.Printing.{drop_name};
-
 use rsl_event::{Dropped, Said};
 use std::fmt;
 
@@ -29,29 +26,9 @@ impl fmt::Display for Word {
             Word::Said(Said::LimitReject) => write!(f, "reject limit"),
             Word::Said(Said::Reject) => write!(f, "reject"),
             Word::Said(Said::Account) => write!(f, "account"),
-            Word::Dropped(dropped) => write!(f, "drop {}", name_of(*dropped)),
+            Word::Dropped(dropped) => write!(f, "drop {dropped}"),
             Word::Tick => write!(f, "tick"),
             Word::Refused => write!(f, "refused"),
         }
-    }
-}
-
-/// The name of a reason.
-fn name_of(dropped: Dropped) -> &'static str
-    ensures { result.now ≡ drop_name dropped }
-{
-    match dropped {
-        Dropped::Short => "Short",
-        Dropped::BadLength => "BadLength",
-        Dropped::UnknownClient => "UnknownClient",
-        Dropped::WrongCode => "WrongCode",
-        Dropped::BadAuthenticator => "BadAuthenticator",
-        Dropped::Malformed => "Malformed",
-        Dropped::BadSignature => "BadSignature",
-        Dropped::Unsigned => "Unsigned",
-        Dropped::ProxyTooLong => "ProxyTooLong",
-        Dropped::NoStatus => "NoStatus",
-        Dropped::NoSession => "NoSession",
-        Dropped::NoMemory => "NoMemory",
     }
 }

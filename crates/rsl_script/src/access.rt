@@ -58,7 +58,8 @@ fn access_request(
 /// fails only where memory is refused.
 #[tactic(auto, unfolding(crate::specs::Access::text_without_moment))]
 fn text_without_moment(alloc: Global, method: Method, words: &[&str]) -> Result<Secret, NoMemory>
-    ensures { IfOk result (λ text. text ≡ text_without_moment method (map (λ word. word.now) words.now)) }
+    ensures { IfOk result (λ text.
+        text ≡ text_without_moment method (map (λ word. word.now) words.now)) }
 {
     let mut text = String::from_str(alloc, word_of(method))?;
     for word in words {

@@ -29,7 +29,8 @@ impl Script {
     /// refused before that.
     pub fn read(alloc: Global, text: &[u8]) -> Result<Script, ScriptFault>
         ensures script { IfOk result (λ script. script_of text.now ≡ Ok (contents script)) }
-        ensures line { IfErr result (λ fault. fault ≢ ScriptFault.NoMemory → script_of text.now ≡ Err fault) }
+        ensures line { IfErr result (λ fault.
+            fault ≢ ScriptFault.NoMemory → script_of text.now ≡ Err fault) }
     {
         let mut script = Script::new(alloc);
         for (index, line) in text.split(|octet| *octet == b'\n').enumerate() {
@@ -64,16 +65,20 @@ impl Script {
     /// Takes the next line of the text.
     #[tactic(auto, unfolding(crate::specs::Taking::with_said))]
     fn read_line(&mut self, alloc: Global, line: &[u8]) -> Result<(), LineFault>
-        ensures taken { OnOk result (with_said (contents self.old) (line_of line.now) ≡ Some (contents self.new)) }
-        ensures wrong { IsErrOf result LineFault.Wrong → with_said (contents self.old) (line_of line.now) ≡ None }
+        ensures taken { OnOk result (with_said (contents self.old) (line_of line.now) ≡
+            Some (contents self.new)) }
+        ensures wrong { IsErrOf result LineFault.Wrong →
+            with_said (contents self.old) (line_of line.now) ≡ None }
     {
         self.take(Line::read(alloc, line)?)
     }
 
     /// Takes what a line says. A line of the configuration after an event line is wrong.
     fn take(&mut self, line: Line) -> Result<(), LineFault>
-        ensures taken { OnOk result (with_next_line (contents self.old) line ≡ Some (contents self.new)) }
-        ensures wrong { IsErrOf result LineFault.Wrong → with_next_line (contents self.old) line ≡ None }
+        ensures taken { OnOk result (with_next_line (contents self.old) line ≡
+            Some (contents self.new)) }
+        ensures wrong { IsErrOf result LineFault.Wrong →
+            with_next_line (contents self.old) line ≡ None }
     {
         match line {
             Line::Silent => {}

@@ -135,8 +135,10 @@ pub(crate) fn leading_number<'a, 'b>(
     beginning: &str,
     words: &'a [&'b str],
 ) -> (Option<u64>, &'a [&'b str])
-    ensures number { result.0 ≡ (leading_number beginning.now (map (λ word. word.now) words.now)).0 }
-    ensures rest { map (λ word. word.now) result.1.now ≡ (leading_number beginning.now (map (λ word. word.now) words.now)).1 }
+    ensures number { result.0 ≡
+        (leading_number beginning.now (map (λ word. word.now) words.now)).0 }
+    ensures rest { map (λ word. word.now) result.1.now ≡
+        (leading_number beginning.now (map (λ word. word.now) words.now)).1 }
 {
     let [word, rest @ ..] = words else {
         return (None, words);

@@ -13,6 +13,10 @@ mod auth;
 #[cfg(test)]
 mod event;
 #[cfg(test)]
+mod replay;
+#[cfg(test)]
+mod script;
+#[cfg(test)]
 mod support;
 #[cfg(test)]
 mod wire;

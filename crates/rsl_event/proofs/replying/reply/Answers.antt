@@ -8,4 +8,4 @@ returns c =
     c.said-word.result c.code_of.result c.is_reply_signed-is_signed.result c.args.draft c.push_signature_if.new.draft c.write_said.new.draft c.write_repeated.new.draft
     c.finish-octets.result.items c.expose-secret.result.now _ c.client_at.result.now
     c.requires.room c.push_signature_if.ensures.written c.write_said.ensures.written c.write_repeated.ensures.written c.said-word.ensures c.is_reply_signed-is_signed.ensures c.code_of.ensures
-    c.client_at.ensures.client c.expose-secret.ensures c.finish-octets.ensures.octets c.sealed.ensures
+    c.client_at.ensures.client c.expose-secret.ensures.octets c.finish-octets.ensures.octets c.sealed.ensures

@@ -1,11 +1,11 @@
 use Rattle.std.proofs.Common.{◌≤◌, vec_len}
 use Rattle.std.specs.Io.KnownBytes.{Consumes}
-use Rattle.rsl_replay.specs.declared.input.TheConstants.{MAX_SCRIPT_LEN}
+use Rattle.rsl_replay.specs.Replay.{most_octets}
 use Rattle.rsl_replay.proofs.input.read_text.Given as goal
 
 -- the text is what was read so far
 abbrev pub invariant-loop : goal.invariant-loop
 invariant-loop g l = record {
-  short : vec_len l.text ≤ MAX_SCRIPT_LEN;
+  short : vec_len l.text ≤ most_octets;
   read : Consumes (g.R.Read.remaining l.fn.reader) (g.R.Read.remaining l.reader) l.text.items;
 }

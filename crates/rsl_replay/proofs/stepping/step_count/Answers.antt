@@ -5,4 +5,4 @@ use Rattle.rsl_replay.proofs.stepping.step_count.Goals as goal
 
 pub returns-clause-steps : goal.returns-clause-steps
 unfolding step_count
-returns-clause-steps c = λ boot. length-steps_of_line c.args.config.now boot c.args.line.now ∙ sym c.count_of.ensures
+returns-clause-steps c = λ boot. length-steps_of_line c.args.config.now boot c.args.line.now ∙ sym c.step_count_of.ensures

@@ -1,0 +1,55 @@
+-- What is written into an Access-Request, one part after another.
+use Rattle.std.proofs.Common.{◌≡◌, ℕ, Bool, List, [], ◌++◌, sym, ap, ◌∙◌, append_assoc}
+use Rattle.std.proofs.lemmas.List.Concat.{flat_map-append}
+use Rattle.md5.specs.Md5.{md5}
+use Rattle.rsl_wire.specs.Attributes.{Attribute, attribute_octets, attribute_of, list_octets}
+use Rattle.rsl_wire.specs.Begun.{Begun}
+use Rattle.rsl_wire.specs.Packet.{packet_octets}
+use Rattle.rsl_event.specs.Answer.{signed_if}
+use Rattle.rsl_event.specs.Signature.{signature_if}
+use Rattle.rsl_event.specs.declared.codes.TheConstants.{ACCESS_REQUEST, USER_NAME, NAS_IDENTIFIER}
+use Rattle.rsl_script.specs.declared.request.AccessRequest.{AccessRequest}
+use Rattle.rsl_replay.specs.Access.{access_octets, password_kind, password_value, request_attributes}
+use Rattle.rsl_replay.specs.Attributes.{text_attribute}
+use Rattle.rsl_replay.proofs.AccountingLaws.{with_attributes}
+
+-- name, password and access server, after what is there
+pub request_pushed : (request : AccessRequest) (name value : List ℕ) (kind : ℕ) (start a b c : Begun)
+    → name ≡ request.name → kind ≡ password_kind request.method
+    → a ≡ with_attributes start (start.attributes ++ attribute_octets (attribute_of USER_NAME name))
+    → b ≡ with_attributes a (a.attributes ++ attribute_octets (attribute_of kind value))
+    → c ≡ with_attributes b (b.attributes ++ list_octets (text_attribute NAS_IDENTIFIER request.nas))
+    → c ≡ with_attributes start (start.attributes ++ list_octets (request_attributes request value))
+unfolding request_attributes
+request_pushed request name value kind start a b c en ek ea eb ec =
+    let first : List ℕ → List ℕ = λ x. attribute_octets (attribute_of USER_NAME x) in
+    let second : ℕ → List ℕ = λ x. attribute_octets (attribute_of x value) in
+    let nas = list_octets (text_attribute NAS_IDENTIFIER request.nas) in
+    let id_is : c.id ≡ start.id = ap (λ (x : Begun). x.id) ec ∙ ap (λ (x : Begun). x.id) eb ∙ ap (λ (x : Begun). x.id) ea in
+    let attributes_are : c.attributes ≡ start.attributes ++ (first request.name ++ (second (password_kind request.method) ++ nas)) =
+    ap (λ (x : Begun). x.attributes) ec
+    ∙ ap (λ (x : Begun). x.attributes ++ nas) eb
+    ∙ ap (λ (x : Begun). (x.attributes ++ second kind) ++ nas) ea
+    ∙ append_assoc (start.attributes ++ first name) (second kind) nas
+    ∙ append_assoc start.attributes (first name) (second kind ++ nas)
+    ∙ (λ k. start.attributes ++ (first (en k) ++ (second (ek k) ++ nas))) in
+    λ k. record { id = id_is k; attributes = attributes_are k }
+
+-- the request, from the drafts before it
+pub access_is : (request : AccessRequest) (is_signed : Bool) (secret value auth : List ℕ) (start first written : Begun) (result : List ℕ)
+    → start ≡ record { id = request.id; attributes = [] }
+    → first ≡ with_attributes start (list_octets (signature_if is_signed))
+    → written ≡ with_attributes first (first.attributes ++ list_octets (request_attributes request value))
+    → value ≡ password_value request.method request secret
+    → auth ≡ md5 request.text
+    → result ≡ signed_if is_signed (packet_octets (record { code = ACCESS_REQUEST; id = written.id; authenticator = auth; attributes = written.attributes })) auth secret
+    → result ≡ access_octets request is_signed secret
+unfolding access_octets
+access_is request is_signed secret value auth start first written result e0 e1 e2 ev ea er =
+    let id_is : written.id ≡ request.id = ap (λ (x : Begun). x.id) e2 ∙ ap (λ (x : Begun). x.id) e1 ∙ ap (λ (x : Begun). x.id) e0 in
+    let attributes_are : written.attributes ≡ list_octets (signature_if is_signed ++ request_attributes request (password_value request.method request secret)) =
+    ap (λ (x : Begun). x.attributes) e2
+    ∙ ap (λ (x : Begun). x.attributes ++ list_octets (request_attributes request value)) e1
+    ∙ ap (λ (x : List ℕ). list_octets (signature_if is_signed) ++ list_octets (request_attributes request x)) ev
+    ∙ sym (flat_map-append attribute_octets (signature_if is_signed) (request_attributes request (password_value request.method request secret))) in
+    er ∙ (λ k. signed_if is_signed (packet_octets (record { code = ACCESS_REQUEST; id = id_is k; authenticator = ea k; attributes = attributes_are k })) (ea k) secret)
