@@ -1,5 +1,5 @@
-//! Tests of `rsl_event`. The octets were computed with Python's hashlib and hmac, by the formulas of the
-//! RFCs.
+//! Tests of `rsl_event`. The octets were computed with Python's hashlib and hmac, by the formulas of
+//! the RFCs.
 
 mod access;
 mod accounting;
@@ -46,8 +46,8 @@ const STRANGER: Source = Source {
     port: 1024,
 };
 
-/// The clients, of which the first has the secret of RFC 2865 section 7.1, and the accounts, of which the
-/// first is that of its request.
+/// The clients, of which the first has the secret of RFC 2865 section 7.1, and the accounts, of
+/// which the first is that of its request.
 const FILE: &str = r#"
 version = 1
 shards = 1
@@ -108,8 +108,8 @@ idle_timeout = 600
 /// A row on a datagram: its name, the port, the octets, and what they mean or why they are dropped.
 type Row = (&'static str, Port, &'static str, &'static str);
 
-/// A row on a reply: its name, the octets of the request, the decision, its word, and the octets of the
-/// reply.
+/// A row on a reply: its name, the octets of the request, the decision, its word, and the octets of
+/// the reply.
 type ReplyRow = (
     &'static str,
     &'static str,

@@ -68,7 +68,8 @@ fn start_and_interim_update_are_alive(rt: HostRuntime) -> Result<(), Fail> {
     check(&rt, CLIENT, &rows)
 }
 
-// An empty first Acct-Multi-Session-Id is none. A Class of this server has 16 octets and begins with its boot number.
+// An empty first Acct-Multi-Session-Id is none. A Class of this server has 16 octets and begins with
+// its boot number.
 #[test]
 fn first_bundle_id_and_first_class_of_this_server_count(rt: HostRuntime) -> Result<(), Fail> {
     let rows = [

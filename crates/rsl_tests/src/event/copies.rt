@@ -132,7 +132,8 @@ fn restarted<R: AllocGlobal>(rt: &R, config: &Config, row: &NasRow) -> Result<Na
     }
 }
 
-// The three kinds of names are apart where their octets are equal, and so are equal names of two clients.
+// The three kinds of names are apart where their octets are equal, and so are equal names of two
+// clients.
 #[test]
 fn access_server_is_the_same_as_itself_alone(rt: HostRuntime) -> Result<(), Fail> {
     let config = Config::read(rt.alloc(), FILE.as_bytes())?;

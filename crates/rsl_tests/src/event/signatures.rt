@@ -287,8 +287,8 @@ fn message_authenticator_in_accounting_is_ignored(rt: HostRuntime) -> Result<(),
     check(&rt, SIGNED, &rows)
 }
 
-// The Message-Authenticator stands first: the accept's 62 octets begin with 0201003e, and have 5012 at
-// octet 20. The longest reply has 3,986 octets.
+// The Message-Authenticator stands first: the accept's 62 octets begin with 0201003e, and have 5012
+// at octet 20. The longest reply has 3,986 octets.
 #[test]
 fn reply_to_a_signed_request_is_signed(rt: HostRuntime) -> Result<(), Fail> {
     let rows = [
