@@ -13,3 +13,4 @@ pub mod TickKept
 pub mod EarlyTick
 pub mod Lowest
 pub mod Yielded
+pub mod ClosedHeld

@@ -1,5 +1,5 @@
 -- Laws of the session rule, each the contract of a function of `laws`.
-use Rattle.std.specs.Prelude.{◌≡◌, ℕ, suc, ◌<◌, ◌≤◌, List, [], ◌∷◌, ◌++◌, length, take, drop, map, reverse, insert, slice_index, All, Any, EachIndex, Option, Some, None}
+use Rattle.std.specs.Prelude.{◌≡◌, ℕ, suc, ◌<◌, ◌≤◌, List, [], ◌∷◌, ◌++◌, length, take, drop, map, reverse, insert, true, slice_index, All, Any, EachIndex, Option, Some, None}
 use Rattle.std.specs.Option.{option_to_list}
 use Rattle.rsl_accounts.specs.Limits.{RulesFit}
 use Rattle.rsl_accounts.specs.declared.rules.Rules.{Rules}
@@ -13,7 +13,9 @@ use Rattle.rsl_event.specs.declared.nas.Nas.{Nas}
 use Rattle.rsl_session.specs.declared.past_event.PastEvent.{PastEvent}
 use Rattle.rsl_session.specs.declared.outcome.Outcome.TheVariants.{AcceptedInPlace, Repeated}
 use Rattle.rsl_session.specs.Past.{Past}
-use Rattle.rsl_session.specs.Alive.{reservation_of}
+use Rattle.rsl_session.specs.declared.session.Session.{Session}
+use Rattle.rsl_session.specs.Closed.{is_closed}
+use Rattle.rsl_session.specs.Alive.{link_of, reservation_of}
 use Rattle.rsl_session.specs.Ask.{fresh_decision}
 use Rattle.rsl_session.specs.Link.{number_at, number_of}
 use Rattle.rsl_rule.specs.Yielding.{HasYielded}
@@ -46,6 +48,11 @@ abbrev pub StaleLinksYield : Type 0
 StaleLinksYield = (rules : Rules) (events : List Event) (event : Event) (number link : ℕ) → RulesFit rules
     → outcome_of rules (past_of rules events) event ≡ AcceptedInPlace number link
     → HasYielded rules (past_of rules events) event link × (places_after rules (events ++ event ∷ []) ≤ rules.places)
+
+-- a closed session has no held link, so of an alive's first two cases at most one applies
+abbrev pub ClosedSessionsHoldNoLink : Type 0
+ClosedSessionsHoldNoLink = (rules : Rules) (events : List Event) (event : Event) (session : Session)
+    → is_closed rules (past_of rules events) event session ≡ true → link_of rules (past_of rules events) event session ≡ None
 
 -- the accept numbers of the fresh asks that were accepted, in the order in which they were given
 unfoldable pub accept_numbers : Past → List ℕ

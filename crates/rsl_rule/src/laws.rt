@@ -1,7 +1,7 @@
 //! Laws of the session rule, over every list of an account's events. Each is the contract of a function
 //! that does nothing.
 
-ghost use Rattle.rsl_rule.specs.Laws.{AcceptNumbersCountUp, EarlyTicksChangeNothing, LowestReservationIsTaken, OnePastFollowsTheRule, PastsFollowTheRule, PlacesStayWithinTheLimit, RepeatsAreDecidedAsAFreshAsk, StaleLinksYield};
+ghost use Rattle.rsl_rule.specs.Laws.{AcceptNumbersCountUp, ClosedSessionsHoldNoLink, EarlyTicksChangeNothing, LowestReservationIsTaken, OnePastFollowsTheRule, PastsFollowTheRule, PlacesStayWithinTheLimit, RepeatsAreDecidedAsAFreshAsk, StaleLinksYield};
 
 /// After each event of a list, and not only after the last, the places held are at most the account's.
 pub fn places_stay_within_the_limit()
@@ -12,6 +12,12 @@ pub fn places_stay_within_the_limit()
 /// the places held after the ask are at most the account's.
 pub fn stale_links_yield()
     ensures { StaleLinksYield }
+{}
+
+/// A closed session has no held link, so the order of the first two cases of an alive decides nothing: its
+/// link is renewed, or the session is closed, or neither.
+pub fn closed_sessions_hold_no_link()
+    ensures { ClosedSessionsHoldNoLink }
 {}
 
 /// A tick may be put into a list where none of the events after it has a lower moment: every

@@ -15,8 +15,6 @@ pub mod laws;
 mod link;
 mod same;
 mod standing;
-#[cfg(test)]
-mod tests;
 mod yielding;
 
 pub use decisions::{decide, decision, outcome, places};

@@ -15,8 +15,12 @@ mod event;
 #[cfg(test)]
 mod replay;
 #[cfg(test)]
+mod rule;
+#[cfg(test)]
 mod script;
 #[cfg(test)]
 mod support;
+#[cfg(test)]
+mod timeline;
 #[cfg(test)]
 mod wire;
