@@ -19,6 +19,8 @@ mod rule;
 #[cfg(test)]
 mod script;
 #[cfg(test)]
+mod steps;
+#[cfg(test)]
 mod support;
 #[cfg(test)]
 mod timeline;
