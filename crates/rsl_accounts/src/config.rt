@@ -38,16 +38,19 @@ impl Model for Config {
 
 impl Config {
     /// The configuration of these settings, clients and accounts. The rules of each account get its times:
-    /// those of the settings, but in version 2 its own live and grace times where it has them. The faults come in this order: `BadValue` of the first field of the walk with a wrong
-    /// value, `TwiceClient`, `TwiceAccount`, `KeepTooLong`. `NoMemory` comes where memory is refused, and
-    /// only after the walk and `TwiceClient`.
+    /// those of the settings, but in version 2 its own live and grace times where it has them.
+    ///
+    /// The faults come in this order: `BadValue` of the first field of the walk with a wrong value,
+    /// `TwiceClient`, `TwiceAccount`, `KeepTooLong`. `NoMemory` comes where memory is refused, and only after
+    /// the walk and `TwiceClient`.
     pub fn make(
         alloc: Global,
         settings: Settings,
         clients: Vec<Client>,
         accounts: Vec<Entry>,
     ) -> Result<Config, ConfigFault>
-        ensures ok { IfOk result (λ config. configuration_of settings clients.items accounts.items ≡ Ok config) }
+        ensures ok { IfOk result (λ config.
+            configuration_of settings clients.items accounts.items ≡ Ok config) }
         ensures fault { IfErr result (λ fault. fault ≢ ConfigFault.NoMemory →
             configuration_of settings clients.items accounts.items ≡ Err fault) }
         ensures memory { IfErr result (λ fault. fault ≡ ConfigFault.NoMemory →
@@ -65,7 +68,8 @@ impl Config {
         accounts: Vec<Entry>,
     ) -> Result<Config, ConfigFault>
         requires { first_fault (walk_over settings clients.items accounts.items) ≡ None }
-        ensures ok { IfOk result (λ config. configuration_of settings clients.items accounts.items ≡ Ok config) }
+        ensures ok { IfOk result (λ config.
+            configuration_of settings clients.items accounts.items ≡ Ok config) }
         ensures fault { IfErr result (λ fault. fault ≢ ConfigFault.NoMemory →
             configuration_of settings clients.items accounts.items ≡ Err fault) }
         ensures memory { IfErr result (λ fault. fault ≡ ConfigFault.NoMemory →
@@ -196,7 +200,8 @@ fn has_twice(clients: &[Client]) -> bool
 
 /// The names of the accounts, in their order. `TwiceAccount` if a name comes twice.
 fn index_names(alloc: Global, accounts: &[Entry]) -> Result<IndexSet<Vec<u8>>, ConfigFault>
-    ensures index { IfOk result (λ index. map (λ name. name.items) index.keys ≡ names accounts.now) }
+    ensures index { IfOk result (λ index.
+        map (λ name. name.items) index.keys ≡ names accounts.now) }
     ensures differ { IfOk result (λ _. comes_twice (names accounts.now) ≡ false) }
     ensures fault { IfErr result (λ fault. fault ≢ ConfigFault.NoMemory →
         (fault ≡ ConfigFault.TwiceAccount) × (comes_twice (names accounts.now) ≡ true)) }

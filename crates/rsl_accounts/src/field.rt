@@ -2,6 +2,7 @@ ghost use Rattle.std.specs.Prelude.{◌≡◌, Some};
 ghost use Rattle.rsl_accounts.specs.Field.{field_key, is_optional, is_between, is_secret, is_name, has_no_nul, is_visible, takes_number, takes_boolean, takes_count, takes_text};
 
 use crate::address::address_of;
+use crate::rules::{MAX_PLACES, MAX_PORTS, MAX_TIME};
 use std::fmt;
 
 /// A field of an account file.
@@ -112,13 +113,13 @@ impl Field {
             | Field::ClosedSecs
             | Field::KeepSecs
             | Field::OwnLive
-            | Field::OwnGrace => is_between(1, 86_400, number),
-            Field::Places => is_between(0, 64, number),
-            Field::Ports => is_between(1, 16, number),
+            | Field::OwnGrace => is_between(1, MAX_TIME, number),
+            Field::Places => is_between(0, MAX_PLACES, number),
+            Field::Ports => is_between(1, MAX_PORTS, number),
             Field::ServiceType
             | Field::FramedProtocol
             | Field::SessionTimeout
-            | Field::IdleTimeout => is_between(1, 4_294_967_295, number),
+            | Field::IdleTimeout => is_between(1, u32::MAX as u64, number),
             _ => false,
         }
     }

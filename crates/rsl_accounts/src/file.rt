@@ -276,7 +276,8 @@ fn read_entry(alloc: Global, version: u64, table: &Value) -> Result<Entry, NoMem
 }
 
 fn read_entries(alloc: Global, version: u64, tables: &[Value]) -> Result<Vec<Entry>, NoMemory>
-    ensures { IfOk result (λ entries. entries.items ≡ map (entry_in version) (map view tables.now)) }
+    ensures { IfOk result (λ entries.
+        entries.items ≡ map (entry_in version) (map view tables.now)) }
 {
     let mut entries = Vec::with_capacity(alloc, tables.len())?;
     for table in tables {

@@ -1,6 +1,15 @@
 ghost use Rattle.std.specs.Prelude.{◌↔◌, IsTrue};
 ghost use Rattle.rsl_accounts.specs.Limits.{IsTime, RulesFit};
 
+/// The most places that an account can have.
+pub(crate) const MAX_PLACES: u64 = 64;
+
+/// The most links that a place can have.
+pub(crate) const MAX_PORTS: u64 = 16;
+
+/// The most seconds that a time can have: a day.
+pub(crate) const MAX_TIME: u64 = 86_400;
+
 /// The session limit of one account: how many places it has, and for how long a place is kept.
 #[derive(Clone, Copy, Debug, PartialEq, Eq)]
 pub struct Rules {
@@ -26,9 +35,9 @@ impl Rules {
     pub fn fits(&self) -> bool
         ensures { IsTrue result ↔ RulesFit self.now }
     {
-        self.places <= 64
+        self.places <= MAX_PLACES
             && 1 <= self.ports
-            && self.ports <= 16
+            && self.ports <= MAX_PORTS
             && is_time(self.reserve)
             && is_time(self.live)
             && is_time(self.grace)
@@ -41,5 +50,5 @@ impl Rules {
 fn is_time(seconds: u64) -> bool
     ensures { IsTrue result ↔ IsTime seconds }
 {
-    1 <= seconds && seconds <= 86_400
+    1 <= seconds && seconds <= MAX_TIME
 }

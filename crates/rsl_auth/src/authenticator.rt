@@ -23,7 +23,8 @@ pub(crate) const ATTRIBUTES_START: usize = 20;
 pub fn seal(packet: &mut [u8], request_auth: &[u8; 16], secret: &[u8])
     requires { 20 ≤ length packet.old }
     ensures sealed { packet.new ≡ sealed packet.old request_auth.now secret.now }
-    ensures accounting { request_auth.now ≡ replicate 16 0 → IsTrue (is_accounting_authentic packet.new secret.now) }
+    ensures accounting { request_auth.now ≡ replicate 16 0 →
+        IsTrue (is_accounting_authentic packet.new secret.now) }
 {
     let digest = authenticator_of(packet, request_auth, secret);
     packet[AUTHENTICATOR_START..ATTRIBUTES_START].copy_from_slice(&digest);
@@ -44,7 +45,8 @@ pub fn sealed(mut packet: Vec<u8>, request_auth: &[u8; 16], secret: &[u8]) -> Ve
 pub fn accounting_ok(packet: &[u8], secret: &[u8]) -> bool
     requires { 20 ≤ length packet.now }
     ensures test { result ≡ is_accounting_authentic packet.now secret.now }
-    ensures authentic { IsTrue result ↔ (authenticator packet.now ≡ accounting_authenticator packet.now secret.now) }
+    ensures authentic { IsTrue result ↔
+        (authenticator packet.now ≡ accounting_authenticator packet.now secret.now) }
 {
     let digest = authenticator_of(packet, &[0; 16], secret);
     &packet[AUTHENTICATOR_START..ATTRIBUTES_START] == digest.as_slice()

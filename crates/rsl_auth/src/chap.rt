@@ -25,7 +25,8 @@ pub fn chap_response(ident: u8, password: &[u8], challenge: &[u8]) -> [u8; 16]
 #[tactic(auto, unfolding(crate::specs::Chap::matches_chap))]
 pub fn chap_ok(value: &[u8], challenge: &[u8], password: &[u8]) -> bool
     ensures test { result ≡ matches_chap value.now challenge.now password.now }
-    ensures answers { IsTrue result ↔ ((length value.now ≡ 17) × (drop 1 value.now ≡ chap_response (slice_index value.now 0) password.now challenge.now)) }
+    ensures answers { IsTrue result ↔ ((length value.now ≡ 17) ×
+        (drop 1 value.now ≡ chap_response (slice_index value.now 0) password.now challenge.now)) }
 {
     if value.len() != CHAP_PASSWORD_LEN {
         return false;

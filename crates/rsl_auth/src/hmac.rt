@@ -39,7 +39,8 @@ pub(crate) fn begun(key: &[u8]) -> Md5
 /// The HMAC of the message that the inner digest was given.
 #[tactic(auto, unfolding(crate::specs::Hmac::hmac_md5))]
 pub(crate) fn ended(inner: Md5, key: &[u8]) -> [u8; 16]
-    ensures { (message : List ℕ) → Holds inner (key_xor key.now 0x36 ++ message) → result ≡ hmac_md5 key.now message }
+    ensures { (message : List ℕ) → Holds inner (key_xor key.now 0x36 ++ message) →
+        result ≡ hmac_md5 key.now message }
 {
     let digest = inner.finalize();
     let mut outer = Md5::new();

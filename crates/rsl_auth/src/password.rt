@@ -34,9 +34,11 @@ pub fn hide(
     request_auth: &[u8; 16],
 ) -> Result<Vec<u8>, NoMemory>
     requires { length password.now ≤ 128 }
-    ensures value { IfOk result (λ value. value.items ≡ hidden password.now secret.now request_auth.now) }
+    ensures value { IfOk result (λ value.
+        value.items ≡ hidden password.now secret.now request_auth.now) }
     ensures length { IfOk result (λ value. IsPasswordLength (length value.items)) }
-    ensures reveals { IfOk result (λ value. IsTrue (matches_password value.items secret.now request_auth.now password.now)) }
+    ensures reveals { IfOk result (λ value.
+        IsTrue (matches_password value.items secret.now request_auth.now password.now)) }
 {
     let buffer = pad(password);
     let octets = &buffer[..padded_len(password.len())];
@@ -49,7 +51,8 @@ pub fn hide(
 #[tactic(auto, unfolding(crate::specs::Password::matches_password))]
 pub fn pap_ok(value: &[u8], secret: &[u8], request_auth: &[u8; 16], password: &[u8]) -> bool
     ensures test { result ≡ matches_password value.now secret.now request_auth.now password.now }
-    ensures matches { IsTrue result ↔ (IsPasswordLength (length value.now) × IsPadded (revealed value.now secret.now request_auth.now) password.now) }
+    ensures matches { IsTrue result ↔ (IsPasswordLength (length value.now) ×
+        IsPadded (revealed value.now secret.now request_auth.now) password.now) }
 {
     if !has_password_len(value) {
         return false;
@@ -87,7 +90,8 @@ fn hide_blocks(
     secret: &[u8],
     request_auth: &[u8; 16],
 ) -> Result<Vec<u8>, NoMemory>
-    ensures { IfOk result (λ value. value.items ≡ hidden_blocks (length octets.now / 16) octets.now secret.now request_auth.now) }
+    ensures { IfOk result (λ value.
+        value.items ≡ hidden_blocks (length octets.now / 16) octets.now secret.now request_auth.now) }
 {
     let mut value = Vec::with_capacity(alloc, octets.len())?;
     let mut before = *request_auth;

@@ -18,7 +18,8 @@ pub fn sign(packet: &mut [u8], at: usize, request_auth: &[u8; 16], secret: &[u8]
     requires after_header { 20 ≤ at }
     requires within { at + 16 ≤ length packet.old }
     ensures signed { packet.new ≡ signed packet.old at request_auth.now secret.now }
-    ensures right { request_auth.now ≡ authenticator packet.old → IsTrue (is_signed packet.new at secret.now) }
+    ensures right { request_auth.now ≡ authenticator packet.old →
+        IsTrue (is_signed packet.new at secret.now) }
 {
     let value = signature_of(packet, at, request_auth, secret);
     packet[at..at + SIGNATURE_LEN].copy_from_slice(&value);
@@ -31,7 +32,8 @@ pub fn signature_ok(packet: &[u8], at: usize, secret: &[u8]) -> bool
     requires after_header { 20 ≤ at }
     requires within { at + 16 ≤ length packet.now }
     ensures test { result ≡ is_signed packet.now at secret.now }
-    ensures right { IsTrue result ↔ (value_at packet.now at ≡ signature packet.now at (authenticator packet.now) secret.now) }
+    ensures right { IsTrue result ↔
+        (value_at packet.now at ≡ signature packet.now at (authenticator packet.now) secret.now) }
 {
     let request_auth = &packet[AUTHENTICATOR_START..ATTRIBUTES_START];
     let value = signature_of(packet, at, request_auth, secret);

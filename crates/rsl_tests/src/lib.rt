@@ -15,6 +15,8 @@ mod event;
 #[cfg(test)]
 mod replay;
 #[cfg(test)]
+mod report;
+#[cfg(test)]
 mod rule;
 #[cfg(test)]
 mod script;

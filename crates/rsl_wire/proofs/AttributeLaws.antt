@@ -108,7 +108,7 @@ unfolding list_from
 list_from-nil zero = refl
 list_from-nil (suc most) = refl
 
--- what is behind the first attribute is shorter
+-- what is after the first attribute is shorter
 pub shorter : (octets : List ℕ) (first : Attribute) (rest : List ℕ) → first_attribute octets ≡ Some (first, rest) → 2 + length rest ≤ length octets
 shorter [] first rest e = absurd cc
 shorter (kind ∷ []) first rest e = absurd cc

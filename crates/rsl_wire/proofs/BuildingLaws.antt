@@ -19,7 +19,7 @@ begun_of octets = begun_with (get_or octets 1 0) (drop 20 octets)
 abbrev pub with_attribute : Begun → List ℕ → Begun
 with_attribute begun octets = begun_with begun.id (begun.attributes ++ octets)
 
--- the attributes fit behind as many octets as stand already
+-- the attributes fit after the octets that stand already
 pub record FitsFrom (len : ℕ) (attributes : List Attribute) : Type 0 where
   pub values : AllByRecursion (λ attribute. length attribute.value ≤ 253) attributes
   pub whole : len + length (list_octets attributes) ≤ 4096
@@ -66,7 +66,7 @@ second [] more long = absurd (omega arith)
 second (a ∷ []) more long = absurd (omega arith)
 second (a ∷ b ∷ octets) more long = refl
 
--- what a draft is seen as behind octets that were written at its end
+-- what a draft is seen as after octets that were written at its end
 pub begun_more : (octets header value : List ℕ) → 20 ≤ length octets → (get_or ((octets ++ header) ++ value) 1 0 ≡ get_or octets 1 0) × (drop 20 ((octets ++ header) ++ value) ≡ drop 20 octets ++ (header ++ value))
 begun_more octets header value long = (
   ap (λ (x : List ℕ). get_or x 1 0) (append_assoc octets header value) ∙ second octets (header ++ value) long,
@@ -90,7 +90,7 @@ fits_here len xs i none lt fits = fits_first len (seen (get_or xs i none)) (map 
 pub fits_all : (len : ℕ) (xs : List Attr) (i : ℕ) → length xs ≤ i → len ≤ 4096 → FitsFrom len (map seen (drop i xs))
 fits_all len xs i past le = subst (λ (x : List Attr). FitsFrom len (map seen x)) (sym (drop_all i xs past)) (fits_end len le)
 
--- a draft behind an attribute that was written at its end
+-- a draft after an attribute that was written at its end
 pub pushed_is : (octets headed whole value : List ℕ) (kind n : ℕ) (begun : Begun) → 20 ≤ length octets → n ≡ 2 + length value
     → headed ≡ octets ++ kind ∷ n ∷ [] → whole ≡ headed ++ value → begun_of octets ≡ begun
     → begun_of whole ≡ with_attribute begun (attribute_octets (attribute_of kind value))

@@ -46,7 +46,7 @@ pub record IsBadAt (octets : List ℕ) (at : ℕ) : Type 0 where
   pub offset : at ≡ length (list_octets front)
   pub bad : BeginsBad rest
 
--- the attribute that begins the octets, and the octets behind it
+-- the attribute that begins the octets, and the octets after it
 abbrev pub first_attribute : List ℕ → Option (Attribute × List ℕ)
 first_attribute [] = None
 first_attribute (kind ∷ []) = None
@@ -54,7 +54,7 @@ first_attribute (kind ∷ len ∷ rest) =
     if nat_lt len 2 || nat_lt (2 + length rest) len then None
     else Some (attribute_of kind (take (len - 2) rest), drop (len - 2) rest)
 
--- an attribute before what was read behind it, where a fault's offset is counted from the attribute
+-- an attribute before what was read after it, where a fault's offset is counted from the attribute
 abbrev pub with_first : Attribute → Result (List Attribute) ℕ → Result (List Attribute) ℕ
 with_first first (Ok rest) = Ok (first ∷ rest)
 with_first first (Err at) = Err (length (attribute_octets first) + at)

@@ -4,6 +4,11 @@ pub(crate) const ATTR_HEADER_LEN: usize = 2;
 /// The greatest length of an attribute's Value (RFC 2865 section 5).
 pub const MAX_VALUE_LEN: usize = 253;
 
+// The numbers of RFC 2865, which definitions have as they stand.
+const _: () = prove!(ATTR_HEADER_LEN == 2);
+
+const _: () = prove!(MAX_VALUE_LEN == 253);
+
 /// An attribute to be written: its Type and its Value (RFC 2865 section 5).
 #[derive(Clone, Copy, Debug)]
 pub struct Attr<'a> {

@@ -45,16 +45,21 @@ impl<'a> Attrs<'a> {
     /// The attributes of octets, or where the first bad one is. It takes no memory.
     pub(crate) fn in_octets(octets: &'a [u8]) -> Result<Attrs<'a>, BadAttribute>
         ensures found { IfOk result (λ attrs. AreAttributes octets.now attrs) }
-        ensures only { (attributes : List Attribute) → AreAttributes octets.now attributes → IsOkAnd result (λ attrs. attrs ≡ attributes) }
+        ensures only { (attributes : List Attribute) → AreAttributes octets.now attributes →
+            IsOkAnd result (λ attrs. attrs ≡ attributes) }
         ensures bad { IfErr result (λ fault. IsBadAt octets.now fault.at) }
-        ensures exact { MatchResult result (λ attrs. attribute_list octets.now ≡ Ok attrs) (λ fault. attribute_list octets.now ≡ Err fault.at) }
+        ensures exact { MatchResult result
+            (λ attrs. attribute_list octets.now ≡ Ok attrs)
+            (λ fault. attribute_list octets.now ≡ Err fault.at) }
     {
         Attrs::checked(octets)
     }
 
     /// The same, proved against the function that reads a list; `in_octets` adds what the grammar says.
     fn checked(octets: &'a [u8]) -> Result<Attrs<'a>, BadAttribute>
-        ensures { MatchResult result (λ attrs. attribute_list octets.now ≡ Ok attrs) (λ fault. attribute_list octets.now ≡ Err fault.at) }
+        ensures { MatchResult result
+            (λ attrs. attribute_list octets.now ≡ Ok attrs)
+            (λ fault. attribute_list octets.now ≡ Err fault.at) }
     {
         let mut rest = octets;
         while !rest.is_empty() {
@@ -131,9 +136,10 @@ impl<'a> Iterator for Attrs<'a> {
     }
 }
 
-/// The Type and the Value of the attribute that begins the octets, and the octets behind it.
+/// The Type and the Value of the attribute that begins the octets, and the octets after it.
 fn attribute_at_front(octets: &[u8]) -> Option<(u8, &[u8], &[u8])>
-    ensures { MatchOption result (first_attribute octets.now ≡ None) (λ found. first_attribute octets.now ≡ Some (attribute_of found.0 found.1.now, found.2.now)) }
+    ensures { MatchOption result (first_attribute octets.now ≡ None) (λ found.
+        first_attribute octets.now ≡ Some (attribute_of found.0 found.1.now, found.2.now)) }
 {
     let [kind, len, rest @ ..] = octets else {
         return None;

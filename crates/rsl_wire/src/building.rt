@@ -21,7 +21,7 @@ pub enum BuildFault {
     NoMemory,
 }
 
-/// The octets of a packet with these fields, and nothing behind them (RFC 2865 section 3).
+/// The octets of a packet with these fields, and nothing after them (RFC 2865 section 3).
 ///
 /// `TooLong` comes exactly where a value has over 253 octets or the whole would have over 4,096,
 /// before any memory is taken. `NoMemory` comes only where memory is refused.
@@ -39,7 +39,8 @@ pub fn build(
       attributes = list_octets (map seen attributes.now);
     })) }
     ensures fits { FitsPacket (map seen attributes.now) → IsOkUnless result BuildFault.NoMemory }
-    ensures too_long { (FitsPacket (map seen attributes.now) → ⊥) → IsErrOf result BuildFault.TooLong }
+    ensures too_long { (FitsPacket (map seen attributes.now) → ⊥) →
+        IsErrOf result BuildFault.TooLong }
     ensures only_fitting { IfOk result (λ _. FitsPacket (map seen attributes.now)) }
 {
     if !fits_packet(attributes) {
@@ -69,7 +70,8 @@ fn fits_packet(attributes: &[Attr<'_>]) -> bool
 /// A draft that has the attributes.
 fn written(alloc: Global, id: u8, attributes: &[Attr<'_>]) -> Result<Draft, NoMemory>
     requires { FitsPacket (map seen attributes.now) }
-    ensures { IfOk result (λ draft. draft ≡ record { id = id; attributes = list_octets (map seen attributes.now) }) }
+    ensures { IfOk result (λ draft.
+        draft ≡ record { id = id; attributes = list_octets (map seen attributes.now) }) }
 {
     let mut draft = Draft::new(alloc, id)?;
     for attribute in attributes {

@@ -27,7 +27,10 @@ impl Model for Draft {
 
     ghost Value = { Begun };
 
-    ghost view = { λ draft. record { id = slice_index draft.octets.items 1; attributes = drop 20 draft.octets.items } };
+    ghost view = { λ draft. record {
+      id = slice_index draft.octets.items 1;
+      attributes = drop 20 draft.octets.items;
+    } };
 
     ghost invariant = { λ draft. HasRoom (vec_len draft.octets) (vec_capacity draft.octets) };
 }
@@ -45,11 +48,14 @@ impl Draft {
         Ok(Draft { octets })
     }
 
-    /// Writes an attribute behind those that are there. `TooLong` comes exactly where the value has
+    /// Writes an attribute after those that are there. `TooLong` comes exactly where the value has
     /// over 253 octets or the whole packet would have over 4,096, and then the draft is as it was.
     pub fn push(&mut self, kind: u8, value: &[u8]) -> Result<(), TooLong>
-        ensures fits { IsOk result ↔ ((length value.now ≤ 253) × (20 + length self.old.attributes + (2 + length value.now) ≤ 4096)) }
-        ensures ok { OnOk result (self.new ≡ record self.old { attributes = self.old.attributes ++ attribute_octets (attribute_of kind value.now) }) }
+        ensures fits { IsOk result ↔ ((length value.now ≤ 253) ×
+            (20 + length self.old.attributes + (2 + length value.now) ≤ 4096)) }
+        ensures ok { OnOk result (self.new ≡ record self.old {
+          attributes = self.old.attributes ++ attribute_octets (attribute_of kind value.now);
+        }) }
         ensures err { OnErr result (self.new ≡ self.old) }
     {
         if value.len() > MAX_VALUE_LEN
@@ -63,9 +69,14 @@ impl Draft {
         Ok(())
     }
 
-    /// The octets of the packet (RFC 2865 section 3), with nothing behind them. It takes no memory.
+    /// The octets of the packet (RFC 2865 section 3), with nothing after them. It takes no memory.
     pub fn finish(self, code: u8, authenticator: &[u8; 16]) -> Vec<u8>
-        ensures { result.items ≡ packet_octets (record { code = code; id = self.id; authenticator = authenticator.now; attributes = self.attributes }) }
+        ensures { result.items ≡ packet_octets (record {
+          code = code;
+          id = self.id;
+          authenticator = authenticator.now;
+          attributes = self.attributes;
+        }) }
     {
         let Draft { mut octets } = self;
         write_header(octets.as_mut_slice(), code, authenticator);
@@ -73,7 +84,7 @@ impl Draft {
     }
 }
 
-/// Writes octets behind those of a list that has room for them.
+/// Writes octets after those of a list that has room for them.
 fn append(octets: &mut Vec<u8>, more: &[u8])
     requires { vec_len octets.old + length more.now ≤ vec_capacity octets.old }
     ensures items { octets.new.items ≡ octets.old.items ++ more.now }

@@ -11,6 +11,11 @@ pub const HEADER_LEN: usize = 20;
 /// packets; this server takes the same on both ports.
 pub const MAX_LEN: usize = 4096;
 
+// The numbers of RFC 2865, which definitions have as they stand.
+const _: () = prove!(HEADER_LEN == 20);
+
+const _: () = prove!(MAX_LEN == 4096);
+
 /// Why a datagram has no packet.
 #[derive(Clone, Copy, Debug, PartialEq, Eq, Error)]
 pub enum WireFault {
@@ -42,8 +47,18 @@ pub struct Packet<'a> {
     /// The octets of the attributes.
     pub attrs: &'a [u8],
     octets: &'a [u8],
-    pub ghost fits: { IsPacket (record { code = code; id = id; authenticator = authenticator; attributes = attrs.now }) },
-    pub ghost whole: { octets.now ≡ packet_octets (record { code = code; id = id; authenticator = authenticator; attributes = attrs.now }) },
+    pub ghost fits: { IsPacket (record {
+      code = code;
+      id = id;
+      authenticator = authenticator;
+      attributes = attrs.now;
+    }) },
+    pub ghost whole: { octets.now ≡ packet_octets (record {
+      code = code;
+      id = id;
+      authenticator = authenticator;
+      attributes = attrs.now;
+    }) },
 }
 
 impl<'a> Packet<'a> {
@@ -67,17 +82,22 @@ impl<'a> Packet<'a> {
         // The attributes, joined, are the octets.
         ensures found { IfOk result (λ attrs. AreAttributes self.now.attrs.now attrs) }
         // No others are.
-        ensures only { (attributes : List Attribute) → AreAttributes self.now.attrs.now attributes → IsOkAnd result (λ attrs. attrs ≡ attributes) }
+        ensures only { (attributes : List Attribute) → AreAttributes self.now.attrs.now attributes →
+            IsOkAnd result (λ attrs. attrs ≡ attributes) }
         ensures bad { IfErr result (λ fault. IsBadAt self.now.attrs.now fault.at) }
         // The same, as a function of the octets.
-        ensures exact { MatchResult result (λ attrs. attribute_list self.now.attrs.now ≡ Ok attrs) (λ fault. attribute_list self.now.attrs.now ≡ Err fault.at) }
+        ensures exact { MatchResult result
+            (λ attrs. attribute_list self.now.attrs.now ≡ Ok attrs)
+            (λ fault. attribute_list self.now.attrs.now ≡ Err fault.at) }
     {
         Attrs::in_octets(self.attrs)
     }
 
     #[tactic(auto, unfolding(crate::specs::Packet::packet_of))]
     pub(crate) fn in_datagram(datagram: &'a [u8]) -> Result<Packet<'a>, WireFault>
-        ensures { MatchResult result (λ packet. packet_of datagram.now ≡ Ok (fields_of packet)) (λ fault. packet_of datagram.now ≡ Err fault) }
+        ensures { MatchResult result
+            (λ packet. packet_of datagram.now ≡ Ok (fields_of packet))
+            (λ fault. packet_of datagram.now ≡ Err fault) }
     {
         if datagram.len() < HEADER_LEN {
             return Err(WireFault::Short);

@@ -11,15 +11,19 @@ use crate::packet::{Packet, WireFault};
 /// are 20 and the Length is under 20, over 4,096 or over the octets that came.
 pub fn read(datagram: &[u8]) -> Result<Packet<'_>, WireFault>
     // What is read is in the grammar, up to the padding.
-    ensures found { IfOk result (λ packet. (padding : List ℕ) × IsDatagram datagram.now (fields_of packet) padding) }
+    ensures found { IfOk result (λ packet. (padding : List ℕ) ×
+        IsDatagram datagram.now (fields_of packet) padding) }
     // What is in the grammar is read, with those fields and no others.
     ensures only { (fields : Fields) (padding : List ℕ) → IsDatagram datagram.now fields padding →
         IsOkAnd result (λ packet. fields_of packet ≡ fields) }
     ensures short { IsErrOf result WireFault.Short ↔ (length datagram.now < 20) }
     ensures bad_length { IsErrOf result WireFault.BadLength ↔
-        ((20 ≤ length datagram.now) × ((fields : Fields) (padding : List ℕ) → IsDatagram datagram.now fields padding → ⊥)) }
+        ((20 ≤ length datagram.now) × ((fields : Fields) (padding : List ℕ) →
+        IsDatagram datagram.now fields padding → ⊥)) }
     // The same, as a function of the datagram.
-    ensures exact { MatchResult result (λ packet. packet_of datagram.now ≡ Ok (fields_of packet)) (λ fault. packet_of datagram.now ≡ Err fault) }
+    ensures exact { MatchResult result
+        (λ packet. packet_of datagram.now ≡ Ok (fields_of packet))
+        (λ fault. packet_of datagram.now ≡ Err fault) }
 {
     Packet::in_datagram(datagram)
 }
