@@ -128,7 +128,7 @@ once_each : (n ports : ℕ) → 0 < ports → n ≤ n * ports
 once_each n zero some = elim some [ ]
 once_each n (suc ports) some = omega arith
 
-ports_hold : (ports : ℕ) (xs : List (Option Bundle)) → 0 < ports → length xs ≤ places_of ports xs * ports
+pub ports_hold : (ports : ℕ) (xs : List (Option Bundle)) → 0 < ports → length xs ≤ places_of ports xs * ports
 unfolding places_of alone inside members
 ports_hold ports xs some =
     let shares : sum_by (λ bundle. count_by (is_bundle bundle) xs) (each_bundle xs) ≤ sum_by (λ bundle. div_ceil (count_by (is_bundle bundle) xs) ports) (each_bundle xs) * ports =

@@ -1,5 +1,5 @@
 -- The step of the book of a past is the book of the past with the event.
-use Rattle.std.proofs.Common.{◌≡◌, ℕ, ◌≤◌, List, [], ◌∷◌, map, Bool, true, false, cond, not, refl, ap, sym, ◌∙◌, subst}
+use Rattle.std.proofs.Common.{◌≡◌, ℕ, ◌≤◌, List, [], ◌∷◌, ◌++◌, map, Bool, true, false, cond, not, refl, ap, sym, ◌∙◌, subst}
 use Rattle.std.specs.Prelude.{Option, Some, None, filter, find}
 use Rattle.std.specs.Option.{option_map}
 use Rattle.rsl_accounts.specs.Limits.{RulesFit}
@@ -122,18 +122,30 @@ unfolding step entry_of outcome_of
 joins rules past event ruled = rw (come rules past event) (act_joins rules past event.moment event.act ruled)
 
 -- over whole lists: the book of a past, stepped by each of some events
-book_after_is : (rules : Rules) (past : Past) (events : List Event) → IsRuled rules past → book_after rules (book_of rules past) events ≡ book_of rules (past_from rules past events)
+pub book_after_is : (rules : Rules) (past : Past) (events : List Event) → IsRuled rules past → book_after rules (book_of rules past) events ≡ book_of rules (past_from rules past events)
 unfolding book_after past_from IsRuled entry_of
 book_after_is rules past [] ruled = refl
 book_after_is rules past (event ∷ events) ruled =
     ap (λ (next : Book × Decision). book_after rules next.0 events) (joins rules past event ruled) ∙ book_after_is rules (entry_of rules past event ∷ past) events (refl, ruled)
 
-decided_by_is : (rules : Rules) (past : Past) (events : List Event) → IsRuled rules past → decided_by rules (book_of rules past) events ≡ decisions_from rules past events
+pub decided_by_is : (rules : Rules) (past : Past) (events : List Event) → IsRuled rules past → decided_by rules (book_of rules past) events ≡ decisions_from rules past events
 unfolding decided_by decisions_from IsRuled entry_of
 decided_by_is rules past [] ruled = refl
 decided_by_is rules past (event ∷ events) ruled =
     ap (λ (next : Book × Decision). next.1 ∷ decided_by rules next.0 events) (joins rules past event ruled)
     ∙ ap (λ ds. decision_of (outcome_of rules past event) ∷ ds) (decided_by_is rules (entry_of rules past event ∷ past) events (refl, ruled))
+
+-- some events and then others
+pub book_after-append : (rules : Rules) (book : Book) (events others : List Event) → book_after rules book (events ++ others) ≡ book_after rules (book_after rules book events) others
+unfolding book_after
+book_after-append rules book [] others = refl
+book_after-append rules book (event ∷ events) others = book_after-append rules (step rules book event).0 events others
+
+pub decided_by-append : (rules : Rules) (book : Book) (events others : List Event)
+    → decided_by rules book (events ++ others) ≡ decided_by rules book events ++ decided_by rules (book_after rules book events) others
+unfolding book_after decided_by
+decided_by-append rules book [] others = refl
+decided_by-append rules book (event ∷ events) others = ap (λ decisions. (step rules book event).1 ∷ decisions) (decided_by-append rules (step rules book event).0 events others)
 
 -- the book of no past is new
 new_is : (rules : Rules) → new_book ≡ book_of rules []

@@ -14,3 +14,5 @@ pub mod BookAlive
 pub mod BookAsk
 pub mod BookJoined
 pub mod BookBound
+pub mod BookKeeps
+pub mod BookFigures

@@ -1,13 +1,19 @@
 -- The laws that join the running book with the rule by looking back, each the contract of a function of
 -- `laws`. For every past that follows the rule and every event, the step of the past's book is the book of the
 -- past with the event, field by field, and its decision is the rule's.
-use Rattle.std.specs.Prelude.{◌≡◌, ℕ, ◌*◌, ◌≤◌, List, ◌∷◌, length, take}
+use Rattle.std.specs.Prelude.{◌≡◌, ℕ, ◌*◌, ◌≤◌, List, ◌∷◌, length, take, count_by}
 use Rattle.rsl_accounts.specs.Limits.{RulesFit}
 use Rattle.rsl_accounts.specs.declared.rules.Rules.{Rules}
 use Rattle.rsl_event.specs.declared.event.Event.{Event}
 use Rattle.rsl_session.specs.Past.{Past}
+use Rattle.rsl_session.specs.Binding.{is_reserved}
+use Rattle.rsl_session.specs.Lapse.{is_live, is_stale}
+use Rattle.rsl_session.specs.Held.{held_links}
+use Rattle.rsl_session.specs.Places.{places}
+use Rattle.rsl_session.specs.Ask.{KEPT_ASKS}
+use Rattle.rsl_session.specs.Closed.{KEPT_STOPS}
 use Rattle.rsl_session.specs.Rule.{IsRuled, decision_of, decisions, entry_of, outcome_of, past_of, places_after}
-use Rattle.rsl_session.specs.Book.{Book, new_book, places_in}
+use Rattle.rsl_session.specs.Book.{Book, new_book, places_in, reserved_in, live_in, stale_in}
 use Rattle.rsl_session.specs.BookStep.{step, book_after, decided_by}
 use Rattle.rsl_session.specs.BookOf.{book_of}
 
@@ -70,3 +76,16 @@ StepsStayWithinTheLimit = (rules : Rules) (book : Book) (event : Event) → Rule
 abbrev pub LinksAreBounded : Type 0
 LinksAreBounded = (rules : Rules) (book : Book) → RulesFit rules → places_in rules book ≤ rules.places
     → (length book.links ≤ rules.places * rules.ports) × (places_in rules book ≤ length book.links)
+
+-- and one that keeps at most 8 asks and 16 stops goes on to
+abbrev pub KeptIsBounded : Type 0
+KeptIsBounded = (rules : Rules) (book : Book) (event : Event) → length book.asks ≤ KEPT_ASKS → length book.stops ≤ KEPT_STOPS
+    → (length (step rules book event).0.asks ≤ KEPT_ASKS) × (length (step rules book event).0.stops ≤ KEPT_STOPS)
+
+-- what the book of a past shows of itself is what the rule counts among the links that are held
+abbrev pub BooksShowTheRule : Type 0
+BooksShowTheRule = (rules : Rules) (past : Past)
+    → (places_in rules (book_of rules past) ≡ places rules past)
+    × (reserved_in (book_of rules past) ≡ count_by (is_reserved past) (held_links rules past))
+    × (live_in rules (book_of rules past) ≡ count_by (is_live rules past) (held_links rules past))
+    × (stale_in rules (book_of rules past) ≡ count_by (is_stale rules past) (held_links rules past))

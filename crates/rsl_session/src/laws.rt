@@ -4,7 +4,7 @@
 //! The first seven hold for every past that follows the rule and every event: the step of the past's book is
 //! the book of the past with the event, field by field, and the decision is the rule's.
 
-ghost use Rattle.rsl_session.specs.BookLaws.{AcceptNumberLaw, BooksAreThoseOfThePast, BooksDecideAsTheRule, BooksHoldThePlacesOfTheRule, BooksStayWithinTheLimit, ClockLaw, DecisionLaw, KeptAsksLaw, KeptStopsLaw, LinksAreBounded, LinksLaw, OverLaw, StepsStayWithinTheLimit};
+ghost use Rattle.rsl_session.specs.BookLaws.{AcceptNumberLaw, BooksAreThoseOfThePast, BooksDecideAsTheRule, BooksHoldThePlacesOfTheRule, BooksShowTheRule, BooksStayWithinTheLimit, ClockLaw, DecisionLaw, KeptAsksLaw, KeptIsBounded, KeptStopsLaw, LinksAreBounded, LinksLaw, OverLaw, StepsStayWithinTheLimit};
 
 /// The clock law: a book that is stepped by an event has the clock of the past with the event.
 pub fn clock_law()
@@ -73,4 +73,15 @@ pub fn steps_stay_within_the_limit()
 /// as links.
 pub fn links_are_bounded()
     ensures { LinksAreBounded }
+{}
+
+/// A book that keeps at most 8 asks and 16 stops keeps at most as many after a step.
+pub fn kept_is_bounded()
+    ensures { KeptIsBounded }
+{}
+
+/// What the book of a past shows of itself is what the rule counts among the links that are held: the places,
+/// and the reserved, live and stale links.
+pub fn books_show_the_rule()
+    ensures { BooksShowTheRule }
 {}
