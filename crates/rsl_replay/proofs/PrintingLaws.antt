@@ -49,7 +49,7 @@ printed_none : (config : Configuration) (number : ℕ) (lines : List EventLine) 
 unfolding printed_from
 printed_none config number lines rest e = ap (λ (x : List EventLine). printed_from config number x rest) e
 
--- behind the last line nothing is left
+-- after the last line nothing is left
 pub left_none : (config : Configuration) (lines : List EventLine) (index : ℕ) (rest : List Answer) (all text : List ℕ) → length lines ≤ index
     → IsLeft config lines index rest all text → text ≡ all
 left_none config lines index rest all text past left =
