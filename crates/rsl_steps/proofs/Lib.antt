@@ -1,5 +1,6 @@
 pub mod Commuting
 pub mod EarlyTicks
+pub mod Journals
 pub mod Keeping
 pub mod Limits
 pub mod OwnEvents

@@ -1,17 +1,24 @@
 -- Laws of runs, each the contract of a function of `laws`.
-use Rattle.std.specs.Prelude.{◌≡◌, ◌≢◌, ℕ, ◌<◌, ◌≤◌, IsTrue, Bool, false, List, [], ◌∷◌, ◌++◌, map, All, slice_get, Some, is_some, if◌then◌else◌}
+use Rattle.std.specs.Prelude.{◌≡◌, ◌≢◌, ℕ, ◌<◌, ◌≤◌, IsTrue, Bool, false, List, [], ◌∷◌, ◌++◌, map, take, All, slice_get, Some, is_some, if◌then◌else◌}
 use Rattle.std.specs.List.{flat_map, range_with_len}
 use Rattle.rsl_accounts.specs.Configuration.{Configuration}
 use Rattle.rsl_accounts.specs.declared.entry.Entry.{Entry}
+use Rattle.rsl_accounts.specs.declared.rules.Rules.{Rules}
 use Rattle.rsl_event.specs.Meaning.{meaning}
 use Rattle.rsl_event.specs.declared.event.Event.{Event}
 use Rattle.rsl_event.specs.declared.event.Source.{Source}
 use Rattle.rsl_event.specs.declared.meaning.Port.{Port}
 use Rattle.rsl_event.specs.declared.nas.Nas.{Nas}
 use Rattle.rsl_event.specs.declared.words.Said.{Said}
-use Rattle.rsl_session.specs.Rule.{places_after}
+use Rattle.rsl_session.specs.Book.{places_in}
+use Rattle.rsl_session.specs.BookOf.{book_of}
+use Rattle.rsl_session.specs.Rule.{past_of, places_after}
+use Rattle.rsl_shard.specs.Journal.{IsJournal, book_in, new_books}
+use Rattle.rsl_shard.specs.Moves.{own_in}
+use Rattle.rsl_shard.specs.declared.line.Line.{Line}
+use Rattle.rsl_shard.specs.declared.moved.Move.{Move}
 use Rattle.rsl_steps.specs.Own.{event_in, own, own_events}
-use Rattle.rsl_steps.specs.Run.{AreAnswers, taken}
+use Rattle.rsl_steps.specs.Run.{AreAnswers, decision_after, taken}
 use Rattle.rsl_steps.specs.declared.step.Answer.{Answer}
 use Rattle.rsl_steps.specs.declared.step.Answer.TheVariants.{Reply}
 use Rattle.rsl_steps.specs.declared.step.Step.{Step}
@@ -109,3 +116,20 @@ EarlyTicksChangeNothing = (config : Configuration) (boot shard moment : ℕ) (be
     → AreAnswers config boot (steps.Tick shard moment ∷ before) after answers
     × ((account : ℕ) (entry : Entry) → slice_get config.accounts account ≡ Some entry → own config boot account (taken [] after answers) ≢ []
     → places_after entry.rules (own config boot account (taken (steps.Tick shard moment ∷ before) after answers)) ≡ places_after entry.rules (own config boot account (taken before after answers)))
+
+-- ---- a journal
+
+-- what a journal whose books began new says of an account
+pub record ObeysTheRule (rules : Rules) (account : ℕ) (lines : List Line) : Type 0 where
+  -- each line of the account's own has the decision that the rule finds by looking back
+  pub decided : (n : ℕ) (line : Line) (event : Event) → slice_get lines n ≡ Some line → line.moved ≡ Move.Own account event
+      → line.decision ≡ decision_after rules (own_in account (take n lines)) event
+  -- its book has the clock, the links, the accept number, the kept asks and stops and the over count of its past
+  pub book : book_in rules new_books account lines ≡ book_of rules (past_of rules (own_in account lines))
+  -- and so its places are the rule's
+  pub places : places_in rules (book_in rules new_books account lines) ≡ places_after rules (own_in account lines)
+
+-- a journal obeys the rule: so do each account's decisions, its book and its places, over its own events among the lines
+abbrev pub JournalsObeyTheRule : Type 0
+JournalsObeyTheRule = (config : Configuration) (shard account : ℕ) (entry : Entry) (lines : List Line)
+    → IsJournal config shard new_books lines → slice_get config.accounts account ≡ Some entry → ObeysTheRule entry.rules account lines

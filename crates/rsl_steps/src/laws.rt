@@ -1,6 +1,6 @@
 //! Laws of runs, over every list of steps. Each is the contract of a function that does nothing.
 
-ghost use Rattle.rsl_steps.specs.Laws.{EarlyTicksChangeNothing, EqualOwnEventsAreAnsweredAlike, PacketsOfTwoAccountsCommute, TheNumberOfShardsDoesNotMatter};
+ghost use Rattle.rsl_steps.specs.Laws.{EarlyTicksChangeNothing, EqualOwnEventsAreAnsweredAlike, JournalsObeyTheRule, PacketsOfTwoAccountsCommute, TheNumberOfShardsDoesNotMatter};
 
 /// Accounts are independent: what an account is told and the places that it holds are a function of its
 /// rules and of its own events.
@@ -23,4 +23,10 @@ pub fn the_number_of_shards_does_not_matter()
 /// account's places after its next own event.
 pub fn early_ticks_change_nothing()
     ensures { EarlyTicksChangeNothing }
+{}
+
+/// A journal obeys the rule: where its books began new and each line is decided by them, each account's
+/// decisions are the rule's over its own events among the lines, and so are its book and its places.
+pub fn journals_obey_the_rule()
+    ensures { JournalsObeyTheRule }
 {}

@@ -111,19 +111,12 @@ fn places_are_those_of_the_own_events(rt: HostRuntime) -> Result<(), Fail> {
         ("a restart, a stray", TWO, RESTARTED, [0, 0]),
     ] {
         let (config, steps, ran) = ran_of(&rt, head, steps)?;
-        for (account, expected) in (0..config.accounts()).zip(expected) {
-            let events = own(rt.alloc(), &config, BOOT, account, &steps)?;
-            let rules = &config.entry(account).rules;
-            assert_eq!(rt;
-                ran.held(rt.alloc(), &config, account)?,
-                expected,
-                "{name}, {account}"
-            );
-            assert_eq!(rt;
-                places(rt.alloc(), rules, &events)?,
-                expected,
-                "{name}, {account}"
-            );
+        let mut account = 0;
+        for expected in expected {
+            let (held, counted) = places_of(&rt, &config, &steps, &ran, account)?;
+            assert_eq!(rt; held, expected, "held, {name}, {account}");
+            assert_eq!(rt; counted, expected, "counted, {name}, {account}");
+            account = 1;
         }
     }
     Ok(())
@@ -171,20 +164,7 @@ fn own_events_are_decided_by_the_rule(rt: HostRuntime) -> Result<(), Fail> {
         ),
     ] {
         let (config, steps) = config_and_steps(&rt, head, steps)?;
-        let events = own(rt.alloc(), &config, BOOT, account, &steps)?;
-        let decisions = decide(rt.alloc(), &config.entry(account).rules, &events)?;
-        let mut found = String::new(rt.alloc());
-        for (event, decision) in events.iter().zip(&decisions) {
-            if !found.is_empty() {
-                found.push_str(", ")?;
-            }
-            write!(
-                &mut found,
-                "{} {}: {decision:?}",
-                act_word(event),
-                event.moment
-            )?;
-        }
+        let found = decisions_in(&rt, &config, &steps, account)?;
         assert_eq!(rt; found.as_str(), expected, "{name}");
     }
     Ok(())
@@ -294,6 +274,50 @@ fn push_steps<R: AllocGlobal>(
         }
     }
     Ok(())
+}
+
+/// The places that an account holds after a run, and those that the rule counts on its own events.
+fn places_of<R: AllocGlobal>(
+    rt: &R,
+    config: &Config,
+    steps: &[Step],
+    ran: &Ran,
+    account: u32,
+) -> Result<(u32, u32), Fail> {
+    if config.accounts() <= account {
+        return Err(Fail::from("there is no such account"));
+    }
+    let held = ran.held(rt.alloc(), config, account)?;
+    let events = own(rt.alloc(), config, BOOT, account, steps)?;
+    let counted = places(rt.alloc(), &config.entry(account).rules, &events)?;
+    Ok((held, counted))
+}
+
+/// An account's own events, each with its moment and the decision on it.
+fn decisions_in<R: AllocGlobal>(
+    rt: &R,
+    config: &Config,
+    steps: &[Step],
+    account: u32,
+) -> Result<String, Fail> {
+    if config.accounts() <= account {
+        return Err(Fail::from("there is no such account"));
+    }
+    let events = own(rt.alloc(), config, BOOT, account, steps)?;
+    let decisions = decide(rt.alloc(), &config.entry(account).rules, &events)?;
+    let mut text = String::new(rt.alloc());
+    for (event, decision) in events.iter().zip(&decisions) {
+        if !text.is_empty() {
+            text.push_str(", ")?;
+        }
+        write!(
+            &mut text,
+            "{} {}: {decision:?}",
+            act_word(event),
+            event.moment
+        )?;
+    }
+    Ok(text)
 }
 
 /// The answers of a run, a word each.

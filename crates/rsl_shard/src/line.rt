@@ -1,0 +1,11 @@
+use crate::moved::Move;
+use rsl_event::Decision;
+
+/// A line of a journal: a move that was made, and what was decided.
+#[derive(Debug, PartialEq, Eq, Drop)]
+pub struct Line {
+    /// The move.
+    pub moved: Move,
+    /// The decision: `Done` for every move but an ask.
+    pub decision: Decision,
+}
