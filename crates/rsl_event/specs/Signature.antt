@@ -1,9 +1,10 @@
 -- Message-Authenticators (RFC 3579 section 3.2): what an Access-Request has to have, and which replies get one.
 use Rattle.std.specs.Prelude.{ℕ, ◌+◌, ◌==◌, ◌&&◌, nat_lt, Bool, true, false, List, [], ◌∷◌, length, replicate, slice_get, if◌then◌else◌, Option, Some, None}
+use Rattle.std.specs.List.{before_first}
 use Rattle.std.specs.Option.{option_map_or}
 use Rattle.rsl_accounts.specs.Configuration.{Configuration}
 use Rattle.rsl_auth.specs.Signature.{is_signed}
-use Rattle.rsl_wire.specs.Attributes.{Attribute, attribute_of, attribute_octets}
+use Rattle.rsl_wire.specs.Attributes.{Attribute, attribute_of, is_kind, list_octets}
 use Rattle.rsl_wire.specs.Packet.{Fields, packet_octets}
 use Rattle.rsl_event.specs.Request.{attribute_count, secret_of, text_of}
 use Rattle.rsl_event.specs.declared.meaning.Dropped.{Dropped}
@@ -20,15 +21,13 @@ must_sign config client = option_map_or (λ found. found.signed) (slice_get conf
 abbrev pub has_signature : List Attribute → Bool
 has_signature attributes = nat_lt 0 (attribute_count MESSAGE_AUTHENTICATOR attributes)
 
--- how many octets the attributes before the first Message-Authenticator have
-abbrev pub octets_before_signature : List Attribute → ℕ
-octets_before_signature [] = 0
-octets_before_signature (attribute ∷ attributes) =
-    if attribute.kind == MESSAGE_AUTHENTICATOR then 0 else length (attribute_octets attribute) + octets_before_signature attributes
+-- the attributes before the first Message-Authenticator
+unfoldable pub before_signature : List Attribute → List Attribute
+before_signature attributes = before_first (is_kind MESSAGE_AUTHENTICATOR) attributes
 
 -- where its value stands in the packet: after the header of 20 octets, those attributes, its Type and its Length
 abbrev pub signature_place : List Attribute → ℕ
-signature_place attributes = 22 + octets_before_signature attributes
+signature_place attributes = 22 + length (list_octets (before_signature attributes))
 
 -- there is exactly one Message-Authenticator, of 16 octets, and it is that of the packet
 unfoldable pub has_right_signature : Fields → List Attribute → (secret : List ℕ) → Bool

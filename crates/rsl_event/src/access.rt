@@ -2,7 +2,6 @@ ghost use Rattle.std.specs.Prelude.{◌≡◌, ◌==◌, ◌+◌, ◌<◌, IfSom
 ghost use Rattle.rsl_wire.specs.Seen.{fields_of};
 ghost use Rattle.rsl_event.specs.Access.{asks_once, shows_password, asker, access_meaning};
 ghost use Rattle.rsl_event.specs.Meaning.{Gives};
-ghost use Rattle.rsl_event.specs.Request.{secret_of};
 
 use crate::codes::{ACCESS_REQUEST, CHAP_CHALLENGE, CHAP_PASSWORD, USER_NAME, USER_PASSWORD};
 use crate::event::{Act, Key, Source};

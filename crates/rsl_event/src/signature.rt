@@ -1,8 +1,7 @@
-ghost use Rattle.std.specs.Prelude.{◌≡◌, ◌+◌, ◌<◌, ◌≤◌, length};
+ghost use Rattle.std.specs.Prelude.{◌≡◌, ◌<◌, ◌≤◌, length};
 ghost use Rattle.rsl_wire.specs.Attributes.{AreAttributes, list_octets};
 ghost use Rattle.rsl_wire.specs.Seen.{fields_of};
-ghost use Rattle.rsl_event.specs.Request.{secret_of};
-ghost use Rattle.rsl_event.specs.Signature.{has_signature, octets_before_signature, has_right_signature, signature_drop};
+ghost use Rattle.rsl_event.specs.Signature.{before_signature, has_right_signature, has_signature, signature_drop};
 
 use crate::codes::{ATTR_HEADER_LEN, MESSAGE_AUTHENTICATOR};
 use crate::meaning::Dropped;
@@ -67,9 +66,10 @@ fn has_right_signature(packet: &Packet<'_>, attributes: &Attrs<'_>, secret: &[u8
 }
 
 /// How many octets the attributes before the first Message-Authenticator have.
+#[tactic(auto, using(crate::proofs::SignatureLaws::octets_before_step))]
 fn octets_before_signature(attributes: &Attrs<'_>) -> usize
     requires { length (list_octets attributes.now) ≤ 4096 }
-    ensures count { result ≡ octets_before_signature attributes.now }
+    ensures count { result ≡ length (list_octets (before_signature attributes.now)) }
     ensures short { result ≤ 4096 }
 {
     let mut len = 0usize;

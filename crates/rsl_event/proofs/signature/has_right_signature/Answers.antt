@@ -1,4 +1,4 @@
-use Rattle.std.proofs.Common.{◌≡◌, ◌≤◌, ◌+◌, length, ap, List, ℕ, sym, ◌∙◌, arith}
+use Rattle.std.proofs.Common.{length, ap, List, ℕ, sym, ◌∙◌, arith}
 use Rattle.std.proofs.lemmas.Grind.{common_steps}
 use Rattle.rsl_event.proofs.SignatureLaws.{signature_within}
 use Rattle.rsl_event.proofs.signature.has_right_signature.Goals as goal
