@@ -39,10 +39,12 @@ abbrev pub alive_at : ℕ → Nas → List ℕ → Option (List ℕ) → Option 
 alive_at moment nas id bundle class = record { moment = moment; act = Alive nas id bundle class }
 
 -- what an alive does leaves the accept number, the kept asks and the kept stops
-settled_alive : (rules : Rules) (moment : ℕ) (nas : Nas) (id : List ℕ) (bundle : Option (List ℕ)) (class : Option ℕ) (past : Past) (outcome : Outcome)
+settled_alive : (rules : Rules) (moment : ℕ) (nas : Nas) (id : List ℕ) (bundle : Option (List ℕ))
+    (class : Option ℕ) (past : Past) (outcome : Outcome)
     (links : List BookLink) (over : ℕ)
     → fresh_decision outcome ≡ None → is_some (number_of outcome) ≡ false
-    → links ≡ map (link_view (did (alive_at moment nas id bundle class) outcome ∷ past)) (held_links rules (did (alive_at moment nas id bundle class) outcome ∷ past))
+    → links ≡ map (link_view (did (alive_at moment nas id bundle class) outcome ∷ past))
+    (held_links rules (did (alive_at moment nas id bundle class) outcome ∷ past))
     → over ≡ over_count (did (alive_at moment nas id bundle class) outcome ∷ past)
     → record (book_at rules past (alive_at moment nas id bundle class)) { links = links; over = over } ≡ book_of rules (did (alive_at moment nas id bundle class) outcome ∷ past)
 unfolding book_at
@@ -56,7 +58,8 @@ session_here : Nas → List ℕ → Session
 session_here nas id = record { nas = nas; id = id }
 
 -- what each outcome of an alive makes of the book
-ignored : (rules : Rules) (moment : ℕ) (nas : Nas) (id : List ℕ) (bundle : Option (List ℕ)) (class : Option ℕ) (past : Past) → IsRuled rules past
+ignored : (rules : Rules) (moment : ℕ) (nas : Nas) (id : List ℕ) (bundle : Option (List ℕ)) (class : Option ℕ)
+    (past : Past) → IsRuled rules past
     → book_at rules past (alive_at moment nas id bundle class) ≡ book_of rules (did (alive_at moment nas id bundle class) Ignored ∷ past)
 unfolding book_at opens touches gives_way ended_by yields fresh_decision number_of
 ignored rules moment nas id bundle class past ruled =
@@ -65,7 +68,8 @@ ignored rules moment nas id bundle class past ruled =
     (links_same rules entry past ruled refl (λ link. refl) (λ link. refl))
     (sym (over_same entry past refl))
 
-overflowed : (rules : Rules) (moment : ℕ) (nas : Nas) (id : List ℕ) (bundle : Option (List ℕ)) (class : Option ℕ) (past : Past) → IsRuled rules past
+overflowed : (rules : Rules) (moment : ℕ) (nas : Nas) (id : List ℕ) (bundle : Option (List ℕ))
+    (class : Option ℕ) (past : Past) → IsRuled rules past
     → record (book_at rules past (alive_at moment nas id bundle class)) { over = min (over_count past + 1) (2 ^ 64 - 1) } ≡ book_of rules (did (alive_at moment nas id bundle class) Over ∷ past)
 unfolding book_at opens touches gives_way ended_by yields fresh_decision number_of
 overflowed rules moment nas id bundle class past ruled =
@@ -74,7 +78,8 @@ overflowed rules moment nas id bundle class past ruled =
     (links_same rules entry past ruled refl (λ link. refl) (λ link. refl))
     (sym (over_more entry past refl))
 
-opened : (rules : Rules) (moment : ℕ) (nas : Nas) (id : List ℕ) (bundle : Option (List ℕ)) (class : Option ℕ) (past : Past) → IsRuled rules past
+opened : (rules : Rules) (moment : ℕ) (nas : Nas) (id : List ℕ) (bundle : Option (List ℕ)) (class : Option ℕ)
+    (past : Past) → IsRuled rules past
     → record (book_at rules past (alive_at moment nas id bundle class)) {
       links = map (link_view past) (held_before rules past (alive_at moment nas id bundle class))
           ++ record { nas = nas; holder = Bound (record { nas = nas; id = id }); bundle = bundle_of (Alive nas id bundle class); touched = clock_at past (alive_at moment nas id bundle class) } ∷ [];
@@ -89,7 +94,8 @@ opened rules moment nas id bundle class past ruled =
     ∙ ap (λ view. map (link_view past) (held_before rules past event) ++ view ∷ []) (view_opened rules event past (record { nas = nas; id = id }) ruled refl refl)))
     (sym (over_same entry past refl))
 
-renewed : (rules : Rules) (moment : ℕ) (nas : Nas) (id : List ℕ) (bundle : Option (List ℕ)) (class : Option ℕ) (past : Past) (link : ℕ) → IsRuled rules past
+renewed : (rules : Rules) (moment : ℕ) (nas : Nas) (id : List ℕ) (bundle : Option (List ℕ)) (class : Option ℕ)
+    (past : Past) (link : ℕ) → IsRuled rules past
     → link_of rules past (alive_at moment nas id bundle class) (record { nas = nas; id = id }) ≡ Some link
     → record (book_at rules past (alive_at moment nas id bundle class)) {
       links = change_first (is_link_of (record { nas = nas; id = id })) (touch (clock_at past (alive_at moment nas id bundle class)) (bundle_of (Alive nas id bundle class)))
@@ -106,7 +112,8 @@ renewed rules moment nas id bundle class past link ruled found =
     refl (λ other. refl) (λ other. refl) (λ other known. link_of_is past session other) found (view_renewed event past link within)))
     (sym (over_same entry past refl))
 
-chosen_is_reserved : (past : Past) (nas : Nas) (class : Option ℕ) (link : ℕ) → is_chosen past nas class link ≡ true → session_at link past ≡ None
+chosen_is_reserved : (past : Past) (nas : Nas) (class : Option ℕ) (link : ℕ)
+    → is_chosen past nas class link ≡ true → session_at link past ≡ None
 unfolding is_chosen is_reserved
 chosen_is_reserved past nas class link chosen = none (session_at link past)
     (and_parts (is_none (session_at link past)) (is_at past nas link)
@@ -115,7 +122,8 @@ chosen_is_reserved past nas class link chosen = none (session_at link past)
       none None is = refl
       none (Some session) is = cc
 
-took : (rules : Rules) (moment : ℕ) (nas : Nas) (id : List ℕ) (bundle : Option (List ℕ)) (class : Option ℕ) (past : Past) (link : ℕ) → IsRuled rules past
+took : (rules : Rules) (moment : ℕ) (nas : Nas) (id : List ℕ) (bundle : Option (List ℕ)) (class : Option ℕ)
+    (past : Past) (link : ℕ) → IsRuled rules past
     → reservation_of rules past (alive_at moment nas id bundle class) nas class ≡ Some link
     → record (book_at rules past (alive_at moment nas id bundle class)) {
       links = change_first (can_be_taken nas class)
@@ -135,9 +143,12 @@ took rules moment nas id bundle class past link ruled found =
     (sym (over_same entry past refl))
 
 -- an alive, by each of its cases
-pub alive_joins : (rules : Rules) (moment : ℕ) (nas : Nas) (id : List ℕ) (bundle : Option (List ℕ)) (class : Option ℕ) (past : Past) → IsRuled rules past
-    → (found : Option ℕ) → link_of rules past (alive_at moment nas id bundle class) (record { nas = nas; id = id }) ≡ found
-    → alive rules (book_at rules past (alive_at moment nas id bundle class)) (record { nas = nas; id = id }) (bundle_of (Alive nas id bundle class)) class
+pub alive_joins : (rules : Rules) (moment : ℕ) (nas : Nas) (id : List ℕ) (bundle : Option (List ℕ))
+    (class : Option ℕ) (past : Past) → IsRuled rules past
+    → (found : Option ℕ) → link_of rules past (alive_at moment nas id bundle class)
+    (record { nas = nas; id = id }) ≡ found
+    → alive rules (book_at rules past (alive_at moment nas id bundle class)) (record { nas = nas; id = id })
+    (bundle_of (Alive nas id bundle class)) class
     (option_map (link_view past) found)
     ≡ book_of rules (did (alive_at moment nas id bundle class) (alive_outcome rules past (alive_at moment nas id bundle class) (record { nas = nas; id = id }) class found) ∷ past)
 unfolding book_at open_link is_closed has_room reservation_of
@@ -164,12 +175,15 @@ alive_joins rules moment nas id bundle class past ruled None found =
       by_reservation (Some link) is = took rules moment nas id bundle class past link ruled is
       by_reservation None is = rw (bundles_are past (held_before rules past event)) (by_room (has_room rules past event))
 
-      reservation : find (can_be_taken nas class) (map (link_view past) (held_before rules past event)) ≡ option_map (link_view past) (find (is_chosen past nas class) (held_before rules past event))
+      reservation : find (can_be_taken nas class)
+          (map (link_view past) (held_before rules past event)) ≡ option_map (link_view past)
+          (find (is_chosen past nas class) (held_before rules past event))
       reservation = find_view (link_view past) (is_known past) (can_be_taken nas class) (is_chosen past nas class) (λ link known. chosen_is past nas class link known)
           (held_before rules past event) (held_before_known rules past event ruled)
 
       by_closed : (closed : Bool)
-          → cond closed (book_at rules past event) (bind rules (book_at rules past event) session (bundle_of event.act) class (find (can_be_taken nas class) (map (link_view past) (held_before rules past event))))
+          → cond closed (book_at rules past event)
+          (bind rules (book_at rules past event) session (bundle_of event.act) class (find (can_be_taken nas class) (map (link_view past) (held_before rules past event))))
           ≡ book_of rules (did event (cond closed Ignored (unbound_outcome rules past event (reservation_of rules past event nas class))) ∷ past)
       by_closed true = ignored rules moment nas id bundle class past ruled
       by_closed false = rw reservation (by_reservation (reservation_of rules past event nas class) refl)

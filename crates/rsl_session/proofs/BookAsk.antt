@@ -39,7 +39,8 @@ abbrev pub ask_at : ℕ → Key → Nas → Event
 ask_at moment key nas = record { moment = moment; act = Ask key nas }
 
 -- what each outcome of an ask makes of the book
-repeated : (rules : Rules) (moment : ℕ) (key : Key) (nas : Nas) (past : Past) (decision : Decision) → IsRuled rules past
+repeated : (rules : Rules) (moment : ℕ) (key : Key) (nas : Nas) (past : Past) (decision : Decision)
+    → IsRuled rules past
     → book_at rules past (ask_at moment key nas) ≡ book_of rules (did (ask_at moment key nas) (Repeated decision) ∷ past)
 unfolding book_at opens touches gives_way ended_by yields fresh_decision number_of
 repeated rules moment key nas past decision ruled =
@@ -74,7 +75,8 @@ accepted rules moment key nas past ruled =
     (sym (stops_same entry past refl refl)) (sym (over_same entry past refl))
 
 -- the link that can yield is taken out by its name
-without_yielding : (rules : Rules) (event : Event) (past : Past) (link : ℕ) → IsRuled rules past → yielding_link rules past event ≡ Some link
+without_yielding : (rules : Rules) (event : Event) (past : Past) (link : ℕ) → IsRuled rules past
+    → yielding_link rules past event ≡ Some link
     → map (link_view past) (held_without rules past event link)
     ≡ without_first (can_yield rules (clock_at past event) (map (link_view past) (held_before rules past event))) (map (link_view past) (held_before rules past event))
 unfolding held_without
@@ -84,7 +86,8 @@ without_yielding rules event past link ruled found =
     (λ other known. yield_is rules past event other) (held_before rules past event) (held_before_rises rules past event) (held_before_known rules past event ruled)
     (sym (yielding_is rules past event) ∙ found)
 
-accepted_in_place : (rules : Rules) (moment : ℕ) (key : Key) (nas : Nas) (past : Past) (link : ℕ) → IsRuled rules past
+accepted_in_place : (rules : Rules) (moment : ℕ) (key : Key) (nas : Nas) (past : Past) (link : ℕ)
+    → IsRuled rules past
     → (accept_beside (map (link_view past) (held_without rules past (ask_at moment key nas) link)) (book_at rules past (ask_at moment key nas)) key nas).0
     ≡ book_of rules (did (ask_at moment key nas) (AcceptedInPlace (accepts past) link) ∷ past)
 unfolding book_at accept_beside keep_ask held_without opens touches gives_way ended_by yields fresh_decision number_of clock_at nas_of bundle_of
@@ -98,7 +101,8 @@ accepted_in_place rules moment key nas past link ruled =
     (sym (stops_same entry past refl refl)) (sym (over_same entry past refl))
 
 -- an ask, by each of its cases
-pub ask_joins : (rules : Rules) (moment : ℕ) (key : Key) (nas : Nas) (past : Past) → IsRuled rules past → (found : Option KeptAsk)
+pub ask_joins : (rules : Rules) (moment : ℕ) (key : Key) (nas : Nas) (past : Past) → IsRuled rules past
+    → (found : Option KeptAsk)
     → ask rules (book_at rules past (ask_at moment key nas)) key nas found
     ≡ (book_of rules (did (ask_at moment key nas) (ask_outcome rules past (ask_at moment key nas) found) ∷ past), decision_of (ask_outcome rules past (ask_at moment key nas) found))
 unfolding book_at fresh_ask fresh_outcome has_a_place has_a_place_without refuse accept_beside
@@ -116,12 +120,15 @@ ask_joins rules moment key nas past ruled None = numbered (nat_lt (accepts past)
   refusal : refuse book key nas ≡ after Refused
   refusal = ap (λ next. (next, LimitReject)) (refused rules moment key nas past ruled)
 
-  in_place : (link : ℕ) (fits : Bool) → cond fits (accept_beside (map (link_view past) (held_without rules past event link)) book key nas) (refuse book key nas)
+  in_place : (link : ℕ) (fits : Bool)
+      → cond fits (accept_beside (map (link_view past) (held_without rules past event link)) book key nas)
+      (refuse book key nas)
       ≡ after (cond fits (AcceptedInPlace (accepts past) link) Refused)
   in_place link true = ap (λ next. (next, Accept (accepts past))) (accepted_in_place rules moment key nas past link ruled)
   in_place link false = refusal
 
-  yielding : find (can_yield rules (clock_at past event) (map (link_view past) (held_before rules past event))) (map (link_view past) (held_before rules past event))
+  yielding : find (can_yield rules (clock_at past event) (map (link_view past) (held_before rules past event)))
+      (map (link_view past) (held_before rules past event))
       ≡ option_map (link_view past) (yielding_link rules past event)
   yielding =
       find_view (link_view past) (is_known past) (can_yield rules (clock_at past event) (map (link_view past) (held_before rules past event))) (is_yielding rules past event)
@@ -134,7 +141,8 @@ ask_joins rules moment key nas past ruled None = numbered (nat_lt (accepts past)
   unfitting (Some link) is =
       rw (sym (without_yielding rules event past link ruled is), fits_is rules past (held_without rules past event link)) (in_place link (has_a_place_without rules past event link))
 
-  placed : (free : Bool) → cond free (accept_beside (map (link_view past) (held_before rules past event)) book key nas)
+  placed : (free : Bool)
+      → cond free (accept_beside (map (link_view past) (held_before rules past event)) book key nas)
       (ask_for_place rules book key nas (find (can_yield rules (clock_at past event) (map (link_view past) (held_before rules past event))) (map (link_view past) (held_before rules past event))))
       ≡ after (cond free (Accepted (accepts past)) (unfitting_outcome rules past event (yielding_link rules past event)))
   placed true = ap (λ next. (next, Accept (accepts past))) (accepted rules moment key nas past ruled)
@@ -143,6 +151,7 @@ ask_joins rules moment key nas past ruled None = numbered (nat_lt (accepts past)
   fresh : fresh_ask rules book key nas ≡ after (fresh_outcome rules past event)
   fresh = rw (fits_is rules past (held_before rules past event)) (placed (has_a_place rules past event))
 
-  numbered : (left : Bool) → cond left (fresh_ask rules book key nas) (refuse book key nas) ≡ after (cond left (fresh_outcome rules past event) Refused)
+  numbered : (left : Bool) → cond left (fresh_ask rules book key nas)
+      (refuse book key nas) ≡ after (cond left (fresh_outcome rules past event) Refused)
   numbered true = fresh
   numbered false = refusal

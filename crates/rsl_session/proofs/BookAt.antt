@@ -30,7 +30,8 @@ make_book : ℕ → List BookLink → ℕ → List KeptAsk → List KeptStop →
 make_book clock links accepts asks stops over = record { clock = clock; links = links; accepts = accepts; asks = asks; stops = stops; over = over }
 
 -- books of equal fields are equal
-pub book_same : (a b : Book) → a.clock ≡ b.clock → a.links ≡ b.links → a.accepts ≡ b.accepts → a.asks ≡ b.asks → a.stops ≡ b.stops → a.over ≡ b.over → a ≡ b
+pub book_same : (a b : Book) → a.clock ≡ b.clock → a.links ≡ b.links → a.accepts ≡ b.accepts → a.asks ≡ b.asks
+    → a.stops ≡ b.stops → a.over ≡ b.over → a ≡ b
 unfolding make_book
 book_same a b clock links accepts asks stops over =
     let same : make_book a.clock a.links a.accepts a.asks a.stops a.over ≡ make_book b.clock b.links b.accepts b.asks b.stops b.over = cc in
@@ -48,7 +49,8 @@ book_at rules past event =
       over = over_count past;
     }
 
-pub come : (rules : Rules) (past : Past) (event : Event) → come_to rules (book_of rules past) event.moment ≡ book_at rules past event
+pub come : (rules : Rules) (past : Past) (event : Event)
+    → come_to rules (book_of rules past) event.moment ≡ book_at rules past event
 unfolding come_to book_of book_at clock_at held_before
 come rules past event =
     book_same _ _ refl
@@ -69,8 +71,11 @@ unfolding book_of clock clock_at
 settled rules event past outcome book clock links accepts asks stops over = book_same _ _ clock links accepts asks stops over
 
 -- the links where an event ends none by its act, opens none and touches none
-pub links_same : (rules : Rules) (entry : PastEvent) (past : Past) → IsRuled rules past → opens entry.outcome ≡ false
-    → ((link : ℕ) → touches link (suc (length past)) entry.outcome ≡ false) → ((link : ℕ) → gives_way entry past link ≡ false)
-    → map (link_view past) (held_before rules past entry.event) ≡ map (link_view (entry ∷ past)) (held_links rules (entry ∷ past))
+pub links_same : (rules : Rules) (entry : PastEvent) (past : Past) → IsRuled rules past
+    → opens entry.outcome ≡ false
+    → ((link : ℕ) → touches link (suc (length past)) entry.outcome ≡ false)
+    → ((link : ℕ) → gives_way entry past link ≡ false)
+    → map (link_view past) (held_before rules past entry.event) ≡ map (link_view (entry ∷ past))
+    (held_links rules (entry ∷ past))
 links_same rules entry past ruled quiet untouched stays =
     sym (views_quiet rules entry past ruled quiet (λ link within. untouched link) ∙ ap (map (link_view past)) (all_left rules entry past stays))

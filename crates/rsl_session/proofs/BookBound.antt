@@ -31,14 +31,16 @@ use Rattle.rsl_session.proofs.Counting.{fewer, places_of-le, places_of_alone, pl
 members : Bundle → List (Option Bundle) → ℕ
 members bundle xs = count_by (is_bundle bundle) xs
 
-members-cons : (bundle : Bundle) (x : Option Bundle) (xs : List (Option Bundle)) → members bundle (x ∷ xs) ≡ cond (is_bundle bundle x) 1 0 + members bundle xs
+members-cons : (bundle : Bundle) (x : Option Bundle) (xs : List (Option Bundle))
+    → members bundle (x ∷ xs) ≡ cond (is_bundle bundle x) 1 0 + members bundle xs
 unfolding members
 members-cons bundle x xs = sum_by-cons (λ one. cond (is_bundle bundle one) 1 0) x xs
 
 times : Bundle → List Bundle → ℕ
 times bundle bundles = count_by (same_bundle bundle) bundles
 
-times-cons : (bundle other : Bundle) (bundles : List Bundle) → times bundle (other ∷ bundles) ≡ cond (same_bundle bundle other) 1 0 + times bundle bundles
+times-cons : (bundle other : Bundle) (bundles : List Bundle)
+    → times bundle (other ∷ bundles) ≡ cond (same_bundle bundle other) 1 0 + times bundle bundles
 unfolding times
 times-cons bundle other bundles = sum_by-cons (λ x. cond (same_bundle bundle x) 1 0) other bundles
 
@@ -49,7 +51,8 @@ times-nil bundle = refl
 alone : List (Option Bundle) → ℕ
 alone xs = count_by is_none xs
 
-alone-cons : (x : Option Bundle) (xs : List (Option Bundle)) → alone (x ∷ xs) ≡ cond (is_none x) 1 0 + alone xs
+alone-cons : (x : Option Bundle) (xs : List (Option Bundle))
+    → alone (x ∷ xs) ≡ cond (is_none x) 1 0 + alone xs
 unfolding alone
 alone-cons x xs = sum_by-cons (λ (one : Option Bundle). cond (is_none one) 1 0) x xs
 
@@ -57,7 +60,8 @@ alone-cons x xs = sum_by-cons (λ (one : Option Bundle). cond (is_none one) 1 0)
 inside : List (Option Bundle) → List Bundle → ℕ
 inside xs bundles = sum_by (λ bundle. members bundle xs) bundles
 
-inside-cons : (xs : List (Option Bundle)) (bundle : Bundle) (bundles : List Bundle) → inside xs (bundle ∷ bundles) ≡ members bundle xs + inside xs bundles
+inside-cons : (xs : List (Option Bundle)) (bundle : Bundle) (bundles : List Bundle)
+    → inside xs (bundle ∷ bundles) ≡ members bundle xs + inside xs bundles
 unfolding inside
 inside-cons xs bundle bundles = sum_by-cons (λ one. members one xs) bundle bundles
 
@@ -65,19 +69,22 @@ inside-nil : (xs : List (Option Bundle)) → inside xs [] ≡ 0
 unfolding inside
 inside-nil xs = refl
 
-inside_more : (x : Option Bundle) (xs : List (Option Bundle)) (bundles : List Bundle) → inside xs bundles ≤ inside (x ∷ xs) bundles
+inside_more : (x : Option Bundle) (xs : List (Option Bundle)) (bundles : List Bundle)
+    → inside xs bundles ≤ inside (x ∷ xs) bundles
 inside_more x xs [] = omega (arith, inside-nil xs, inside-nil (x ∷ xs))
 inside_more x xs (bundle ∷ bundles) =
     omega (arith, inside-cons xs bundle bundles, inside-cons (x ∷ xs) bundle bundles, members-cons bundle x xs, inside_more x xs bundles)
 
-inside_own : (bundle : Bundle) (xs : List (Option Bundle)) (bundles : List Bundle) → inside xs bundles + times bundle bundles ≤ inside (Some bundle ∷ xs) bundles
+inside_own : (bundle : Bundle) (xs : List (Option Bundle)) (bundles : List Bundle)
+    → inside xs bundles + times bundle bundles ≤ inside (Some bundle ∷ xs) bundles
 inside_own bundle xs [] = omega (arith, times-nil bundle, inside-nil xs, inside-nil (Some bundle ∷ xs))
 inside_own bundle xs (other ∷ bundles) =
     let here : members other (Some bundle ∷ xs) ≡ cond (same_bundle bundle other) 1 0 + members other xs = members-cons other (Some bundle) xs in
     omega (arith, inside-cons xs other bundles, inside-cons (Some bundle ∷ xs) other bundles, here, times-cons bundle other bundles, inside_own bundle xs bundles)
 
 -- a bundle of a link is among the bundles
-stands : (bundle : Bundle) (xs : List (Option Bundle)) → list_any (is_bundle bundle) xs ≡ true → 1 ≤ times bundle (each_bundle xs)
+stands : (bundle : Bundle) (xs : List (Option Bundle)) → list_any (is_bundle bundle) xs ≡ true
+    → 1 ≤ times bundle (each_bundle xs)
 unfolding each_bundle
 stands bundle [] has = cc
 stands bundle (None ∷ xs) has = stands bundle xs has
@@ -90,14 +97,17 @@ stands bundle (Some other ∷ xs) has =
           let rest : 1 ≤ times bundle (each_bundle xs) = stands bundle xs (rw differ.1 at has) in
           by_seen bundle other xs rest (list_any (is_bundle other) xs)
     ] where
-      own : (bundle : Bundle) (xs : List (Option Bundle)) → (list_any (is_bundle bundle) xs ≡ true → 1 ≤ times bundle (each_bundle xs))
-          → (seen : Bool) → list_any (is_bundle bundle) xs ≡ seen → 1 ≤ times bundle (cond seen (each_bundle xs) (bundle ∷ each_bundle xs))
+      own : (bundle : Bundle) (xs : List (Option Bundle))
+          → (list_any (is_bundle bundle) xs ≡ true → 1 ≤ times bundle (each_bundle xs))
+          → (seen : Bool) → list_any (is_bundle bundle) xs ≡ seen
+          → 1 ≤ times bundle (cond seen (each_bundle xs) (bundle ∷ each_bundle xs))
       own bundle xs rest true is = rest is
       own bundle xs rest false is =
           let here : times bundle (bundle ∷ each_bundle xs) ≡ 1 + times bundle (each_bundle xs) = rw (same_bundle-refl bundle) at (times-cons bundle bundle (each_bundle xs)) in
           omega (arith, here)
 
-      by_seen : (bundle other : Bundle) (xs : List (Option Bundle)) → 1 ≤ times bundle (each_bundle xs) → (seen : Bool) → 1 ≤ times bundle (cond seen (each_bundle xs) (other ∷ each_bundle xs))
+      by_seen : (bundle other : Bundle) (xs : List (Option Bundle)) → 1 ≤ times bundle (each_bundle xs)
+          → (seen : Bool) → 1 ≤ times bundle (cond seen (each_bundle xs) (other ∷ each_bundle xs))
       by_seen bundle other xs rest true = rest
       by_seen bundle other xs rest false = omega (arith, times-cons bundle other (each_bundle xs))
 
@@ -109,14 +119,16 @@ all_counted (None ∷ xs) = omega (arith, alone-cons None xs, inside_more None x
 all_counted (Some bundle ∷ xs) = by_seen bundle xs (all_counted xs) (list_any (is_bundle bundle) xs) refl where
   by_seen : (bundle : Bundle) (xs : List (Option Bundle)) → length xs ≤ alone xs + inside xs (each_bundle xs)
       → (seen : Bool) → list_any (is_bundle bundle) xs ≡ seen
-      → suc (length xs) ≤ alone (Some bundle ∷ xs) + inside (Some bundle ∷ xs) (cond seen (each_bundle xs) (bundle ∷ each_bundle xs))
+      → suc (length xs) ≤ alone (Some bundle ∷ xs) + inside (Some bundle ∷ xs)
+      (cond seen (each_bundle xs) (bundle ∷ each_bundle xs))
   by_seen bundle xs rest true is = omega (arith, rest, alone-cons (Some bundle) xs, inside_own bundle xs (each_bundle xs), stands bundle xs is)
   by_seen bundle xs rest false is =
       let here : members bundle (Some bundle ∷ xs) ≡ 1 + members bundle xs = rw (same_bundle-refl bundle) at (members-cons bundle (Some bundle) xs) in
       omega (arith, rest, alone-cons (Some bundle) xs, inside-cons (Some bundle ∷ xs) bundle (each_bundle xs), here, inside_more (Some bundle) xs (each_bundle xs))
 
 -- so many links fit on the ports of so many places
-scaled : (f g : Bundle → ℕ) (ports : ℕ) → ((bundle : Bundle) → f bundle ≤ g bundle * ports) → (bundles : List Bundle) → sum_by f bundles ≤ sum_by g bundles * ports
+scaled : (f g : Bundle → ℕ) (ports : ℕ) → ((bundle : Bundle) → f bundle ≤ g bundle * ports)
+    → (bundles : List Bundle) → sum_by f bundles ≤ sum_by g bundles * ports
 scaled f g ports each [] = omega arith
 scaled f g ports each (bundle ∷ bundles) =
     total (sum_by f (bundle ∷ bundles)) (f bundle) (sum_by f bundles) (sum_by g (bundle ∷ bundles)) (g bundle) (sum_by g bundles) ports
@@ -154,17 +166,21 @@ links_bounded rules book fit within =
     (omega arith, omega arith)
 
 -- links that are left out free places, and a link that joins a bundle takes no more
-fewer_links : (ports : ℕ) → 0 < ports → (keep : BookLink → Bool) (links : List BookLink) → places_of ports (bundles_in (filter keep links)) ≤ places_of ports (bundles_in links)
+fewer_links : (ports : ℕ) → 0 < ports → (keep : BookLink → Bool) (links : List BookLink)
+    → places_of ports (bundles_in (filter keep links)) ≤ places_of ports (bundles_in links)
 unfolding bundles_in
 fewer_links ports some keep links = fewer ports some (λ (link : BookLink). link.bundle) keep [] links
 
-changed_links : (ports : ℕ) → 0 < ports → (p : BookLink → Bool) (f : BookLink → BookLink) → ((link : BookLink) → ((f link).bundle ≡ link.bundle) ⊎ (link.bundle ≡ None))
-    → (before : List (Option Bundle)) (links : List BookLink) → places_of ports (before ++ bundles_in (change_first p f links)) ≤ places_of ports (before ++ bundles_in links)
+changed_links : (ports : ℕ) → 0 < ports → (p : BookLink → Bool) (f : BookLink → BookLink)
+    → ((link : BookLink) → ((f link).bundle ≡ link.bundle) ⊎ (link.bundle ≡ None))
+    → (before : List (Option Bundle)) (links : List BookLink)
+    → places_of ports (before ++ bundles_in (change_first p f links)) ≤ places_of ports (before ++ bundles_in links)
 unfolding bundles_in change_first
 changed_links ports some p f joins before [] = omega arith
 changed_links ports some p f joins before (link ∷ links) =
     by_cases ports some p f before link links (p link) (joins link) (changed_links ports some p f joins (before ++ link.bundle ∷ []) links) where
-      by_cases : (ports : ℕ) → 0 < ports → (p : BookLink → Bool) (f : BookLink → BookLink) (before : List (Option Bundle)) (link : BookLink) (links : List BookLink) (here : Bool)
+      by_cases : (ports : ℕ) → 0 < ports → (p : BookLink → Bool) (f : BookLink → BookLink)
+          (before : List (Option Bundle)) (link : BookLink) (links : List BookLink) (here : Bool)
           → ((f link).bundle ≡ link.bundle) ⊎ (link.bundle ≡ None)
           → places_of ports ((before ++ link.bundle ∷ []) ++ map (λ (one : BookLink). one.bundle) (change_first p f links)) ≤ places_of ports ((before ++ link.bundle ∷ []) ++ map (λ (one : BookLink). one.bundle) links)
           → places_of ports (before ++ map (λ (one : BookLink). one.bundle) (cond here (f link ∷ links) (link ∷ change_first p f links))) ≤ places_of ports (before ++ link.bundle ∷ map (λ (one : BookLink). one.bundle) links)
@@ -183,11 +199,13 @@ joins_or_keeps None new = inr refl
 joins_or_keeps (Some bundle) new = inl refl
 
 -- one more link stands last
-one_more : (ports : ℕ) (links : List BookLink) (link : BookLink) → places_of ports (bundles_in (links ++ link ∷ [])) ≡ places_of ports (bundles_in links ++ link.bundle ∷ [])
+one_more : (ports : ℕ) (links : List BookLink) (link : BookLink)
+    → places_of ports (bundles_in (links ++ link ∷ [])) ≡ places_of ports (bundles_in links ++ link.bundle ∷ [])
 unfolding bundles_in
 one_more ports links link = ap (places_of ports) (map-append (λ (one : BookLink). one.bundle) links (link ∷ []))
 
-accepted_within : (rules : Rules) (links : List BookLink) (book : Book) (key : Key) (nas : Nas) → 0 < rules.ports → fits_beside rules links ≡ true
+accepted_within : (rules : Rules) (links : List BookLink) (book : Book) (key : Key) (nas : Nas)
+    → 0 < rules.ports → fits_beside rules links ≡ true
     → places_in rules (accept_beside links book key nas).0 ≤ rules.places
 unfolding places_in accept_beside fits_beside
 accepted_within rules links book key nas some fits =
@@ -196,7 +214,8 @@ accepted_within rules links book key nas some fits =
     let flat : places_of rules.ports (bundles_in links ++ []) ≡ places_of rules.ports (bundles_in links) = ap (places_of rules.ports) (append-nil (bundles_in links)) in
     rw (one_more rules.ports links _) (omega arith)
 
-asked_within : (rules : Rules) (book : Book) (key : Key) (nas : Nas) → 0 < rules.ports → places_in rules book ≤ rules.places → (found : Option KeptAsk)
+asked_within : (rules : Rules) (book : Book) (key : Key) (nas : Nas) → 0 < rules.ports
+    → places_in rules book ≤ rules.places → (found : Option KeptAsk)
     → places_in rules (ask rules book key nas found).0 ≤ rules.places
 unfolding places_in refuse keep_ask fresh_ask
 asked_within rules book key nas some within (Some kept) = within
@@ -204,11 +223,13 @@ asked_within rules book key nas some within None = numbered (nat_lt book.accepts
   without : List BookLink
   without = without_first (can_yield rules book.clock book.links) book.links
 
-  in_place : (fits : Bool) → fits_beside rules without ≡ fits → places_in rules (cond fits (accept_beside without book key nas) (refuse book key nas)).0 ≤ rules.places
+  in_place : (fits : Bool) → fits_beside rules without ≡ fits
+      → places_in rules (cond fits (accept_beside without book key nas) (refuse book key nas)).0 ≤ rules.places
   in_place true fits = accepted_within rules without book key nas some fits
   in_place false fits = within
 
-  unfitting : (found : Option BookLink) → places_in rules (ask_for_place rules book key nas found).0 ≤ rules.places
+  unfitting : (found : Option BookLink)
+      → places_in rules (ask_for_place rules book key nas found).0 ≤ rules.places
   unfitting None = within
   unfitting (Some link) = in_place (fits_beside rules without) refl
 
@@ -217,37 +238,44 @@ asked_within rules book key nas some within None = numbered (nat_lt book.accepts
   placed true fits = accepted_within rules book.links book key nas some fits
   placed false fits = unfitting _
 
-  numbered : (left : Bool) → places_in rules (cond left (fresh_ask rules book key nas) (refuse book key nas)).0 ≤ rules.places
+  numbered : (left : Bool)
+      → places_in rules (cond left (fresh_ask rules book key nas) (refuse book key nas)).0 ≤ rules.places
   numbered true = placed (fits_beside rules book.links) refl
   numbered false = within
 
-alive_within : (rules : Rules) (book : Book) (session : Session) (bundle : Option Bundle) (class : Option ℕ) → 0 < rules.ports → places_in rules book ≤ rules.places → (found : Option BookLink)
+alive_within : (rules : Rules) (book : Book) (session : Session) (bundle : Option Bundle) (class : Option ℕ)
+    → 0 < rules.ports → places_in rules book ≤ rules.places → (found : Option BookLink)
     → places_in rules (alive rules book session bundle class found) ≤ rules.places
 unfolding places_in touch take_for open_link
 alive_within rules book session bundle class some within (Some link) =
     omega (arith, within, changed_links rules.ports some (is_link_of session) (touch book.clock bundle) (λ one. joins_or_keeps one.bundle bundle) [] book.links)
 alive_within rules book session bundle class some within None = by_closed (list_any (closes rules session book.clock) book.stops) where
-  by_room : (room : Bool) → nat_le (places_of rules.ports (bundles_in book.links ++ bundle ∷ [])) rules.places ≡ room
+  by_room : (room : Bool)
+      → nat_le (places_of rules.ports (bundles_in book.links ++ bundle ∷ [])) rules.places ≡ room
       → places_in rules (cond room
       (record book { links = book.links ++ record { nas = session.nas; holder = Bound session; bundle = bundle; touched = book.clock } ∷ [] })
       (record book { over = min (book.over + 1) (2 ^ 64 - 1) })) ≤ rules.places
   by_room true room = rw (one_more rules.ports book.links _) (leb-true (places_of rules.ports (bundles_in book.links ++ bundle ∷ [])) rules.places room)
   by_room false room = within
 
-  by_reservation : (taken : Option BookLink) → places_in rules (bind rules book session bundle class taken) ≤ rules.places
+  by_reservation : (taken : Option BookLink)
+      → places_in rules (bind rules book session bundle class taken) ≤ rules.places
   by_reservation (Some link) =
       omega (arith, within, changed_links rules.ports some (can_be_taken session.nas class) (take_for session book.clock bundle) (λ one. joins_or_keeps one.bundle bundle) [] book.links)
   by_reservation None = by_room (nat_le (places_of rules.ports (bundles_in book.links ++ bundle ∷ [])) rules.places) refl
 
-  by_closed : (closed : Bool) → places_in rules (cond closed book (bind rules book session bundle class (find (can_be_taken session.nas class) book.links))) ≤ rules.places
+  by_closed : (closed : Bool)
+      → places_in rules (cond closed book (bind rules book session bundle class (find (can_be_taken session.nas class) book.links))) ≤ rules.places
   by_closed true = within
   by_closed false = by_reservation _
 
-come_within : (rules : Rules) (book : Book) (moment : ℕ) → 0 < rules.ports → places_in rules book ≤ rules.places → places_in rules (come_to rules book moment) ≤ rules.places
+come_within : (rules : Rules) (book : Book) (moment : ℕ) → 0 < rules.ports
+    → places_in rules book ≤ rules.places → places_in rules (come_to rules book moment) ≤ rules.places
 unfolding places_in come_to
 come_within rules book moment some within = omega (arith, within, fewer_links rules.ports some (λ link. not (lapses_at rules (max book.clock moment) link)) book.links)
 
-act_within : (rules : Rules) (book : Book) → 0 < rules.ports → places_in rules book ≤ rules.places → (act : Act) → places_in rules (act_on rules book act).0 ≤ rules.places
+act_within : (rules : Rules) (book : Book) → 0 < rules.ports → places_in rules book ≤ rules.places
+    → (act : Act) → places_in rules (act_on rules book act).0 ≤ rules.places
 unfolding places_in stop sweep
 act_within rules book some within (Ask key nas) = asked_within rules book key nas some within _
 act_within rules book some within (Alive nas id bundle class) = alive_within rules book _ _ class some within _
@@ -255,7 +283,8 @@ act_within rules book some within (Stop nas id) = omega (arith, within, fewer_li
 act_within rules book some within (Sweep nas) = omega (arith, within, fewer_links rules.ports some (λ (link : BookLink). not (same_nas link.nas nas)) book.links)
 act_within rules book some within Tick = within
 
-pub step_within : (rules : Rules) (book : Book) (event : Event) → RulesFit rules → places_in rules book ≤ rules.places → places_in rules (step rules book event).0 ≤ rules.places
+pub step_within : (rules : Rules) (book : Book) (event : Event) → RulesFit rules
+    → places_in rules book ≤ rules.places → places_in rules (step rules book event).0 ≤ rules.places
 unfolding step
 step_within rules book event fit within =
     let some : 0 < rules.ports = omega (arith, fit.a_port) in

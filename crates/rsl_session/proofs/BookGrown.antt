@@ -33,33 +33,42 @@ older_views rules entry past ruled untouched =
     (filter (λ link. not (gives_way entry past link)) (held_before rules past entry.event))
     (all_filter _ (is_known past) _ (held_before_known rules past entry.event ruled))
 
-pub views_quiet : (rules : Rules) (entry : PastEvent) (past : Past) → IsRuled rules past → opens entry.outcome ≡ false
+pub views_quiet : (rules : Rules) (entry : PastEvent) (past : Past) → IsRuled rules past
+    → opens entry.outcome ≡ false
     → ((link : ℕ) → link ≤ length past → touches link (suc (length past)) entry.outcome ≡ false)
     → map (link_view (entry ∷ past)) (held_links rules (entry ∷ past)) ≡ left_views rules entry past
 views_quiet rules entry past ruled quiet untouched =
     ap (map (link_view (entry ∷ past))) (held-quiet rules entry past quiet) ∙ older_views rules entry past ruled untouched
 
-pub views_opened : (rules : Rules) (entry : PastEvent) (past : Past) → IsRuled rules past → opens entry.outcome ≡ true
+pub views_opened : (rules : Rules) (entry : PastEvent) (past : Past) → IsRuled rules past
+    → opens entry.outcome ≡ true
     → ((link : ℕ) → link ≤ length past → touches link (suc (length past)) entry.outcome ≡ false)
-    → map (link_view (entry ∷ past)) (held_links rules (entry ∷ past)) ≡ left_views rules entry past ++ link_view (entry ∷ past) (suc (length past)) ∷ []
+    → map (link_view (entry ∷ past))
+    (held_links rules (entry ∷ past)) ≡ left_views rules entry past ++ link_view (entry ∷ past)
+    (suc (length past)) ∷ []
 views_opened rules entry past ruled new untouched =
     ap (map (link_view (entry ∷ past))) (held-opened rules entry past new)
     ∙ map-append (link_view (entry ∷ past)) (left_by rules entry past) (suc (length past) ∷ [])
     ∙ ap (λ views. views ++ link_view (entry ∷ past) (suc (length past)) ∷ []) (older_views rules entry past ruled untouched)
 
 -- an event that ends no link by its act leaves all that were held when it came
-pub all_left : (rules : Rules) (entry : PastEvent) (past : Past) → ((link : ℕ) → gives_way entry past link ≡ false)
-    → filter (λ link. not (gives_way entry past link)) (held_before rules past entry.event) ≡ held_before rules past entry.event
+pub all_left : (rules : Rules) (entry : PastEvent) (past : Past)
+    → ((link : ℕ) → gives_way entry past link ≡ false)
+    → filter (λ link. not (gives_way entry past link))
+    (held_before rules past entry.event) ≡ held_before rules past entry.event
 all_left rules entry past stays =
     filter_all (λ link. not (gives_way entry past link)) (λ link. ap not (stays link)) (held_before rules past entry.event)
 
 -- one link is changed
-pub views_changed : (rules : Rules) (entry : PastEvent) (past : Past) (q : ℕ → Bool) (p : BookLink → Bool) (f : BookLink → BookLink) (link : ℕ) → IsRuled rules past
+pub views_changed : (rules : Rules) (entry : PastEvent) (past : Past) (q : ℕ → Bool) (p : BookLink → Bool)
+    (f : BookLink → BookLink) (link : ℕ) → IsRuled rules past
     → opens entry.outcome ≡ false → ((other : ℕ) → gives_way entry past other ≡ false)
     → ((other : ℕ) → touches other (suc (length past)) entry.outcome ≡ eqb other link)
     → ((other : ℕ) → is_known past other ≡ true → p (link_view past other) ≡ q other)
-    → find q (held_before rules past entry.event) ≡ Some link → link_view (entry ∷ past) link ≡ f (link_view past link)
-    → map (link_view (entry ∷ past)) (held_links rules (entry ∷ past)) ≡ change_first p f (map (link_view past) (held_before rules past entry.event))
+    → find q (held_before rules past entry.event) ≡ Some link
+    → link_view (entry ∷ past) link ≡ f (link_view past link)
+    → map (link_view (entry ∷ past))
+    (held_links rules (entry ∷ past)) ≡ change_first p f (map (link_view past) (held_before rules past entry.event))
 unfolding left_by
 views_changed rules entry past q p f link ruled quiet stays touched is found changed =
     ap (map (link_view (entry ∷ past))) (held-quiet rules entry past quiet ∙ all_left rules entry past stays)

@@ -41,9 +41,13 @@ use Rattle.rsl_session.proofs.BookAsk.{ask_joins}
 use Rattle.rsl_session.proofs.BookAlive.{alive_joins}
 
 -- the views of the links that a stop or a sweep leaves
-left_by_act : (rules : Rules) (event : Event) (past : Past) (p : BookLink → Bool) (q : ℕ → Bool) → IsRuled rules past
-    → ((link : ℕ) → is_known past link ≡ true → p (link_view past link) ≡ q link) → ((link : ℕ) → gives_way (did event Passed) past link ≡ q link)
-    → filter (λ link. not (p link)) (map (link_view past) (held_before rules past event)) ≡ map (link_view (did event Passed ∷ past)) (held_links rules (did event Passed ∷ past))
+left_by_act : (rules : Rules) (event : Event) (past : Past) (p : BookLink → Bool) (q : ℕ → Bool)
+    → IsRuled rules past
+    → ((link : ℕ) → is_known past link ≡ true → p (link_view past link) ≡ q link)
+    → ((link : ℕ) → gives_way (did event Passed) past link ≡ q link)
+    → filter (λ link. not (p link))
+    (map (link_view past) (held_before rules past event)) ≡ map (link_view (did event Passed ∷ past))
+    (held_links rules (did event Passed ∷ past))
 unfolding opens touches
 left_by_act rules event past p q ruled is ends =
     filter_view (link_view past) (is_known past) (λ link. not (p link)) (λ link. not (q link)) (λ link known. ap not (is link known)) (held_before rules past event) (held_before_known rules past event ruled)
@@ -51,7 +55,8 @@ left_by_act rules event past p q ruled is ends =
     ∙ sym (views_quiet rules (did event Passed) past ruled refl (λ link within. refl))
 
 stop_joins : (rules : Rules) (moment : ℕ) (nas : Nas) (id : List ℕ) (past : Past) → IsRuled rules past
-    → stop (book_at rules past (record { moment = moment; act = Stop nas id })) (record { nas = nas; id = id }) ≡ book_of rules (did (record { moment = moment; act = Stop nas id }) Passed ∷ past)
+    → stop (book_at rules past (record { moment = moment; act = Stop nas id }))
+    (record { nas = nas; id = id }) ≡ book_of rules (did (record { moment = moment; act = Stop nas id }) Passed ∷ past)
 unfolding book_at stop clock_at gives_way ended_by yields fresh_decision number_of
 stop_joins rules moment nas id past ruled =
     let event : Event = record { moment = moment; act = Stop nas id } in
@@ -82,17 +87,20 @@ tick_joins rules moment past ruled =
     (sym (accepts_same entry past refl)) (sym (asks_same entry past refl refl)) (sym (stops_same entry past refl refl)) (sym (over_same entry past refl))
 
 -- an alive gets no decision
-unbound_done : (rules : Rules) (past : Past) (event : Event) (taken : Option ℕ) → decision_of (unbound_outcome rules past event taken) ≡ Done
+unbound_done : (rules : Rules) (past : Past) (event : Event) (taken : Option ℕ)
+    → decision_of (unbound_outcome rules past event taken) ≡ Done
 unbound_done rules past event (Some link) = refl
 unbound_done rules past event None = by_room (has_room rules past event) where
   by_room : (room : Bool) → decision_of (cond room Opened Over) ≡ Done
   by_room true = refl
   by_room false = refl
 
-alive_done : (rules : Rules) (past : Past) (event : Event) (session : Session) (class found : Option ℕ) → decision_of (alive_outcome rules past event session class found) ≡ Done
+alive_done : (rules : Rules) (past : Past) (event : Event) (session : Session) (class found : Option ℕ)
+    → decision_of (alive_outcome rules past event session class found) ≡ Done
 alive_done rules past event session class (Some link) = refl
 alive_done rules past event session class None = by_closed (is_closed rules past event session) where
-  by_closed : (closed : Bool) → decision_of (cond closed Ignored (unbound_outcome rules past event (reservation_of rules past event session.nas class))) ≡ Done
+  by_closed : (closed : Bool)
+      → decision_of (cond closed Ignored (unbound_outcome rules past event (reservation_of rules past event session.nas class))) ≡ Done
   by_closed true = refl
   by_closed false = unbound_done rules past event _
 
@@ -122,13 +130,15 @@ unfolding step entry_of outcome_of
 joins rules past event ruled = rw (come rules past event) (act_joins rules past event.moment event.act ruled)
 
 -- over whole lists: the book of a past, stepped by each of some events
-pub book_after_is : (rules : Rules) (past : Past) (events : List Event) → IsRuled rules past → book_after rules (book_of rules past) events ≡ book_of rules (past_from rules past events)
+pub book_after_is : (rules : Rules) (past : Past) (events : List Event) → IsRuled rules past
+    → book_after rules (book_of rules past) events ≡ book_of rules (past_from rules past events)
 unfolding book_after past_from IsRuled entry_of
 book_after_is rules past [] ruled = refl
 book_after_is rules past (event ∷ events) ruled =
     ap (λ (next : Book × Decision). book_after rules next.0 events) (joins rules past event ruled) ∙ book_after_is rules (entry_of rules past event ∷ past) events (refl, ruled)
 
-pub decided_by_is : (rules : Rules) (past : Past) (events : List Event) → IsRuled rules past → decided_by rules (book_of rules past) events ≡ decisions_from rules past events
+pub decided_by_is : (rules : Rules) (past : Past) (events : List Event) → IsRuled rules past
+    → decided_by rules (book_of rules past) events ≡ decisions_from rules past events
 unfolding decided_by decisions_from IsRuled entry_of
 decided_by_is rules past [] ruled = refl
 decided_by_is rules past (event ∷ events) ruled =
@@ -136,7 +146,8 @@ decided_by_is rules past (event ∷ events) ruled =
     ∙ ap (λ ds. decision_of (outcome_of rules past event) ∷ ds) (decided_by_is rules (entry_of rules past event ∷ past) events (refl, ruled))
 
 -- some events and then others
-pub book_after-append : (rules : Rules) (book : Book) (events others : List Event) → book_after rules book (events ++ others) ≡ book_after rules (book_after rules book events) others
+pub book_after-append : (rules : Rules) (book : Book) (events others : List Event)
+    → book_after rules book (events ++ others) ≡ book_after rules (book_after rules book events) others
 unfolding book_after
 book_after-append rules book [] others = refl
 book_after-append rules book (event ∷ events) others = book_after-append rules (step rules book event).0 events others
@@ -152,11 +163,13 @@ new_is : (rules : Rules) → new_book ≡ book_of rules []
 unfolding new_book book_of clock held_links links accepts fresh_asks stops over_count
 new_is rules = book_same _ _ refl refl refl refl refl refl
 
-pub books_are : (rules : Rules) (events : List Event) → book_after rules new_book events ≡ book_of rules (past_of rules events)
+pub books_are : (rules : Rules) (events : List Event)
+    → book_after rules new_book events ≡ book_of rules (past_of rules events)
 unfolding past_of IsRuled
 books_are rules events = ap (λ book. book_after rules book events) (new_is rules) ∙ book_after_is rules [] events tt
 
-pub books_decide : (rules : Rules) (events : List Event) → decided_by rules new_book events ≡ decisions rules events
+pub books_decide : (rules : Rules) (events : List Event)
+    → decided_by rules new_book events ≡ decisions rules events
 unfolding decisions IsRuled
 books_decide rules events = ap (λ book. decided_by rules book events) (new_is rules) ∙ decided_by_is rules [] events tt
 
@@ -164,9 +177,11 @@ pub places_are : (rules : Rules) (past : Past) → places_in rules (book_of rule
 unfolding places_in places book_of
 places_are rules past = ap (places_of rules.ports) (bundles_are past (held_links rules past))
 
-pub books_hold : (rules : Rules) (events : List Event) → places_in rules (book_after rules new_book events) ≡ places_after rules events
+pub books_hold : (rules : Rules) (events : List Event)
+    → places_in rules (book_after rules new_book events) ≡ places_after rules events
 unfolding places_after
 books_hold rules events = ap (places_in rules) (books_are rules events) ∙ places_are rules (past_of rules events)
 
-pub books_within : (rules : Rules) (events : List Event) → RulesFit rules → places_in rules (book_after rules new_book events) ≤ rules.places
+pub books_within : (rules : Rules) (events : List Event) → RulesFit rules
+    → places_in rules (book_after rules new_book events) ≤ rules.places
 books_within rules events fit = subst (λ n. n ≤ rules.places) (sym (books_hold rules events)) (places_after-le rules events fit)

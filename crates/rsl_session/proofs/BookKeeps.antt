@@ -1,5 +1,5 @@
 -- A book keeps at most 8 asks and 16 stops.
-use Rattle.std.proofs.Common.{◌≡◌, ℕ, ◌+◌, ◌-◌, ◌^◌, min, max, ◌≤◌, List, [], ◌∷◌, ◌++◌, length, map, take, Bool, true, false, cond, refl, sym, arith}
+use Rattle.std.proofs.Common.{◌≡◌, ℕ, ◌+◌, ◌-◌, ◌^◌, min, ◌≤◌, List, [], ◌∷◌, ◌++◌, length, take, Bool, true, false, cond, refl, arith}
 use Rattle.std.specs.Prelude.{Option, Some, None, find, nat_le, nat_lt}
 use Rattle.std.specs.List.{list_any}
 use Rattle.std.proofs.lemmas.List.{length-take, length-map}
@@ -13,13 +13,12 @@ use Rattle.rsl_event.specs.declared.event.Key.{Key}
 use Rattle.rsl_event.specs.declared.nas.Nas.{Nas}
 use Rattle.rsl_session.specs.declared.bundle.Bundle.{Bundle}
 use Rattle.rsl_session.specs.declared.kept.KeptAsk.{KeptAsk}
-use Rattle.rsl_session.specs.declared.kept.KeptStop.{KeptStop}
 use Rattle.rsl_session.specs.declared.session.Session.{Session}
 use Rattle.rsl_session.specs.Places.{places_of}
-use Rattle.rsl_session.specs.Ask.{KEPT_ASKS, repeats}
+use Rattle.rsl_session.specs.Ask.{repeats}
 use Rattle.rsl_session.specs.Binding.{bundle_of}
-use Rattle.rsl_session.specs.Closed.{KEPT_STOPS, closes}
-use Rattle.rsl_session.specs.Book.{Book, BookLink, Reserved, Bound, bundles_in}
+use Rattle.rsl_session.specs.Closed.{closes}
+use Rattle.rsl_session.specs.Book.{Book, BookLink, Bound, bundles_in}
 use Rattle.rsl_session.specs.BookLinks.{is_link_of, can_be_taken, can_yield, fits_beside, without_first}
 use Rattle.rsl_session.specs.BookStep.{come_to, keep_ask, refuse, accept_beside, ask_for_place, fresh_ask, ask, open_link, bind, alive, stop, sweep, sweep_ask, sweep_stop, act_on, step}
 
@@ -27,7 +26,8 @@ use Rattle.rsl_session.specs.BookStep.{come_to, keep_ask, refuse, accept_beside,
 at_most : {A : Type 0} (n : ℕ) (xs : List A) → length (take n xs) ≤ n
 at_most n xs = omega (arith, length-take n xs)
 
-alive_keeps : (rules : Rules) (book : Book) (session : Session) (bundle : Option Bundle) (class : Option ℕ) (found : Option BookLink)
+alive_keeps : (rules : Rules) (book : Book) (session : Session) (bundle : Option Bundle) (class : Option ℕ)
+    (found : Option BookLink)
     → ((alive rules book session bundle class found).asks ≡ book.asks) × ((alive rules book session bundle class found).stops ≡ book.stops)
 unfolding open_link
 alive_keeps rules book session bundle class (Some link) = (refl, refl)
@@ -45,11 +45,13 @@ alive_keeps rules book session bundle class None = by_closed (list_any (closes r
   by_reservation (Some link) = (refl, refl)
   by_reservation None = by_room (nat_le (places_of rules.ports (bundles_in book.links ++ bundle ∷ [])) rules.places)
 
-  by_closed : (closed : Bool) → Keeps (cond closed book (bind rules book session bundle class (find (can_be_taken session.nas class) book.links)))
+  by_closed : (closed : Bool)
+      → Keeps (cond closed book (bind rules book session bundle class (find (can_be_taken session.nas class) book.links)))
   by_closed true = (refl, refl)
   by_closed false = by_reservation (find (can_be_taken session.nas class) book.links)
 
-ask_keeps : (rules : Rules) (book : Book) (key : Key) (nas : Nas) (found : Option KeptAsk) → length book.asks ≤ 8
+ask_keeps : (rules : Rules) (book : Book) (key : Key) (nas : Nas) (found : Option KeptAsk)
+    → length book.asks ≤ 8
     → (length (ask rules book key nas found).0.asks ≤ 8) × ((ask rules book key nas found).0.stops ≡ book.stops)
 unfolding keep_ask refuse accept_beside fresh_ask
 ask_keeps rules book key nas (Some kept) within = (within, refl)
@@ -63,7 +65,8 @@ ask_keeps rules book key nas None within = numbered (nat_lt book.accepts (2 ^ 64
   accepted : (links : List BookLink) → Keeps (accept_beside links book key nas)
   accepted links = (at_most 8 (record { key = key; nas = nas; decision = Accept book.accepts; at = book.clock; swept = false } ∷ book.asks), refl)
 
-  in_place : (fits : Bool) → Keeps (cond fits (accept_beside (without_first (can_yield rules book.clock book.links) book.links) book key nas) (refuse book key nas))
+  in_place : (fits : Bool)
+      → Keeps (cond fits (accept_beside (without_first (can_yield rules book.clock book.links) book.links) book key nas) (refuse book key nas))
   in_place true = accepted (without_first (can_yield rules book.clock book.links) book.links)
   in_place false = refused
 
@@ -71,7 +74,8 @@ ask_keeps rules book key nas None within = numbered (nat_lt book.accepts (2 ^ 64
   unfitting None = refused
   unfitting (Some link) = in_place (fits_beside rules (without_first (can_yield rules book.clock book.links) book.links))
 
-  placed : (free : Bool) → Keeps (cond free (accept_beside book.links book key nas) (ask_for_place rules book key nas (find (can_yield rules book.clock book.links) book.links)))
+  placed : (free : Bool)
+      → Keeps (cond free (accept_beside book.links book key nas) (ask_for_place rules book key nas (find (can_yield rules book.clock book.links) book.links)))
   placed true = accepted book.links
   placed false = unfitting (find (can_yield rules book.clock book.links) book.links)
 

@@ -24,42 +24,51 @@ use Rattle.rsl_session.proofs.Ending.{any_link, list_all_any}
 use Rattle.rsl_session.proofs.BookLists.{filter_view, find_filter, list_all_view, map_of_map}
 use Rattle.rsl_session.proofs.BookKnown.{is_known, known_at}
 
-time_is : (rules : Rules) (number : Option ℕ) (session : Option Session) → time_of rules (holder_of number session) ≡ standing_time rules session
+time_is : (rules : Rules) (number : Option ℕ) (session : Option Session)
+    → time_of rules (holder_of number session) ≡ standing_time rules session
 time_is rules number (Some session) = refl
 time_is rules (Some number) None = refl
 time_is rules None None = refl
 
-pub lapses_is : (rules : Rules) (past : Past) (event : Event) (link : ℕ) → lapses_at rules (clock_at past event) (link_view past link) ≡ lapses rules past event link
+pub lapses_is : (rules : Rules) (past : Past) (event : Event) (link : ℕ)
+    → lapses_at rules (clock_at past event) (link_view past link) ≡ lapses rules past event link
 unfolding lapses_at lapses link_view
 lapses_is rules past event link = rw (time_is rules (number_at link past) (session_at link past)) refl
 
-bound_is : (number : Option ℕ) (session : Option Session) → is_bound (holder_of number session) ≡ is_some session
+bound_is : (number : Option ℕ) (session : Option Session)
+    → is_bound (holder_of number session) ≡ is_some session
 bound_is number (Some session) = refl
 bound_is (Some number) None = refl
 bound_is None None = refl
 
-pub stale_is : (rules : Rules) (past : Past) (event : Event) (link : ℕ) → is_stale_at rules (clock_at past event) (link_view past link) ≡ is_idle rules past event link
+pub stale_is : (rules : Rules) (past : Past) (event : Event) (link : ℕ)
+    → is_stale_at rules (clock_at past event) (link_view past link) ≡ is_idle rules past event link
 unfolding is_stale_at is_idle link_view
 stale_is rules past event link = rw (bound_is (number_at link past) (session_at link past)) refl
 
-holder_is : (wanted : Session) (number : Option ℕ) (session : Option Session) → is_holder wanted (holder_of number session) ≡ is_session session wanted
+holder_is : (wanted : Session) (number : Option ℕ) (session : Option Session)
+    → is_holder wanted (holder_of number session) ≡ is_session session wanted
 holder_is wanted number (Some session) = refl
 holder_is wanted (Some number) None = refl
 holder_is wanted None None = refl
 
-pub link_of_is : (past : Past) (session : Session) (link : ℕ) → is_link_of session (link_view past link) ≡ is_bound_to past session link
+pub link_of_is : (past : Past) (session : Session) (link : ℕ)
+    → is_link_of session (link_view past link) ≡ is_bound_to past session link
 unfolding is_link_of is_bound_to link_view
 link_of_is past session link = holder_is session (number_at link past) (session_at link past)
 
-nas_is : (wanted : Nas) (nas : Option Nas) → is_some nas ≡ true → same_nas (known_nas nas) wanted ≡ is_nas nas wanted
+nas_is : (wanted : Nas) (nas : Option Nas) → is_some nas ≡ true
+    → same_nas (known_nas nas) wanted ≡ is_nas nas wanted
 nas_is wanted (Some nas) known = refl
 nas_is wanted None known = cc
 
-pub at_is : (past : Past) (nas : Nas) (link : ℕ) → is_known past link ≡ true → same_nas (link_view past link).nas nas ≡ is_at past nas link
+pub at_is : (past : Past) (nas : Nas) (link : ℕ) → is_known past link ≡ true
+    → same_nas (link_view past link).nas nas ≡ is_at past nas link
 unfolding is_at link_view
 at_is past nas link known = nas_is nas (nas_at link past) (known_at past link known).0
 
-wanted_is : (class number : Option ℕ) (session : Option Session) (here : Bool) → (is_some number || is_some session) ≡ true
+wanted_is : (class number : Option ℕ) (session : Option Session) (here : Bool)
+    → (is_some number || is_some session) ≡ true
     → (is_wanted class (holder_of number session) && here) ≡ ((is_none session && here) && is_number class number)
 wanted_is class number (Some session) here has = refl
 wanted_is None (Some number) None true has = refl
@@ -72,18 +81,21 @@ wanted_is (Some wanted) (Some number) None here has = by_cases here (eqb number 
   by_cases false false = refl
 wanted_is class None None here has = cc
 
-pub chosen_is : (past : Past) (nas : Nas) (class : Option ℕ) (link : ℕ) → is_known past link ≡ true → can_be_taken nas class (link_view past link) ≡ is_chosen past nas class link
+pub chosen_is : (past : Past) (nas : Nas) (class : Option ℕ) (link : ℕ) → is_known past link ≡ true
+    → can_be_taken nas class (link_view past link) ≡ is_chosen past nas class link
 unfolding can_be_taken is_chosen is_reserved is_at link_view
 chosen_is past nas class link known =
     let has = known_at past link known in
     rw (nas_is nas (nas_at link past) has.0) (wanted_is class (number_at link past) (session_at link past) (is_nas (nas_at link past) nas) has.1)
 
 -- the bundles of views, and so what fits beside them
-pub bundles_are : (past : Past) (links : List ℕ) → bundles_in (map (link_view past) links) ≡ bundles past links
+pub bundles_are : (past : Past) (links : List ℕ)
+    → bundles_in (map (link_view past) links) ≡ bundles past links
 unfolding bundles_in bundles link_view
 bundles_are past links = map_of_map (λ (link : BookLink). link.bundle) (link_view past) links
 
-pub fits_is : (rules : Rules) (past : Past) (links : List ℕ) → fits_beside rules (map (link_view past) links) ≡ has_place_beside rules past links
+pub fits_is : (rules : Rules) (past : Past) (links : List ℕ)
+    → fits_beside rules (map (link_view past) links) ≡ has_place_beside rules past links
 unfolding fits_beside has_place_beside
 fits_is rules past links = rw (bundles_are past links) refl
 
@@ -92,14 +104,16 @@ pub is_yielding : Rules → Past → Event → ℕ → Bool
 is_yielding rules past event link = is_idle rules past event link && is_touched_first past (idle_links rules past event) link
 
 touched_first : (past : Past) (link : ℕ) (links : List ℕ)
-    → list_all (λ (other : BookLink). nat_le (link_view past link).touched other.touched) (map (link_view past) links)
+    → list_all (λ (other : BookLink). nat_le (link_view past link).touched other.touched)
+    (map (link_view past) links)
     ≡ list_all (λ other. nat_le (touched_at link past) (touched_at other past)) links
 unfolding link_view
 touched_first past link links =
     list_all_view (link_view past) (λ (other : BookLink). nat_le (touched_at link past) other.touched) (λ other. nat_le (touched_at link past) (touched_at other past)) (λ x. refl) links
 
 pub yield_is : (rules : Rules) (past : Past) (event : Event) (link : ℕ)
-    → can_yield rules (clock_at past event) (map (link_view past) (held_before rules past event)) (link_view past link) ≡ is_yielding rules past event link
+    → can_yield rules (clock_at past event) (map (link_view past) (held_before rules past event))
+    (link_view past link) ≡ is_yielding rules past event link
 unfolding can_yield is_yielding is_touched_first idle_links
 yield_is rules past event link =
     let stale : filter (is_stale_at rules (clock_at past event)) (map (link_view past) (held_before rules past event)) ≡ map (link_view past) (filter (is_idle rules past event) (held_before rules past event)) =
@@ -107,6 +121,7 @@ yield_is rules past event link =
     rw (stale, stale_is rules past event link)
     (ap (λ b. is_idle rules past event link && b) (touched_first past link (filter (is_idle rules past event) (held_before rules past event))))
 
-pub yielding_is : (rules : Rules) (past : Past) (event : Event) → yielding_link rules past event ≡ find (is_yielding rules past event) (held_before rules past event)
+pub yielding_is : (rules : Rules) (past : Past) (event : Event)
+    → yielding_link rules past event ≡ find (is_yielding rules past event) (held_before rules past event)
 unfolding yielding_link idle_links is_yielding
 yielding_is rules past event = find_filter (is_touched_first past (filter (is_idle rules past event) (held_before rules past event))) (is_idle rules past event) (held_before rules past event)

@@ -29,15 +29,18 @@ did event outcome = record { event = event; outcome = outcome }
 older : (link : ℕ) (past : Past) → link ≤ length past → eqb link (suc (length past)) ≡ false
 older link past within = ne_eqb link (suc (length past)) (λ same. omega arith)
 
-pub nas_older : (entry : PastEvent) (past : Past) (link : ℕ) → link ≤ length past → nas_at link (entry ∷ past) ≡ nas_at link past
+pub nas_older : (entry : PastEvent) (past : Past) (link : ℕ) → link ≤ length past
+    → nas_at link (entry ∷ past) ≡ nas_at link past
 unfolding nas_at entry_at
 nas_older entry past link within = rw (older link past within) refl
 
-pub number_older : (entry : PastEvent) (past : Past) (link : ℕ) → link ≤ length past → number_at link (entry ∷ past) ≡ number_at link past
+pub number_older : (entry : PastEvent) (past : Past) (link : ℕ) → link ≤ length past
+    → number_at link (entry ∷ past) ≡ number_at link past
 unfolding number_at entry_at
 number_older entry past link within = rw (older link past within) refl
 
-binds_touched : (link place : ℕ) (outcome : Outcome) → touches link place outcome ≡ false → binds link place outcome ≡ false
+binds_touched : (link place : ℕ) (outcome : Outcome) → touches link place outcome ≡ false
+    → binds link place outcome ≡ false
 unfolding binds touches
 binds_touched link place (Accepted number) untouched = refl
 binds_touched link place (AcceptedInPlace number yielded) untouched = refl
@@ -51,7 +54,8 @@ binds_touched link place Over untouched = refl
 binds_touched link place Passed untouched = refl
 
 -- a link that an event does not touch looks as it did
-pub view_untouched : (entry : PastEvent) (past : Past) (link : ℕ) → link ≤ length past → touches link (suc (length past)) entry.outcome ≡ false
+pub view_untouched : (entry : PastEvent) (past : Past) (link : ℕ) → link ≤ length past
+    → touches link (suc (length past)) entry.outcome ≡ false
     → link_view (entry ∷ past) link ≡ link_view past link
 unfolding link_view session_at bound_by bundle_at bundled_by touched_at
 view_untouched entry past link within untouched =
@@ -66,7 +70,8 @@ view_untouched entry past link within untouched =
 
 -- a link that an alive renews is touched by it
 pub view_renewed : (event : Event) (past : Past) (link : ℕ) → link ≤ length past
-    → link_view (did event (Renewed link) ∷ past) link ≡ touch (clock_at past event) (bundle_of event.act) (link_view past link)
+    → link_view (did event (Renewed link) ∷ past) link ≡ touch (clock_at past event) (bundle_of event.act)
+    (link_view past link)
 unfolding link_view touch session_at bound_by bundle_at bundled_by touched_at binds touches clock clock_at
 view_renewed event past link within =
     rw (
@@ -77,14 +82,17 @@ view_renewed event past link within =
     ) refl
 
 -- a reserved link that an alive takes is bound to its session
-pub view_taken : (event : Event) (past : Past) (link : ℕ) (session : Session) → link ≤ length past → session_at link past ≡ None → session_of event.act ≡ Some session
-    → link_view (did event (Took link) ∷ past) link ≡ take_for session (clock_at past event) (bundle_of event.act) (link_view past link)
+pub view_taken : (event : Event) (past : Past) (link : ℕ) (session : Session) → link ≤ length past
+    → session_at link past ≡ None → session_of event.act ≡ Some session
+    → link_view (did event (Took link) ∷ past) link ≡ take_for session (clock_at past event)
+    (bundle_of event.act) (link_view past link)
 unfolding link_view take_for session_at bound_by bundle_at bundled_by touched_at binds touches clock clock_at
 view_taken event past link session within reserved alive =
     rw (nas_older (did event (Took link)) past link within, number_older (did event (Took link)) past link within, eq-eqb link link refl, reserved, alive) refl
 
 -- a new link, by the act that opened it
-pub view_accepted : (rules : Rules) (event : Event) (past : Past) (number : ℕ) (nas : Nas) → IsRuled rules past → nas_of event.act ≡ Some nas → bundle_of event.act ≡ None
+pub view_accepted : (rules : Rules) (event : Event) (past : Past) (number : ℕ) (nas : Nas)
+    → IsRuled rules past → nas_of event.act ≡ Some nas → bundle_of event.act ≡ None
     → link_view (did event (Accepted number) ∷ past) (suc (length past))
     ≡ record { nas = nas; holder = Reserved number; bundle = None; touched = clock_at past event }
 unfolding link_view nas_at number_at entry_at number_of session_at bound_by bundle_at bundled_by touched_at binds touches clock clock_at
@@ -97,7 +105,8 @@ view_accepted rules event past number nas ruled at alone =
       alone,
     ) refl
 
-pub view_accepted_in_place : (rules : Rules) (event : Event) (past : Past) (number yielded : ℕ) (nas : Nas) → IsRuled rules past → nas_of event.act ≡ Some nas → bundle_of event.act ≡ None
+pub view_accepted_in_place : (rules : Rules) (event : Event) (past : Past) (number yielded : ℕ) (nas : Nas)
+    → IsRuled rules past → nas_of event.act ≡ Some nas → bundle_of event.act ≡ None
     → link_view (did event (AcceptedInPlace number yielded) ∷ past) (suc (length past))
     ≡ record { nas = nas; holder = Reserved number; bundle = None; touched = clock_at past event }
 unfolding link_view nas_at number_at entry_at number_of session_at bound_by bundle_at bundled_by touched_at binds touches clock clock_at
@@ -110,7 +119,8 @@ view_accepted_in_place rules event past number yielded nas ruled at alone =
       alone,
     ) refl
 
-pub view_opened : (rules : Rules) (event : Event) (past : Past) (session : Session) → IsRuled rules past → nas_of event.act ≡ Some session.nas → session_of event.act ≡ Some session
+pub view_opened : (rules : Rules) (event : Event) (past : Past) (session : Session) → IsRuled rules past
+    → nas_of event.act ≡ Some session.nas → session_of event.act ≡ Some session
     → link_view (did event Opened ∷ past) (suc (length past))
     ≡ record { nas = session.nas; holder = Bound session; bundle = bundle_of event.act; touched = clock_at past event }
 unfolding link_view nas_at number_at entry_at number_of session_at bound_by bundle_at bundled_by touched_at binds touches clock clock_at
