@@ -1,6 +1,6 @@
 -- One link more adds no place or one, in whatever order the links stand; so links that end add none, and
 -- a link that joins a bundle adds none.
-use Rattle.std.proofs.Common.{◌≡◌, ℕ, suc, ◌+◌, ◌-◌, ◌*◌, ◌<◌, ◌≤◌, List, [], ◌∷◌, ◌++◌, length, Bool, true, false, cond, ◌||◌, refl, ap, sym, ◌∙◌, subst, ◌⊎◌, inl, inr, arith, append_assoc, map}
+use Rattle.std.proofs.Common.{◌≡◌, ℕ, zero, suc, ◌+◌, ◌-◌, ◌*◌, ◌<◌, ◌≤◌, List, [], ◌∷◌, ◌++◌, length, Bool, true, false, cond, ◌||◌, refl, ap, sym, ◌∙◌, subst, ◌⊎◌, inl, inr, arith, append_assoc, map}
 use Rattle.std.specs.Prelude.{Option, Some, None, count_by, sum_by, filter, is_none}
 use Rattle.std.specs.Int.{div_ceil}
 use Rattle.std.specs.List.{list_any}
@@ -326,6 +326,59 @@ places_of-le ports (x ∷ xs) some =
     let more = places_of-cons ports x xs some in
     let one = adds-le ports x xs some in
     omega (arith)
+
+-- one link more of a bundle, by how many there are of it
+pub places_of-Some : (ports : ℕ) (bundle : Bundle) (xs : List (Option Bundle)) → 0 < ports
+    → places_of ports (Some bundle ∷ xs) ≡ places_of ports xs + (div_ceil (suc (count_by (is_bundle bundle) xs)) ports - div_ceil (count_by (is_bundle bundle) xs) ports)
+unfolding adds share members
+places_of-Some ports bundle xs some = places_of-cons ports (Some bundle) xs some
+
+-- where a place has one port, each link takes a place
+share_single : (m : ℕ) → share 1 m ≡ m
+unfolding share
+share_single m = let times = div_ceil_times m 1 (omega arith) in omega arith
+
+adds_single : (x : Option Bundle) (xs : List (Option Bundle)) → adds 1 x xs ≡ 1
+unfolding adds
+adds_single None xs = refl
+adds_single (Some bundle) xs = rw (share_single (suc (members bundle xs)), share_single (members bundle xs)) (omega arith)
+
+places_single : (xs : List (Option Bundle)) → length xs ≤ places_of 1 xs
+places_single [] = omega arith
+places_single (x ∷ xs) =
+    let rest = places_single xs in
+    let more = places_of-cons 1 x xs (omega arith) in
+    let one = adds_single x xs in
+    omega arith
+
+-- a place has room for as many links as it has ports
+share_room : (ports m : ℕ) → 0 < ports → m ≤ share ports m * ports
+unfolding share
+share_room ports m some = (div_ceil_times m ports some).0
+
+shares_room : (ports : ℕ) (xs : List (Option Bundle)) (bundles : List Bundle) → 0 < ports → shares 1 xs bundles ≤ shares ports xs bundles * ports
+shares_room ports xs [] some = let none = shares-nil 1 xs in omega arith
+shares_room ports xs (bundle ∷ bundles) some =
+    let rest = shares_room ports xs bundles some in
+    let single = shares-cons 1 xs bundle bundles in
+    let several = shares-cons ports xs bundle bundles in
+    let one = share_single (members bundle xs) in
+    let room = share_room ports (members bundle xs) some in
+    rw (single, several) (omega arith)
+
+at_least : (a p : ℕ) → 0 < p → a ≤ a * p
+at_least zero p some = omega arith
+at_least (suc a) p some = let rest = at_least a p some in omega arith
+
+-- so the links are at most the places with their ports
+pub length-le-places : (ports : ℕ) (xs : List (Option Bundle)) → 0 < ports → length xs ≤ places_of ports xs * ports
+length-le-places ports xs some =
+    let single = places_of-parts 1 xs in
+    let several = places_of-parts ports xs in
+    let most = places_single xs in
+    let room = shares_room ports xs (each_bundle xs) some in
+    let alone_room = at_least (alone xs) ports some in
+    rw several (omega arith)
 
 module _ {X : Type 0} (ports : ℕ) (some : 0 < ports) where
   -- links that are left out free places, or leave them as they are

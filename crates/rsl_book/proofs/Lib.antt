@@ -1,0 +1,11 @@
+pub mod Lists
+pub mod Opened
+pub mod Swept
+pub mod Ending
+pub mod Naming
+pub mod Found
+pub mod Touching
+pub mod Slices
+pub mod Oldest
+pub mod Insides
+pub mod Stepping

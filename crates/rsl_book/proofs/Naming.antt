@@ -1,0 +1,135 @@
+-- Places of the table that nothing names: there is one, since there are fewer names than places, and what is
+-- put there changes nothing that is seen.
+use Rattle.std.proofs.Common.{◌≡◌, ◌≢◌, ℕ, zero, suc, ◌+◌, ◌-◌, ◌<◌, ◌≤◌, List, [], ◌∷◌, ◌++◌, set, get_or, length, map, Bool, true, false, cond, not, ◌||◌, refl, ap, sym, ◌∙◌, subst, inl, inr, arith, length-append, eqb}
+use Rattle.std.specs.Prelude.{◌==◌, filter}
+use Rattle.std.specs.List.{list_any}
+use Rattle.std.proofs.lemmas.Bool.{or_parts, eq-eqb, ne_eqb, eqb-true, cases_eq, false≢true}
+use Rattle.std.proofs.lemmas.List.{length-map, get_or-set_other}
+use Rattle.rsl_event.specs.declared.nas.Nas.{Nas}
+use Rattle.rsl_session.specs.BookLinks.{without_first}
+use Rattle.rsl_book.specs.declared.link.Link.{Link}
+use Rattle.rsl_book.specs.declared.kept.StoredAsk.{StoredAsk}
+use Rattle.rsl_book.specs.declared.kept.StoredStop.{StoredStop}
+use Rattle.rsl_book.specs.Named.{is_named, named_by_links, named_by_asks, named_by_stops}
+use Rattle.rsl_book.specs.Seen.{nas_at, link_seen, links_seen, ask_seen, asks_seen, stop_seen, stops_seen}
+
+any-append : {A : Type 0} (p : A → Bool) (xs ys : List A) → list_any p (xs ++ ys) ≡ (list_any p xs || list_any p ys)
+any-append p [] ys = refl
+any-append p (x ∷ xs) ys = by_cases (p x) (any-append p xs ys) where
+  by_cases : (b : Bool) → list_any p (xs ++ ys) ≡ (list_any p xs || list_any p ys) → (b || list_any p (xs ++ ys)) ≡ ((b || list_any p xs) || list_any p ys)
+  by_cases true rest = refl
+  by_cases false rest = rest
+
+any-map : {A B : Type 0} (p : B → Bool) (f : A → B) (xs : List A) → list_any p (map f xs) ≡ list_any (λ x. p (f x)) xs
+any-map p f [] = refl
+any-map p f (x ∷ xs) = ap (λ b. p (f x) || b) (any-map p f xs)
+
+pub asks_parts : (newer older : List StoredAsk) (at : ℕ) → named_by_asks (newer ++ older) at ≡ (named_by_asks newer at || named_by_asks older at)
+unfolding named_by_asks
+asks_parts newer older at = any-append (λ (ask : StoredAsk). ask.nas == at) newer older
+
+pub stops_parts : (newer older : List StoredStop) (at : ℕ) → named_by_stops (newer ++ older) at ≡ (named_by_stops newer at || named_by_stops older at)
+unfolding named_by_stops
+stops_parts newer older at = any-append (λ (stop : StoredStop). stop.nas == at) newer older
+
+-- the names of a list
+names : List Link → List StoredAsk → List StoredStop → List ℕ
+names links asks stops = map (λ (link : Link). link.nas) links ++ (map (λ (ask : StoredAsk). ask.nas) asks ++ map (λ (stop : StoredStop). stop.nas) stops)
+
+or_assoc : (a b c : Bool) → ((a || b) || c) ≡ (a || (b || c))
+or_assoc true b c = refl
+or_assoc false b c = refl
+
+named_among : (links : List Link) (asks : List StoredAsk) (stops : List StoredStop) (at : ℕ) → list_any (λ name. name == at) (names links asks stops) ≡ is_named links asks stops at
+unfolding names is_named named_by_links named_by_asks named_by_stops
+named_among links asks stops at =
+    any-append (λ name. name == at) (map (λ (link : Link). link.nas) links) (map (λ (ask : StoredAsk). ask.nas) asks ++ map (λ (stop : StoredStop). stop.nas) stops)
+    ∙ ap (λ b. list_any (λ name. name == at) (map (λ (link : Link). link.nas) links) || b) (any-append (λ name. name == at) (map (λ (ask : StoredAsk). ask.nas) asks) (map (λ (stop : StoredStop). stop.nas) stops))
+    ∙ ap (λ b. b || (list_any (λ name. name == at) (map (λ (ask : StoredAsk). ask.nas) asks) || list_any (λ name. name == at) (map (λ (stop : StoredStop). stop.nas) stops))) (any-map (λ name. name == at) (λ (link : Link). link.nas) links)
+    ∙ ap (λ b. named_by_links links at || (b || list_any (λ name. name == at) (map (λ (stop : StoredStop). stop.nas) stops))) (any-map (λ name. name == at) (λ (ask : StoredAsk). ask.nas) asks)
+    ∙ ap (λ b. named_by_links links at || (named_by_asks asks at || b)) (any-map (λ name. name == at) (λ (stop : StoredStop). stop.nas) stops)
+    ∙ sym (or_assoc (named_by_links links at) (named_by_asks asks at) (named_by_stops stops at))
+
+names_length : (links : List Link) (asks : List StoredAsk) (stops : List StoredStop) → length (names links asks stops) ≡ length links + length asks + length stops
+unfolding names
+names_length links asks stops =
+    let all = length-append (map (λ (link : Link). link.nas) links) (map (λ (ask : StoredAsk). ask.nas) asks ++ map (λ (stop : StoredStop). stop.nas) stops) in
+    let kept = length-append (map (λ (ask : StoredAsk). ask.nas) asks) (map (λ (stop : StoredStop). stop.nas) stops) in
+    let one = length-map links (λ (link : Link). link.nas) in
+    let two = length-map asks (λ (ask : StoredAsk). ask.nas) in
+    let three = length-map stops (λ (stop : StoredStop). stop.nas) in
+    omega arith
+
+-- a list without its first element that passes
+shorter : {A : Type 0} (p : A → Bool) (xs : List A) → list_any p xs ≡ true → length (without_first p xs) + 1 ≡ length xs
+unfolding without_first
+shorter p [] some = absurd (false≢true some)
+shorter p (x ∷ xs) some = by_cases (p x) some (shorter p xs) where
+  by_cases : (b : Bool) → (b || list_any p xs) ≡ true → (list_any p xs ≡ true → length (without_first p xs) + 1 ≡ length xs) → length (cond b xs (x ∷ without_first p xs)) + 1 ≡ suc (length xs)
+  by_cases true some rest = omega arith
+  by_cases false some rest = let h = rest some in omega arith
+
+still : {A : Type 0} (p q : A → Bool) → ((x : A) → q x ≡ true → p x ≡ false) → (xs : List A) → list_any q xs ≡ true → list_any q (without_first p xs) ≡ true
+unfolding without_first
+still p q apart [] some = some
+still p q apart (x ∷ xs) some = by_cases (p x) (q x) refl refl some (still p q apart xs) where
+  by_cases : (b d : Bool) → p x ≡ b → q x ≡ d → (d || list_any q xs) ≡ true → (list_any q xs ≡ true → list_any q (without_first p xs) ≡ true) → list_any q (cond b xs (x ∷ without_first p xs)) ≡ true
+  by_cases true true is here some rest = absurd (false≢true (sym (apart x here) ∙ is))
+  by_cases true false is here some rest = some
+  by_cases false true is here some rest = rw here refl
+  by_cases false false is here some rest = rw here (rest some)
+
+-- where each number below n is among the names, there are at least n names
+pub pigeons : (n : ℕ) (all : List ℕ) → ((j : ℕ) → j < n → list_any (λ name. name == j) all ≡ true) → n ≤ length all
+pigeons zero all named = omega arith
+pigeons (suc n) all named =
+    let rest = pigeons n (without_first (λ name. name == n) all) (λ (j : ℕ) (low : j < n).
+    still (λ name. name == n) (λ name. name == j) (λ (x : ℕ) (is : (x == j) ≡ true). ne_eqb x n (λ (e : x ≡ n). let h : x ≡ j = eqb-true x j is in omega arith)) all (named j (omega arith))) in
+    let less = shorter (λ name. name == n) all (named n (omega arith)) in
+    omega arith
+
+pub named_more : (named : ℕ → Bool) (n : ℕ) → ((j : ℕ) → j < n → named j ≡ true) → named n ≡ true → (j : ℕ) → j < n + 1 → named j ≡ true
+named_more named n below here j low =
+    elim (cases_eq j n) [
+      | inl same ↦ ap named same ∙ here
+      | inr other ↦ below j (omega (arith, other))
+    ]
+
+pub few_named : (links : List Link) (asks : List StoredAsk) (stops : List StoredStop) (n : ℕ) → ((j : ℕ) → j < n → is_named links asks stops j ≡ true) → n ≤ length links + length asks + length stops
+few_named links asks stops n named =
+    let most = pigeons n (names links asks stops) (λ j low. named_among links asks stops j ∙ named j low) in
+    let sum = names_length links asks stops in
+    omega arith
+
+-- what stands at a place that is not named is not seen
+same_nas_at : (servers : List Nas) (nas : Nas) (at name : ℕ) → (name == at) ≡ false → nas_at (set servers at nas) name ≡ nas_at servers name
+same_nas_at servers nas at name other = get_or-set_other servers at name nas _ (λ (e : name ≡ at). false≢true (sym other ∙ eq-eqb name at e))
+
+pub links_put : (servers : List Nas) (nas : Nas) (at : ℕ) (links : List Link) → named_by_links links at ≡ false → links_seen (set servers at nas) links ≡ links_seen servers links
+unfolding links_seen named_by_links link_seen
+links_put servers nas at [] free = refl
+links_put servers nas at (link ∷ links) free =
+    let parts = or_parts (link.nas == at) (list_any (λ (one : Link). one.nas == at) links) free in
+    rw (same_nas_at servers nas at link.nas parts.0) (ap (λ rest. link_seen servers link ∷ rest) (links_put servers nas at links parts.1))
+
+pub asks_put : (servers : List Nas) (nas : Nas) (at : ℕ) (asks : List StoredAsk) → named_by_asks asks at ≡ false → asks_seen (set servers at nas) asks ≡ asks_seen servers asks
+unfolding asks_seen named_by_asks ask_seen
+asks_put servers nas at [] free = refl
+asks_put servers nas at (ask ∷ asks) free =
+    let parts = or_parts (ask.nas == at) (list_any (λ (one : StoredAsk). one.nas == at) asks) free in
+    rw (same_nas_at servers nas at ask.nas parts.0) (ap (λ rest. ask_seen servers ask ∷ rest) (asks_put servers nas at asks parts.1))
+
+pub stops_put : (servers : List Nas) (nas : Nas) (at : ℕ) (stops : List StoredStop) → named_by_stops stops at ≡ false → stops_seen (set servers at nas) stops ≡ stops_seen servers stops
+unfolding stops_seen named_by_stops stop_seen
+stops_put servers nas at [] free = refl
+stops_put servers nas at (stop ∷ stops) free =
+    let parts = or_parts (stop.nas == at) (list_any (λ (one : StoredStop). one.nas == at) stops) free in
+    rw (same_nas_at servers nas at stop.nas parts.0) (ap (λ rest. stop_seen servers stop ∷ rest) (stops_put servers nas at stops parts.1))
+
+pub not_named : (links : List Link) (asks : List StoredAsk) (stops : List StoredStop) (at : ℕ) → is_named links asks stops at ≡ false
+    → (named_by_links links at ≡ false) × ((named_by_asks asks at ≡ false) × (named_by_stops stops at ≡ false))
+unfolding is_named
+not_named links asks stops at free =
+    let most = or_parts (named_by_links links at || named_by_asks asks at) (named_by_stops stops at) free in
+    let first = or_parts (named_by_links links at) (named_by_asks asks at) most.0 in
+    (first.0, (first.1, most.1))

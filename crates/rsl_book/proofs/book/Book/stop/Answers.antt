@@ -1,0 +1,31 @@
+use Rattle.std.proofs.Common.{◌≡◌, ◌+◌, ◌-◌, ◌^◌, ◌*◌, ◌<◌, ◌≤◌, sym, ◌∙◌, ap, refl, subst, length, arith, cond, false, true}
+use Rattle.circular_buffer.specs.Buffer.{Buffer}
+use Rattle.std.specs.Prelude.{None}
+use Rattle.rsl_session.specs.Book.{Book, places_in, bundles_in}
+use Rattle.rsl_session.specs.Places.{places_of}
+use Rattle.rsl_book.specs.RuledBook.{RuledBook}
+use Rattle.rsl_book.specs.declared.kept.StoredAsk.{StoredAsk}
+use Rattle.rsl_book.specs.declared.kept.StoredStop.{StoredStop}
+use Rattle.rsl_book.specs.Sound.{running}
+use Rattle.rsl_book.specs.Seen.{links_seen, asks_seen, stops_seen, bundle_with, nas_at}
+use Rattle.rsl_session.specs.BookStep.{stop}
+use Rattle.rsl_book.proofs.Insides.{same_value, few_after, pushed_stop}
+use Rattle.rsl_book.proofs.book.Book.stop.Goals as goal
+
+pub place_for-nas-requires : goal.place_for-nas-requires
+place_for-nas-requires c =
+    few_after c.self.inside.servers c.self.inside c.stop.new.self (length c.deref.result.now) c.self.invariant c.stop.ensures.counted c.stop.ensures.fewer c.stop.ensures.ports
+    (ap length c.deref.ensures.value)
+
+pub returns : goal.returns
+unfolding stop
+returns c =
+    let inside = c.self.inside in
+    let place = c.place_for-nas in
+    let links : links_seen place.new.servers c.stop.new.self.list.items ≡ links_seen inside.servers c.stop.new.self.list.items =
+    subst (λ links. links_seen place.new.servers links ≡ links_seen inside.servers links) c.deref.ensures.value place.ensures.links in
+    rw (← c.self.view_is)
+    (same_value inside.rules inside.clock inside.accepts inside.over (links ∙ c.stop.ensures.links) place.ensures.asks
+    (ap (λ (ring : Buffer StoredStop). stops_seen place.new.servers ring.items) c.push_front.ensures.items
+    ∙ pushed_stop inside.servers place.new.servers (record { nas = place.result; id = c.args.id; at = inside.clock; swept = false }) inside.stops.items c.args.nas 16 inside.stops.capacity
+    c.self.invariant.stops place.ensures.stands place.ensures.stops))

@@ -1,0 +1,23 @@
+use Rattle.std.proofs.Common.{◌≡◌, ◌<◌, sym, ◌∙◌, ap, refl, length, arith}
+use Rattle.rsl_book.proofs.Insides.{same_value, length-seen}
+use Rattle.rsl_book.proofs.Found.{seen_changed, seen_touched}
+use Rattle.rsl_book.specs.RuledBook.{RuledBook}
+use Rattle.rsl_book.specs.Seen.{links_seen}
+use Rattle.rsl_book.specs.Steps.{touch_here}
+use Rattle.rsl_book.specs.Changed.{touched_link}
+use Rattle.rsl_book.proofs.book.Book.touch_link.Goals as goal
+
+pub touch_at-requires-clause-within : goal.touch_at-requires-clause-within
+touch_at-requires-clause-within c =
+    let long = ap (λ (value : RuledBook). length value.book.links) c.self.view_is in
+    let seen = length-seen c.self.inside.servers c.self.inside.links.list.items in
+    omega (arith, c.requires)
+
+pub returns : goal.returns
+returns c =
+    let inside = c.self.inside in
+    rw (← c.self.view_is)
+    (same_value inside.rules inside.clock inside.accepts inside.over
+    (ap (links_seen inside.servers) c.touch_at.ensures.links
+    ∙ seen_changed inside.servers (touched_link inside.clock c.args.bundle) (touch_here inside.clock c.args.bundle) inside.links.list.items c.args.at
+    (seen_touched inside.servers inside.clock c.args.bundle)) refl refl)

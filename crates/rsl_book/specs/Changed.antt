@@ -1,0 +1,11 @@
+-- How an alive changes a link.
+use Rattle.std.specs.Prelude.{ℕ, List, Option}
+use Rattle.std.specs.Option.{option_or}
+use Rattle.rsl_book.specs.declared.link.Link.{Link}
+use Rattle.rsl_book.specs.declared.link.Hold.TheVariants.{Session}
+
+unfoldable pub touched_link : ℕ → Option (List ℕ) → Link → Link
+touched_link now bundle link = record link { bundle = option_or link.bundle bundle; touched = now }
+
+unfoldable pub bound_link : List ℕ → Link → Link
+bound_link id link = record link { hold = Session id }

@@ -1,0 +1,548 @@
+ghost use Rattle.std.specs.Prelude.{◌≡◌, ℕ, ◌+◌, ◌-◌, ◌*◌, ◌^◌, ◌<◌, ◌≤◌, [], ◌∷◌, ◌++◌, Option, Some, None, find, IfOk, IfSome, IfNone, length, option_map, if◌then◌else◌};
+ghost use Rattle.std.specs.List.{list_any};
+ghost use Rattle.std.specs.Option.{option_map};
+ghost use Rattle.rsl_accounts.specs.Limits.{RulesFit};
+ghost use Rattle.rsl_event.specs.declared.event.Act.TheVariants.{Sweep, Tick};
+ghost use Rattle.rsl_event.specs.declared.event.Decision.TheVariants.{Done};
+ghost use Rattle.rsl_session.specs.declared.kept.KeptAsk.{KeptAsk};
+ghost use Rattle.rsl_session.specs.Ask.{repeats};
+ghost use Rattle.rsl_session.specs.Closed.{closes};
+ghost use Rattle.rsl_session.specs.Places.{places_of};
+ghost use Rattle.rsl_session.specs.Book.{new_book, places_in, bundles_in, reserved_in, live_in, stale_in};
+ghost use Rattle.rsl_session.specs.BookLinks.{is_link_of, can_be_taken, can_yield, fits_beside, without_first};
+ghost use Rattle.rsl_session.specs.BookStep.{come_to, refuse, accept_beside, fresh_ask, ask, open_link, bind, alive, stop, sweep, act_on, step};
+ghost use Rattle.rsl_book.specs.RuledBook.{RuledBook, IsWithinLimit};
+ghost use Rattle.rsl_book.specs.First.{IsFirst, change_at};
+ghost use Rattle.rsl_book.specs.Seen.{bundle_with};
+ghost use Rattle.rsl_book.specs.Steps.{touch_here, take_here, without_at};
+
+use crate::kept::{
+    StoredAsk, StoredStop, copy_of_asks, copy_of_stops, is_closed, repeated, sweep_asks,
+    sweep_stops,
+};
+use crate::link::{Hold, Link};
+use crate::links::{Links, one_if};
+use crate::servers::Servers;
+use crate::table::place_for;
+use circular_buffer::HeapCircularBuffer;
+use rsl_accounts::Rules;
+use rsl_event::{Act, Decision, Event, Key, Nas};
+use rsl_wire::{NoMemory, Octets};
+use std::alloc::Global;
+use std::marker::Model;
+
+/// How many of the last fresh asks are kept for their repeats.
+const KEPT_ASKS: usize = 8;
+
+/// How many of the last stops are kept.
+const KEPT_STOPS: usize = 16;
+
+/// What one account holds now, so that its next event is decided without a look back.
+///
+/// A contract sees the rules of the account and the running book: the clock, the links in the order in
+/// which they opened, the next accept number, the last fresh asks and stops, newest first, and the over
+/// count. All memory is taken in `new`.
+#[derive(Drop)]
+pub struct Book {
+    rules: Rules,
+    clock: u64,
+    accepts: u64,
+    over: u64,
+    servers: Servers,
+    links: Links,
+    asks: HeapCircularBuffer<StoredAsk>,
+    stops: HeapCircularBuffer<StoredStop>,
+}
+
+impl Model for Book {
+    ghost use Rattle.rsl_book.specs.RuledBook.{RuledBook};
+
+    ghost Value = { RuledBook };
+
+    ghost use Rattle.rsl_book.specs.Sound.{book_seen, IsSound};
+
+    ghost view = { book_seen };
+
+    ghost invariant = { IsSound };
+}
+
+/// How much a book stores.
+#[derive(Clone, Copy, Debug, PartialEq, Eq)]
+pub struct Stored {
+    /// The links, at most the places of the account times its ports.
+    pub links: usize,
+    /// The fresh asks that are kept for their repeats, at most 8.
+    pub kept: usize,
+    /// The stops that are kept, at most 16.
+    pub closed: usize,
+}
+
+/// The most links that an account can have.
+fn most_links(rules: &Rules) -> usize
+    requires { RulesFit rules.now }
+    ensures most { result ≡ rules.now.places * rules.now.ports }
+    ensures few { result ≤ 1024 }
+{
+    (rules.places * rules.ports) as usize
+}
+
+impl Book {
+    /// The book of an account that has had no event, with all the room that it will ever use. It fails
+    /// only where memory is refused.
+    pub fn new(alloc: Global, rules: Rules) -> Result<Book, NoMemory>
+        requires { RulesFit rules }
+        ensures made { IfOk result (λ made. made ≡ record { rules = rules; book = new_book }) }
+        ensures limit { IfOk result (λ made. IsWithinLimit made) }
+    {
+        let most = most_links(&rules);
+        Ok(Book {
+            rules,
+            clock: 0,
+            accepts: 0,
+            over: 0,
+            servers: Servers::new(alloc, most + KEPT_ASKS + KEPT_STOPS + 1)?,
+            links: Links::new(alloc, rules.ports, most)?,
+            asks: HeapCircularBuffer::with_capacity(alloc, KEPT_ASKS)?,
+            stops: HeapCircularBuffer::with_capacity(alloc, KEPT_STOPS)?,
+        })
+    }
+
+    /// What an event makes of the book, and the decision on it: `Done` for every event but an ask. It
+    /// takes no memory.
+    pub fn apply(&mut self, event: Event) -> Decision
+        ensures step { (self.new.book, result) ≡ step self.old.rules self.old.book event }
+        ensures rules { self.new.rules ≡ self.old.rules }
+        ensures limit_before { IsWithinLimit self.old }
+        ensures limit { IsWithinLimit self.new }
+    {
+        self.stays_within_limit();
+        let Event { moment, act } = event;
+        self.come_to(moment);
+        let decision = self.act(act);
+        self.stays_within_limit();
+        decision
+    }
+
+    /// An equal book. It fails only where memory is refused.
+    pub fn try_copy(&self, alloc: Global) -> Result<Book, NoMemory>
+        ensures { IfOk result (λ copy. copy ≡ self.now) }
+    {
+        Ok(Book {
+            rules: self.rules,
+            clock: self.clock,
+            accepts: self.accepts,
+            over: self.over,
+            servers: self.servers.try_copy(alloc)?,
+            links: self.links.try_copy(alloc, most_links(&self.rules))?,
+            asks: copy_of_asks(alloc, &self.asks)?,
+            stops: copy_of_stops(alloc, &self.stops)?,
+        })
+    }
+
+    /// What an act does to a book that has come to its moment.
+    fn act(&mut self, act: Act) -> Decision
+        ensures step { (self.new.book, result) ≡ act_on self.old.rules self.old.book act }
+        ensures rules { self.new.rules ≡ self.old.rules }
+    {
+        match act {
+            Act::Ask { key, nas } => self.ask(key, nas),
+            Act::Alive {
+                nas,
+                session,
+                bundle,
+                class,
+            } => {
+                self.alive(nas, session, bundle, class);
+                Decision::Done
+            }
+            Act::Stop { nas, session } => {
+                self.stop(nas, session);
+                Decision::Done
+            }
+            Act::Sweep { nas } => {
+                self.sweep_at(&nas);
+                Decision::Done
+            }
+            Act::Tick => Decision::Done,
+        }
+    }
+
+    /// What a sweep of an access server at this moment makes of the book, as `apply` does.
+    pub fn sweep(&mut self, moment: u64, nas: &Nas)
+        ensures step { (self.new.book, Done) ≡ step self.old.rules self.old.book (record { moment = moment; act = Sweep nas.now }) }
+        ensures rules { self.new.rules ≡ self.old.rules }
+        ensures limit_before { IsWithinLimit self.old }
+        ensures limit { IsWithinLimit self.new }
+    {
+        self.stays_within_limit();
+        self.come_to(moment);
+        self.sweep_at(nas);
+        self.stays_within_limit();
+    }
+
+    /// What a tick at this moment makes of the book, as `apply` does.
+    pub fn tick(&mut self, moment: u64)
+        ensures step { (self.new.book, Done) ≡ step self.old.rules self.old.book (record { moment = moment; act = Tick }) }
+        ensures rules { self.new.rules ≡ self.old.rules }
+        ensures limit_before { IsWithinLimit self.old }
+        ensures limit { IsWithinLimit self.new }
+    {
+        self.stays_within_limit();
+        self.come_to(moment);
+        self.stays_within_limit();
+    }
+
+    /// The places that are held.
+    pub fn held(&self) -> u64
+        ensures places { result ≡ places_in self.now.rules self.now.book }
+        ensures limit { result ≤ self.now.rules.places }
+    {
+        self.links.places
+    }
+
+    /// How many links are reserved.
+    #[tactic(auto, unfolding(rsl_session::specs::Book::reserved_in))]
+    pub fn reserved(&self) -> u64
+        ensures { result ≡ reserved_in self.now.book }
+    {
+        self.links.reserved(&self.servers) as u64
+    }
+
+    /// How many links are live at the book's clock.
+    #[tactic(auto, unfolding(rsl_session::specs::Book::live_in))]
+    pub fn live(&self) -> u64
+        ensures { result ≡ live_in self.now.rules self.now.book }
+    {
+        self.links.live(&self.servers, &self.rules, self.clock) as u64
+    }
+
+    /// How many links are stale at the book's clock.
+    #[tactic(auto, unfolding(rsl_session::specs::Book::stale_in))]
+    pub fn stale(&self) -> u64
+        ensures { result ≡ stale_in self.now.rules self.now.book }
+    {
+        self.links.stale(&self.servers, &self.rules, self.clock) as u64
+    }
+
+    /// How much the book stores: it never grows past what `new` made room for.
+    pub fn stored(&self) -> Stored
+        ensures links { result.links ≡ length self.now.book.links }
+        ensures kept { result.kept ≡ length self.now.book.asks }
+        ensures closed { result.closed ≡ length self.now.book.stops }
+        ensures few_links { result.links ≤ self.now.rules.places * self.now.rules.ports }
+        ensures few_kept { result.kept ≤ 8 }
+        ensures few_closed { result.closed ≤ 16 }
+    {
+        Stored {
+            links: self.links.list.len(),
+            kept: self.asks.len(),
+            closed: self.stops.len(),
+        }
+    }
+
+    /// The clock: the greatest moment so far.
+    pub fn now(&self) -> u64
+        ensures { result ≡ self.now.book.clock }
+    {
+        self.clock
+    }
+
+    /// How many alives found no place, at most 2^64 - 1.
+    pub fn over(&self) -> u64
+        ensures { result ≡ self.now.book.over }
+    {
+        self.over
+    }
+
+    /// The rules of the account.
+    pub fn rules(&self) -> Rules
+        ensures { result ≡ self.now.rules }
+    {
+        self.rules
+    }
+
+    /// The places are within the limit, whatever the book has come to.
+    fn stays_within_limit(&self)
+        ensures { IsWithinLimit self.now }
+    {
+        let _ = &self.links;
+    }
+
+    /// Comes to a moment: the clock moves, and the links that lapse then are gone.
+    fn come_to(&mut self, moment: u64)
+        ensures { self.new ≡ record self.old { book = come_to self.old.rules self.old.book moment } }
+    {
+        self.clock = self.clock.max(moment);
+        self.links.lapse(&self.servers, &self.rules, self.clock);
+    }
+
+    /// Refuses a fresh ask.
+    fn refuse(&mut self, key: Key, nas: Nas) -> Decision
+        ensures step { (self.new.book, result) ≡ refuse self.old.book key nas }
+        ensures rules { self.new.rules ≡ self.old.rules }
+    {
+        let nas = place_for(
+            &mut self.servers,
+            &self.links.list,
+            &self.asks,
+            &self.stops,
+            nas,
+        );
+        let _ = self.asks.push_front(StoredAsk {
+            key,
+            nas,
+            decision: Decision::LimitReject,
+            at: self.clock,
+            swept: false,
+        });
+        Decision::LimitReject
+    }
+
+    /// Accepts a fresh ask, for which there is a place and a number.
+    fn accept(&mut self, key: Key, nas: Nas) -> Decision
+        requires number { self.old.book.accepts < 2 ^ 64 - 1 }
+        requires place { places_in self.old.rules self.old.book + 1 ≤ self.old.rules.places }
+        ensures step { (self.new.book, result) ≡ accept_beside self.old.book.links self.old.book key nas }
+        ensures rules { self.new.rules ≡ self.old.rules }
+    {
+        let nas = place_for(
+            &mut self.servers,
+            &self.links.list,
+            &self.asks,
+            &self.stops,
+            nas,
+        );
+        let number = self.accepts;
+        self.accepts += 1;
+        self.links.open(
+            &self.servers,
+            Link {
+                nas,
+                hold: Hold::Number(number),
+                bundle: None,
+                touched: self.clock,
+            },
+        );
+        let _ = self.asks.push_front(StoredAsk {
+            key,
+            nas,
+            decision: Decision::Accept(number),
+            at: self.clock,
+            swept: false,
+        });
+        Decision::Accept(number)
+    }
+
+    /// Whether a place is free once a link ends.
+    fn frees_a_place(&self, at: usize) -> bool
+        requires { at < length self.now.book.links }
+        ensures { places_in self.now.rules self.now.book ≡ places_of self.now.rules.ports (bundles_in (without_at at self.now.book.links)) + (if result then 1 else 0) }
+    {
+        self.links.frees_a_place(&self.servers, at)
+    }
+
+    /// Ends a link.
+    fn end_link(&mut self, at: usize)
+        requires { at < length self.old.book.links }
+        ensures { self.new ≡ record self.old { book = record self.old.book { links = without_at at self.old.book.links } } }
+    {
+        self.links.end_at(&self.servers, at);
+    }
+
+    /// The link that can yield.
+    fn yielding(&self) -> Option<usize>
+        ensures found { IfSome result (λ at. IsFirst (can_yield self.now.rules self.now.book.clock self.now.book.links) self.now.book.links at) }
+        ensures missed { IfNone result (find (can_yield self.now.rules self.now.book.clock self.now.book.links) self.now.book.links ≡ None) }
+    {
+        self.links.yielding(&self.servers, &self.rules, self.clock)
+    }
+
+    /// A fresh ask for which no place is free, where this link can yield.
+    fn ask_in_place(&mut self, at: usize, key: Key, nas: Nas) -> Decision
+        requires number { self.old.book.accepts < 2 ^ 64 - 1 }
+        requires full { self.old.rules.places ≤ places_in self.old.rules self.old.book }
+        requires yields { IsFirst (can_yield self.old.rules self.old.book.clock self.old.book.links) self.old.book.links at }
+        ensures step { (self.new.book, result) ≡ (if fits_beside self.old.rules (without_first (can_yield self.old.rules self.old.book.clock self.old.book.links) self.old.book.links) then accept_beside (without_first (can_yield self.old.rules self.old.book.clock self.old.book.links) self.old.book.links) self.old.book key nas else refuse self.old.book key nas) }
+        ensures rules { self.new.rules ≡ self.old.rules }
+    {
+        self.stays_within_limit();
+        if self.frees_a_place(at) {
+            self.end_link(at);
+            self.accept(key, nas)
+        } else {
+            self.refuse(key, nas)
+        }
+    }
+
+    /// A fresh ask for which there is an accept number.
+    fn fresh_ask(&mut self, key: Key, nas: Nas) -> Decision
+        requires { self.old.book.accepts < 2 ^ 64 - 1 }
+        ensures step { (self.new.book, result) ≡ fresh_ask self.old.rules self.old.book key nas }
+        ensures rules { self.new.rules ≡ self.old.rules }
+    {
+        if self.held() < self.rules().places {
+            return self.accept(key, nas);
+        }
+        match self.yielding() {
+            None => self.refuse(key, nas),
+            Some(at) => self.ask_in_place(at, key, nas),
+        }
+    }
+
+    /// The decision of the latest kept ask that an ask of this key repeats.
+    fn repeated(&self, key: &Key) -> Option<Decision>
+        ensures { result ≡ option_map (λ (ask : KeptAsk). ask.decision) (find (repeats self.now.rules key.now self.now.book.clock) self.now.book.asks) }
+    {
+        repeated(&self.asks, &self.servers, &self.rules, key, self.clock)
+    }
+
+    /// How many asks were accepted.
+    fn accepts(&self) -> u64
+        ensures { result ≡ self.now.book.accepts }
+    {
+        self.accepts
+    }
+
+    /// A fresh ask.
+    fn answer(&mut self, key: Key, nas: Nas) -> Decision
+        ensures step { (self.new.book, result) ≡ ask self.old.rules self.old.book key nas None }
+        ensures rules { self.new.rules ≡ self.old.rules }
+    {
+        if self.accepts() < u64::MAX {
+            self.fresh_ask(key, nas)
+        } else {
+            self.refuse(key, nas)
+        }
+    }
+
+    /// An ask.
+    fn ask(&mut self, key: Key, nas: Nas) -> Decision
+        ensures step { (self.new.book, result) ≡ ask self.old.rules self.old.book key nas (find (repeats self.old.rules key self.old.book.clock) self.old.book.asks) }
+        ensures rules { self.new.rules ≡ self.old.rules }
+    {
+        match self.repeated(&key) {
+            Some(decision) => decision,
+            None => self.answer(key, nas),
+        }
+    }
+
+    /// The link that is bound to the session of this id at an access server.
+    fn bound_to(&self, nas: &Nas, id: &Octets) -> Option<usize>
+        ensures found { IfSome result (λ at. IsFirst (is_link_of (record { nas = nas.now; id = id.now })) self.now.book.links at) }
+        ensures missed { IfNone result (find (is_link_of (record { nas = nas.now; id = id.now })) self.now.book.links ≡ None) }
+    {
+        self.links.bound_to(&self.servers, nas, id)
+    }
+
+    /// The reservation that an alive at an access server takes.
+    fn reservation(&self, nas: &Nas, class: Option<u64>) -> Option<usize>
+        ensures found { IfSome result (λ at. IsFirst (can_be_taken nas.now class) self.now.book.links at) }
+        ensures missed { IfNone result (find (can_be_taken nas.now class) self.now.book.links ≡ None) }
+    {
+        self.links.reservation(&self.servers, nas, class)
+    }
+
+    /// Whether the session of this id at an access server is closed.
+    fn is_closed(&self, nas: &Nas, id: &Octets) -> bool
+        ensures { result ≡ list_any (closes self.now.rules (record { nas = nas.now; id = id.now }) self.now.book.clock) self.now.book.stops }
+    {
+        is_closed(&self.stops, &self.servers, &self.rules, self.clock, nas, id)
+    }
+
+    /// Touches a link.
+    fn touch_link(&mut self, at: usize, bundle: Option<Octets>)
+        requires { at < length self.old.book.links }
+        ensures { self.new ≡ record self.old { book = record self.old.book { links = change_at at (touch_here self.old.book.clock bundle) self.old.book.links } } }
+    {
+        self.links.touch_at(&self.servers, at, self.clock, bundle);
+    }
+
+    /// Takes a link for the session of this id.
+    fn take_link(&mut self, at: usize, id: Octets, bundle: Option<Octets>)
+        requires { at < length self.old.book.links }
+        ensures { self.new ≡ record self.old { book = record self.old.book { links = change_at at (take_here self.old.book.clock id bundle) self.old.book.links } } }
+    {
+        self.links.bind_at(&self.servers, at, id);
+        self.links.touch_at(&self.servers, at, self.clock, bundle);
+    }
+
+    /// Opens a link for a session, if the places then are within the limit.
+    fn open_link(&mut self, nas: Nas, id: Octets, bundle: Option<Octets>)
+        ensures { self.new ≡ record self.old { book = open_link self.old.rules self.old.book (record { nas = nas; id = id }) (bundle_with nas bundle) } }
+    {
+        let nas = place_for(
+            &mut self.servers,
+            &self.links.list,
+            &self.asks,
+            &self.stops,
+            nas,
+        );
+        let more = one_if(self.links.adds_a_place(&self.servers, nas, &bundle));
+        if self.links.places + more <= self.rules.places {
+            self.links.open(
+                &self.servers,
+                Link {
+                    nas,
+                    hold: Hold::Session(id),
+                    bundle,
+                    touched: self.clock,
+                },
+            );
+        } else {
+            self.over = self.over.saturating_add(1);
+        }
+    }
+
+    /// An alive of a session that is bound to no link, and is not closed.
+    fn bind(&mut self, nas: Nas, id: Octets, bundle: Option<Octets>, class: Option<u64>)
+        ensures { self.new ≡ record self.old { book = bind self.old.rules self.old.book (record { nas = nas; id = id }) (bundle_with nas bundle) class (find (can_be_taken nas class) self.old.book.links) } }
+    {
+        match self.reservation(&nas, class) {
+            Some(at) => self.take_link(at, id, bundle),
+            None => self.open_link(nas, id, bundle),
+        }
+    }
+
+    /// An alive.
+    fn alive(&mut self, nas: Nas, id: Octets, bundle: Option<Octets>, class: Option<u64>)
+        ensures { self.new ≡ record self.old { book = alive self.old.rules self.old.book (record { nas = nas; id = id }) (bundle_with nas bundle) class (find (is_link_of (record { nas = nas; id = id })) self.old.book.links) } }
+    {
+        match self.bound_to(&nas, &id) {
+            Some(at) => self.touch_link(at, bundle),
+            None => {
+                if !self.is_closed(&nas, &id) {
+                    self.bind(nas, id, bundle, class);
+                }
+            }
+        }
+    }
+
+    /// A stop.
+    fn stop(&mut self, nas: Nas, id: Octets)
+        ensures { self.new ≡ record self.old { book = stop self.old.book (record { nas = nas; id = id }) } }
+    {
+        self.links.stop(&self.servers, &nas, &id);
+        let nas = place_for(
+            &mut self.servers,
+            &self.links.list,
+            &self.asks,
+            &self.stops,
+            nas,
+        );
+        let _ = self.stops.push_front(StoredStop {
+            nas,
+            id,
+            at: self.clock,
+            swept: false,
+        });
+    }
+
+    /// A sweep of an access server.
+    fn sweep_at(&mut self, nas: &Nas)
+        ensures { self.new ≡ record self.old { book = sweep self.old.book nas.now } }
+    {
+        self.links.sweep(&self.servers, nas);
+        sweep_asks(&mut self.asks, &self.servers, nas);
+        sweep_stops(&mut self.stops, &self.servers, nas);
+    }
+}

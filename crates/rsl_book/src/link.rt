@@ -1,0 +1,185 @@
+ghost use Rattle.std.specs.Prelude.{◌≡◌, Option, IfOk};
+ghost use Rattle.rsl_accounts.specs.Limits.{RulesFit};
+ghost use Rattle.rsl_session.specs.Places.{is_bundle};
+ghost use Rattle.rsl_session.specs.Same.{same_nas};
+ghost use Rattle.rsl_session.specs.Book.{is_stale_at, is_live_at, is_reservation, Reserved};
+ghost use Rattle.rsl_session.specs.BookLinks.{lapses_at, is_link_of, is_wanted, can_be_taken};
+ghost use Rattle.rsl_book.specs.Seen.{nas_at, link_seen};
+ghost use Rattle.rsl_book.specs.Changed.{touched_link, bound_link};
+
+use crate::servers::Servers;
+use rsl_accounts::Rules;
+use rsl_event::Nas;
+use rsl_wire::{NoMemory, Octets};
+use std::alloc::Global;
+
+/// What has a link.
+#[derive(Drop)]
+pub(crate) enum Hold {
+    /// The accept number that reserves it.
+    Number(u64),
+    /// The session that it is bound to, by its Acct-Session-Id.
+    Session(Octets),
+}
+
+impl Hold {
+    /// An equal one. It fails only where memory is refused.
+    pub(crate) fn try_copy(&self, alloc: Global) -> Result<Hold, NoMemory>
+        ensures { IfOk result (λ copy. copy ≡ self.now) }
+    {
+        Ok(match self {
+            Hold::Number(number) => Hold::Number(*number),
+            Hold::Session(id) => Hold::Session(id.try_copy(alloc)?),
+        })
+    }
+}
+
+/// An equal Acct-Multi-Session-Id, if there is one.
+fn copy_of_bundle(alloc: Global, bundle: &Option<Octets>) -> Result<Option<Octets>, NoMemory>
+    ensures { IfOk result (λ copy. copy ≡ bundle.now) }
+{
+    match bundle {
+        Some(id) => Ok(Some(id.try_copy(alloc)?)),
+        None => Ok(None),
+    }
+}
+
+/// A link of a book.
+#[derive(Drop)]
+pub(crate) struct Link {
+    /// Its access server, by its place in the table.
+    pub nas: usize,
+    /// What has it.
+    pub hold: Hold,
+    /// Its bundle, by its Acct-Multi-Session-Id, if it is in one.
+    pub bundle: Option<Octets>,
+    /// The clock at its last touch.
+    pub touched: u64,
+}
+
+impl Link {
+    /// An equal link. It fails only where memory is refused.
+    pub(crate) fn try_copy(&self, alloc: Global) -> Result<Link, NoMemory>
+        ensures { IfOk result (λ copy. copy ≡ self.now) }
+    {
+        Ok(Link {
+            nas: self.nas,
+            hold: self.hold.try_copy(alloc)?,
+            bundle: copy_of_bundle(alloc, &self.bundle)?,
+            touched: self.touched,
+        })
+    }
+
+    /// Whether it is reserved.
+    #[tactic(auto, unfolding(crate::specs::Seen::link_seen))]
+    pub(crate) fn is_reserved(&self, servers: &Servers) -> bool
+        ensures { result ≡ is_reservation (link_seen servers.now self.now).holder }
+    {
+        matches!(&self.hold, Hold::Number(_))
+    }
+
+    /// Whether it lapses at this clock.
+    #[tactic(auto, unfolding(crate::specs::Seen::link_seen, rsl_session::specs::BookLinks::lapses_at))]
+    pub(crate) fn lapses(&self, servers: &Servers, rules: &Rules, now: u64) -> bool
+        requires { RulesFit rules.now }
+        ensures { result ≡ lapses_at rules.now now (link_seen servers.now self.now) }
+    {
+        let stands = match &self.hold {
+            Hold::Number(_) => rules.reserve,
+            Hold::Session(_) => rules.live + rules.grace,
+        };
+        stands <= now.saturating_sub(self.touched)
+    }
+
+    /// Whether it is bound, and stale at this clock.
+    #[tactic(auto, unfolding(crate::specs::Seen::link_seen, rsl_session::specs::Book::is_stale_at))]
+    pub(crate) fn is_stale(&self, servers: &Servers, rules: &Rules, now: u64) -> bool
+        ensures { result ≡ is_stale_at rules.now now (link_seen servers.now self.now) }
+    {
+        match &self.hold {
+            Hold::Number(_) => false,
+            Hold::Session(_) => rules.live <= now.saturating_sub(self.touched),
+        }
+    }
+
+    /// Whether it is bound, and live at this clock.
+    #[tactic(auto, unfolding(crate::specs::Seen::link_seen, rsl_session::specs::Book::is_live_at))]
+    pub(crate) fn is_live(&self, servers: &Servers, rules: &Rules, now: u64) -> bool
+        ensures { result ≡ is_live_at rules.now now (link_seen servers.now self.now) }
+    {
+        match &self.hold {
+            Hold::Number(_) => false,
+            Hold::Session(_) => now.saturating_sub(self.touched) < rules.live,
+        }
+    }
+
+    /// Whether it is at an access server.
+    #[tactic(auto, unfolding(crate::specs::Seen::link_seen))]
+    pub(crate) fn is_at(&self, servers: &Servers, nas: &Nas) -> bool
+        ensures { result ≡ same_nas (link_seen servers.now self.now).nas nas.now }
+    {
+        servers.is_at(self.nas, nas)
+    }
+
+    /// Whether it is bound to the session of this id at an access server.
+    #[tactic(auto, unfolding(crate::specs::Seen::link_seen, rsl_session::specs::BookLinks::is_link_of, rsl_session::specs::Same::same_session, rsl_session::specs::Same::same_octets))]
+    pub(crate) fn is_of(&self, servers: &Servers, nas: &Nas, id: &Octets) -> bool
+        ensures { result ≡ is_link_of (record { nas = nas.now; id = id.now }) (link_seen servers.now self.now) }
+    {
+        match &self.hold {
+            Hold::Number(_) => false,
+            Hold::Session(own) => servers.is_at(self.nas, nas) && *own == *id,
+        }
+    }
+
+    /// Whether it is a reservation that an alive at an access server can take.
+    #[tactic(auto, unfolding(crate::specs::Seen::link_seen, rsl_session::specs::BookLinks::can_be_taken))]
+    pub(crate) fn can_be_taken(&self, servers: &Servers, nas: &Nas, class: Option<u64>) -> bool
+        ensures { result ≡ can_be_taken nas.now class (link_seen servers.now self.now) }
+    {
+        match &self.hold {
+            Hold::Number(number) => { is_named(class, *number) && servers.is_at(self.nas, nas) }
+            Hold::Session(_) => false,
+        }
+    }
+
+    /// Whether it is in the bundle of this id at an access server.
+    #[tactic(auto, unfolding(crate::specs::Seen::link_seen, rsl_session::specs::Same::same_bundle, rsl_session::specs::Same::same_octets))]
+    pub(crate) fn is_in(&self, servers: &Servers, nas: &Nas, id: &Octets) -> bool
+        ensures { result ≡ is_bundle (record { nas = nas.now; id = id.now }) (link_seen servers.now self.now).bundle }
+    {
+        match &self.bundle {
+            None => false,
+            Some(own) => servers.is_at(self.nas, nas) && *own == *id,
+        }
+    }
+
+    /// Touches it, by an alive that may carry a bundle.
+    #[tactic(auto, unfolding(crate::specs::Changed::touched_link))]
+    pub(crate) fn touch(&mut self, now: u64, bundle: Option<Octets>)
+        ensures { self.new ≡ touched_link now bundle self.old }
+    {
+        if self.bundle.is_none() {
+            self.bundle = bundle;
+        }
+        self.touched = now;
+    }
+
+    /// Binds it to the session of this id.
+    #[tactic(auto, unfolding(crate::specs::Changed::bound_link))]
+    pub(crate) fn bind(&mut self, id: Octets)
+        ensures { self.new ≡ bound_link id self.old }
+    {
+        self.hold = Hold::Session(id);
+    }
+}
+
+/// Whether a class names this accept number; no class names any.
+fn is_named(class: Option<u64>, number: u64) -> bool
+    ensures { result ≡ is_wanted class (Reserved number) }
+{
+    match class {
+        None => true,
+        Some(wanted) => number == wanted,
+    }
+}

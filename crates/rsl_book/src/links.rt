@@ -1,0 +1,377 @@
+ghost use Rattle.std.specs.Prelude.{◌≡◌, ℕ, IfOk, ◌+◌, ◌-◌, ◌<◌, ◌≤◌, [], ◌∷◌, ◌++◌, Option, Some, None, map, filter, not, find, nat_le, count_by, take, drop, length, vec_capacity, if◌then◌else◌, IfSome, IfNone};
+ghost use Rattle.std.specs.List.{list_all};
+ghost use Rattle.std.specs.Int.{div_ceil};
+ghost use Rattle.rsl_accounts.specs.Limits.{RulesFit};
+ghost use Rattle.rsl_session.specs.Places.{is_bundle, places_of};
+ghost use Rattle.rsl_session.specs.Same.{same_nas};
+ghost use Rattle.rsl_session.specs.Book.{BookLink, bundles_in, is_live_at, is_reservation, is_stale_at};
+ghost use Rattle.rsl_session.specs.BookLinks.{lapses_at, is_link_of, can_be_taken, can_yield};
+ghost use Rattle.rsl_book.specs.Seen.{nas_at, links_seen, link_seen, bundle_with};
+ghost use Rattle.rsl_book.specs.First.{IsFirst, change_at};
+ghost use Rattle.rsl_book.specs.Changed.{touched_link, bound_link};
+ghost use Rattle.rsl_book.specs.Counted.{AreCounted};
+
+use crate::link::Link;
+use crate::servers::Servers;
+use rsl_accounts::Rules;
+use rsl_event::Nas;
+use rsl_wire::{NoMemory, Octets};
+use std::alloc::Global;
+
+/// The links of a book, and the places that they take.
+#[derive(Drop)]
+pub(crate) struct Links {
+    /// The links of a bundle that share a place.
+    pub ports: u64,
+    /// The links, in the order in which they opened.
+    pub list: Vec<Link>,
+    /// The places that they take.
+    pub places: u64,
+}
+
+/// Whether one more link beside so many of its bundle takes a place more.
+fn takes_a_place(ports: u64, others: usize) -> bool
+    requires { 1 ≤ ports }
+    ensures { div_ceil (others + 1) ports ≡ div_ceil others ports + (if result then 1 else 0) }
+{
+    others as u64 % ports == 0
+}
+
+/// Equal links, with room for so many. It fails only where memory is refused.
+#[tactic(auto, using(crate::proofs::Lists::copy_steps))]
+fn copy_of_links(alloc: Global, links: &[Link], room: usize) -> Result<Vec<Link>, NoMemory>
+    requires { length links.now ≤ room }
+    ensures items { IfOk result (λ copy. copy.items ≡ links.now) }
+    ensures room { IfOk result (λ copy. vec_capacity copy ≡ room) }
+{
+    let mut copy = Vec::with_capacity(alloc, room)?;
+    for link in links {
+        copy.push_reserved(link.try_copy(alloc)?);
+    }
+    Ok(copy)
+}
+
+/// One place where the answer is yes, and none otherwise.
+pub(crate) fn one_if(yes: bool) -> u64
+    ensures { result ≡ (if yes then 1 else 0) }
+{
+    if yes { 1 } else { 0 }
+}
+
+impl Links {
+    /// No links, with room for so many.
+    pub(crate) fn new(alloc: Global, ports: u64, room: usize) -> Result<Links, NoMemory>
+        ensures empty { IfOk result (λ links. links.list.items ≡ []) }
+        ensures ports { IfOk result (λ links. links.ports ≡ ports) }
+        ensures places { IfOk result (λ links. links.places ≡ 0) }
+        ensures room { IfOk result (λ links. vec_capacity links.list ≡ room) }
+    {
+        Ok(Links {
+            ports,
+            list: Vec::with_capacity(alloc, room)?,
+            places: 0,
+        })
+    }
+
+    /// How many of the links are in the bundle of this id at an access server.
+    #[tactic(auto, using(crate::proofs::Lists::count_steps), unfolding(crate::specs::Seen::links_seen, rsl_session::specs::Book::bundles_in))]
+    fn members(&self, servers: &Servers, nas: &Nas, id: &Octets) -> usize
+        ensures { result ≡ count_by (is_bundle (record { nas = nas.now; id = id.now })) (bundles_in (links_seen servers.now self.now.list.items)) }
+    {
+        let mut members = 0;
+        for link in &self.list {
+            if link.is_in(servers, nas, id) {
+                members += 1;
+            }
+        }
+        members
+    }
+
+    /// Whether one more link, at an access server of the table and with this bundle, takes a place more.
+    pub(crate) fn adds_a_place(
+        &self,
+        servers: &Servers,
+        nas: usize,
+        bundle: &Option<Octets>,
+    ) -> bool
+        requires { 1 ≤ self.now.ports }
+        ensures { places_of self.now.ports (bundles_in (links_seen servers.now self.now.list.items) ++ bundle_with (nas_at servers.now nas) bundle.now ∷ []) ≡ places_of self.now.ports (bundles_in (links_seen servers.now self.now.list.items)) + (if result then 1 else 0) }
+    {
+        match bundle {
+            None => true,
+            Some(id) => takes_a_place(self.ports, self.members(servers, servers.at(nas), id)),
+        }
+    }
+
+    /// Whether a place is free once a link ends.
+    pub(crate) fn frees_a_place(&self, servers: &Servers, at: usize) -> bool
+        requires a_port { 1 ≤ self.now.ports }
+        requires within { at < length self.now.list.items }
+        ensures { places_of self.now.ports (bundles_in (links_seen servers.now self.now.list.items)) ≡ places_of self.now.ports (bundles_in (links_seen servers.now (take at self.now.list.items ++ drop (at + 1) self.now.list.items))) + (if result then 1 else 0) }
+    {
+        let link = &self.list[at];
+        match &link.bundle {
+            None => true,
+            Some(id) => takes_a_place(
+                self.ports,
+                self.members(servers, servers.at(link.nas), id) - 1,
+            ),
+        }
+    }
+
+    /// Whether a place is free once an alive with this bundle touches a link.
+    fn joins_a_place(&self, servers: &Servers, at: usize, bundle: &Option<Octets>) -> bool
+        requires a_port { 1 ≤ self.now.ports }
+        requires within { at < length self.now.list.items }
+        ensures { (now : ℕ) → places_of self.now.ports (bundles_in (links_seen servers.now (change_at at (touched_link now bundle.now) self.now.list.items))) + (if result then 1 else 0) ≡ places_of self.now.ports (bundles_in (links_seen servers.now self.now.list.items)) }
+    {
+        let link = &self.list[at];
+        match &link.bundle {
+            Some(_) => false,
+            None => !self.adds_a_place(servers, link.nas, bundle),
+        }
+    }
+
+    /// Ends a link.
+    pub(crate) fn end_at(&mut self, servers: &Servers, at: usize)
+        requires within { at < length self.old.list.items }
+        requires counted { AreCounted servers.now self.old }
+        ensures counted { AreCounted servers.now self.new }
+        ensures links { self.new.list.items ≡ take at self.old.list.items ++ drop (at + 1) self.old.list.items }
+        ensures fewer { self.new.places ≤ self.old.places }
+        ensures ports { self.new.ports ≡ self.old.ports }
+        ensures room { vec_capacity self.new.list ≡ vec_capacity self.old.list }
+    {
+        if self.frees_a_place(servers, at) {
+            self.places -= 1;
+        }
+        let _ = self.list.remove(at);
+    }
+
+    /// Opens a link, for which there is room.
+    pub(crate) fn open(&mut self, servers: &Servers, link: Link)
+        requires room { length self.old.list.items < vec_capacity self.old.list }
+        requires counted { AreCounted servers.now self.old }
+        requires few { self.old.places ≤ 64 }
+        ensures counted { AreCounted servers.now self.new }
+        ensures links { self.new.list.items ≡ self.old.list.items ++ link ∷ [] }
+        ensures ports { self.new.ports ≡ self.old.ports }
+        ensures room { vec_capacity self.new.list ≡ vec_capacity self.old.list }
+    {
+        self.places += one_if(self.adds_a_place(servers, link.nas, &link.bundle));
+        self.list.push_reserved(link);
+    }
+
+    /// Touches a link, by an alive that may carry a bundle.
+    pub(crate) fn touch_at(
+        &mut self,
+        servers: &Servers,
+        at: usize,
+        now: u64,
+        bundle: Option<Octets>,
+    )
+        requires within { at < length self.old.list.items }
+        requires counted { AreCounted servers.now self.old }
+        ensures counted { AreCounted servers.now self.new }
+        ensures links { self.new.list.items ≡ change_at at (touched_link now bundle) self.old.list.items }
+        ensures fewer { self.new.places ≤ self.old.places }
+        ensures ports { self.new.ports ≡ self.old.ports }
+        ensures room { vec_capacity self.new.list ≡ vec_capacity self.old.list }
+    {
+        self.places -= one_if(self.joins_a_place(servers, at, &bundle));
+        self.list[at].touch(now, bundle);
+    }
+
+    /// Binds a link to the session of this id.
+    pub(crate) fn bind_at(&mut self, servers: &Servers, at: usize, id: Octets)
+        requires within { at < length self.old.list.items }
+        requires counted { AreCounted servers.now self.old }
+        ensures counted { AreCounted servers.now self.new }
+        ensures links { self.new.list.items ≡ change_at at (bound_link id) self.old.list.items }
+        ensures fewer { self.new.places ≡ self.old.places }
+        ensures ports { self.new.ports ≡ self.old.ports }
+        ensures room { vec_capacity self.new.list ≡ vec_capacity self.old.list }
+    {
+        self.list[at].bind(id);
+    }
+
+    /// Ends each link that lapses at this clock.
+    pub(crate) fn lapse(&mut self, servers: &Servers, rules: &Rules, now: u64)
+        requires fit { RulesFit rules.now }
+        requires counted { AreCounted servers.now self.old }
+        ensures counted { AreCounted servers.now self.new }
+        ensures links { links_seen servers.now self.new.list.items ≡ filter (λ (link : BookLink). not (lapses_at rules.now now link)) (links_seen servers.now self.old.list.items) }
+        ensures fewer { self.new.places ≤ self.old.places }
+        ensures ports { self.new.ports ≡ self.old.ports }
+        ensures room { vec_capacity self.new.list ≡ vec_capacity self.old.list }
+    {
+        let mut at = self.list.len();
+        while at > 0 {
+            at -= 1;
+            if self.list[at].lapses(servers, rules, now) {
+                self.end_at(servers, at);
+            }
+        }
+    }
+
+    /// Ends the link that is bound to the session of this id at an access server.
+    pub(crate) fn stop(&mut self, servers: &Servers, nas: &Nas, id: &Octets)
+        requires counted { AreCounted servers.now self.old }
+        ensures counted { AreCounted servers.now self.new }
+        ensures links { links_seen servers.now self.new.list.items ≡ filter (λ (link : BookLink). not (is_link_of (record { nas = nas.now; id = id.now }) link)) (links_seen servers.now self.old.list.items) }
+        ensures fewer { self.new.places ≤ self.old.places }
+        ensures ports { self.new.ports ≡ self.old.ports }
+        ensures room { vec_capacity self.new.list ≡ vec_capacity self.old.list }
+    {
+        let mut at = self.list.len();
+        while at > 0 {
+            at -= 1;
+            if self.list[at].is_of(servers, nas, id) {
+                self.end_at(servers, at);
+            }
+        }
+    }
+
+    /// Ends each link at an access server.
+    pub(crate) fn sweep(&mut self, servers: &Servers, nas: &Nas)
+        requires counted { AreCounted servers.now self.old }
+        ensures counted { AreCounted servers.now self.new }
+        ensures links { links_seen servers.now self.new.list.items ≡ filter (λ (link : BookLink). not (same_nas link.nas nas.now)) (links_seen servers.now self.old.list.items) }
+        ensures fewer { self.new.places ≤ self.old.places }
+        ensures ports { self.new.ports ≡ self.old.ports }
+        ensures room { vec_capacity self.new.list ≡ vec_capacity self.old.list }
+    {
+        let mut at = self.list.len();
+        while at > 0 {
+            at -= 1;
+            if self.list[at].is_at(servers, nas) {
+                self.end_at(servers, at);
+            }
+        }
+    }
+
+    /// The link that is bound to the session of this id at an access server.
+    #[tactic(auto, using(crate::proofs::Lists::first_steps), unfolding(crate::specs::Seen::links_seen))]
+    pub(crate) fn bound_to(&self, servers: &Servers, nas: &Nas, id: &Octets) -> Option<usize>
+        ensures found { IfSome result (λ at. IsFirst (is_link_of (record { nas = nas.now; id = id.now })) (links_seen servers.now self.now.list.items) at) }
+        ensures missed { IfNone result (find (is_link_of (record { nas = nas.now; id = id.now })) (links_seen servers.now self.now.list.items) ≡ None) }
+    {
+        for at in 0..self.list.len() {
+            if self.list[at].is_of(servers, nas, id) {
+                return Some(at);
+            }
+        }
+        None
+    }
+
+    /// The first reservation that an alive at an access server can take.
+    #[tactic(auto, using(crate::proofs::Lists::first_steps), unfolding(crate::specs::Seen::links_seen))]
+    pub(crate) fn reservation(
+        &self,
+        servers: &Servers,
+        nas: &Nas,
+        class: Option<u64>,
+    ) -> Option<usize>
+        ensures found { IfSome result (λ at. IsFirst (can_be_taken nas.now class) (links_seen servers.now self.now.list.items) at) }
+        ensures missed { IfNone result (find (can_be_taken nas.now class) (links_seen servers.now self.now.list.items) ≡ None) }
+    {
+        for at in 0..self.list.len() {
+            if self.list[at].can_be_taken(servers, nas, class) {
+                return Some(at);
+            }
+        }
+        None
+    }
+
+    /// Whether no stale link was touched before this clock.
+    #[tactic(auto, using(crate::proofs::Lists::all_steps), unfolding(crate::specs::Seen::links_seen))]
+    fn none_before(&self, servers: &Servers, rules: &Rules, now: u64, touched: u64) -> bool
+        ensures { result ≡ list_all (λ (other : BookLink). nat_le touched other.touched) (filter (is_stale_at rules.now now) (links_seen servers.now self.now.list.items)) }
+    {
+        for link in &self.list {
+            if link.is_stale(servers, rules, now) && link.touched < touched {
+                return false;
+            }
+        }
+        true
+    }
+
+    /// Whether a link can yield at this clock.
+    #[tactic(auto, unfolding(crate::specs::Seen::link_seen, rsl_session::specs::BookLinks::can_yield))]
+    fn can_yield(&self, servers: &Servers, rules: &Rules, now: u64, link: &Link) -> bool
+        ensures { result ≡ can_yield rules.now now (links_seen servers.now self.now.list.items) (link_seen servers.now link.now) }
+    {
+        link.is_stale(servers, rules, now) && self.none_before(servers, rules, now, link.touched)
+    }
+
+    /// The link that can yield at this clock.
+    #[tactic(auto, using(crate::proofs::Lists::first_steps), unfolding(crate::specs::Seen::links_seen))]
+    pub(crate) fn yielding(&self, servers: &Servers, rules: &Rules, now: u64) -> Option<usize>
+        ensures found { IfSome result (λ at. IsFirst (can_yield rules.now now (links_seen servers.now self.now.list.items)) (links_seen servers.now self.now.list.items) at) }
+        ensures missed { IfNone result (find (can_yield rules.now now (links_seen servers.now self.now.list.items)) (links_seen servers.now self.now.list.items) ≡ None) }
+    {
+        for at in 0..self.list.len() {
+            if self.can_yield(servers, rules, now, &self.list[at]) {
+                return Some(at);
+            }
+        }
+        None
+    }
+
+    /// Equal links, with room for so many. It fails only where memory is refused.
+    pub(crate) fn try_copy(&self, alloc: Global, room: usize) -> Result<Links, NoMemory>
+        requires { length self.now.list.items ≤ room }
+        ensures links { IfOk result (λ copy. copy.list.items ≡ self.now.list.items) }
+        ensures ports { IfOk result (λ copy. copy.ports ≡ self.now.ports) }
+        ensures places { IfOk result (λ copy. copy.places ≡ self.now.places) }
+        ensures room { IfOk result (λ copy. vec_capacity copy.list ≡ room) }
+    {
+        Ok(Links {
+            ports: self.ports,
+            list: copy_of_links(alloc, &self.list, room)?,
+            places: self.places,
+        })
+    }
+
+    /// How many of the links are reserved.
+    #[tactic(auto, using(crate::proofs::Lists::count_steps), unfolding(crate::specs::Seen::links_seen))]
+    pub(crate) fn reserved(&self, servers: &Servers) -> usize
+        ensures { result ≡ count_by (λ (link : BookLink). is_reservation link.holder) (links_seen servers.now self.now.list.items) }
+    {
+        let mut reserved = 0;
+        for link in &self.list {
+            if link.is_reserved(servers) {
+                reserved += 1;
+            }
+        }
+        reserved
+    }
+
+    /// How many of the links are live at this clock.
+    #[tactic(auto, using(crate::proofs::Lists::count_steps), unfolding(crate::specs::Seen::links_seen))]
+    pub(crate) fn live(&self, servers: &Servers, rules: &Rules, now: u64) -> usize
+        ensures { result ≡ count_by (is_live_at rules.now now) (links_seen servers.now self.now.list.items) }
+    {
+        let mut live = 0;
+        for link in &self.list {
+            if link.is_live(servers, rules, now) {
+                live += 1;
+            }
+        }
+        live
+    }
+
+    /// How many of the links are stale at this clock.
+    #[tactic(auto, using(crate::proofs::Lists::count_steps), unfolding(crate::specs::Seen::links_seen))]
+    pub(crate) fn stale(&self, servers: &Servers, rules: &Rules, now: u64) -> usize
+        ensures { result ≡ count_by (is_stale_at rules.now now) (links_seen servers.now self.now.list.items) }
+    {
+        let mut stale = 0;
+        for link in &self.list {
+            if link.is_stale(servers, rules, now) {
+                stale += 1;
+            }
+        }
+        stale
+    }
+}

@@ -1,0 +1,121 @@
+ghost use Rattle.std.specs.Prelude.{◌≡◌, ◌<◌, IfOk, IfSome, length, set};
+ghost use Rattle.rsl_book.specs.Seen.{nas_at, unnamed};
+ghost use Rattle.rsl_session.specs.Same.{same_nas};
+
+use rsl_event::{Nas, NasName};
+use rsl_wire::NoMemory;
+use std::alloc::Global;
+use std::marker::Model;
+
+/// The access servers that a book names. All its room is taken at once.
+#[derive(Drop)]
+pub(crate) struct Servers {
+    table: Vec<Nas>,
+    beyond: Nas,
+}
+
+impl Model for Servers {
+    ghost use Rattle.std.specs.Prelude.{◌≡◌, List};
+    ghost use Rattle.rsl_event.specs.declared.nas.Nas.{Nas};
+
+    ghost Value = { List Nas };
+
+    ghost view = { λ s. s.table.items };
+
+    ghost use Rattle.rsl_event.specs.declared.nas.NasName.TheVariants.{Unnamed};
+
+    ghost invariant = { λ s. s.beyond ≡ record { client = 0; name = Unnamed } };
+}
+
+/// The access server that stands where none does.
+fn nobody() -> Nas
+    ensures { result ≡ unnamed }
+{
+    Nas {
+        client: 0,
+        name: NasName::Unnamed,
+    }
+}
+
+impl Servers {
+    /// A table with this many free places.
+    pub(crate) fn new(alloc: Global, room: usize) -> Result<Servers, NoMemory>
+        ensures { IfOk result (λ servers. length servers ≡ room) }
+    {
+        let mut table = Vec::with_capacity(alloc, room)?;
+        while table.len() < room {
+            table.push(nobody())?;
+        }
+        Ok(Servers {
+            table,
+            beyond: nobody(),
+        })
+    }
+
+    /// An equal table. It fails only where memory is refused.
+    #[tactic(auto, using(crate::proofs::Lists::copy_steps))]
+    pub(crate) fn try_copy(&self, alloc: Global) -> Result<Servers, NoMemory>
+        ensures { IfOk result (λ copy. copy ≡ self.now) }
+    {
+        let mut table = Vec::with_capacity(alloc, self.table.len())?;
+        for nas in &self.table {
+            table.push(nas.try_copy(alloc)?)?;
+        }
+        Ok(Servers {
+            table,
+            beyond: nobody(),
+        })
+    }
+
+    /// How many places there are.
+    pub(crate) fn len(&self) -> usize
+        ensures { result ≡ length self.now }
+    {
+        self.table.len()
+    }
+
+    /// The access server at a place.
+    pub(crate) fn at(&self, at: usize) -> &Nas
+        ensures { result.now ≡ nas_at self.now at }
+    {
+        if at < self.table.len() {
+            &self.table[at]
+        } else {
+            &self.beyond
+        }
+    }
+
+    /// Whether an access server is the one at a place.
+    pub(crate) fn is_at(&self, at: usize, nas: &Nas) -> bool
+        ensures { result ≡ same_nas (nas_at self.now at) nas.now }
+    {
+        self.at(at).is_same(nas)
+    }
+
+    /// Whether the one at a place is this access server: the same test, the other way round.
+    pub(crate) fn is_as(&self, nas: &Nas, at: usize) -> bool
+        ensures { result ≡ same_nas nas.now (nas_at self.now at) }
+    {
+        nas.is_same(self.at(at))
+    }
+
+    /// Where an access server stands, if it does.
+    pub(crate) fn find(&self, nas: &Nas) -> Option<usize>
+        ensures { IfSome result (λ at. nas_at self.now at ≡ nas.now) }
+    {
+        for at in 0..self.table.len() {
+            if self.at(at).is_same(nas) {
+                return Some(at);
+            }
+        }
+        None
+    }
+
+    /// Puts an access server at a place.
+    pub(crate) fn put(&mut self, at: usize, nas: Nas)
+        requires { at < length self.old }
+        ensures { self.new ≡ set self.old at nas }
+    {
+        self.table[at] = nas;
+    }
+}
