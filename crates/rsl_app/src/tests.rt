@@ -55,8 +55,11 @@ impl Stream {
     }
 
     /// What was written and passed on.
-    fn text(&self) -> Option<&[u8]> {
-        self.given.get(..self.passed_on)
+    fn text(&self) -> &[u8] {
+        match self.given.get(..self.passed_on) {
+            Some(text) => text,
+            None => &[],
+        }
     }
 }
 
@@ -119,11 +122,10 @@ fn wrong_arguments_are_told_the_usage_and_nothing_is_read(rt: HostRuntime) {
         );
         assert_eq!(rt; input.len(), SCRIPT.len(), "{words:?}");
         assert!(rt; output.given.is_empty(), "{words:?}");
+        let said = errors.text();
         assert_eq!(rt;
-            errors.text(),
-            Some(
-                b"usage: radlimit replay or radlimit serve FILE ADDRESS AUTHPORT ACCTPORT TURNS\n".as_slice()
-            ),
+            said,
+            b"usage: radlimit replay or radlimit serve FILE ADDRESS AUTHPORT ACCTPORT TURNS\n".as_slice(),
             "{words:?}"
         );
     }
@@ -175,8 +177,10 @@ fn replay_ends_with_its_status_and_a_line_for_its_fault(rt: HostRuntime) -> Resu
             ended(&mut errors, outcome) == ExitCode::from(expected),
             "{name}"
         );
-        assert_eq!(rt; output.text(), Some(prints.as_bytes()), "{name}");
-        assert_eq!(rt; errors.text(), Some(says.as_bytes()), "{name}");
+        let printed = output.text();
+        assert_eq!(rt; printed, prints.as_bytes(), "{name}");
+        let said = errors.text();
+        assert_eq!(rt; said, says.as_bytes(), "{name}");
     }
     Ok(())
 }
