@@ -1,5 +1,5 @@
 -- What a book shows of itself is what the rule counts: places, and reserved, live and stale links.
-use Rattle.std.proofs.Common.{◌≡◌, ℕ, ◌-◌, List, [], ◌∷◌, map, Bool, cond, refl, sym, ◌∙◌}
+use Rattle.std.proofs.Common.{◌≡◌, ℕ, List, [], ◌∷◌, map, Bool, cond, refl, sym, ◌∙◌}
 use Rattle.std.specs.Prelude.{Option, Some, None, count_by, is_none, is_some}
 use Rattle.std.proofs.lemmas.List.Sums.{sum_by-cons}
 use Rattle.rsl_accounts.specs.declared.rules.Rules.{Rules}
