@@ -10,7 +10,6 @@ use crate::clock::{clock_of, clock_with};
 use crate::count::has_place_beside;
 use crate::held::{links_before, links_but, numbers_of};
 use crate::link::accept_number;
-use crate::same::{is_same_key, is_same_nas};
 use crate::yielding::yielding_link;
 use rsl_accounts::Rules;
 use rsl_event::{Act, Decision, Event, Key, Nas};
@@ -26,7 +25,7 @@ fn sweeps(nas: &Nas, act: &Act) -> bool
     ensures { result ≡ is_sweep_of nas.now act.now }
 {
     match act {
-        Act::Sweep { nas: other } => is_same_nas(other, nas),
+        Act::Sweep { nas: other } => other.is_same(nas),
         _ => false,
     }
 }
@@ -99,7 +98,7 @@ fn asks_of(alloc: Global, history: &[PastEvent]) -> Result<Vec<KeptAsk>, NoMemor
 fn is_repeat_of(rules: &Rules, key: &Key, now: u64, ask: &KeptAsk) -> bool
     ensures { result ≡ repeats rules.now key.now now ask.now }
 {
-    is_same_key(&ask.key, key) && now.saturating_sub(ask.at) < rules.keep && !ask.swept
+    ask.key.is_same(key) && now.saturating_sub(ask.at) < rules.keep && !ask.swept
 }
 
 /// The decision of the latest fresh ask that an ask of this key repeats.

@@ -5,7 +5,6 @@ ghost use Rattle.rsl_session.specs.Clock.{clock};
 
 use crate::ask::is_swept_in;
 use crate::clock::{clock_of, clock_with};
-use crate::same::is_same_session;
 use rsl_accounts::Rules;
 use rsl_event::{Act, Event};
 use rsl_session::{KeptStop, PastEvent, Session};
@@ -60,9 +59,7 @@ fn stops_of(alloc: Global, history: &[PastEvent]) -> Result<Vec<KeptStop>, NoMem
 fn is_closed_by(rules: &Rules, session: &Session, now: u64, stop: &KeptStop) -> bool
     ensures { result ≡ closes rules.now session.now now stop.now }
 {
-    is_same_session(&stop.session, session)
-        && now.saturating_sub(stop.at) < rules.closed
-        && !stop.swept
+    stop.session.is_same(session) && now.saturating_sub(stop.at) < rules.closed && !stop.swept
 }
 
 /// Whether a session is closed when an event comes.

@@ -7,7 +7,6 @@ ghost use Rattle.rsl_session.specs.Places.{bundles, is_bundle, places, places_of
 
 use crate::binding::bundle_of_link;
 use crate::held::held_links;
-use crate::same::is_same_bundle;
 use rsl_accounts::Rules;
 use rsl_session::{Bundle, PastEvent};
 use rsl_wire::NoMemory;
@@ -34,7 +33,7 @@ fn is_link_of(bundle: &Bundle, other: &Option<Bundle>) -> bool
     ensures { result ≡ is_bundle bundle.now other.now }
 {
     match other {
-        Some(other) => is_same_bundle(other, bundle),
+        Some(other) => other.is_same(bundle),
         None => false,
     }
 }

@@ -12,7 +12,7 @@ use rsl_session::{Outcome, PastEvent, Session};
 use rsl_wire::NoMemory;
 use std::alloc::Global;
 
-/// What an event does to an account with this past, by the session rule. The past is listed oldest first.
+/// What an event does to an account with this past, by the session rule. The history is the account's past, oldest first.
 ///
 /// It takes memory for what it looks up, and fails only where memory is refused.
 #[tactic(auto, unfolding(rsl_session::specs::Rule::outcome_of))]
@@ -43,16 +43,6 @@ pub fn outcome(
     }
 }
 
-/// An equal event.
-fn copy_of(alloc: Global, event: &Event) -> Result<Event, NoMemory>
-    ensures { IfOk result (λ copy. copy ≡ event.now) }
-{
-    Ok(Event {
-        moment: event.moment,
-        act: event.act.try_copy(alloc)?,
-    })
-}
-
 /// The events, oldest first, each with what it did.
 #[tactic(auto, using(crate::proofs::Whole::past_steps))]
 fn past_after(alloc: Global, rules: &Rules, events: &[Event]) -> Result<Vec<PastEvent>, NoMemory>
@@ -63,7 +53,7 @@ fn past_after(alloc: Global, rules: &Rules, events: &[Event]) -> Result<Vec<Past
     for event in events {
         let did = outcome(alloc, rules, &history, event)?;
         history.push(PastEvent {
-            event: copy_of(alloc, event)?,
+            event: event.try_copy(alloc)?,
             outcome: did,
         })?;
     }

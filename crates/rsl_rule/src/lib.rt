@@ -13,7 +13,6 @@ mod held;
 mod holding;
 pub mod laws;
 mod link;
-mod same;
 mod standing;
 mod yielding;
 

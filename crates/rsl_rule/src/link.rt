@@ -6,7 +6,6 @@ ghost use Rattle.rsl_session.specs.Binding.{touches};
 ghost use Rattle.rsl_session.specs.Held.{is_nas, is_at};
 ghost use Rattle.rsl_session.specs.Link.{nas_of};
 
-use crate::same::is_same_nas;
 use rsl_event::{Act, Nas};
 use rsl_session::{Outcome, PastEvent};
 
@@ -82,7 +81,7 @@ fn is_act_at(act: &Act, nas: &Nas) -> bool
         Act::Ask { nas: other, .. }
         | Act::Alive { nas: other, .. }
         | Act::Stop { nas: other, .. }
-        | Act::Sweep { nas: other } => is_same_nas(other, nas),
+        | Act::Sweep { nas: other } => other.is_same(nas),
         Act::Tick => false,
     }
 }

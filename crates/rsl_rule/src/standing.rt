@@ -7,7 +7,6 @@ ghost use Rattle.rsl_rule.specs.Standing.{is_idle_so, standing_of};
 
 use crate::binding::session_after;
 use crate::link::touch_after;
-use crate::same::is_session_at;
 use rsl_accounts::Rules;
 use rsl_event::{Event, Nas};
 use rsl_session::{PastEvent, Session};
@@ -50,11 +49,12 @@ impl Standing {
     }
 
     /// Whether the link is bound to the session of this Acct-Session-Id at an access server.
+    #[tactic(auto, unfolding(rsl_session::specs::Same::same_session))]
     pub fn is_bound_to(&self, nas: &Nas, id: &Octets) -> bool
         ensures { result ≡ is_session self.now.session (record { nas = nas.now; id = id.now }) }
     {
         match &self.session {
-            Some(session) => is_session_at(session, nas, id),
+            Some(session) => session.nas.is_same(nas) && session.id == *id,
             None => false,
         }
     }

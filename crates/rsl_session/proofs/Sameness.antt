@@ -18,7 +18,6 @@ from_parts : {A B C : Type 0} (make : A → B → C) (a b : A) (x y : B) → a �
 from_parts make a b x y e f = cc
 
 pub same_octets-Decides : (a b : List ℕ) → Decides (same_octets a b) (a ≡ b)
-unfolding same_octets
 same_octets-Decides a b = bytes_eq-Decides a b
 
 same_octets-refl : (a : List ℕ) → same_octets a a ≡ true

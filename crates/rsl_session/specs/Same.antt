@@ -1,29 +1,9 @@
 -- Tests of whether two values are the same. Each says true exactly where they are equal.
-use Rattle.std.specs.Prelude.{ℕ, List, Bool, true, false, ◌&&◌, ◌==◌, nat_eq}
-use Rattle.std.specs.Cmp.Lexicographic.{pointwise}
-use Rattle.rsl_event.specs.declared.event.Key.{Key}
-use Rattle.rsl_event.specs.declared.nas.Nas.{Nas}
-use Rattle.rsl_event.specs.declared.nas.NasName.{NasName}
-use Rattle.rsl_event.specs.declared.nas.NasName.TheVariants.{Identifier, Address, Unnamed}
+use Rattle.std.specs.Prelude.{Bool, ◌&&◌}
 use Rattle.rsl_session.specs.declared.session.Session.{Session}
 use Rattle.rsl_session.specs.declared.bundle.Bundle.{Bundle}
-
-unfoldable pub same_octets : List ℕ → List ℕ → Bool
-same_octets = pointwise nat_eq
-
-unfoldable pub same_key : Key → Key → Bool
-same_key a b =
-    same_octets a.source.address b.source.address && (a.source.port == b.source.port)
-    && (a.id == b.id) && same_octets a.authenticator b.authenticator
-
-unfoldable pub same_name : NasName → NasName → Bool
-same_name (Identifier a) (Identifier b) = same_octets a b
-same_name (Address a) (Address b) = same_octets a b
-same_name Unnamed Unnamed = true
-same_name _ _ = false
-
-unfoldable pub same_nas : Nas → Nas → Bool
-same_nas a b = (a.client == b.client) && same_name a.name b.name
+pub use Rattle.rsl_accounts.specs.Configuration.{same_octets}
+unfoldable pub use Rattle.rsl_event.specs.Same.{same_key, same_name, same_nas}
 
 unfoldable pub same_session : Session → Session → Bool
 same_session a b = same_nas a.nas b.nas && same_octets a.id b.id

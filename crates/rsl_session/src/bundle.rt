@@ -1,4 +1,5 @@
 ghost use Rattle.std.specs.Prelude.{◌≡◌, ◌↔◌, IsTrue};
+ghost use Rattle.rsl_session.specs.Same.{same_bundle};
 
 use rsl_event::Nas;
 use rsl_wire::Octets;
@@ -15,8 +16,10 @@ pub struct Bundle {
 
 impl Bundle {
     /// Whether the two are the same bundle.
+    #[tactic(auto, unfolding(crate::specs::Same::same_bundle))]
     pub fn is_same(&self, other: &Bundle) -> bool
-        ensures { IsTrue result ↔ (self.now ≡ other.now) }
+        ensures test { result ≡ same_bundle self.now other.now }
+        ensures equal { IsTrue result ↔ (self.now ≡ other.now) }
     {
         self.nas.is_same(&other.nas) && self.id == other.id
     }

@@ -1,7 +1,6 @@
 //! Long pasts: no call wants memory that it need not have.
 
 use crate::timeline::{event_of, rules_of};
-use rsl_event::Event;
 use rsl_rule::{decide, outcome, places};
 use rsl_session::PastEvent;
 use std::test::Fail;
@@ -28,10 +27,7 @@ fn a_long_past_is_looked_through(rt: HostRuntime) -> Result<(), Fail> {
     for event in &events {
         let did = outcome(rt.alloc(), &rules, &history, event)?;
         history.push(PastEvent {
-            event: Event {
-                moment: event.moment,
-                act: event.act.try_copy(rt.alloc())?,
-            },
+            event: event.try_copy(rt.alloc())?,
             outcome: did,
         })?;
     }
