@@ -1,12 +1,12 @@
 -- The first link that passes, by its place, and what a change of the link at a place is seen as.
-use Rattle.std.proofs.Common.{◌≡◌, ℕ, zero, suc, ◌+◌, ◌<◌, ◌≤◌, List, [], ◌∷◌, ◌++◌, take, drop, set, get_or, length, map, Bool, true, false, cond, refl, ap, sym, ◌∙◌, arith, add-one}
+use Rattle.std.proofs.Common.{◌≡◌, ℕ, zero, suc, ◌<◌, List, [], ◌∷◌, ◌++◌, take, drop, set, get_or, length, map, Bool, true, false, refl, ap, sym, ◌∙◌, arith, add-one}
 use Rattle.std.specs.Prelude.{Option, Some, None, find, ◌&&◌, ◌==◌}
 use Rattle.std.specs.Option.{option_or}
 use Rattle.std.specs.List.{list_any}
 use Rattle.std.proofs.lemmas.Bool.{or_parts, and_parts, false≢true}
 use Rattle.rsl_event.specs.declared.nas.Nas.{Nas}
 use Rattle.rsl_session.specs.declared.session.Session.{Session}
-use Rattle.rsl_session.specs.Same.{same_nas, same_session}
+use Rattle.rsl_session.specs.Same.{same_nas}
 use Rattle.rsl_session.specs.Book.{BookLink, Holder, Reserved, Bound}
 use Rattle.rsl_session.specs.BookLinks.{change_first, without_first, is_holder, is_link_of, is_wanted, can_be_taken, touch, take_for}
 use Rattle.rsl_session.proofs.Sameness.{same_nas-true, same_session-true}
@@ -14,7 +14,7 @@ use Rattle.rsl_book.specs.declared.link.Link.{Link}
 use Rattle.rsl_book.specs.declared.link.Hold.{Hold}
 use Rattle.rsl_book.specs.declared.link.Hold.TheVariants.{Number, Session as InSession}
 use Rattle.rsl_book.specs.First.{IsFirst, change_at}
-use Rattle.rsl_book.specs.Seen.{nas_at, holder_at, bundle_with, link_seen, links_seen, unnamed}
+use Rattle.rsl_book.specs.Seen.{nas_at, holder_at, bundle_with, link_seen, links_seen}
 use Rattle.rsl_book.specs.Changed.{touched_link, bound_link}
 use Rattle.rsl_book.specs.Steps.{nas_of, touch_here, take_here, without_at}
 

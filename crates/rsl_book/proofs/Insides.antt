@@ -1,11 +1,10 @@
 -- What is seen of a book once its inside has changed, and the room that it has.
-use Rattle.std.proofs.Common.{◌≡◌, ℕ, ◌+◌, ◌*◌, ◌-◌, ◌^◌, ◌<◌, ◌≤◌, max, min, List, [], ◌∷◌, ◌++◌, length, length-append, map, take, drop, Bool, true, false, cond, not, refl, ap, sym, ◌∙◌, subst, arith}
+use Rattle.std.proofs.Common.{◌≡◌, ℕ, ◌+◌, ◌*◌, ◌-◌, ◌^◌, ◌<◌, ◌≤◌, max, min, List, [], ◌∷◌, ◌++◌, length, length-append, map, take, not, refl, ap, sym, ◌∙◌, subst, arith}
 use Rattle.std.specs.Prelude.{Option, None, filter}
 use Rattle.std.proofs.lemmas.List.{take-map, map-append, length-map}
 use Rattle.std.proofs.Math.Nat.{mul-le-mul_right}
 use Rattle.std.proofs.lemmas.Bool.{le-leb, lt-leb}
 use Rattle.rsl_session.specs.declared.session.Session.{Session}
-use Rattle.rsl_accounts.specs.Limits.{RulesFit}
 use Rattle.rsl_accounts.specs.declared.rules.Rules.{Rules}
 use Rattle.rsl_event.specs.declared.nas.Nas.{Nas}
 use Rattle.rsl_session.specs.declared.bundle.Bundle.{Bundle}
@@ -14,7 +13,7 @@ use Rattle.rsl_session.specs.declared.kept.KeptStop.{KeptStop}
 use Rattle.rsl_session.specs.Places.{places_of, each_bundle}
 use Rattle.rsl_session.specs.Book.{Book, BookLink, Reserved, Bound, bundles_in, places_in}
 use Rattle.rsl_session.specs.BookLinks.{lapses_at}
-use Rattle.rsl_session.specs.BookStep.{come_to, open_link, sweep}
+use Rattle.rsl_session.specs.BookStep.{come_to, open_link}
 use Rattle.rsl_session.proofs.Counting.{length-le-places}
 use Rattle.rsl_book.specs.declared.book.Book.TheInside.{Inside}
 use Rattle.rsl_book.specs.declared.links.Links.{Links}

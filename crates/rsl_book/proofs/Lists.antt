@@ -1,6 +1,6 @@
 -- Loops over links: what is counted, kept, found or changed of their views.
 use Rattle.std.proofs.Common.{◌≡◌, ℕ, zero, suc, ◌+◌, ◌-◌, ◌<◌, ◌≤◌, List, [], ◌∷◌, ◌++◌, take, drop, get_or, length, map, Bool, true, false, cond, not, refl, ap, sym, ◌∙◌, subst, arith, add-one, append-nil, append_assoc, length-append}
-use Rattle.std.specs.Prelude.{Option, Some, None, filter, find, count_by}
+use Rattle.std.specs.Prelude.{Some, None, filter, find, count_by}
 use Rattle.std.proofs.lemmas.List.{take_more, drop_more, take_all, drop_all, take-map, drop-map, take-append-le, take-take, drop_at, map-append, length-take-le, get_or-take, get_or_append_left, get_or-map, length-map}
 use Rattle.std.proofs.lemmas.List.Sums.{sum_by-cons}
 use Rattle.std.proofs.lemmas.Bool.{or_parts}

@@ -1,7 +1,7 @@
 -- Places of the table that nothing names: there is one, since there are fewer names than places, and what is
 -- put there changes nothing that is seen.
-use Rattle.std.proofs.Common.{◌≡◌, ◌≢◌, ℕ, zero, suc, ◌+◌, ◌-◌, ◌<◌, ◌≤◌, List, [], ◌∷◌, ◌++◌, set, get_or, length, map, Bool, true, false, cond, not, ◌||◌, refl, ap, sym, ◌∙◌, subst, inl, inr, arith, length-append, eqb}
-use Rattle.std.specs.Prelude.{◌==◌, filter}
+use Rattle.std.proofs.Common.{◌≡◌, ℕ, zero, suc, ◌+◌, ◌<◌, ◌≤◌, List, [], ◌∷◌, ◌++◌, set, length, map, Bool, true, false, cond, ◌||◌, refl, ap, sym, ◌∙◌, inl, inr, arith, length-append}
+use Rattle.std.specs.Prelude.{◌==◌}
 use Rattle.std.specs.List.{list_any}
 use Rattle.std.proofs.lemmas.Bool.{or_parts, eq-eqb, ne_eqb, eqb-true, cases_eq, false≢true}
 use Rattle.std.proofs.lemmas.List.{length-map, get_or-set_other}

@@ -1,11 +1,11 @@
 -- The places that links take, where one of them opens or ends.
-use Rattle.std.proofs.Common.{◌≡◌, ℕ, zero, suc, ◌+◌, ◌-◌, ◌*◌, ◌%◌, ◌/◌, ◌<◌, ◌≤◌, List, [], ◌∷◌, ◌++◌, take, drop, set, get_or, length, map, Bool, true, false, cond, refl, ap, sym, ◌∙◌, subst, inl, inr, arith, add-one, append-nil, append_assoc, nat_eq}
+use Rattle.std.proofs.Common.{◌≡◌, ℕ, zero, suc, ◌+◌, ◌-◌, ◌*◌, ◌%◌, ◌/◌, ◌<◌, ◌≤◌, List, [], ◌∷◌, ◌++◌, take, drop, set, get_or, length, map, true, false, cond, refl, ap, sym, ◌∙◌, subst, inl, inr, arith, add-one, append-nil, append_assoc, nat_eq}
 use Rattle.std.specs.Prelude.{Option, Some, None, count_by, is_none}
 use Rattle.std.specs.Option.{option_or}
 use Rattle.std.specs.Int.{div_ceil}
 use Rattle.std.proofs.lemmas.Bool.{cases_lt, false≢true, ne_eqb}
 use Rattle.std.proofs.lemmas.Grind.{div_ceil_times}
-use Rattle.std.proofs.lemmas.List.{take_more, drop_more, map-append, take-append-drop, set_split, length-map}
+use Rattle.std.proofs.lemmas.List.{drop_more, map-append, take-append-drop, set_split, length-map}
 use Rattle.std.proofs.lemmas.List.Sums.{sum_by-cons, sum_by-append}
 use Rattle.std.proofs.lemmas.Nat.{div-add-mod'}
 use Rattle.std.proofs.Math.Nat.{mul-le-mul_right, mod-lt}

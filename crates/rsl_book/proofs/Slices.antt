@@ -1,5 +1,5 @@
 -- A ring lies in two slices: what is found or holds in one of them or the other.
-use Rattle.std.proofs.Common.{◌≡◌, ℕ, List, [], ◌∷◌, ◌++◌, map, Bool, true, false, cond, ◌||◌, refl, ap, sym, ◌∙◌, subst}
+use Rattle.std.proofs.Common.{◌≡◌, ℕ, List, [], ◌∷◌, ◌++◌, map, Bool, true, false, cond, ◌||◌, refl, ap, sym, ◌∙◌}
 use Rattle.std.specs.Prelude.{Option, Some, None, find}
 use Rattle.std.specs.Option.{option_map}
 use Rattle.std.specs.List.{list_any}
@@ -10,7 +10,6 @@ use Rattle.rsl_event.specs.declared.event.Decision.{Decision}
 use Rattle.rsl_event.specs.declared.event.Key.{Key}
 use Rattle.rsl_event.specs.declared.nas.Nas.{Nas}
 use Rattle.rsl_session.specs.declared.kept.KeptAsk.{KeptAsk}
-use Rattle.rsl_session.specs.declared.kept.KeptStop.{KeptStop}
 use Rattle.rsl_session.specs.declared.session.Session.{Session}
 use Rattle.rsl_session.specs.Ask.{repeats}
 use Rattle.rsl_session.specs.Closed.{closes}

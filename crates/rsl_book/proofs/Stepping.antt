@@ -1,5 +1,5 @@
 -- The parts of a step, as the code takes them one by one, are the step.
-use Rattle.std.proofs.Common.{◌≡◌, ℕ, suc, ◌+◌, ◌^◌, ◌-◌, ◌<◌, ◌≤◌, List, [], ◌∷◌, ◌++◌, length, map, take, drop, Bool, true, false, cond, not, refl, ap, sym, ◌∙◌, arith}
+use Rattle.std.proofs.Common.{◌≡◌, ℕ, ◌+◌, ◌^◌, ◌-◌, ◌<◌, ◌≤◌, List, ◌++◌, map, take, drop, true, false, cond, refl, ap, sym, ◌∙◌, arith}
 use Rattle.std.specs.Prelude.{Option, Some, None, find, nat_le, nat_lt}
 use Rattle.std.specs.Option.{option_map}
 use Rattle.std.specs.List.{list_any}
@@ -15,10 +15,10 @@ use Rattle.rsl_session.specs.declared.kept.KeptAsk.{KeptAsk}
 use Rattle.rsl_session.specs.declared.session.Session.{Session}
 use Rattle.rsl_session.specs.declared.bundle.Bundle.{Bundle}
 use Rattle.rsl_session.specs.Places.{places_of}
-use Rattle.rsl_session.specs.Book.{Book, BookLink, Holder, Reserved, Bound, places_in, bundles_in}
-use Rattle.rsl_session.specs.BookLinks.{is_link_of, can_be_taken, can_yield, fits_beside, without_first, change_first, touch, take_for}
+use Rattle.rsl_session.specs.Book.{Book, BookLink, Reserved, places_in, bundles_in}
+use Rattle.rsl_session.specs.BookLinks.{is_link_of, can_be_taken, can_yield, fits_beside, without_first, touch, take_for}
 use Rattle.rsl_session.specs.Closed.{closes}
-use Rattle.rsl_session.specs.BookStep.{refuse, keep_ask, accept_beside, ask_for_place, fresh_ask, ask, open_link, bind, alive}
+use Rattle.rsl_session.specs.BookStep.{refuse, keep_ask, accept_beside, fresh_ask, ask, open_link, bind, alive}
 use Rattle.rsl_book.specs.declared.link.Link.{Link}
 use Rattle.rsl_book.specs.First.{IsFirst, change_at}
 use Rattle.rsl_book.specs.Seen.{links_seen, link_seen, bundle_with}

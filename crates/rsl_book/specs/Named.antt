@@ -1,5 +1,5 @@
 -- Which places of the table of access servers something names.
-use Rattle.std.specs.Prelude.{ℕ, List, [], ◌++◌, ◌==◌, map, Bool, ◌||◌}
+use Rattle.std.specs.Prelude.{ℕ, List, ◌==◌, Bool, ◌||◌}
 use Rattle.std.specs.List.{list_any}
 use Rattle.rsl_book.specs.declared.link.Link.{Link}
 use Rattle.rsl_book.specs.declared.kept.StoredAsk.{StoredAsk}

@@ -1,8 +1,8 @@
 -- How the inside of a book is seen, and what holds of it: the numbers agree with the links, the places are
 -- within the limit, and there is room for every link that may still open and for whatever names an access server.
-use Rattle.std.specs.Prelude.{◌≡◌, ℕ, ◌+◌, ◌*◌, ◌<◌, ◌≤◌, length, vec_capacity}
+use Rattle.std.specs.Prelude.{◌≡◌, ◌+◌, ◌*◌, ◌<◌, ◌≤◌, length, vec_capacity}
 use Rattle.rsl_accounts.specs.Limits.{RulesFit}
-use Rattle.rsl_session.specs.Book.{Book, places_in}
+use Rattle.rsl_session.specs.Book.{Book}
 use Rattle.rsl_book.specs.declared.book.Book.TheInside.{Inside}
 use Rattle.rsl_book.specs.RuledBook.{RuledBook}
 use Rattle.rsl_book.specs.Seen.{links_seen, asks_seen, stops_seen}

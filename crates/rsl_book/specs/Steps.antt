@@ -1,5 +1,5 @@
 -- What a found link is, and the parts of the step that the code takes one by one.
-use Rattle.std.specs.Prelude.{ℕ, ◌+◌, List, ◌∷◌, [], ◌++◌, take, drop, Option, Some, None}
+use Rattle.std.specs.Prelude.{ℕ, ◌+◌, List, ◌++◌, take, drop, Option}
 use Rattle.rsl_event.specs.declared.nas.Nas.{Nas}
 use Rattle.rsl_session.specs.Book.{BookLink, Holder, Reserved, Bound}
 use Rattle.rsl_session.specs.BookLinks.{touch, take_for}

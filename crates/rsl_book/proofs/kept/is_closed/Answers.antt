@@ -1,7 +1,4 @@
-use Rattle.std.proofs.Common.{◌≡◌, ◌∙◌, sym, ap, refl}
-use Rattle.std.specs.List.{list_any}
-use Rattle.rsl_session.specs.Closed.{closes}
-use Rattle.rsl_book.specs.Seen.{stops_seen}
+use Rattle.std.proofs.Common.{refl}
 use Rattle.rsl_book.proofs.Slices.{closed_parts}
 use Rattle.rsl_book.proofs.kept.is_closed.Goals as goal
 

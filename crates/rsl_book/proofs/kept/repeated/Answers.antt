@@ -1,4 +1,3 @@
-use Rattle.std.proofs.Common.{◌≡◌}
 use Rattle.rsl_book.proofs.Slices.{repeated_first, repeated_rest}
 use Rattle.rsl_book.proofs.kept.repeated.Goals as goal
 

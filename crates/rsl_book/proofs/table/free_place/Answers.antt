@@ -1,4 +1,4 @@
-use Rattle.std.proofs.Common.{◌≡◌, ℕ, ◌+◌, ◌<◌, ◌≤◌, length, true, sym, ◌∙◌, arith}
+use Rattle.std.proofs.Common.{◌+◌, sym, ◌∙◌, arith}
 use Rattle.rsl_book.specs.Named.{is_named}
 use Rattle.rsl_book.proofs.Naming.{few_named, named_more}
 use Rattle.rsl_book.proofs.table.free_place.Goals as goal

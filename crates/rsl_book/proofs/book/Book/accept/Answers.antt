@@ -1,13 +1,12 @@
-use Rattle.std.proofs.Common.{◌≡◌, ◌+◌, ◌<◌, ◌≤◌, sym, ◌∙◌, ap, refl, subst, length, arith, cond, false}
+use Rattle.std.proofs.Common.{◌≡◌, ◌+◌, ◌≤◌, sym, ◌∙◌, ap, subst, length, arith, false}
 use Rattle.circular_buffer.specs.Buffer.{Buffer}
 use Rattle.std.specs.Prelude.{None}
-use Rattle.rsl_event.specs.declared.event.Decision.TheVariants.{Accept, LimitReject}
+use Rattle.rsl_event.specs.declared.event.Decision.TheVariants.{Accept}
 use Rattle.rsl_session.specs.Book.{Book, places_in, bundles_in}
 use Rattle.rsl_book.specs.RuledBook.{RuledBook}
 use Rattle.rsl_book.specs.declared.kept.StoredAsk.{StoredAsk}
-use Rattle.rsl_book.specs.declared.kept.StoredStop.{StoredStop}
 use Rattle.rsl_book.specs.Sound.{running}
-use Rattle.rsl_book.specs.Seen.{links_seen, asks_seen, stops_seen}
+use Rattle.rsl_book.specs.Seen.{links_seen, asks_seen}
 use Rattle.rsl_session.specs.BookStep.{accept_beside, keep_ask}
 use Rattle.rsl_book.specs.declared.link.Hold.TheVariants.{Number}
 use Rattle.rsl_book.proofs.Opened.{more_alone}

@@ -1,4 +1,4 @@
-use Rattle.std.proofs.Common.{◌≡◌, ◌∙◌, ap}
+use Rattle.std.proofs.Common.{◌∙◌, ap}
 use Rattle.rsl_session.specs.BookStep.{step, act_on}
 use Rattle.rsl_book.specs.RuledBook.{RuledBook}
 use Rattle.rsl_book.proofs.book.Book.apply.Goals as goal

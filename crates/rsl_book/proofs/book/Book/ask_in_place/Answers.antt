@@ -1,5 +1,5 @@
-use Rattle.std.proofs.Common.{◌≡◌, ◌+◌, ◌≤◌, sym, ◌∙◌, ap, subst, cond, arith, true, false}
-use Rattle.rsl_session.specs.Book.{Book, places_in, bundles_in}
+use Rattle.std.proofs.Common.{◌≡◌, ◌+◌, ◌≤◌, sym, ◌∙◌, ap, subst, cond}
+use Rattle.rsl_session.specs.Book.{places_in, bundles_in}
 use Rattle.rsl_session.specs.Places.{places_of}
 use Rattle.rsl_session.specs.BookStep.{accept_beside}
 use Rattle.rsl_book.specs.RuledBook.{RuledBook}

@@ -1,4 +1,4 @@
-use Rattle.std.proofs.Common.{◌≡◌, ◌<◌, sym, ◌∙◌, ap, refl, length, arith}
+use Rattle.std.proofs.Common.{◌∙◌, ap, refl, length, arith}
 use Rattle.rsl_book.proofs.Insides.{same_value, length-seen}
 use Rattle.rsl_book.proofs.Stepping.{seen_without}
 use Rattle.rsl_book.specs.RuledBook.{RuledBook}

@@ -1,8 +1,8 @@
-use Rattle.std.proofs.Common.{◌≡◌, ◌+◌, ◌<◌, cond, sym, ◌∙◌, ap, subst, length, arith}
+use Rattle.std.proofs.Common.{◌+◌, cond, sym, ◌∙◌, ap, length, arith}
 use Rattle.rsl_book.proofs.Insides.{held_places, length-seen}
 use Rattle.rsl_book.proofs.Stepping.{seen_without}
 use Rattle.rsl_session.specs.Places.{places_of}
-use Rattle.rsl_session.specs.Book.{bundles_in, BookLink}
+use Rattle.rsl_session.specs.Book.{bundles_in}
 use Rattle.rsl_book.specs.RuledBook.{RuledBook}
 use Rattle.rsl_book.specs.Steps.{without_at}
 use Rattle.rsl_book.specs.Seen.{links_seen}

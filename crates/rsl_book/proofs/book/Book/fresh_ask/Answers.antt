@@ -1,6 +1,5 @@
-use Rattle.std.proofs.Common.{◌≡◌, ◌<◌, ◌≤◌, subst, sym, ap, arith}
+use Rattle.std.proofs.Common.{ap, arith}
 use Rattle.rsl_accounts.specs.declared.rules.Rules.{Rules}
-use Rattle.rsl_session.specs.Book.{places_in}
 use Rattle.rsl_book.proofs.Stepping.{fresh_fits, fresh_full, fresh_in_place}
 use Rattle.rsl_book.proofs.book.Book.fresh_ask.Goals as goal
 

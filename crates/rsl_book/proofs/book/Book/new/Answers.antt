@@ -1,9 +1,8 @@
-use Rattle.std.proofs.Common.{◌≡◌, ◌+◌, ◌*◌, ◌<◌, ◌≤◌, ap, ◌∙◌, sym, arith, rules, length}
+use Rattle.std.proofs.Common.{◌*◌, ap, arith, length}
 use Rattle.circular_buffer.specs.Buffer.{Buffer}
 use Rattle.rsl_session.specs.Book.{new_book}
 use Rattle.rsl_book.specs.declared.kept.StoredAsk.{StoredAsk}
 use Rattle.rsl_book.specs.declared.kept.StoredStop.{StoredStop}
-use Rattle.rsl_book.specs.Seen.{links_seen, asks_seen, stops_seen}
 use Rattle.rsl_book.proofs.Insides.{same_value, within_limit, counted_none, none_seen, no_asks_seen, no_stops_seen, new_table}
 use Rattle.rsl_book.proofs.book.Book.new.Goals as goal
 

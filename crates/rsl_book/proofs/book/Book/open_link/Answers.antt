@@ -1,14 +1,8 @@
-use Rattle.std.proofs.Common.{◌≡◌, ◌+◌, ◌-◌, ◌^◌, ◌*◌, ◌<◌, ◌≤◌, sym, ◌∙◌, ap, refl, subst, length, arith, cond, false, true}
-use Rattle.circular_buffer.specs.Buffer.{Buffer}
-use Rattle.std.specs.Prelude.{None}
-use Rattle.rsl_session.specs.Book.{Book, places_in, bundles_in}
-use Rattle.rsl_session.specs.Places.{places_of}
+use Rattle.std.proofs.Common.{◌≡◌, sym, ◌∙◌, ap, subst, length, arith, cond}
+use Rattle.rsl_session.specs.Book.{Book}
 use Rattle.rsl_book.specs.RuledBook.{RuledBook}
-use Rattle.rsl_book.specs.declared.kept.StoredAsk.{StoredAsk}
-use Rattle.rsl_book.specs.declared.kept.StoredStop.{StoredStop}
 use Rattle.rsl_book.specs.Sound.{running}
-use Rattle.rsl_book.specs.Seen.{links_seen, asks_seen, stops_seen, bundle_with, nas_at}
-use Rattle.rsl_session.specs.BookStep.{open_link}
+use Rattle.rsl_book.specs.Seen.{links_seen, bundle_with, nas_at}
 use Rattle.rsl_book.specs.declared.link.Hold.TheVariants.{Session}
 use Rattle.rsl_book.proofs.Insides.{same_value, room_in_table, room_for_one, counted_again, opened_within, opened_seen, bound_seen, open_sum, open_yes, open_not, over_value}
 use Rattle.rsl_book.proofs.book.Book.open_link.Goals as goal

@@ -1,13 +1,9 @@
-use Rattle.std.proofs.Common.{◌≡◌, ◌+◌, ◌<◌, ◌≤◌, sym, ◌∙◌, ap, refl, subst, length, arith, cond, false}
+use Rattle.std.proofs.Common.{◌≡◌, ◌∙◌, ap, subst, length, arith, false}
 use Rattle.circular_buffer.specs.Buffer.{Buffer}
-use Rattle.std.specs.Prelude.{None}
-use Rattle.rsl_event.specs.declared.event.Decision.TheVariants.{Accept, LimitReject}
-use Rattle.rsl_session.specs.Book.{Book, places_in, bundles_in}
-use Rattle.rsl_book.specs.RuledBook.{RuledBook}
+use Rattle.rsl_event.specs.declared.event.Decision.TheVariants.{LimitReject}
+use Rattle.rsl_session.specs.Book.{Book}
 use Rattle.rsl_book.specs.declared.kept.StoredAsk.{StoredAsk}
-use Rattle.rsl_book.specs.declared.kept.StoredStop.{StoredStop}
-use Rattle.rsl_book.specs.Sound.{running}
-use Rattle.rsl_book.specs.Seen.{links_seen, asks_seen, stops_seen}
+use Rattle.rsl_book.specs.Seen.{links_seen, asks_seen}
 use Rattle.rsl_session.specs.BookStep.{refuse, keep_ask}
 use Rattle.rsl_book.proofs.Insides.{same_book, room_in_table, pushed_ask}
 use Rattle.rsl_book.proofs.book.Book.refuse.Goals as goal

@@ -1,13 +1,7 @@
-use Rattle.std.proofs.Common.{◌≡◌, ◌+◌, ◌-◌, ◌^◌, ◌*◌, ◌<◌, ◌≤◌, sym, ◌∙◌, ap, refl, subst, length, arith, cond, false, true}
+use Rattle.std.proofs.Common.{◌≡◌, ◌∙◌, ap, subst, length, false}
 use Rattle.circular_buffer.specs.Buffer.{Buffer}
-use Rattle.std.specs.Prelude.{None}
-use Rattle.rsl_session.specs.Book.{Book, places_in, bundles_in}
-use Rattle.rsl_session.specs.Places.{places_of}
-use Rattle.rsl_book.specs.RuledBook.{RuledBook}
-use Rattle.rsl_book.specs.declared.kept.StoredAsk.{StoredAsk}
 use Rattle.rsl_book.specs.declared.kept.StoredStop.{StoredStop}
-use Rattle.rsl_book.specs.Sound.{running}
-use Rattle.rsl_book.specs.Seen.{links_seen, asks_seen, stops_seen, bundle_with, nas_at}
+use Rattle.rsl_book.specs.Seen.{links_seen, stops_seen}
 use Rattle.rsl_session.specs.BookStep.{stop}
 use Rattle.rsl_book.proofs.Insides.{same_value, few_after, pushed_stop}
 use Rattle.rsl_book.proofs.book.Book.stop.Goals as goal

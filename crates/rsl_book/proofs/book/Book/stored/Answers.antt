@@ -1,4 +1,4 @@
-use Rattle.std.proofs.Common.{◌≡◌, ◌≤◌, ◌*◌, ◌∙◌, sym, length, arith, rules}
+use Rattle.std.proofs.Common.{◌≡◌, ◌∙◌, sym, length, arith, rules}
 use Rattle.rsl_book.proofs.Insides.{few_links, length-seen, length-asks, length-stops}
 use Rattle.rsl_book.proofs.book.Book.stored.Goals as goal
 

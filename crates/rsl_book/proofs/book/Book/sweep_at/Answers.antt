@@ -1,4 +1,3 @@
-use Rattle.std.proofs.Common.{◌≡◌}
 use Rattle.rsl_session.specs.BookStep.{sweep}
 use Rattle.rsl_book.proofs.Insides.{same_value}
 use Rattle.rsl_book.proofs.book.Book.sweep_at.Goals as goal

@@ -1,6 +1,6 @@
-use Rattle.std.proofs.Common.{cond, ap, sym, ◌∙◌, ◌≡◌}
-use Rattle.std.specs.Prelude.{count_by, Some}
-use Rattle.rsl_session.specs.Places.{is_bundle, places_of}
+use Rattle.std.proofs.Common.{cond, ap, ◌∙◌}
+use Rattle.std.specs.Prelude.{count_by}
+use Rattle.rsl_session.specs.Places.{is_bundle}
 use Rattle.rsl_session.specs.declared.bundle.Bundle.{Bundle}
 use Rattle.rsl_event.specs.declared.nas.Nas.{Nas}
 use Rattle.rsl_session.specs.Book.{bundles_in}

@@ -1,4 +1,4 @@
-use Rattle.std.proofs.Common.{◌≡◌, set}
+use Rattle.std.proofs.Common.{set}
 use Rattle.rsl_book.specs.Changed.{bound_link}
 use Rattle.rsl_book.proofs.Found.{set_is_change}
 use Rattle.rsl_book.proofs.Opened.{counted_bound}

@@ -1,11 +1,11 @@
-use Rattle.std.proofs.Common.{◌≡◌, ◌≤◌, ◌+◌, ◌++◌, ◌∷◌, ℕ, cond, ap, sym, ◌∙◌, take, drop, get_or}
-use Rattle.std.specs.Prelude.{count_by, Some, None, Option}
+use Rattle.std.proofs.Common.{◌≡◌, ◌+◌, cond, ap, sym, ◌∙◌, take, drop}
+use Rattle.std.specs.Prelude.{count_by}
 use Rattle.rsl_session.specs.Places.{is_bundle, places_of}
 use Rattle.rsl_session.specs.declared.bundle.Bundle.{Bundle}
 use Rattle.rsl_event.specs.declared.nas.Nas.{Nas}
 use Rattle.rsl_session.specs.Book.{bundles_in}
 use Rattle.rsl_book.specs.declared.link.Link.{Link}
-use Rattle.rsl_book.specs.Seen.{links_seen, link_seen, nas_at, bundle_with}
+use Rattle.rsl_book.specs.Seen.{links_seen, link_seen, nas_at}
 use Rattle.rsl_book.proofs.Opened.{less_alone, less_bundled, bundles-append, bundles-split, bundle_none, bundle_some, members_some}
 use Rattle.rsl_book.proofs.links.Links.frees_a_place.Goals as goal
 

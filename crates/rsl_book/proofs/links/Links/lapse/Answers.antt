@@ -1,5 +1,4 @@
-use Rattle.std.proofs.Common.{◌≡◌, ◌≤◌, ◌∙◌, arith, rules, refl, length}
-use Rattle.rsl_session.specs.Book.{BookLink}
+use Rattle.std.proofs.Common.{◌≡◌, ◌∙◌, arith, rules, refl, length}
 use Rattle.rsl_session.specs.BookLinks.{lapses_at}
 use Rattle.rsl_book.specs.Seen.{links_seen}
 use Rattle.rsl_book.proofs.Ending.{seen_pass, seen_gone, seen_start, seen_within, long_enough}

@@ -1,4 +1,4 @@
-use Rattle.std.proofs.Common.{◌≡◌, ◌+◌, drop, map}
+use Rattle.std.proofs.Common.{◌≡◌, ◌+◌, drop}
 use Rattle.std.specs.Prelude.{count_by}
 use Rattle.rsl_session.specs.Places.{is_bundle}
 use Rattle.rsl_session.specs.Book.{bundles_in}

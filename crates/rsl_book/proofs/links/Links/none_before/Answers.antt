@@ -1,9 +1,3 @@
-use Rattle.std.proofs.Common.{◌≡◌, ◌<◌, sym, ◌∙◌, ap, arith, false, true, drop, map}
-use Rattle.std.specs.Prelude.{nat_le, filter}
-use Rattle.std.specs.List.{list_all}
-use Rattle.rsl_session.specs.Book.{BookLink, is_stale_at}
-use Rattle.rsl_book.specs.Seen.{link_seen, links_seen}
-use Rattle.rsl_book.proofs.Lists.{all_no, all_in, all_out}
 use Rattle.rsl_book.proofs.Oldest.{none_no, none_in, none_out}
 use Rattle.rsl_book.proofs.links.Links.none_before.Goals as goal
 use Rattle.rsl_book.proofs.links.Links.none_before.Goals.{else-is_stale-via-then-is_stale+else-link-touched, else-is_stale-via-else-is_stale}

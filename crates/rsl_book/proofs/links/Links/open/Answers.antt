@@ -1,4 +1,4 @@
-use Rattle.std.proofs.Common.{◌≡◌, ◌+◌, ap, cond}
+use Rattle.std.proofs.Common.{◌+◌, ap, cond}
 use Rattle.rsl_book.proofs.Touching.{counted_open}
 use Rattle.rsl_book.proofs.links.Links.open.Goals as goal
 

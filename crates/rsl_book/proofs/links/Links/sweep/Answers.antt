@@ -1,4 +1,4 @@
-use Rattle.std.proofs.Common.{◌≡◌, ◌≤◌, ◌∙◌, arith, rules, refl, length}
+use Rattle.std.proofs.Common.{◌≡◌, ◌∙◌, arith, rules, refl, length}
 use Rattle.rsl_session.specs.Book.{BookLink}
 use Rattle.rsl_session.specs.Same.{same_nas}
 use Rattle.rsl_book.specs.Seen.{links_seen}

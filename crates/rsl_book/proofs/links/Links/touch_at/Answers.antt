@@ -1,7 +1,6 @@
-use Rattle.std.proofs.Common.{◌≡◌, ◌≤◌, ◌+◌, ◌-◌, ℕ, set, sym, ◌∙◌, ap, cond, arith}
+use Rattle.std.proofs.Common.{◌-◌, sym, ◌∙◌, ap, arith}
 use Rattle.rsl_session.specs.Places.{places_of}
 use Rattle.rsl_session.specs.Book.{bundles_in}
-use Rattle.rsl_book.specs.First.{change_at}
 use Rattle.rsl_book.specs.Seen.{links_seen}
 use Rattle.rsl_book.specs.Changed.{touched_link}
 use Rattle.rsl_book.proofs.Found.{set_is_change}
