@@ -31,8 +31,6 @@ mod happening;
 mod line;
 mod request;
 mod script;
-#[cfg(test)]
-mod tests;
 mod values;
 mod verb;
 mod words;
