@@ -71,7 +71,7 @@ impl StoredAsk {
 
 impl StoredStop {
     /// Whether it closes the session of this id at an access server.
-    #[tactic(auto, unfolding(crate::specs::Seen::stop_seen, rsl_session::specs::Closed::closes, rsl_session::specs::Same::same_session, rsl_session::specs::Same::same_octets))]
+    #[tactic(auto, unfolding(crate::specs::Seen::stop_seen, rsl_session::specs::Closed::closes, rsl_session::specs::Same::same_session))]
     fn closes(&self, servers: &Servers, rules: &Rules, now: u64, nas: &Nas, id: &Octets) -> bool
         ensures { result ≡ closes rules.now (record { nas = nas.now; id = id.now }) now (stop_seen servers.now self.now) }
     {

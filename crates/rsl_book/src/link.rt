@@ -122,7 +122,7 @@ impl Link {
     }
 
     /// Whether it is bound to the session of this id at an access server.
-    #[tactic(auto, unfolding(crate::specs::Seen::link_seen, rsl_session::specs::BookLinks::is_link_of, rsl_session::specs::Same::same_session, rsl_session::specs::Same::same_octets))]
+    #[tactic(auto, unfolding(crate::specs::Seen::link_seen, rsl_session::specs::BookLinks::is_link_of, rsl_session::specs::Same::same_session))]
     pub(crate) fn is_of(&self, servers: &Servers, nas: &Nas, id: &Octets) -> bool
         ensures { result ≡ is_link_of (record { nas = nas.now; id = id.now }) (link_seen servers.now self.now) }
     {
@@ -144,7 +144,7 @@ impl Link {
     }
 
     /// Whether it is in the bundle of this id at an access server.
-    #[tactic(auto, unfolding(crate::specs::Seen::link_seen, rsl_session::specs::Same::same_bundle, rsl_session::specs::Same::same_octets))]
+    #[tactic(auto, unfolding(crate::specs::Seen::link_seen, rsl_session::specs::Same::same_bundle))]
     pub(crate) fn is_in(&self, servers: &Servers, nas: &Nas, id: &Octets) -> bool
         ensures { result ≡ is_bundle (record { nas = nas.now; id = id.now }) (link_seen servers.now self.now).bundle }
     {

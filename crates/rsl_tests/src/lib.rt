@@ -11,6 +11,8 @@ mod accounts;
 #[cfg(test)]
 mod auth;
 #[cfg(test)]
+mod book;
+#[cfg(test)]
 mod event;
 #[cfg(test)]
 mod replay;
