@@ -9,8 +9,8 @@ pub struct Client {
     pub address: [u8; 4],
     /// The secret shared with it: 1 to 128 octets of UTF-8 without NUL.
     pub secret: Secret,
-    /// Whether each of its Access-Requests must have a right Message-Authenticator (RFC 3579 section
-    /// 3.2).
+    /// Whether each of its Access-Requests must have a right Message-Authenticator (RFC 3579
+    /// section 3.2).
     pub signed: bool,
 }
 

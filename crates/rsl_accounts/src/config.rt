@@ -1,21 +1,50 @@
-ghost use Rattle.std.specs.Prelude.{◌≡◌, ◌≢◌, ◌<◌, ◌%◌, false, true, None, IfOk, IfErr, IfSome, position, length, slice_get, map};
+ghost use Rattle.std.specs.Prelude.{
+  ◌≡◌,
+  ◌≢◌,
+  ◌<◌,
+  ◌%◌,
+  false,
+  true,
+  None,
+  IfOk,
+  IfErr,
+  IfSome,
+  position,
+  length,
+  slice_get,
+  map,
+};
 ghost use Rattle.std.specs.List.{list_any};
 ghost use Rattle.std.specs.Result.{result_err};
-ghost use Rattle.rsl_accounts.specs.Configuration.{same_octets, walk_over, configuration_of, PassesBeforeNames, client_number, account_number, comes_twice, addresses, names, with_times};
+ghost use Rattle.rsl_accounts.specs.Configuration.{
+  same_octets,
+  walk_over,
+  configuration_of,
+  PassesBeforeNames,
+  client_number,
+  account_number,
+  comes_twice,
+  addresses,
+  names,
+  with_times,
+};
+ghost use Rattle.rsl_accounts.specs.File.{configuration_of_text};
 ghost use Rattle.rsl_accounts.specs.Walk.{first_fault};
 ghost use Rattle.rsl_accounts.specs.Limits.{IsConfiguration, IsAccount, IsSecret};
 
 use crate::client::Client;
 use crate::entry::Entry;
 use crate::fault::ConfigFault;
+use crate::field::Field;
+use crate::file::{parse, read_clients, read_entries, settings, tables, version};
 use crate::settings::{Head, Settings};
 use crate::walk::walk;
 use indexmap::IndexSet;
 use std::alloc::Global;
 use std::marker::Model;
 
-/// Settings, clients and accounts that are within their limits. Clients and accounts are numbered from 0
-/// in the order of the file.
+/// Settings, clients and accounts that are within their limits. Clients and accounts are numbered
+/// from 0 in the order of the file.
 #[derive(Drop)]
 pub struct Config {
     settings: Settings,
@@ -37,12 +66,13 @@ impl Model for Config {
 }
 
 impl Config {
-    /// The configuration of these settings, clients and accounts. The rules of each account get its times:
-    /// those of the settings, but in version 2 its own live and grace times where it has them.
+    /// The configuration of these settings, clients and accounts. The rules of each account get its
+    /// times: those of the settings, but in version 2 its own live and grace times where it has
+    /// them.
     ///
     /// The faults come in this order: `BadValue` of the first field of the walk with a wrong value,
-    /// `TwiceClient`, `TwiceAccount`, `KeepTooLong`. `NoMemory` comes where memory is refused, and only after
-    /// the walk and `TwiceClient`.
+    /// `TwiceClient`, `TwiceAccount`, `KeepTooLong`. `NoMemory` comes where memory is refused, and
+    /// only after the walk and `TwiceClient`.
     pub fn make(
         alloc: Global,
         settings: Settings,
@@ -57,6 +87,26 @@ impl Config {
             PassesBeforeNames settings clients.items accounts.items) }
     {
         walk_over(settings, clients.as_slice(), accounts.as_slice())?;
+        Config::assemble(alloc, settings, clients, accounts)
+    }
+
+    /// The configuration of the text of an account file. The faults come in this order: `NotToml`;
+    /// then `Missing` or `BadValue` of the first field of the walk that is absent or has a wrong
+    /// value; then `TwiceClient`, `TwiceAccount` and `KeepTooLong`. `NoMemory` comes where memory
+    /// is refused, before the checks that follow. Keys that are not those of a field are ignored.
+    pub fn read(alloc: Global, text: &[u8]) -> Result<Config, ConfigFault>
+        ensures ok { IfOk result (λ config. configuration_of_text text.now ≡ Ok config) }
+        ensures fault { IfErr result (λ fault. fault ≢ ConfigFault.NoMemory →
+            configuration_of_text text.now ≡ Err fault) }
+    {
+        let file = parse(alloc, text)?;
+        let clients = tables(&file, Field::Client);
+        let accounts = tables(&file, Field::Account);
+        let version = version(&file);
+        walk(version, &file, clients, accounts)?;
+        let settings = settings(&file);
+        let clients = read_clients(alloc, clients)?;
+        let accounts = read_entries(alloc, version, accounts)?;
         Config::assemble(alloc, settings, clients, accounts)
     }
 

@@ -1,9 +1,33 @@
 ghost use Rattle.std.specs.Prelude.{◌≡◌, Some};
-ghost use Rattle.rsl_accounts.specs.Field.{field_key, is_optional, is_between, is_secret, is_name, has_no_nul, is_visible, takes_number, takes_boolean, takes_count, takes_text};
+ghost use Rattle.rsl_accounts.specs.Field.{
+  field_key,
+  is_optional,
+  is_between,
+  is_secret,
+  is_name,
+  has_no_nul,
+  is_visible,
+  takes_number,
+  takes_boolean,
+  takes_count,
+  takes_text,
+};
 
 use crate::address::address_of;
 use crate::rules::{MAX_PLACES, MAX_PORTS, MAX_TIME};
 use std::fmt;
+
+/// The most clients of a file.
+const MAX_CLIENTS: u64 = 256;
+
+/// The most accounts of a file.
+const MAX_ACCOUNTS: u64 = 16_384;
+
+/// The most octets of a secret or a password.
+const MAX_SECRET_LEN: u64 = 128;
+
+/// The most octets of a name.
+const MAX_NAME_LEN: u64 = 64;
 
 /// A field of an account file.
 #[derive(Clone, Copy, Debug, PartialEq, Eq)]
@@ -136,8 +160,8 @@ impl Field {
         ensures { result ≡ takes_count self count }
     {
         match self {
-            Field::Client => is_between(1, 256, count as u64),
-            Field::Account => is_between(1, 16_384, count as u64),
+            Field::Client => is_between(1, MAX_CLIENTS, count as u64),
+            Field::Account => is_between(1, MAX_ACCOUNTS, count as u64),
             _ => false,
         }
     }
@@ -173,14 +197,14 @@ fn is_between(least: u64, most: u64, number: u64) -> bool
 fn is_secret(text: &[u8]) -> bool
     ensures { result ≡ is_secret text.now }
 {
-    is_between(1, 128, text.len() as u64) && has_no_nul(text)
+    is_between(1, MAX_SECRET_LEN, text.len() as u64) && has_no_nul(text)
 }
 
 /// Whether the text has 1 to 64 octets, each a visible character of ASCII.
 fn is_name(text: &[u8]) -> bool
     ensures { result ≡ is_name text.now }
 {
-    is_between(1, 64, text.len() as u64) && is_visible(text)
+    is_between(1, MAX_NAME_LEN, text.len() as u64) && is_visible(text)
 }
 
 fn has_no_nul(text: &[u8]) -> bool

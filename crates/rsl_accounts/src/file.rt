@@ -1,13 +1,45 @@
-//! The account file: TOML with the settings at its head, an array of tables `client` and one `account`.
-ghost use Rattle.std.specs.Prelude.{◌≡◌, ◌≢◌, Some, None, [], map, is_some, option_copied, option_map, unwrap_or, IfOk, IfErr};
+//! The account file: TOML with the settings at its head, an array of tables `client` and one
+//! `account`.
+ghost use Rattle.std.specs.Prelude.{
+  ◌≡◌,
+  ◌≢◌,
+  Some,
+  None,
+  [],
+  map,
+  is_some,
+  option_copied,
+  option_map,
+  unwrap_or,
+  IfOk,
+  IfErr,
+};
 ghost use Rattle.std.specs.List.{list_all};
 ghost use Rattle.toml.specs.Data.{as_table};
 ghost use Rattle.toml.specs.View.{view};
-ghost use Rattle.rsl_accounts.specs.File.{file_of, member_in, natural, given_value, given_items, given_in, file_number, short_number_in, text_in, boolean_in, tables_in, version_in, settings_in, address_in, client_in, rules_in, own_number, entry_in, configuration_of_text};
+ghost use Rattle.rsl_accounts.specs.File.{
+  file_of,
+  member_in,
+  natural,
+  given_value,
+  given_items,
+  given_in,
+  file_number,
+  short_number_in,
+  text_in,
+  boolean_in,
+  tables_in,
+  version_in,
+  settings_in,
+  address_in,
+  client_in,
+  rules_in,
+  own_number,
+  entry_in,
+};
 
 use crate::address::address_of;
 use crate::client::Client;
-use crate::config::Config;
 use crate::entry::Entry;
 use crate::fault::ConfigFault;
 use crate::field::Field;
@@ -16,35 +48,13 @@ use crate::rules::Rules;
 use crate::secret::Secret;
 use crate::settings::Settings;
 use crate::text::Text;
-use crate::walk::{knows_own_times, walk};
+use crate::walk::knows_own_times;
 use rsl_wire::NoMemory;
 use std::alloc::Global;
 use toml::Value;
 
-impl Config {
-    /// The configuration of the text of an account file. The faults come in this order: `NotToml`; then
-    /// `Missing` or `BadValue` of the first field of the walk that is absent or has a wrong value; then
-    /// `TwiceClient`, `TwiceAccount` and `KeepTooLong`. `NoMemory` comes where memory is refused, before
-    /// the checks that follow. Keys that are not those of a field are ignored.
-    pub fn read(alloc: Global, text: &[u8]) -> Result<Config, ConfigFault>
-        ensures ok { IfOk result (λ config. configuration_of_text text.now ≡ Ok config) }
-        ensures fault { IfErr result (λ fault. fault ≢ ConfigFault.NoMemory →
-            configuration_of_text text.now ≡ Err fault) }
-    {
-        let file = parse(alloc, text)?;
-        let clients = tables(&file, Field::Client);
-        let accounts = tables(&file, Field::Account);
-        let version = version(&file);
-        walk(version, &file, clients, accounts)?;
-        let settings = settings(&file);
-        let clients = read_clients(alloc, clients)?;
-        let accounts = read_entries(alloc, version, accounts)?;
-        Config::assemble(alloc, settings, clients, accounts)
-    }
-}
-
 /// The table that the text is.
-fn parse(alloc: Global, text: &[u8]) -> Result<Value, ConfigFault>
+pub(crate) fn parse(alloc: Global, text: &[u8]) -> Result<Value, ConfigFault>
     ensures ok { IfOk result (λ file. file_of text.now ≡ Some (view file)) }
     ensures fault { IfErr result (λ fault. fault ≢ ConfigFault.NoMemory →
         (fault ≡ ConfigFault.NotToml) × (file_of text.now ≡ None)) }
@@ -158,7 +168,7 @@ fn boolean(table: &Value, field: Field) -> bool
 }
 
 /// The tables of a field, or none if it is no array.
-fn tables(table: &Value, field: Field) -> &[Value]
+pub(crate) fn tables(table: &Value, field: Field) -> &[Value]
     ensures { map view result.now ≡ tables_in (view table.now) field }
 {
     match member(table, field) {
@@ -171,7 +181,7 @@ fn tables(table: &Value, field: Field) -> &[Value]
 }
 
 /// The version of the file's format, 0 if it has none.
-fn version(file: &Value) -> u64
+pub(crate) fn version(file: &Value) -> u64
     ensures { result ≡ version_in (view file.now) }
 {
     number(file, Field::Version).unwrap_or(0)
@@ -179,7 +189,7 @@ fn version(file: &Value) -> u64
 
 /// The settings at the head of a file that has passed the walk.
 #[tactic(auto, unfolding(crate::specs::File::settings_in))]
-fn settings(file: &Value) -> Settings
+pub(crate) fn settings(file: &Value) -> Settings
     ensures { result ≡ settings_in (view file.now) }
 {
     Settings {
@@ -221,7 +231,7 @@ fn read_client(alloc: Global, table: &Value) -> Result<Client, NoMemory>
     })
 }
 
-fn read_clients(alloc: Global, tables: &[Value]) -> Result<Vec<Client>, NoMemory>
+pub(crate) fn read_clients(alloc: Global, tables: &[Value]) -> Result<Vec<Client>, NoMemory>
     ensures { IfOk result (λ clients. clients.items ≡ map client_in (map view tables.now)) }
 {
     let mut clients = Vec::with_capacity(alloc, tables.len())?;
@@ -275,7 +285,11 @@ fn read_entry(alloc: Global, version: u64, table: &Value) -> Result<Entry, NoMem
     })
 }
 
-fn read_entries(alloc: Global, version: u64, tables: &[Value]) -> Result<Vec<Entry>, NoMemory>
+pub(crate) fn read_entries(
+    alloc: Global,
+    version: u64,
+    tables: &[Value],
+) -> Result<Vec<Entry>, NoMemory>
     ensures { IfOk result (λ entries.
         entries.items ≡ map (entry_in version) (map view tables.now)) }
 {

@@ -1,7 +1,17 @@
 ghost use Rattle.std.specs.Prelude.{◌≡◌};
+ghost use Rattle.std.specs.Result.{result_err};
 ghost use Rattle.rsl_accounts.specs.declared.field.Field.{Field as FieldValue};
 ghost use Rattle.rsl_accounts.specs.declared.given.Given.{Given as GivenValue};
+ghost use Rattle.rsl_accounts.specs.Walk.{
+  fault_of,
+  given_boolean,
+  given_count,
+  given_if,
+  given_number,
+  given_text,
+};
 
+use crate::fault::ConfigFault;
 use crate::field::Field;
 
 /// What is given for a field.
@@ -15,6 +25,44 @@ pub(crate) enum Given {
     Right,
 }
 
+impl Given {
+    pub(crate) fn number(field: Field, number: u64) -> Given
+        ensures { result ≡ given_number field number }
+    {
+        given_if(field.takes_number(number))
+    }
+
+    pub(crate) fn boolean(field: Field) -> Given
+        ensures { result ≡ given_boolean field }
+    {
+        given_if(field.takes_boolean())
+    }
+
+    pub(crate) fn count(field: Field, count: usize) -> Given
+        ensures { result ≡ given_count field count }
+    {
+        given_if(field.takes_count(count))
+    }
+
+    pub(crate) fn text(field: Field, text: &[u8]) -> Given
+        ensures { result ≡ given_text field text.now }
+    {
+        given_if(field.takes_text(text))
+    }
+
+    /// The fault of the field, if this is what is given for it.
+    pub(crate) fn check(self, field: Field) -> Result<(), ConfigFault>
+        ensures { result_err result ≡ fault_of field self }
+    {
+        match self {
+            Given::Absent if field.is_optional() => Ok(()),
+            Given::Absent => Err(ConfigFault::Missing(field)),
+            Given::Wrong => Err(ConfigFault::BadValue(field)),
+            Given::Right => Ok(()),
+        }
+    }
+}
+
 /// A part of an account file, or what stands for one.
 pub(crate) trait Fields {
     ghost given_of: { Self → FieldValue → GivenValue };
@@ -22,4 +70,10 @@ pub(crate) trait Fields {
     /// What is given for the field here.
     fn given(&self, field: Field) -> Given
         ensures { result ≡ given_of self.now field };
+}
+
+fn given_if(is_right: bool) -> Given
+    ensures { result ≡ given_if is_right }
+{
+    if is_right { Given::Right } else { Given::Wrong }
 }

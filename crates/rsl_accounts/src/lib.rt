@@ -1,11 +1,11 @@
-//! The accounts that a RADIUS server serves: clients with their secrets, accounts with their passwords
-//! and session limits, and the settings that hold for all of them.
+//! The accounts that a RADIUS server serves: clients with their secrets, accounts with their
+//! passwords and session limits, and the settings that hold for all of them.
 //!
-//! A `Config` is read from an account file by `Config::read`, or made from its parts by `Config::make`.
-//! Each answers exactly what its definition says, `configuration_of_text` of `specs/File.antt` and
-//! `configuration_of` of `specs/Configuration.antt`, or that memory was refused. Every `Config` is within
-//! the limits of `specs/Limits.antt`. The order of the checks stands in `specs/Walk.antt`, and the values
-//! that a field may have in `specs/Field.antt`.
+//! A `Config` is read from an account file by `Config::read`, or made from its parts by
+//! `Config::make`. Each answers exactly what its definition says, `configuration_of_text` of
+//! `specs/File.antt` and `configuration_of` of `specs/Configuration.antt`, or that memory was
+//! refused. Every `Config` is within the limits of `specs/Limits.antt`. The order of the checks
+//! stands in `specs/Walk.antt`, and the values that a field may have in `specs/Field.antt`.
 #![tactic(auto)]
 
 mod address;

@@ -9,8 +9,8 @@ use std::alloc::Global;
 use std::fmt;
 use std::marker::Model;
 
-/// A shared secret or a password, which `Debug` does not print: it writes `Secret(..)`. `expose` is the
-/// one way to its octets. A contract sees it as the list of its octets.
+/// A shared secret or a password, which `Debug` does not print: it writes `Secret(..)`. `expose` is
+/// the one way to its octets. A contract sees it as the list of its octets.
 #[derive(Drop)]
 pub struct Secret {
     text: Text,

@@ -29,8 +29,8 @@ pub struct Settings {
 impl Settings {
     ghost use Rattle.rsl_accounts.specs.Settings.{rules_of};
 
-    /// The session limit of the account, with its times: its own where the version knows them and the
-    /// account has them, else those of the settings.
+    /// The session limit of the account, with its times: its own where the version knows them and
+    /// the account has them, else those of the settings.
     pub(crate) fn rules_of(&self, entry: &Entry) -> Rules
         ensures { result ≡ rules_of self.now entry.now }
     {

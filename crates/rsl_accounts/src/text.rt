@@ -7,8 +7,8 @@ use rsl_wire::NoMemory;
 use std::alloc::Global;
 use std::marker::Model;
 
-/// A text in UTF-8. A contract sees it as the list of its octets, and not where it lies in memory or
-/// how much room it has.
+/// A text in UTF-8. A contract sees it as the list of its octets, and not where it lies in memory
+/// or how much room it has.
 #[derive(Debug, Drop)]
 pub struct Text {
     text: String,

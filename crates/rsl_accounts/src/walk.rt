@@ -1,12 +1,19 @@
 ghost use Rattle.std.specs.Prelude.{◌≡◌, map};
 ghost use Rattle.std.specs.List.{flat_map};
 ghost use Rattle.std.specs.Result.{result_err};
-ghost use Rattle.rsl_accounts.specs.Walk.{file_fields, client_fields, account_fields, given_if, given_number, given_boolean, given_count, given_text, fault_of, checks, walk, first_fault};
+ghost use Rattle.rsl_accounts.specs.Walk.{
+  account_fields,
+  checks,
+  client_fields,
+  file_fields,
+  first_fault,
+  walk,
+};
 ghost use Rattle.rsl_accounts.specs.Version.{knows_own_times};
 
 use crate::fault::ConfigFault;
 use crate::field::Field;
-use crate::given::{Fields, Given};
+use crate::given::Fields;
 
 const FILE_FIELDS: [Field; 9] = [
     Field::Version,
@@ -39,50 +46,6 @@ const ACCOUNT_FIELDS: [Field; 10] = [
     Field::OwnGrace,
 ];
 
-impl Given {
-    pub(crate) fn number(field: Field, number: u64) -> Given
-        ensures { result ≡ given_number field number }
-    {
-        given_if(field.takes_number(number))
-    }
-
-    pub(crate) fn boolean(field: Field) -> Given
-        ensures { result ≡ given_boolean field }
-    {
-        given_if(field.takes_boolean())
-    }
-
-    pub(crate) fn count(field: Field, count: usize) -> Given
-        ensures { result ≡ given_count field count }
-    {
-        given_if(field.takes_count(count))
-    }
-
-    pub(crate) fn text(field: Field, text: &[u8]) -> Given
-        ensures { result ≡ given_text field text.now }
-    {
-        given_if(field.takes_text(text))
-    }
-
-    /// The fault of the field, if this is what is given for it.
-    fn check(self, field: Field) -> Result<(), ConfigFault>
-        ensures { result_err result ≡ fault_of field self }
-    {
-        match self {
-            Given::Absent if field.is_optional() => Ok(()),
-            Given::Absent => Err(ConfigFault::Missing(field)),
-            Given::Wrong => Err(ConfigFault::BadValue(field)),
-            Given::Right => Ok(()),
-        }
-    }
-}
-
-fn given_if(is_right: bool) -> Given
-    ensures { result ≡ given_if is_right }
-{
-    if is_right { Given::Right } else { Given::Wrong }
-}
-
 /// Whether an account can have times of its own.
 pub(crate) fn knows_own_times(version: u64) -> bool
     ensures { result ≡ knows_own_times version }
@@ -102,8 +65,8 @@ fn account_fields(version: u64) -> &'static [Field]
     }
 }
 
-/// Walks over the head of a file, then over each client, then over each account. The first field that is
-/// absent or wrong is the fault.
+/// Walks over the head of a file, then over each client, then over each account. The first field
+/// that is absent or wrong is the fault.
 #[tactic(auto, using(crate::proofs::Faults::walk_steps), unfolding(crate::specs::Walk::file_fields, crate::specs::Walk::client_fields))]
 pub(crate) fn walk<H: Fields, C: Fields, A: Fields>(
     version: u64,
@@ -111,8 +74,8 @@ pub(crate) fn walk<H: Fields, C: Fields, A: Fields>(
     clients: &[C],
     accounts: &[A],
 ) -> Result<(), ConfigFault>
-    ensures { result_err result ≡ first_fault (
-        walk version (H.given_of head.now) (map C.given_of clients.now) (map A.given_of accounts.now)) }
+    ensures { result_err result ≡ first_fault (walk version
+        (H.given_of head.now) (map C.given_of clients.now) (map A.given_of accounts.now)) }
 {
     walk_one(&FILE_FIELDS, head)?;
     walk_each(&CLIENT_FIELDS, clients)?;
@@ -121,7 +84,8 @@ pub(crate) fn walk<H: Fields, C: Fields, A: Fields>(
 
 #[tactic(auto, using(crate::proofs::Faults::loop_steps))]
 fn walk_each<F: Fields>(fields: &[Field], each: &[F]) -> Result<(), ConfigFault>
-    ensures { result_err result ≡ first_fault (flat_map (checks fields.now) (map F.given_of each.now)) }
+    ensures { result_err result ≡
+        first_fault (flat_map (checks fields.now) (map F.given_of each.now)) }
 {
     for one in each {
         walk_one(fields, one)?;

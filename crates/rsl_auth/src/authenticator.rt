@@ -8,12 +8,10 @@ ghost use Rattle.rsl_auth.specs.Authenticator.{
 };
 
 use md5::{Digest, Md5};
+use rsl_wire::HEADER_LEN;
 
 /// Octets of Code, Identifier and Length (RFC 2865 section 3).
 pub(crate) const AUTHENTICATOR_START: usize = 4;
-
-/// Octets before the Attributes.
-pub(crate) const ATTRIBUTES_START: usize = 20;
 
 /// Writes the Response Authenticator, MD5(Code, Identifier, Length, Request Authenticator,
 /// Attributes, Secret), into octets 4 to 19 of a packet (RFC 2865 section 3). The other octets
@@ -27,10 +25,11 @@ pub fn seal(packet: &mut [u8], request_auth: &[u8; 16], secret: &[u8])
         IsTrue (is_accounting_authentic packet.new secret.now) }
 {
     let digest = authenticator_of(packet, request_auth, secret);
-    packet[AUTHENTICATOR_START..ATTRIBUTES_START].copy_from_slice(&digest);
+    packet[AUTHENTICATOR_START..HEADER_LEN].copy_from_slice(&digest);
 }
 
-/// The packet with its Response Authenticator: `seal` of octets that are moved in. It takes no memory.
+/// The packet with its Response Authenticator: `seal` of octets that are moved in. It takes no
+/// memory.
 pub fn sealed(mut packet: Vec<u8>, request_auth: &[u8; 16], secret: &[u8]) -> Vec<u8>
     requires { 20 ≤ vec_len packet }
     ensures { result.items ≡ sealed packet.items request_auth.now secret.now }
@@ -49,7 +48,7 @@ pub fn accounting_ok(packet: &[u8], secret: &[u8]) -> bool
         (authenticator packet.now ≡ accounting_authenticator packet.now secret.now) }
 {
     let digest = authenticator_of(packet, &[0; 16], secret);
-    &packet[AUTHENTICATOR_START..ATTRIBUTES_START] == digest.as_slice()
+    &packet[AUTHENTICATOR_START..HEADER_LEN] == digest.as_slice()
 }
 
 // The Response Authenticator of a packet.
@@ -61,7 +60,7 @@ fn authenticator_of(packet: &[u8], request_auth: &[u8; 16], secret: &[u8]) -> [u
     let mut hasher = Md5::new();
     hasher.update(&packet[..AUTHENTICATOR_START]);
     hasher.update(request_auth);
-    hasher.update(&packet[ATTRIBUTES_START..]);
+    hasher.update(&packet[HEADER_LEN..]);
     hasher.update(secret);
     hasher.finalize()
 }

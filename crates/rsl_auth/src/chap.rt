@@ -3,11 +3,11 @@ ghost use Rattle.rsl_auth.specs.Chap.{chap_response, matches_chap};
 
 use md5::{Digest, Md5};
 
-/// Octets of a CHAP-Password: a CHAP Ident and a response of 16.
-const CHAP_PASSWORD_LEN: usize = 17;
+/// Octets of a CHAP-Password: a CHAP Ident and a response of 16 (RFC 2865 section 5.3).
+pub const CHAP_PASSWORD_LEN: usize = 17;
 
-/// The response to a challenge: MD5(CHAP Ident, password, challenge) (RFC 2865 section 5.3). It takes no
-/// memory.
+/// The response to a challenge: MD5(CHAP Ident, password, challenge) (RFC 2865 section 5.3). It
+/// takes no memory.
 #[tactic(auto, unfolding(crate::specs::Chap::chap_response))]
 pub fn chap_response(ident: u8, password: &[u8], challenge: &[u8]) -> [u8; 16]
     ensures { result ≡ chap_response ident password.now challenge.now }

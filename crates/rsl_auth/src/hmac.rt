@@ -16,9 +16,9 @@ const INNER_PAD: u8 = 0x36;
 /// Each octet of the pad of the outer digest, opad.
 const OUTER_PAD: u8 = 0x5c;
 
-/// HMAC-MD5 of a message under a key of any length: MD5(K xor opad, MD5(K xor ipad, message)), where K is
-/// the key, or the digest of a key of more than 64 octets, with zeros after it to 64 octets (RFC 2104
-/// section 2). It takes no memory.
+/// HMAC-MD5 of a message under a key of any length: MD5(K xor opad, MD5(K xor ipad, message)),
+/// where K is the key, or the digest of a key of more than 64 octets, with zeros after it to 64
+/// octets (RFC 2104 section 2). It takes no memory.
 pub fn hmac_md5(key: &[u8], message: &[u8]) -> [u8; 16]
     ensures { result ≡ hmac_md5 key.now message.now }
 {

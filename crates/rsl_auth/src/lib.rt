@@ -1,8 +1,8 @@
-//! The authenticators, passwords and signatures of RADIUS packets (RFC 2865, RFC 2866, RFC 3579): each
-//! call gives exactly what the RFC's formula over MD5 gives for the octets that it is lent. It knows
-//! octets and nothing of accounts, and promises nothing of MD5's strength. The formulas to read are in
-//! `specs/Authenticator.antt`, `specs/Password.antt`, `specs/Chap.antt`, `specs/Hmac.antt` and
-//! `specs/Signature.antt`.
+//! The authenticators, passwords and signatures of RADIUS packets (RFC 2865, RFC 2866, RFC 3579):
+//! each call gives exactly what the RFC's formula over MD5 gives for the octets that it is lent. It
+//! knows octets and nothing of accounts, and promises nothing of MD5's strength. The formulas to
+//! read are in `specs/Authenticator.antt`, `specs/Password.antt`, `specs/Chap.antt`,
+//! `specs/Hmac.antt` and `specs/Signature.antt`.
 #![tactic(auto)]
 
 mod authenticator;
@@ -12,7 +12,7 @@ mod password;
 mod signature;
 
 pub use authenticator::{accounting_ok, seal, sealed};
-pub use chap::{chap_ok, chap_response};
+pub use chap::{CHAP_PASSWORD_LEN, chap_ok, chap_response};
 pub use hmac::hmac_md5;
-pub use password::{hide, pap_ok};
-pub use signature::{sign, signature_ok};
+pub use password::{MAX_PASSWORD_LEN, hide, pap_ok};
+pub use signature::{SIGNATURE_LEN, sign, signature_ok};

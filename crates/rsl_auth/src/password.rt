@@ -1,4 +1,17 @@
-ghost use Rattle.std.specs.Prelude.{◌≡◌, ◌↔◌, ◌≤◌, ◌+◌, ◌-◌, ◌/◌, ◌++◌, IsTrue, IfOk, length, take, replicate};
+ghost use Rattle.std.specs.Prelude.{
+  ◌≡◌,
+  ◌↔◌,
+  ◌≤◌,
+  ◌+◌,
+  ◌-◌,
+  ◌/◌,
+  ◌++◌,
+  IsTrue,
+  IfOk,
+  length,
+  take,
+  replicate,
+};
 ghost use Rattle.rsl_auth.specs.Password.{
   are_nuls,
   hidden,
@@ -20,13 +33,13 @@ use std::alloc::Global;
 /// Octets of a block (RFC 2865 section 5.2).
 const BLOCK_LEN: usize = 16;
 
-/// The longest password, and the longest value.
-const MAX_LEN: usize = 128;
+/// The most octets of a password, and of the value that hides it (RFC 2865 section 5.2).
+pub const MAX_PASSWORD_LEN: usize = 128;
 
-/// The User-Password value that hides a password of at most 128 octets: padded with NULs to blocks of
-/// 16, at least one, each xor MD5(Secret, the hidden block before), the first xor MD5(Secret, Request
-/// Authenticator) (RFC 2865 section 5.2). It has 16, 32, .. or 128 octets. It fails only where memory is
-/// refused.
+/// The User-Password value that hides a password of at most 128 octets: padded with NULs to blocks
+/// of 16, at least one, each xor MD5(Secret, the hidden block before), the first xor MD5(Secret,
+/// Request Authenticator) (RFC 2865 section 5.2). It has 16, 32, .. or 128 octets. It fails only
+/// where memory is refused.
 pub fn hide(
     alloc: Global,
     password: &[u8],
@@ -74,11 +87,11 @@ fn padded_len(len: usize) -> usize
 }
 
 // The password, and NULs after it.
-fn pad(password: &[u8]) -> [u8; MAX_LEN]
+fn pad(password: &[u8]) -> [u8; MAX_PASSWORD_LEN]
     requires { length password.now ≤ 128 }
     ensures { result ≡ password.now ++ replicate (128 - length password.now) 0 }
 {
-    let mut buffer = [0u8; MAX_LEN];
+    let mut buffer = [0u8; MAX_PASSWORD_LEN];
     buffer[..password.len()].copy_from_slice(password);
     buffer
 }
@@ -90,8 +103,8 @@ fn hide_blocks(
     secret: &[u8],
     request_auth: &[u8; 16],
 ) -> Result<Vec<u8>, NoMemory>
-    ensures { IfOk result (λ value.
-        value.items ≡ hidden_blocks (length octets.now / 16) octets.now secret.now request_auth.now) }
+    ensures { IfOk result (λ value. value.items ≡
+        hidden_blocks (length octets.now / 16) octets.now secret.now request_auth.now) }
 {
     let mut value = Vec::with_capacity(alloc, octets.len())?;
     let mut before = *request_auth;
@@ -108,15 +121,15 @@ fn has_password_len(value: &[u8]) -> bool
     ensures { result ≡ is_password_length (length value.now) }
 {
     let len = value.len();
-    len % BLOCK_LEN == 0 && BLOCK_LEN <= len && len <= MAX_LEN
+    len % BLOCK_LEN == 0 && BLOCK_LEN <= len && len <= MAX_PASSWORD_LEN
 }
 
 // The octets that a value hides, at the start of a buffer.
-fn reveal(value: &[u8], secret: &[u8], request_auth: &[u8; 16]) -> [u8; MAX_LEN]
+fn reveal(value: &[u8], secret: &[u8], request_auth: &[u8; 16]) -> [u8; MAX_PASSWORD_LEN]
     requires { IsPasswordLength (length value.now) }
     ensures { take (length value.now) result ≡ revealed value.now secret.now request_auth.now }
 {
-    let mut buffer = [0u8; MAX_LEN];
+    let mut buffer = [0u8; MAX_PASSWORD_LEN];
     let mut before: &[u8] = request_auth;
     for k in 0..value.len() / BLOCK_LEN {
         let at = BLOCK_LEN * k;

@@ -2,18 +2,19 @@ ghost use Rattle.std.specs.Prelude.{◌≡◌, ◌↔◌, ◌≤◌, ◌+◌, Is
 ghost use Rattle.rsl_auth.specs.Authenticator.{authenticator};
 ghost use Rattle.rsl_auth.specs.Signature.{is_signed, signature, signed, value_at};
 
-use crate::authenticator::{ATTRIBUTES_START, AUTHENTICATOR_START};
+use crate::authenticator::AUTHENTICATOR_START;
 use crate::hmac::{begun, ended};
 use md5::Digest;
+use rsl_wire::HEADER_LEN;
 
-/// Octets of the value of a Message-Authenticator.
-const SIGNATURE_LEN: usize = 16;
+/// Octets of the value of a Message-Authenticator (RFC 3579 section 3.2).
+pub const SIGNATURE_LEN: usize = 16;
 
-/// Writes the value of the Message-Authenticator that stands at `at`: HMAC-MD5 keyed by the secret over
-/// Code, Identifier, Length, `request_auth` and the Attributes, with sixteen zero octets for the value
-/// itself (RFC 3579 section 3.2). The octets before `at` and from `at + 16` on stay. A request is signed
-/// with its own Authenticator, and `signature_ok` then finds it right; a reply is signed with the
-/// request's before it is sealed. It takes no memory.
+/// Writes the value of the Message-Authenticator that stands at `at`: HMAC-MD5 keyed by the secret
+/// over Code, Identifier, Length, `request_auth` and the Attributes, with sixteen zero octets for
+/// the value itself (RFC 3579 section 3.2). The octets before `at` and from `at + 16` on stay. A
+/// request is signed with its own Authenticator, and `signature_ok` then finds it right; a reply is
+/// signed with the request's before it is sealed. It takes no memory.
 pub fn sign(packet: &mut [u8], at: usize, request_auth: &[u8; 16], secret: &[u8])
     requires after_header { 20 ≤ at }
     requires within { at + 16 ≤ length packet.old }
@@ -25,8 +26,8 @@ pub fn sign(packet: &mut [u8], at: usize, request_auth: &[u8; 16], secret: &[u8]
     packet[at..at + SIGNATURE_LEN].copy_from_slice(&value);
 }
 
-/// Whether the Message-Authenticator of a request, of which the value stands at `at`, is right (RFC 3579
-/// section 3.2). It takes no memory.
+/// Whether the Message-Authenticator of a request, of which the value stands at `at`, is right (RFC
+/// 3579 section 3.2). It takes no memory.
 #[tactic(auto, unfolding(crate::specs::Signature::is_signed))]
 pub fn signature_ok(packet: &[u8], at: usize, secret: &[u8]) -> bool
     requires after_header { 20 ≤ at }
@@ -35,7 +36,7 @@ pub fn signature_ok(packet: &[u8], at: usize, secret: &[u8]) -> bool
     ensures right { IsTrue result ↔
         (value_at packet.now at ≡ signature packet.now at (authenticator packet.now) secret.now) }
 {
-    let request_auth = &packet[AUTHENTICATOR_START..ATTRIBUTES_START];
+    let request_auth = &packet[AUTHENTICATOR_START..HEADER_LEN];
     let value = signature_of(packet, at, request_auth, secret);
     &packet[at..at + SIGNATURE_LEN] == value.as_slice()
 }
@@ -50,7 +51,7 @@ fn signature_of(packet: &[u8], at: usize, request_auth: &[u8], secret: &[u8]) ->
     let mut inner = begun(secret);
     inner.update(&packet[..AUTHENTICATOR_START]);
     inner.update(request_auth);
-    inner.update(&packet[ATTRIBUTES_START..at]);
+    inner.update(&packet[HEADER_LEN..at]);
     inner.update(&[0; SIGNATURE_LEN]);
     inner.update(&packet[at + SIGNATURE_LEN..]);
     ended(inner, secret)

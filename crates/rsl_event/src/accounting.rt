@@ -2,7 +2,15 @@ ghost use Rattle.std.specs.Prelude.{◌≡◌, ◌<◌, IfOk, length};
 ghost use Rattle.std.specs.Int.{w64, from_be_bytes};
 ghost use Rattle.rsl_wire.specs.Attributes.{first_of};
 ghost use Rattle.rsl_wire.specs.Seen.{fields_of};
-ghost use Rattle.rsl_event.specs.Accounting.{class_number, class_in, unless_empty, note_of, session_act, status_meaning, accounting_meaning};
+ghost use Rattle.rsl_event.specs.Accounting.{
+  class_number,
+  class_in,
+  unless_empty,
+  note_of,
+  session_act,
+  status_meaning,
+  accounting_meaning,
+};
 ghost use Rattle.rsl_event.specs.Meaning.{Gives};
 
 use crate::codes::{

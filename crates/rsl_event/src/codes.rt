@@ -59,15 +59,12 @@ pub const ACCOUNTING_ON: u32 = 7;
 /// Acct-Status-Type Accounting-Off: the access server is about to stop.
 pub const ACCOUNTING_OFF: u32 = 8;
 
-/// Octets of an attribute's Type and Length (RFC 2865 section 5).
-pub(crate) const ATTR_HEADER_LEN: usize = 2;
-
-/// The most octets of Proxy-State attributes, with their headers, that a request may have: so a reply
-/// has room for them.
+/// The most octets of Proxy-State attributes, with their headers, that a request may have: so a
+/// reply has room for them.
 pub const MAX_PROXY_STATE_LEN: usize = 3900;
 
-// The definitions cite these names, so their numbers are said a second time, from the RFCs' own tables.
-// Codes (RFC 2865 section 4, RFC 2866 section 4).
+// The definitions cite these names, so their numbers are said a second time, from the RFCs' own
+// tables. Codes (RFC 2865 section 4, RFC 2866 section 4).
 const _: () = prove!(
     ACCESS_REQUEST == 1
         && ACCESS_ACCEPT == 2

@@ -25,6 +25,19 @@ pub struct Key {
     pub authenticator: [u8; 16],
 }
 
+impl Key {
+    ghost use Rattle.rsl_event.specs.Same.{same_key};
+
+    /// Whether the two are the same key.
+    #[tactic(auto, unfolding(crate::specs::Same::same_key))]
+    pub fn is_same(&self, other: &Key) -> bool
+        ensures test { result ≡ same_key self.now other.now }
+        ensures equal { IsTrue result ↔ (self.now ≡ other.now) }
+    {
+        self == other
+    }
+}
+
 /// What happens to an account.
 #[derive(Debug, PartialEq, Eq, Drop)]
 pub enum Act {
@@ -41,7 +54,8 @@ pub enum Act {
         nas: Nas,
         /// The Acct-Session-Id.
         session: Octets,
-        /// The Acct-Multi-Session-Id, which links of one multilink bundle share, where there is one.
+        /// The Acct-Multi-Session-Id, which links of one multilink bundle share, where there is
+        /// one.
         bundle: Option<Octets>,
         /// The accept number of this server's Class attribute, where there is one.
         class: Option<u64>,
@@ -62,43 +76,11 @@ pub enum Act {
     Tick,
 }
 
-/// An act, and the moment at which it happened.
-#[derive(Debug, PartialEq, Eq, Drop)]
-pub struct Event {
-    /// Seconds, by the clock of whoever hands them in. A later event may have a lower moment.
-    pub moment: u64,
-    /// What happened.
-    pub act: Act,
-}
-
-/// What the session rule decides on an event.
-#[derive(Clone, Copy, Debug, PartialEq, Eq)]
-pub enum Decision {
-    /// The ask is accepted, with this accept number.
-    Accept(u64),
-    /// The ask is rejected, since the account has no free place.
-    LimitReject,
-    /// The event is no ask: there is nothing to decide.
-    Done,
-}
-
-impl Key {
-    ghost use Rattle.rsl_event.specs.Same.{same_key};
-
-    /// Whether the two are the same key.
-    #[tactic(auto, unfolding(crate::specs::Same::same_key))]
-    pub fn is_same(&self, other: &Key) -> bool
-        ensures test { result ≡ same_key self.now other.now }
-        ensures equal { IsTrue result ↔ (self.now ≡ other.now) }
-    {
-        self == other
-    }
-}
-
 impl Act {
     ghost use Rattle.rsl_event.specs.Copied.{ActHoldsOctets};
 
-    /// An equal act. It fails only where memory is refused; one without octets of its own takes none.
+    /// An equal act. It fails only where memory is refused; one without octets of its own takes
+    /// none.
     pub fn try_copy(&self, alloc: Global) -> Result<Act, NoMemory>
         ensures copy { IfOk result (λ copy. copy ≡ self.now) }
         ensures refused { OnErr result (ActHoldsOctets self.now) }
@@ -116,7 +98,7 @@ impl Act {
             } => Act::Alive {
                 nas: nas.try_copy(alloc)?,
                 session: session.try_copy(alloc)?,
-                bundle: copy_of_bundle(alloc, bundle)?,
+                bundle: Octets::try_copy_option(alloc, bundle)?,
                 class: *class,
             },
             Act::Stop { nas, session } => Act::Stop {
@@ -131,10 +113,20 @@ impl Act {
     }
 }
 
+/// An act, and the moment at which it happened.
+#[derive(Debug, PartialEq, Eq, Drop)]
+pub struct Event {
+    /// Seconds, by the clock of whoever hands them in. A later event may have a lower moment.
+    pub moment: u64,
+    /// What happened.
+    pub act: Act,
+}
+
 impl Event {
     ghost use Rattle.rsl_event.specs.Copied.{ActHoldsOctets};
 
-    /// An equal event. It fails only where memory is refused; one without octets of its own takes none.
+    /// An equal event. It fails only where memory is refused; one without octets of its own takes
+    /// none.
     pub fn try_copy(&self, alloc: Global) -> Result<Event, NoMemory>
         ensures copy { IfOk result (λ copy. copy ≡ self.now) }
         ensures refused { OnErr result (ActHoldsOctets self.now.act) }
@@ -146,12 +138,13 @@ impl Event {
     }
 }
 
-/// An equal Acct-Multi-Session-Id, if there is one.
-fn copy_of_bundle(alloc: Global, bundle: &Option<Octets>) -> Result<Option<Octets>, NoMemory>
-    ensures { IfOk result (λ copy. copy ≡ bundle.now) }
-{
-    match bundle {
-        Some(id) => Ok(Some(id.try_copy(alloc)?)),
-        None => Ok(None),
-    }
+/// What the session rule decides on an event.
+#[derive(Clone, Copy, Debug, PartialEq, Eq)]
+pub enum Decision {
+    /// The ask is accepted, with this accept number.
+    Accept(u64),
+    /// The ask is rejected, since the account has no free place.
+    LimitReject,
+    /// The event is no ask: there is nothing to decide.
+    Done,
 }

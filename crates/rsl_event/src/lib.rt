@@ -2,9 +2,9 @@
 //!
 //! The promise: `prepare` gives the meaning of a datagram that `specs/Meaning.antt` defines, or the
 //! first cause in order for which it is dropped; `reply` gives the octets that `specs/Answer.antt`
-//! defines. Both are functions of the octets and the configuration alone. Read those two files first,
-//! and `specs/Access.antt` and `specs/Accounting.antt` for the two ports; what a client that signs has to
-//! send, and which replies are signed, is in `specs/Signature.antt`.
+//! defines. Both are functions of the octets and the configuration alone. Read those two files
+//! first, and `specs/Access.antt` and `specs/Accounting.antt` for the two ports; what a client that
+//! signs has to send, and which replies are signed, is in `specs/Signature.antt`.
 #![tactic(auto)]
 
 mod access;
@@ -25,5 +25,6 @@ pub use meaning::{Dropped, Meaning, Note, Port, Prepared};
 pub use nas::{Nas, NasName};
 pub use preparing::prepare;
 pub use replying::{reply, room, said};
+pub use signature::{push_signature_if, signed_if};
 pub use words::Said;
 pub use writing::class_octets;

@@ -31,11 +31,25 @@ pub struct Note {
     pub session: Octets,
 }
 
+impl Note {
+    /// An equal note. It fails only where memory is refused.
+    pub fn try_copy(&self, alloc: Global) -> Result<Note, NoMemory>
+        ensures { IfOk result (λ copy. copy ≡ self.now) }
+    {
+        Ok(Note {
+            nas: self.nas.try_copy(alloc)?,
+            status: self.status,
+            name: self.name.try_copy(alloc)?,
+            session: self.session.try_copy(alloc)?,
+        })
+    }
+}
+
 /// What a datagram means.
 #[derive(Debug, PartialEq, Eq, Drop)]
 pub enum Meaning {
-    /// A request on the authentication port whose attributes are malformed: it is rejected, and nothing
-    /// of it is repeated.
+    /// A request on the authentication port whose attributes are malformed: it is rejected, and
+    /// nothing of it is repeated.
     Bare,
     /// An Access-Request that asks for no account with the right password: it is rejected.
     Reject,
@@ -55,7 +69,8 @@ pub enum Meaning {
     Stray(Note),
 }
 
-/// Why a datagram is dropped without an answer. The first cause in this order that is there is named.
+/// Why a datagram is dropped without an answer. The first cause in this order that is there is
+/// named.
 #[derive(Clone, Copy, Debug, PartialEq, Eq)]
 pub enum Dropped {
     /// It has fewer than 20 octets.
@@ -64,15 +79,15 @@ pub enum Dropped {
     BadLength,
     /// No client has the source's address.
     UnknownClient,
-    /// It is no Access-Request on the authentication port, or no Accounting-Request on the accounting
-    /// port.
+    /// It is no Access-Request on the authentication port, or no Accounting-Request on the
+    /// accounting port.
     WrongCode,
     /// Accounting: the Request Authenticator is wrong (RFC 2866 section 3).
     BadAuthenticator,
     /// Accounting: the attributes are malformed.
     Malformed,
-    /// Access-Request: there is a Message-Authenticator, and not exactly one that has 16 octets and is
-    /// right (RFC 3579 section 3.2).
+    /// Access-Request: there is a Message-Authenticator, and not exactly one that has 16 octets and
+    /// is right (RFC 3579 section 3.2).
     BadSignature,
     /// Access-Request of a client that has to sign: the attributes are malformed, or there is no
     /// Message-Authenticator.
@@ -81,36 +96,11 @@ pub enum Dropped {
     ProxyTooLong,
     /// Accounting: there is no Acct-Status-Type, or the first does not have 4 octets.
     NoStatus,
-    /// Accounting, of status Start, Stop or Interim-Update: there is no Acct-Session-Id, or the first is
-    /// empty.
+    /// Accounting, of status Start, Stop or Interim-Update: there is no Acct-Session-Id, or the
+    /// first is empty.
     NoSession,
     /// Memory was refused.
     NoMemory,
-}
-
-/// A datagram that was understood.
-#[derive(Debug, Drop)]
-pub struct Prepared<'a> {
-    /// Its packet.
-    pub packet: Packet<'a>,
-    /// The number of the client that sent it.
-    pub client: u32,
-    /// What it means.
-    pub meaning: Meaning,
-}
-
-impl Note {
-    /// An equal note. It fails only where memory is refused.
-    pub fn try_copy(&self, alloc: Global) -> Result<Note, NoMemory>
-        ensures { IfOk result (λ copy. copy ≡ self.now) }
-    {
-        Ok(Note {
-            nas: self.nas.try_copy(alloc)?,
-            status: self.status,
-            name: self.name.try_copy(alloc)?,
-            session: self.session.try_copy(alloc)?,
-        })
-    }
 }
 
 impl Dropped {
@@ -157,4 +147,15 @@ impl From<NoMemory> for Dropped {
     fn from(_refused: NoMemory) -> Dropped {
         Dropped::NoMemory
     }
+}
+
+/// A datagram that was understood.
+#[derive(Debug, Drop)]
+pub struct Prepared<'a> {
+    /// Its packet.
+    pub packet: Packet<'a>,
+    /// The number of the client that sent it.
+    pub client: u32,
+    /// What it means.
+    pub meaning: Meaning,
 }

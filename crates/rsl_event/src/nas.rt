@@ -3,25 +3,17 @@ ghost use Rattle.std.specs.Prelude.{◌≡◌, ◌↔◌, IsTrue, IfOk, OnErr};
 use rsl_wire::{NoMemory, Octets};
 use std::alloc::Global;
 
-/// What an access server calls itself in a packet. The three kinds are apart even where their octets
-/// are equal.
+/// What an access server calls itself in a packet. The three kinds are apart even where their
+/// octets are equal.
 #[derive(Debug, PartialEq, Eq, Drop)]
 pub enum NasName {
     /// The value of the first NAS-Identifier (RFC 2865 section 5.32), of any length.
     Identifier(Octets),
-    /// The value of the first NAS-IP-Address (RFC 2865 section 5.4), where there is no NAS-Identifier.
+    /// The value of the first NAS-IP-Address (RFC 2865 section 5.4), where there is no
+    /// NAS-Identifier.
     Address(Octets),
     /// The packet has neither.
     Unnamed,
-}
-
-/// An access server: the client that sends its packets, and its name.
-#[derive(Debug, PartialEq, Eq, Drop)]
-pub struct Nas {
-    /// The client's number, in the order of the configuration.
-    pub client: u32,
-    /// Its name among those of that client.
-    pub name: NasName,
 }
 
 impl NasName {
@@ -48,6 +40,15 @@ impl NasName {
             NasName::Unnamed => NasName::Unnamed,
         })
     }
+}
+
+/// An access server: the client that sends its packets, and its name.
+#[derive(Debug, PartialEq, Eq, Drop)]
+pub struct Nas {
+    /// The client's number, in the order of the configuration.
+    pub client: u32,
+    /// Its name among those of that client.
+    pub name: NasName,
 }
 
 impl Nas {

@@ -1,5 +1,4 @@
 ghost use Rattle.std.specs.Prelude.{◌≡◌, ◌<◌, ◌≤◌, [], length, replicate, vec_len, IfOk, IsTrue};
-ghost use Rattle.rsl_auth.specs.Signature.{signed};
 ghost use Rattle.rsl_wire.specs.Attributes.{attributes_in, list_octets};
 ghost use Rattle.rsl_wire.specs.Packet.{packet_octets};
 ghost use Rattle.rsl_wire.specs.Seen.{fields_of};
@@ -19,16 +18,16 @@ ghost use Rattle.rsl_event.specs.Prepared.{HasAccount, HasRoomForReply, IsPrepar
 use crate::codes::{ACCESS_ACCEPT, ACCESS_REJECT, ACCOUNTING_RESPONSE};
 use crate::event::{Act, Decision};
 use crate::meaning::{Meaning, Prepared};
-use crate::signature::{FIRST_SIGNATURE_PLACE, has_signature};
+use crate::signature::{has_signature, push_signature_if, signed_if};
 use crate::words::Said;
-use crate::writing::{push_accept, push_limit_message, push_proxy_states, push_signature_if};
+use crate::writing::{push_accept, push_limit_message, push_proxy_states};
 use rsl_accounts::Config;
-use rsl_auth::{sealed, sign};
+use rsl_auth::sealed;
 use rsl_wire::{Draft, NoMemory, Packet};
 use std::alloc::Global;
 
-/// What is answered to a meaning, in a word. The decision tells of an ask alone; an ask that is `Done`
-/// was not accepted.
+/// What is answered to a meaning, in a word. The decision tells of an ask alone; an ask that is
+/// `Done` was not accepted.
 pub fn said(meaning: &Meaning, decision: Decision) -> Said
     ensures { result ≡ said meaning.now decision }
 {
@@ -45,8 +44,8 @@ pub fn said(meaning: &Meaning, decision: Decision) -> Said
     }
 }
 
-/// Room for the longest reply to a request, taken before its step so that `reply` takes no memory. It
-/// fails only where that room is refused.
+/// Room for the longest reply to a request, taken before its step so that `reply` takes no memory.
+/// It fails only where that room is refused.
 pub fn room(alloc: Global, prepared: &Prepared<'_>) -> Result<Draft, NoMemory>
     ensures { IfOk result (λ draft.
         draft ≡ record { id = prepared.now.packet.id; attributes = [] }) }
@@ -56,9 +55,9 @@ pub fn room(alloc: Global, prepared: &Prepared<'_>) -> Result<Draft, NoMemory>
 
 /// The octets of the reply: Code, the request's Identifier, the attributes, and the Response
 /// Authenticator over them and the client's secret (RFC 2865 section 3). Where it answers an
-/// Access-Request that has a Message-Authenticator, its own stands first (RFC 3579 section 3.2), and
-/// Proxy-States stand last, as they came (RFC 2865 section 5.33). It takes no memory: the draft is that
-/// of `room`.
+/// Access-Request that has a Message-Authenticator, its own stands first (RFC 3579 section 3.2),
+/// and Proxy-States stand last, as they came (RFC 2865 section 5.33). It takes no memory: the draft
+/// is that of `room`.
 pub fn reply(
     prepared: &Prepared<'_>,
     config: &Config,
@@ -68,8 +67,8 @@ pub fn reply(
 ) -> Vec<u8>
     requires prepared { IsPrepared config.now prepared.now }
     requires room { draft ≡ record { id = prepared.now.packet.id; attributes = [] } }
-    ensures { result.items ≡ answer
-        config.now boot prepared.now.client (fields_of prepared.now.packet) prepared.now.meaning decision }
+    ensures { result.items ≡ answer config.now boot prepared.now.client
+        (fields_of prepared.now.packet) prepared.now.meaning decision }
 {
     let word = said(&prepared.meaning, decision);
     let is_signed = is_reply_signed(word, &prepared.packet);
@@ -83,8 +82,8 @@ pub fn reply(
     sealed(octets, request_auth, secret)
 }
 
-/// Whether a reply with this word is signed: it answers an Access-Request of which the well-formed list
-/// has a Message-Authenticator.
+/// Whether a reply with this word is signed: it answers an Access-Request of which the well-formed
+/// list has a Message-Authenticator.
 fn is_reply_signed(word: Said, request: &Packet<'_>) -> bool
     ensures { result ≡ is_reply_signed word (attributes_in request.now.attrs.now) }
 {
@@ -118,26 +117,7 @@ fn finish(
     ensures header { 20 ≤ vec_len result }
 {
     let octets = draft.finish(code, &[0; 16]);
-    if is_signed {
-        with_signature(octets, request_auth, secret)
-    } else {
-        octets
-    }
-}
-
-/// The octets of a reply with the value of its Message-Authenticator, which is the first attribute.
-fn with_signature(mut octets: Vec<u8>, request_auth: &[u8; 16], secret: &[u8]) -> Vec<u8>
-    requires { 38 ≤ vec_len octets }
-    ensures signed { result.items ≡ signed octets.items 22 request_auth.now secret.now }
-    ensures len { vec_len result ≡ vec_len octets }
-{
-    sign(
-        octets.as_mut_slice(),
-        FIRST_SIGNATURE_PLACE,
-        request_auth,
-        secret,
-    );
-    octets
+    signed_if(is_signed, octets, request_auth, secret)
 }
 
 /// The Code of a reply.
@@ -173,8 +153,8 @@ fn write_said(config: &Config, boot: u64, meaning: &Meaning, decision: Decision,
 fn write_repeated(prepared: &Prepared<'_>, draft: &mut Draft)
     requires room { HasRoomForReply prepared.now.packet.attrs.now prepared.now.meaning }
     requires short { length draft.old.attributes ≤ 66 }
-    ensures written { let request = attributes_in prepared.now.packet.attrs.now in
-        draft.new ≡ with_more draft.old (list_octets (repeated_attributes request prepared.now.meaning)) }
+    ensures written { draft.new ≡ with_more draft.old (list_octets (repeated_attributes
+        (attributes_in prepared.now.packet.attrs.now) prepared.now.meaning)) }
     ensures kept { length draft.old.attributes ≤ length draft.new.attributes }
 {
     if let Meaning::Bare = prepared.meaning {

@@ -2,12 +2,10 @@ ghost use Rattle.std.specs.Prelude.{◌≡◌, ◌<◌, IfOk, IfSome, OnErr, len
 ghost use Rattle.rsl_event.specs.Copied.{IsNamed};
 ghost use Rattle.rsl_event.specs.Request.{access_server_of, named_account, proxy_len, text_of};
 
-use crate::codes::{
-    ATTR_HEADER_LEN, MAX_PROXY_STATE_LEN, NAS_IDENTIFIER, NAS_IP_ADDRESS, PROXY_STATE, USER_NAME,
-};
+use crate::codes::{MAX_PROXY_STATE_LEN, NAS_IDENTIFIER, NAS_IP_ADDRESS, PROXY_STATE, USER_NAME};
 use crate::nas::{Nas, NasName};
 use rsl_accounts::Config;
-use rsl_wire::{Attrs, NoMemory, Octets};
+use rsl_wire::{ATTR_HEADER_LEN, Attrs, NoMemory, Octets};
 use std::alloc::Global;
 
 /// The access server of a packet of this client: its first NAS-Identifier, else its first

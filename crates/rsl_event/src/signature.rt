@@ -1,21 +1,27 @@
-ghost use Rattle.std.specs.Prelude.{◌≡◌, ◌<◌, ◌≤◌, length};
+ghost use Rattle.std.specs.Prelude.{◌≡◌, ◌<◌, ◌≤◌, [], IsTrue, length, vec_len};
+ghost use Rattle.rsl_auth.specs.Signature.{signed};
 ghost use Rattle.rsl_wire.specs.Attributes.{AreAttributes, list_octets};
 ghost use Rattle.rsl_wire.specs.Seen.{fields_of};
-ghost use Rattle.rsl_event.specs.Signature.{before_signature, has_right_signature, has_signature, signature_drop};
+ghost use Rattle.rsl_event.specs.Answer.{signed_if};
+ghost use Rattle.rsl_event.specs.Draft.{with_more};
+ghost use Rattle.rsl_event.specs.Signature.{
+  before_signature,
+  has_right_signature,
+  has_signature,
+  signature_drop,
+  signature_if,
+};
 
-use crate::codes::{ATTR_HEADER_LEN, MESSAGE_AUTHENTICATOR};
+use crate::codes::MESSAGE_AUTHENTICATOR;
 use crate::meaning::Dropped;
 use crate::request::text_of;
 use rsl_accounts::Config;
-use rsl_auth::signature_ok;
-use rsl_wire::{Attrs, Packet};
+use rsl_auth::{SIGNATURE_LEN, sign, signature_ok};
+use rsl_wire::{ATTR_HEADER_LEN, Attrs, Draft, HEADER_LEN, Packet};
 
-/// Octets of the value of a Message-Authenticator (RFC 3579 section 3.2).
-pub(crate) const SIGNATURE_LEN: usize = 16;
-
-/// Where that value stands in a packet of which the Message-Authenticator is the first attribute: after
-/// the header, its Type and its Length.
-pub(crate) const FIRST_SIGNATURE_PLACE: usize = 22;
+/// Where that value stands in a packet of which the Message-Authenticator is the first attribute:
+/// after the header, its Type and its Length.
+const FIRST_SIGNATURE_PLACE: usize = HEADER_LEN + ATTR_HEADER_LEN;
 
 /// Why a request with these attributes is dropped, if it is for its Message-Authenticator.
 pub(crate) fn signature_drop(
@@ -80,4 +86,55 @@ fn octets_before_signature(attributes: &Attrs<'_>) -> usize
         len += ATTR_HEADER_LEN + value.len();
     }
     len
+}
+
+/// Writes a Message-Authenticator as the first attribute of a draft, if the packet is to be signed,
+/// with zeros for its value. It takes no memory.
+pub fn push_signature_if(is_signed: bool, draft: &mut Draft)
+    requires empty { draft.old.attributes ≡ [] }
+    ensures written { draft.new ≡ with_more draft.old (list_octets (signature_if is_signed)) }
+    ensures short { length draft.new.attributes ≤ 18 }
+    ensures room { IsTrue is_signed → 18 ≤ length draft.new.attributes }
+{
+    if is_signed {
+        draft
+            .push(MESSAGE_AUTHENTICATOR, &[0; SIGNATURE_LEN])
+            .unwrap();
+    }
+}
+
+/// The octets of a packet, signed if it is to be: its first attribute is a Message-Authenticator,
+/// which gets its value, with this Request Authenticator (RFC 3579 section 3.2). It takes no
+/// memory.
+pub fn signed_if(
+    is_signed: bool,
+    octets: Vec<u8>,
+    request_auth: &[u8; 16],
+    secret: &[u8],
+) -> Vec<u8>
+    requires { IsTrue is_signed → 38 ≤ vec_len octets }
+    ensures signed { result.items ≡
+        signed_if is_signed octets.items request_auth.now secret.now }
+    ensures len { vec_len result ≡ vec_len octets }
+{
+    if is_signed {
+        with_signature(octets, request_auth, secret)
+    } else {
+        octets
+    }
+}
+
+/// The octets of a packet with the value of its Message-Authenticator, the first attribute.
+fn with_signature(mut octets: Vec<u8>, request_auth: &[u8; 16], secret: &[u8]) -> Vec<u8>
+    requires { 38 ≤ vec_len octets }
+    ensures signed { result.items ≡ signed octets.items 22 request_auth.now secret.now }
+    ensures len { vec_len result ≡ vec_len octets }
+{
+    sign(
+        octets.as_mut_slice(),
+        FIRST_SIGNATURE_PLACE,
+        request_auth,
+        secret,
+    );
+    octets
 }

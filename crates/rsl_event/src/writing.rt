@@ -1,4 +1,4 @@
-ghost use Rattle.std.specs.Prelude.{◌≡◌, ◌+◌, ◌≤◌, [], length, IsTrue};
+ghost use Rattle.std.specs.Prelude.{◌≡◌, ◌+◌, ◌≤◌, length};
 ghost use Rattle.std.specs.List.{AllByRecursion};
 ghost use Rattle.rsl_accounts.specs.Limits.{RulesFit};
 ghost use Rattle.rsl_wire.specs.Attributes.{IsAttribute, attribute_octets, list_octets};
@@ -13,29 +13,13 @@ ghost use Rattle.rsl_event.specs.Answer.{
 };
 ghost use Rattle.rsl_event.specs.Draft.{with_more};
 ghost use Rattle.rsl_event.specs.Request.{proxy_states, proxy_len};
-ghost use Rattle.rsl_event.specs.Signature.{signature_if};
 
 use crate::codes::{
-    CLASS, FRAMED_PROTOCOL, IDLE_TIMEOUT, MESSAGE_AUTHENTICATOR, PORT_LIMIT, PROXY_STATE,
-    REPLY_MESSAGE, SERVICE_TYPE, SESSION_TIMEOUT,
+    CLASS, FRAMED_PROTOCOL, IDLE_TIMEOUT, PORT_LIMIT, PROXY_STATE, REPLY_MESSAGE, SERVICE_TYPE,
+    SESSION_TIMEOUT,
 };
-use crate::signature::SIGNATURE_LEN;
 use rsl_accounts::Entry;
 use rsl_wire::{Attrs, Draft};
-
-/// Writes the Message-Authenticator of a reply, if it gets one, with zeros for its value.
-pub(crate) fn push_signature_if(is_signed: bool, draft: &mut Draft)
-    requires empty { draft.old.attributes ≡ [] }
-    ensures written { draft.new ≡ with_more draft.old (list_octets (signature_if is_signed)) }
-    ensures short { length draft.new.attributes ≤ 18 }
-    ensures room { IsTrue is_signed → 18 ≤ length draft.new.attributes }
-{
-    if is_signed {
-        draft
-            .push(MESSAGE_AUTHENTICATOR, &[0; SIGNATURE_LEN])
-            .unwrap();
-    }
-}
 
 /// Writes the attributes of an accept of this account.
 pub(crate) fn push_accept(draft: &mut Draft, boot: u64, number: u64, entry: &Entry)
@@ -85,8 +69,8 @@ fn push_class(draft: &mut Draft, boot: u64, number: u64)
     draft.push(CLASS, &class_octets(boot, number)).unwrap();
 }
 
-/// The value of the Class of an accept: the boot number and the accept number, eight octets each, the
-/// high octet first (RFC 2865 section 5.25 leaves the value to the server).
+/// The value of the Class of an accept: the boot number and the accept number, eight octets each,
+/// the high octet first (RFC 2865 section 5.25 leaves the value to the server).
 ///
 /// | Octets | Field |
 /// |---|---|

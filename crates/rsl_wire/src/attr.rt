@@ -1,5 +1,5 @@
 /// Octets of an attribute before its Value: its Type and its Length (RFC 2865 section 5).
-pub(crate) const ATTR_HEADER_LEN: usize = 2;
+pub const ATTR_HEADER_LEN: usize = 2;
 
 /// The greatest length of an attribute's Value (RFC 2865 section 5).
 pub const MAX_VALUE_LEN: usize = 253;

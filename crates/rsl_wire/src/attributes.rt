@@ -14,8 +14,8 @@ pub struct BadAttribute {
     pub at: usize,
 }
 
-/// The attributes of a packet in order, each as its Type and its Value (RFC 2865 section 5). It is an
-/// iterator, and takes no memory: the values lie in the datagram.
+/// The attributes of a packet in order, each as its Type and its Value (RFC 2865 section 5). It is
+/// an iterator, and takes no memory: the values lie in the datagram.
 ///
 /// | Octets | Field |
 /// |---|---|
@@ -39,8 +39,30 @@ impl<'a> Model for Attrs<'a> {
 }
 
 impl<'a> Attrs<'a> {
-    ghost use Rattle.std.specs.Prelude.{◌≡◌, ◌<◌, ◌^◌, List, length, IfOk, IfErr, IsOkAnd, MatchResult, Ok, Err, count_by, option_map};
-    ghost use Rattle.rsl_wire.specs.Attributes.{Attribute, AreAttributes, IsBadAt, attribute_list, is_kind, first_of, number_in};
+    ghost use Rattle.std.specs.Prelude.{
+      ◌≡◌,
+      ◌<◌,
+      ◌^◌,
+      List,
+      length,
+      IfOk,
+      IfErr,
+      IsOkAnd,
+      MatchResult,
+      Ok,
+      Err,
+      count_by,
+      option_map,
+    };
+    ghost use Rattle.rsl_wire.specs.Attributes.{
+      Attribute,
+      AreAttributes,
+      IsBadAt,
+      attribute_list,
+      is_kind,
+      first_of,
+      number_in,
+    };
 
     /// The attributes of octets, or where the first bad one is. It takes no memory.
     pub(crate) fn in_octets(octets: &'a [u8]) -> Result<Attrs<'a>, BadAttribute>
@@ -55,7 +77,8 @@ impl<'a> Attrs<'a> {
         Attrs::checked(octets)
     }
 
-    /// The same, proved against the function that reads a list; `in_octets` adds what the grammar says.
+    /// The same, proved against the function that reads a list; `in_octets` adds what the grammar
+    /// says.
     fn checked(octets: &'a [u8]) -> Result<Attrs<'a>, BadAttribute>
         ensures { MatchResult result
             (λ attrs. attribute_list octets.now ≡ Ok attrs)
@@ -75,8 +98,8 @@ impl<'a> Attrs<'a> {
 
     /// How many attributes are of this Type, of those that are left.
     ///
-    /// Call it on a reference to the list, or as `Attrs::count(&attributes, kind)`: on the list itself,
-    /// Rust takes `count` for the iterator's own.
+    /// Call it on a reference to the list, or as `Attrs::count(&attributes, kind)`: on the list
+    /// itself, Rust takes `count` for the iterator's own.
     pub fn count(&self, kind: u8) -> usize
         ensures { result ≡ count_by (is_kind kind) self.now }
     {
@@ -95,8 +118,8 @@ impl<'a> Attrs<'a> {
         None
     }
 
-    /// The value of the first attribute of this Type as a number, the high octet first. There is none
-    /// where that value does not have four octets (RFC 2865 section 5).
+    /// The value of the first attribute of this Type as a number, the high octet first. There is
+    /// none where that value does not have four octets (RFC 2865 section 5).
     pub fn number(&self, kind: u8) -> Option<u32>
         ensures { result ≡ number_in (first_of kind self.now) }
     {
@@ -121,7 +144,8 @@ impl<'a> Iterator for Attrs<'a> {
 
     type Item = (u8, &'a [u8]);
 
-    ghost next_gives = { YieldsFirstBy (λ item. attribute_of item.0 item.1.now) (λ attributes. attributes) };
+    ghost next_gives = { YieldsFirstBy
+        (λ item. attribute_of item.0 item.1.now) (λ attributes. attributes) };
 
     ghost remaining = { item_count (λ attributes. attributes) };
 

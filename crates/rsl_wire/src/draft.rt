@@ -1,4 +1,20 @@
-ghost use Rattle.std.specs.Prelude.{◌≡◌, ◌+◌, ◌≤◌, ◌↔◌, [], ◌++◌, length, drop, slice_index, vec_len, vec_capacity, IsOk, IfOk, OnOk, OnErr};
+ghost use Rattle.std.specs.Prelude.{
+  ◌≡◌,
+  ◌+◌,
+  ◌≤◌,
+  ◌↔◌,
+  [],
+  ◌++◌,
+  length,
+  drop,
+  slice_index,
+  vec_len,
+  vec_capacity,
+  IsOk,
+  IfOk,
+  OnOk,
+  OnErr,
+};
 ghost use Rattle.rsl_wire.specs.Attributes.{attribute_of, attribute_octets};
 ghost use Rattle.rsl_wire.specs.Packet.{packet_octets};
 

@@ -2,7 +2,13 @@
 
 ghost use Rattle.std.specs.Prelude.{◌≡◌, List, ℕ, ◌++◌};
 ghost use Rattle.std.specs.List.{AllByRecursion};
-ghost use Rattle.rsl_wire.specs.Attributes.{Attribute, IsAttribute, AreAttributes, IsBadAt, list_octets};
+ghost use Rattle.rsl_wire.specs.Attributes.{
+  Attribute,
+  IsAttribute,
+  AreAttributes,
+  IsBadAt,
+  list_octets,
+};
 ghost use Rattle.rsl_wire.specs.Packet.{Fields, IsPacket, IsDatagram, packet_octets};
 
 /// A packet's octets, followed by any padding, are a datagram with the packet's fields, and with no

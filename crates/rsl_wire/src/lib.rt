@@ -1,9 +1,9 @@
 //! RADIUS packets as octets: a datagram is read into the fields of a packet and the list of its
 //! attributes, and fields and attributes are written into octets (RFC 2865 sections 3 and 5).
 //!
-//! The promise: what is read is what the packet grammar of `specs/Packet.antt` and the attribute list
-//! of `specs/Attributes.antt` say, and nothing in the grammar is refused; what is written is in the
-//! grammar. Read those two files first. This crate knows octets, and nothing of accounts.
+//! The promise: what is read is what the packet grammar of `specs/Packet.antt` and the attribute
+//! list of `specs/Attributes.antt` say, and nothing in the grammar is refused; what is written is
+//! in the grammar. Read those two files first. This crate knows octets, and nothing of accounts.
 //!
 //! ```
 //! let packet = read(datagram)?;
@@ -27,7 +27,7 @@ mod octets;
 mod packet;
 mod reading;
 
-pub use attr::{Attr, MAX_VALUE_LEN};
+pub use attr::{ATTR_HEADER_LEN, Attr, MAX_VALUE_LEN};
 pub use attributes::{Attrs, BadAttribute};
 pub use building::{BuildFault, build};
 pub use draft::{Draft, TooLong};

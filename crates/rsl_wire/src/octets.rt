@@ -1,4 +1,4 @@
-ghost use Rattle.std.specs.Prelude.{◌≡◌, ◌↔◌, IsTrue, IfOk, nat_eq, length};
+ghost use Rattle.std.specs.Prelude.{◌≡◌, ◌≢◌, ◌↔◌, IsTrue, IfOk, OnErr, None, nat_eq, length};
 ghost use Rattle.std.specs.Cmp.{partial_equiv_from_equiv};
 ghost use Rattle.std.specs.Cmp.Lexicographic.{pointwise, nat_list_eq_equiv};
 
@@ -65,6 +65,20 @@ impl Octets {
         ensures { IfOk result (λ copy. copy ≡ self.now) }
     {
         Octets::from_slice(alloc, self.as_slice())
+    }
+
+    /// An equal string, if there is one. It fails only where memory is refused; none takes none.
+    pub fn try_copy_option(
+        alloc: Global,
+        octets: &Option<Octets>,
+    ) -> Result<Option<Octets>, NoMemory>
+        ensures copy { IfOk result (λ copy. copy ≡ octets.now) }
+        ensures refused { OnErr result (octets.now ≢ None) }
+    {
+        match octets {
+            Some(octets) => Ok(Some(octets.try_copy(alloc)?)),
+            None => Ok(None),
+        }
     }
 }
 

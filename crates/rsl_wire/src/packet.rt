@@ -76,8 +76,8 @@ impl<'a> Packet<'a> {
 
     /// The attributes of the packet in order, of any Type (RFC 2865 section 5). It takes no memory.
     ///
-    /// `BadAttribute` comes exactly where the octets are no list of attributes: its offset is that of
-    /// the first whose Length is missing, under 2, or past the end.
+    /// `BadAttribute` comes exactly where the octets are no list of attributes: its offset is that
+    /// of the first whose Length is missing, under 2, or past the end.
     pub fn attributes(&self) -> Result<Attrs<'a>, BadAttribute>
         // The attributes, joined, are the octets.
         ensures found { IfOk result (λ attrs. AreAttributes self.now.attrs.now attrs) }

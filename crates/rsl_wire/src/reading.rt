@@ -1,4 +1,18 @@
-ghost use Rattle.std.specs.Prelude.{◌≡◌, ◌<◌, ◌≤◌, ◌↔◌, List, ℕ, length, IsOkAnd, IfOk, IsErrOf, MatchResult, Ok, Err};
+ghost use Rattle.std.specs.Prelude.{
+  ◌≡◌,
+  ◌<◌,
+  ◌≤◌,
+  ◌↔◌,
+  List,
+  ℕ,
+  length,
+  IsOkAnd,
+  IfOk,
+  IsErrOf,
+  MatchResult,
+  Ok,
+  Err,
+};
 ghost use Rattle.rsl_wire.specs.Packet.{Fields, IsDatagram, packet_of};
 ghost use Rattle.rsl_wire.specs.Seen.{fields_of};
 
