@@ -9,3 +9,4 @@ pub mod Slices
 pub mod Oldest
 pub mod Insides
 pub mod Stepping
+pub mod OneByOne

@@ -1,4 +1,4 @@
-ghost use Rattle.std.specs.Prelude.{◌≡◌, ℕ, ◌+◌, ◌-◌, ◌*◌, ◌^◌, ◌<◌, ◌≤◌, [], ◌∷◌, ◌++◌, Option, Some, None, find, IfOk, IfSome, IfNone, length, option_map, if◌then◌else◌};
+ghost use Rattle.std.specs.Prelude.{◌≡◌, ◌↔◌, ℕ, ◌+◌, ◌-◌, ◌*◌, ◌^◌, ◌<◌, ◌≤◌, [], ◌∷◌, ◌++◌, Option, Some, None, find, IfOk, IfSome, IfNone, IsTrue, length, option_map, if◌then◌else◌};
 ghost use Rattle.std.specs.List.{list_any};
 ghost use Rattle.std.specs.Option.{option_map};
 ghost use Rattle.rsl_accounts.specs.Limits.{RulesFit};
@@ -22,6 +22,7 @@ use crate::kept::{
 };
 use crate::link::{Hold, Link};
 use crate::links::{Links, one_if};
+use crate::same::{has_same_asks, has_same_links, has_same_stops};
 use crate::servers::Servers;
 use crate::table::place_for;
 use circular_buffer::HeapCircularBuffer;
@@ -70,11 +71,11 @@ impl Model for Book {
 #[derive(Clone, Copy, Debug, PartialEq, Eq)]
 pub struct Stored {
     /// The links, at most the places of the account times its ports.
-    pub links: usize,
+    pub links: u64,
     /// The fresh asks that are kept for their repeats, at most 8.
-    pub kept: usize,
+    pub kept: u64,
     /// The stops that are kept, at most 16.
-    pub closed: usize,
+    pub closed: u64,
 }
 
 /// The most links that an account can have.
@@ -137,6 +138,24 @@ impl Book {
             asks: copy_of_asks(alloc, &self.asks)?,
             stops: copy_of_stops(alloc, &self.stops)?,
         })
+    }
+
+    /// Whether two books are the same: equal rules, and equal values.
+    pub fn same(&self, other: &Book) -> bool
+        ensures { IsTrue result ↔ (self.now ≡ other.now) }
+    {
+        self.rules == other.rules
+            && self.clock == other.clock
+            && self.accepts == other.accepts
+            && self.over == other.over
+            && has_same_links(
+                &self.links.list,
+                &self.servers,
+                &other.links.list,
+                &other.servers,
+            )
+            && has_same_asks(&self.asks, &self.servers, &other.asks, &other.servers)
+            && has_same_stops(&self.stops, &self.servers, &other.stops, &other.servers)
     }
 
     /// What an act does to a book that has come to its moment.
@@ -234,9 +253,9 @@ impl Book {
         ensures few_closed { result.closed ≤ 16 }
     {
         Stored {
-            links: self.links.list.len(),
-            kept: self.asks.len(),
-            closed: self.stops.len(),
+            links: self.links.list.len() as u64,
+            kept: self.asks.len() as u64,
+            closed: self.stops.len() as u64,
         }
     }
 

@@ -1,4 +1,4 @@
-ghost use Rattle.std.specs.Prelude.{◌≡◌, ◌+◌, ◌≤◌, IfOk, ◌∷◌, ◌++◌, ◌<◌, ◌||◌, Option, find, map, take, length, IsTrue};
+ghost use Rattle.std.specs.Prelude.{◌≡◌, ◌↔◌, ◌+◌, ◌≤◌, IfOk, ◌∷◌, ◌++◌, ◌<◌, ◌||◌, Option, find, map, take, length, IsTrue};
 ghost use Rattle.std.specs.Option.{option_map, option_or};
 ghost use Rattle.std.specs.List.{list_any};
 ghost use Rattle.circular_buffer.specs.Buffer.{buffer};
@@ -60,6 +60,18 @@ impl StoredAsk {
         is_same_key(&self.key, key) && now.saturating_sub(self.at) < rules.keep && !self.swept
     }
 
+    /// Whether it is the same as one of another book.
+    #[tactic(auto, unfolding(crate::specs::Seen::ask_seen))]
+    pub(crate) fn is_same(&self, servers: &Servers, other: &StoredAsk, others: &Servers) -> bool
+        ensures { IsTrue result ↔ (ask_seen servers.now self.now ≡ ask_seen others.now other.now) }
+    {
+        self.key.is_same(&other.key)
+            && servers.at(self.nas).is_same(others.at(other.nas))
+            && self.decision == other.decision
+            && self.at == other.at
+            && self.swept == other.swept
+    }
+
     /// Notes a sweep of an access server.
     #[tactic(auto, unfolding(crate::specs::Seen::ask_seen, rsl_session::specs::BookStep::sweep_ask))]
     fn sweep(&mut self, servers: &Servers, nas: &Nas)
@@ -79,6 +91,17 @@ impl StoredStop {
             && self.id == *id
             && now.saturating_sub(self.at) < rules.closed
             && !self.swept
+    }
+
+    /// Whether it is the same as one of another book.
+    #[tactic(auto, unfolding(crate::specs::Seen::stop_seen))]
+    pub(crate) fn is_same(&self, servers: &Servers, other: &StoredStop, others: &Servers) -> bool
+        ensures { IsTrue result ↔ (stop_seen servers.now self.now ≡ stop_seen others.now other.now) }
+    {
+        servers.at(self.nas).is_same(others.at(other.nas))
+            && self.id == other.id
+            && self.at == other.at
+            && self.swept == other.swept
     }
 
     /// Notes a sweep of an access server.

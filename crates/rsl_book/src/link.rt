@@ -1,4 +1,4 @@
-ghost use Rattle.std.specs.Prelude.{◌≡◌, Option, IfOk};
+ghost use Rattle.std.specs.Prelude.{◌≡◌, ◌↔◌, Option, IfOk, IsTrue};
 ghost use Rattle.rsl_accounts.specs.Limits.{RulesFit};
 ghost use Rattle.rsl_session.specs.Places.{is_bundle};
 ghost use Rattle.rsl_session.specs.Same.{same_nas};
@@ -14,7 +14,7 @@ use rsl_wire::{NoMemory, Octets};
 use std::alloc::Global;
 
 /// What has a link.
-#[derive(Drop)]
+#[derive(PartialEq, Eq, Drop)]
 pub(crate) enum Hold {
     /// The accept number that reserves it.
     Number(u64),
@@ -68,6 +68,17 @@ impl Link {
             bundle: copy_of_bundle(alloc, &self.bundle)?,
             touched: self.touched,
         })
+    }
+
+    /// Whether it is the same as one of another book.
+    #[tactic(auto, unfolding(crate::specs::Seen::link_seen))]
+    pub(crate) fn is_same(&self, servers: &Servers, other: &Link, others: &Servers) -> bool
+        ensures { IsTrue result ↔ (link_seen servers.now self.now ≡ link_seen others.now other.now) }
+    {
+        servers.at(self.nas).is_same(others.at(other.nas))
+            && self.hold == other.hold
+            && self.bundle == other.bundle
+            && self.touched == other.touched
     }
 
     /// Whether it is reserved.
