@@ -1,6 +1,67 @@
-//! What the tables of all tests need.
+//! What the tables of all tests need: rows of text, and the octets that they write.
 
+use std::alloc::Global;
+use std::process::Abort;
 use std::test::Fail;
+
+/// What rows of text are about: a public call, or a few, whose answers become a text.
+pub(crate) trait Subject {
+    /// What the call gives for the fields of a row, which are those between its name and the text
+    /// that is expected.
+    fn found(&self, alloc: Global, fields: &[&str]) -> Result<String, Fail>;
+}
+
+/// Compares what the subject gives for each row with the text that the row expects.
+///
+/// A row is a line: its name, its fields, and the text that is expected, with ` | ` between them. Empty
+/// lines and those that begin with `#` are left out. In the source a long row goes on after a `\` at
+/// the end of a line. The first row that fails stops the test, and prints its name and both texts.
+pub(crate) fn check_rows<R: AllocGlobal + Abort, S: Subject>(
+    rt: &R,
+    subject: &S,
+    rows: &str,
+) -> Result<(), Fail> {
+    for row in rows.lines() {
+        if !row.is_empty() && !row.starts_with('#') {
+            check_row(rt, subject, row)?;
+        }
+    }
+    Ok(())
+}
+
+/// Compares what the subject gives for a row with the text that the row expects.
+fn check_row<R: AllocGlobal + Abort, S: Subject>(
+    rt: &R,
+    subject: &S,
+    row: &str,
+) -> Result<(), Fail> {
+    let mut fields = Vec::new(rt.alloc());
+    for field in row.split('|') {
+        fields.push(field.trim())?;
+    }
+    let [name, given @ .., expected] = fields.as_slice() else {
+        return Err("a row without a name or an expected text")?;
+    };
+    let found = subject.found(rt.alloc(), given)?;
+    assert_eq!(rt; found.as_str(), *expected, "{name}");
+    Ok(())
+}
+
+/// The octets that words of hexadecimal digits write, where `WORD*N` stands for the word N times.
+pub(crate) fn octets_of(alloc: Global, text: &str) -> Result<Vec<u8>, Fail> {
+    let mut whole = Vec::new(alloc);
+    for word in text.split_ascii_whitespace() {
+        let (digits, times) = match word.split_once('*') {
+            Some((digits, times)) => (digits, times.parse::<usize>()?),
+            None => (word, 1),
+        };
+        let part = hex::decode(alloc, digits)?;
+        for _ in 0..times {
+            whole.extend_from_slice(&part)?;
+        }
+    }
+    Ok(whole)
+}
 
 /// The octets that an even number of hexadecimal digits writes.
 pub(crate) fn octets<R: AllocGlobal>(rt: &R, digits: &str) -> Result<Vec<u8>, Fail> {
