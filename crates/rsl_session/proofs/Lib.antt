@@ -16,3 +16,4 @@ pub mod BookJoined
 pub mod BookBound
 pub mod BookKeeps
 pub mod BookFigures
+pub mod Callers

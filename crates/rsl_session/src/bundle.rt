@@ -4,8 +4,8 @@ ghost use Rattle.rsl_session.specs.Same.{same_bundle};
 use rsl_event::Nas;
 use rsl_wire::Octets;
 
-/// A multilink bundle: the access server that it is at, and the Acct-Multi-Session-Id that its links
-/// share there (RFC 2866 section 5.11). No bundle spans two access servers.
+/// A multilink bundle: the access server that it is at, and the Acct-Multi-Session-Id that its
+/// links share there (RFC 2866 section 5.11). No bundle spans two access servers.
 #[derive(Debug, PartialEq, Eq, Drop)]
 pub struct Bundle {
     /// The access server.

@@ -1,6 +1,17 @@
 use crate::session::Session;
 use rsl_event::{Decision, Key, Nas};
 
+/// How many of the last fresh asks can be repeated.
+pub const KEPT_ASKS: usize = 8;
+
+/// How many of the last stops can close a session.
+pub const KEPT_STOPS: usize = 16;
+
+// The numbers of the rule, which definitions have as they stand.
+const _: () = prove!(KEPT_ASKS == 8);
+
+const _: () = prove!(KEPT_STOPS == 16);
+
 /// A fresh ask, as it is kept for its repeats.
 #[derive(Debug, PartialEq, Eq, Drop)]
 pub struct KeptAsk {

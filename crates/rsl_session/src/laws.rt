@@ -1,18 +1,36 @@
-//! The laws that join the running book with the rule by looking back. Each is the contract of a function that
-//! does nothing.
+//! The laws that join the running book with the rule by looking back. Each is the contract of a
+//! function that does nothing.
 //!
-//! The first seven hold for every past that follows the rule and every event: the step of the past's book is
-//! the book of the past with the event, field by field, and the decision is the rule's.
+//! The first seven hold for every past that follows the rule and every event: the step of the
+//! past's book is the book of the past with the event, field by field, and the decision is the
+//! rule's.
 
-ghost use Rattle.rsl_session.specs.BookLaws.{AcceptNumberLaw, BooksAreThoseOfThePast, BooksDecideAsTheRule, BooksHoldThePlacesOfTheRule, BooksShowTheRule, BooksStayWithinTheLimit, ClockLaw, DecisionLaw, KeptAsksLaw, KeptIsBounded, KeptStopsLaw, LinksAreBounded, LinksLaw, OverLaw, StepsStayWithinTheLimit};
+ghost use Rattle.rsl_session.specs.BookLaws.{
+  AcceptNumberLaw,
+  BooksAreThoseOfThePast,
+  BooksDecideAsTheRule,
+  BooksHoldThePlacesOfTheRule,
+  BooksShowTheRule,
+  BooksStayWithinTheLimit,
+  ClockLaw,
+  DecisionLaw,
+  KeptAsksLaw,
+  KeptIsBounded,
+  KeptStopsLaw,
+  LinksAreBounded,
+  LinksLaw,
+  OverLaw,
+  StepsStayWithinTheLimit,
+};
 
 /// The clock law: a book that is stepped by an event has the clock of the past with the event.
 pub fn clock_law()
     ensures { ClockLaw }
 {}
 
-/// The links law: it has the links that the past with the event holds, in the order in which they opened,
-/// each at its access server, with its accept number or session, its bundle and its last touch.
+/// The links law: it has the links that the past with the event holds, in the order in which they
+/// opened, each at its access server, with its accept number or session, its bundle and its last
+/// touch.
 pub fn links_law()
     ensures { LinksLaw }
 {}
@@ -22,14 +40,14 @@ pub fn accept_number_law()
     ensures { AcceptNumberLaw }
 {}
 
-/// The kept asks law: it has the last 8 fresh asks, each with its decision, the clock at it, and whether its
-/// access server was swept since.
+/// The kept asks law: it has the last 8 fresh asks, each with its decision, the clock at it, and
+/// whether its access server was swept since.
 pub fn kept_asks_law()
     ensures { KeptAsksLaw }
 {}
 
-/// The kept stops law: it has the last 16 stops, each with the clock at it, and whether its access server
-/// was swept since.
+/// The kept stops law: it has the last 16 stops, each with the clock at it, and whether its access
+/// server was swept since.
 pub fn kept_stops_law()
     ensures { KeptStopsLaw }
 {}
@@ -59,7 +77,8 @@ pub fn books_hold_the_places_of_the_rule()
     ensures { BooksHoldThePlacesOfTheRule }
 {}
 
-/// After each event of a list, and not only after the last, a book that began new is within its limit.
+/// After each event of a list, and not only after the last, a book that began new is within its
+/// limit.
 pub fn books_stay_within_the_limit()
     ensures { BooksStayWithinTheLimit }
 {}
@@ -69,8 +88,8 @@ pub fn steps_stay_within_the_limit()
     ensures { StepsStayWithinTheLimit }
 {}
 
-/// A book within its limit has at most as many links as its places have ports, and at most as many places
-/// as links.
+/// A book within its limit has at most as many links as its places have ports, and at most as many
+/// places as links.
 pub fn links_are_bounded()
     ensures { LinksAreBounded }
 {}
@@ -80,8 +99,8 @@ pub fn kept_is_bounded()
     ensures { KeptIsBounded }
 {}
 
-/// What the book of a past shows of itself is what the rule counts among the links that are held: the places,
-/// and the reserved, live and stale links.
+/// What the book of a past shows of itself is what the rule counts among the links that are held:
+/// the places, and the reserved, live and stale links.
 pub fn books_show_the_rule()
     ensures { BooksShowTheRule }
 {}

@@ -1,12 +1,12 @@
-//! The session rule: which links an account holds, how many places they take, and what is decided on
-//! each of its events.
+//! The session rule: which links an account holds, how many places they take, and what is decided
+//! on each of its events.
 //!
-//! The rule is written as definitions, in `specs/`, a file per subject. They look back over the events of
-//! one account, each with what it did, and carry nothing on. This crate has the types that they speak of.
-//! Read `specs/Past.antt` first and `specs/Rule.antt` last.
+//! The rule is written as definitions, in `specs/`, a file per subject. They look back over the
+//! events of one account, each with what it did, and carry nothing on. This crate has the types
+//! that they speak of. Read `specs/Past.antt` first and `specs/Rule.antt` last.
 //!
-//! Beside them stands the running book, which carries on what an account holds: `specs/Book.antt` and
-//! `specs/BookStep.antt`. The functions of [`laws`] join the two.
+//! Beside them stands the running book, which carries on what an account holds: `specs/Book.antt`
+//! and `specs/BookStep.antt`. The functions of [`laws`] join the two.
 #![tactic(auto)]
 
 mod bundle;
@@ -17,7 +17,7 @@ mod past_event;
 mod session;
 
 pub use bundle::Bundle;
-pub use kept::{KeptAsk, KeptStop};
+pub use kept::{KEPT_ASKS, KEPT_STOPS, KeptAsk, KeptStop};
 pub use outcome::Outcome;
 pub use past_event::PastEvent;
 pub use session::Session;

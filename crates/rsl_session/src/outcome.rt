@@ -6,7 +6,8 @@ use rsl_event::Decision;
 pub enum Outcome {
     /// A fresh ask was accepted with this number, and opened a reserved link.
     Accepted(u64),
-    /// A fresh ask that did not fit was accepted in the place of a stale link, and opened a reserved link.
+    /// A fresh ask that did not fit was accepted in the place of a stale link, and opened a
+    /// reserved link.
     AcceptedInPlace {
         /// The accept number.
         number: u64,
