@@ -1,9 +1,9 @@
-//! The program `account_file`: `account_file FILE..` reads account files and says on standard output, in a line
-//! for each, what is in it or what is wrong with it; `-` is standard input. Without a FILE it reads standard
-//! input alone, and says on standard error what is wrong.
+//! The program `account_file`: `account_file FILE..` reads account files and says on standard
+//! output, in a line for each, what is in it or what is wrong with it; `-` is standard input.
+//! Without a FILE it reads standard input alone, and says on standard error what is wrong.
 //!
-//! It tries a file before a server is started with it, and times how reading grows. What is right and
-//! what is wrong is the business of `Config::read`.
+//! It tries a file before a server is started with it, and times how reading grows. What is right
+//! and what is wrong is the business of `Config::read`.
 #![tactic(auto)]
 
 mod trial;
@@ -26,8 +26,8 @@ fn main(rt: HostRuntime) -> ExitCode {
     }
 }
 
-/// Tries each file and says what it found, in a line. The status is the greatest of theirs; there is none
-/// where there is no file.
+/// Tries each file and says what it found, in a line. The status is the greatest of theirs; there
+/// is none where there is no file.
 fn trials(rt: &HostRuntime, files: Args<Global>) -> io::Result<Option<u8>> {
     let mut greatest = None;
     for file in files {
@@ -51,7 +51,8 @@ fn trials(rt: &HostRuntime, files: Args<Global>) -> io::Result<Option<u8>> {
     Ok(greatest)
 }
 
-/// Tries standard input: what is in it goes to standard output, and what is wrong to standard error.
+/// Tries standard input: what is in it goes to standard output, and what is wrong to standard
+/// error.
 fn stdin_tried(rt: &HostRuntime) -> ExitCode {
     match trial(rt.alloc(), rt.stdin()) {
         Ok(counts) => match println!(rt; "{counts}") {

@@ -1,4 +1,6 @@
-ghost use Rattle.std.specs.Prelude.{◌<◌, ◌↔◌, IsErrOf, length};
+ghost use Rattle.std.specs.Prelude.{◌≡◌, ◌<◌, ◌↔◌, Ok, Err, IfErr, IfOk, IsErrOf, length};
+ghost use Rattle.rsl_accounts.specs.declared.fault.ConfigFault.{ConfigFault};
+ghost use Rattle.account_file.specs.Trial.{counts_of_text, status_of_problem};
 
 use rsl_accounts::{Config, ConfigFault};
 use std::alloc::Global;
@@ -51,7 +53,9 @@ pub(crate) enum Problem {
 
 impl Problem {
     /// The exit status of a process that found the problem: 3 for want of memory, else 1.
-    pub(crate) fn status(self) -> u8 {
+    pub(crate) fn status(self) -> u8
+        ensures { result ≡ status_of_problem self }
+    {
         match self {
             Problem::NoMemory => NO_MEMORY,
             _ => BAD_FILE,
@@ -71,8 +75,8 @@ pub(crate) fn trial_of_file<F: Files>(
     }
 }
 
-/// What is in the file that a reader gives, or what is wrong with it. No more than one octet over the most
-/// that a file may have is read.
+/// What is in the file that a reader gives, or what is wrong with it. No more than one octet over
+/// the most that a file may have is read.
 pub(crate) fn trial<R: Read + Drop>(alloc: Global, reader: R) -> Result<Counts, Problem> {
     let mut text = Vec::new(alloc);
     match reader.take(MAX_FILE_LEN + 1).read_to_end(&mut text) {
@@ -83,7 +87,11 @@ pub(crate) fn trial<R: Read + Drop>(alloc: Global, reader: R) -> Result<Counts, 
 }
 
 /// What is in the text of a file, or what is wrong with it.
+#[tactic(auto, unfolding(crate::specs::Trial::counts_of_text))]
 fn counts_of(alloc: Global, text: &[u8]) -> Result<Counts, Problem>
+    ensures counts { IfOk result (λ counts. counts_of_text text.now ≡ Ok counts) }
+    ensures fault { IfErr result (λ problem. (fault : ConfigFault) →
+        problem ≡ Problem.Fault fault → counts_of_text text.now ≡ Err fault) }
     ensures too_long { IsErrOf result Problem.TooLong ↔ (MAX_FILE_LEN < length text.now) }
 {
     if MAX_FILE_LEN < text.len() as u64 {

@@ -22,7 +22,8 @@ pub(crate) fn command<E: Env, R: Read, W: Write>(
 ) -> Result<(), Fault>
     // What is written is what the server answers to the script that was read, and nothing else.
     ensures replayed { OnOk result (IfSome (R.remaining stdin.old) (λ text.
-        (written : List ℕ) × IsReplayed text written × Appends (W.contents stdout.old) (W.contents stdout.new) written)) }
+        (written : List ℕ) × IsReplayed text written ×
+        Appends (W.contents stdout.old) (W.contents stdout.new) written)) }
     // A fault of the script is there, and is the first.
     ensures fault { IfErr result (λ fault. IfSome (R.remaining stdin.old) (λ text.
         IsFaultOfText text fault)) }

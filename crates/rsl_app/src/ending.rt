@@ -6,8 +6,8 @@ use crate::fault::Fault;
 use std::io::Write;
 use std::process::ExitCode;
 
-/// The status of the process: 0 where all was done, else that of the fault, which is said in one line on
-/// standard error. Where standard error takes nothing, the status still tells.
+/// The status of the process: 0 where all was done, else that of the fault, which is said in one
+/// line on standard error. Where standard error takes nothing, the status still tells.
 pub(crate) fn ended<S: Write>(stderr: &mut S, outcome: Result<(), Fault>) -> ExitCode
     ensures { exit_status result ≡ status_after outcome }
 {

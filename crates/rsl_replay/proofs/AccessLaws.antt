@@ -38,7 +38,7 @@ request_pushed request name value kind start a b c en ek ea eb ec =
 -- the request, from the drafts before it
 pub access_is : (request : AccessRequest) (is_signed : Bool) (secret value auth : List ℕ) (start first written : Begun) (result : List ℕ)
     → start ≡ record { id = request.id; attributes = [] }
-    → first ≡ with_attributes start (list_octets (signature_if is_signed))
+    → first ≡ with_attributes start (start.attributes ++ list_octets (signature_if is_signed))
     → written ≡ with_attributes first (first.attributes ++ list_octets (request_attributes request value))
     → value ≡ password_value request.method request secret
     → auth ≡ md5 request.text
@@ -50,6 +50,7 @@ access_is request is_signed secret value auth start first written result e0 e1 e
     let attributes_are : written.attributes ≡ list_octets (signature_if is_signed ++ request_attributes request (password_value request.method request secret)) =
     ap (λ (x : Begun). x.attributes) e2
     ∙ ap (λ (x : Begun). x.attributes ++ list_octets (request_attributes request value)) e1
+    ∙ ap (λ (x : Begun). (x.attributes ++ list_octets (signature_if is_signed)) ++ list_octets (request_attributes request value)) e0
     ∙ ap (λ (x : List ℕ). list_octets (signature_if is_signed) ++ list_octets (request_attributes request x)) ev
     ∙ sym (flat_map-append attribute_octets (signature_if is_signed) (request_attributes request (password_value request.method request secret))) in
     er ∙ (λ k. signed_if is_signed (packet_octets (record { code = ACCESS_REQUEST; id = id_is k; authenticator = ea k; attributes = attributes_are k })) (ea k) secret)

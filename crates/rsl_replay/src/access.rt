@@ -1,32 +1,20 @@
-ghost use Rattle.std.specs.Prelude.{◌≡◌, ◌≤◌, ◌+◌, ◌++◌, ◌∷◌, [], IfOk, IsTrue, length, vec_len};
+ghost use Rattle.std.specs.Prelude.{◌≡◌, ◌≤◌, ◌+◌, ◌++◌, ◌∷◌, IfOk, IsTrue, length};
 ghost use Rattle.md5.specs.Md5.{md5};
 ghost use Rattle.rsl_auth.specs.Chap.{chap_response};
 ghost use Rattle.rsl_auth.specs.Password.{hidden};
-ghost use Rattle.rsl_auth.specs.Signature.{signed};
 ghost use Rattle.rsl_wire.specs.Attributes.{attribute_octets, attribute_of, list_octets};
 ghost use Rattle.rsl_wire.specs.Packet.{packet_octets};
 ghost use Rattle.rsl_event.specs.Answer.{signed_if};
-ghost use Rattle.rsl_event.specs.Signature.{signature_if};
 ghost use Rattle.rsl_replay.specs.Access.{access_octets, password_kind, password_value, request_attributes};
 
 use crate::accounting::push_text;
 use md5::{Digest, Md5};
-use rsl_auth::{chap_response, hide, sign};
-use rsl_event::codes::{
-    ACCESS_REQUEST, CHAP_PASSWORD, MESSAGE_AUTHENTICATOR, NAS_IDENTIFIER, USER_NAME, USER_PASSWORD,
-};
+use rsl_auth::{CHAP_PASSWORD_LEN, chap_response, hide};
+use rsl_event::codes::{ACCESS_REQUEST, CHAP_PASSWORD, NAS_IDENTIFIER, USER_NAME, USER_PASSWORD};
+use rsl_event::{push_signature_if, signed_if};
 use rsl_script::{AccessRequest, Method};
 use rsl_wire::{Draft, NoMemory};
 use std::alloc::Global;
-
-/// Octets of a CHAP-Password: the CHAP Ident and a response of 16 (RFC 2865 section 5.3).
-const CHAP_PASSWORD_LEN: usize = 17;
-
-/// Octets of the value of a Message-Authenticator (RFC 3579 section 3.2).
-const SIGNATURE_LEN: usize = 16;
-
-/// The place of the value of a packet's first attribute.
-const FIRST_VALUE: usize = 22;
 
 /// The octets of the Access-Request, for a client with this secret (RFC 2865 section 4.1). If it is
 /// signed, a right Message-Authenticator is its first attribute. It fails only where memory is refused.
@@ -100,20 +88,6 @@ fn chap_password(request: &AccessRequest) -> [u8; CHAP_PASSWORD_LEN]
     value
 }
 
-/// Writes a Message-Authenticator with zeros for its value, if the request is signed.
-fn push_signature_if(is_signed: bool, draft: &mut Draft)
-    requires { draft.old.attributes ≡ [] }
-    ensures written { draft.new ≡ record draft.old { attributes = list_octets (signature_if is_signed) } }
-    ensures short { length draft.new.attributes ≤ 18 }
-    ensures room { IsTrue is_signed → 18 ≤ length draft.new.attributes }
-{
-    if is_signed {
-        draft
-            .push(MESSAGE_AUTHENTICATOR, &[0; SIGNATURE_LEN])
-            .unwrap();
-    }
-}
-
 /// Writes what the line says, with this value for its password.
 fn push_request(draft: &mut Draft, request: &AccessRequest, value: &[u8])
     requires room { length draft.old.attributes ≤ 18 }
@@ -164,18 +138,5 @@ fn finish(draft: Draft, is_signed: bool, authenticator: &[u8; 16], secret: &[u8]
         authenticator.now secret.now }
 {
     let octets = draft.finish(ACCESS_REQUEST, authenticator);
-    if is_signed {
-        with_signature(octets, authenticator, secret)
-    } else {
-        octets
-    }
-}
-
-/// The octets of the request, with the value of its first attribute, a Message-Authenticator.
-fn with_signature(mut octets: Vec<u8>, authenticator: &[u8; 16], secret: &[u8]) -> Vec<u8>
-    requires { 38 ≤ vec_len octets }
-    ensures { result.items ≡ signed octets.items 22 authenticator.now secret.now }
-{
-    sign(octets.as_mut_slice(), FIRST_VALUE, authenticator, secret);
-    octets
+    signed_if(is_signed, octets, authenticator, secret)
 }

@@ -1,5 +1,4 @@
 ghost use Rattle.std.specs.Prelude.{◌≡◌, ◌+◌, ◌≤◌, ◌++◌, [], length, replicate, vec_len, IfOk};
-ghost use Rattle.std.specs.Option.{ForSome};
 ghost use Rattle.rsl_auth.specs.Authenticator.{sealed};
 ghost use Rattle.rsl_wire.specs.Attributes.{attribute_octets, list_octets};
 ghost use Rattle.rsl_event.specs.Answer.{number_attribute};
@@ -17,8 +16,8 @@ use rsl_event::codes::{
     ACCOUNTING_OFF, ACCOUNTING_ON, ACCOUNTING_REQUEST, ACCT_MULTI_SESSION_ID, ACCT_SESSION_ID,
     ACCT_STATUS_TYPE, CLASS, INTERIM_UPDATE, NAS_IDENTIFIER, START, STOP, USER_NAME,
 };
-use rsl_script::{AccountingRequest, Status};
-use rsl_wire::{Draft, NoMemory, Octets};
+use rsl_script::{AccountingRequest, AttributeText, Status};
+use rsl_wire::{Draft, NoMemory};
 use std::alloc::Global;
 
 /// The Identifier of each Accounting-Request.
@@ -82,9 +81,8 @@ fn status_number(status: Status) -> u32
 }
 
 /// Writes an attribute whose value is a text, if there is one.
-pub(crate) fn push_text(draft: &mut Draft, kind: u8, text: &Option<Octets>)
-    requires room { length draft.old.attributes ≤ 2048 }
-    requires short { ForSome text.now (λ text. length text ≤ 253) }
+pub(crate) fn push_text(draft: &mut Draft, kind: u8, text: &Option<AttributeText>)
+    requires { length draft.old.attributes ≤ 2048 }
     ensures written { draft.new ≡ record draft.old {
       attributes = draft.old.attributes ++ list_octets (text_attribute kind text.now);
     } }

@@ -23,7 +23,7 @@ use crate::access::access_octets;
 use crate::accounting::accounting_octets;
 use rsl_accounts::Config;
 use rsl_event::{Nas, NasName, Port, Source};
-use rsl_script::{AccessRequest, AccountingRequest, EventLine, Happening, Status};
+use rsl_script::{AccessRequest, AccountingRequest, AttributeText, EventLine, Happening, Status};
 use rsl_steps::Step;
 use rsl_wire::{NoMemory, Octets};
 use std::alloc::Global;
@@ -188,11 +188,11 @@ fn says_restart(status: Status) -> bool
 }
 
 /// The access server of a client that a line names, or that has no name.
-fn nas_named(alloc: Global, client: u32, name: &Option<Octets>) -> Result<Nas, NoMemory>
+fn nas_named(alloc: Global, client: u32, name: &Option<AttributeText>) -> Result<Nas, NoMemory>
     ensures { IfOk result (λ nas. nas ≡ nas_named client name.now) }
 {
     let name = match name {
-        Some(name) => NasName::Identifier(name.try_copy(alloc)?),
+        Some(name) => NasName::Identifier(name.to_octets(alloc)?),
         None => NasName::Unnamed,
     };
     Ok(Nas { client, name })

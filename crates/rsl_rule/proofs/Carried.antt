@@ -16,7 +16,7 @@ use Rattle.rsl_session.specs.Link.{links, opens}
 use Rattle.rsl_session.specs.Binding.{binds, touches, session_at, bound_by}
 use Rattle.rsl_session.specs.Lapse.{lapses, standing_time}
 use Rattle.rsl_session.specs.Held.{held_links}
-use Rattle.rsl_session.proofs.Ending.{left_by, left_by-held, held-quiet, held-opened}
+use Rattle.rsl_session.proofs.Callers.{left_by, left_by-held, held-quiet, held-opened}
 use Rattle.rsl_rule.specs.Standing.{standing_of}
 use Rattle.rsl_rule.specs.Holding.{IsHolding, furthest_taken, lasting, standings, taken_by}
 use Rattle.rsl_rule.specs.declared.holding.HeldLink.{HeldLink}

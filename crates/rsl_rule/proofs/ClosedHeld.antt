@@ -25,9 +25,7 @@ use Rattle.rsl_session.specs.Held.{ended_by, held_before, held_links, yields}
 use Rattle.rsl_session.specs.Closed.{closes, is_closed, kept_stop, stops, KEPT_STOPS}
 use Rattle.rsl_session.specs.Alive.{alive_outcome, link_of, reservation_of, unbound_outcome}
 use Rattle.rsl_session.specs.Rule.{IsRuled, outcome_by, outcome_of}
-use Rattle.rsl_session.proofs.Sameness.{same_session-true, same_session-refl}
-use Rattle.rsl_session.proofs.Ruled.{bound-later}
-use Rattle.rsl_session.proofs.Ending.{gives_way, held-opened, held-quiet, left_by}
+use Rattle.rsl_session.proofs.Callers.{same_session-true, same_session-refl, bound-later, gives_way, held-opened, held-quiet, left_by}
 
 -- entries with no sweep that others have not
 FewerSweeps : List PastEvent → List PastEvent → Type 0

@@ -7,7 +7,7 @@ use Rattle.std.proofs.lemmas.List.{drop_more, drop_all, take_rest}
 use Rattle.std.proofs.lemmas.List.Sums.{sum_by-cons}
 use Rattle.rsl_session.specs.declared.bundle.Bundle.{Bundle}
 use Rattle.rsl_session.specs.Places.{places_of, each_bundle, is_bundle}
-use Rattle.rsl_session.proofs.Counting.{places_of-le}
+use Rattle.rsl_session.proofs.Callers.{places_of-le}
 
 -- the places that the links of a list add, where a bundle's share is that of the whole
 unfoldable pub places_left : ℕ → List (Option Bundle) → List (Option Bundle) → ℕ

@@ -23,8 +23,8 @@ use Rattle.rsl_session.specs.Ask.{has_a_place_without, yielding_link, unfitting_
 use Rattle.rsl_session.specs.Closed.{is_closed}
 use Rattle.rsl_session.specs.Alive.{alive_outcome, has_room, link_of, reservation_of, unbound_outcome}
 use Rattle.rsl_session.specs.Rule.{IsRuled, decision_of, decisions, decisions_from, entry_of, outcome_by, outcome_of, past_from, past_of, places_after}
-use Rattle.rsl_session.proofs.Ruled.{IsRuled-past_of}
-use Rattle.rsl_rule.specs.Laws.{EarlyTicksChangeNothing}
+use Rattle.rsl_session.proofs.Callers.{IsRuled-past_of}
+use Rattle.rsl_rule.specs.Laws.{EarlyTicksChangeNoDecision}
 use Rattle.rsl_rule.proofs.Shift.{shift, shift_outcome, shift_entry, tick_event, tick_entry, after_tick}
 use Rattle.rsl_rule.proofs.TickHeld.{AreLater, places-after_tick, has_a_place-after_tick, yielding_link-after_tick, has_a_place_without-after_tick, has_room-after_tick, link_of-after_tick, reservation_of-after_tick}
 use Rattle.rsl_rule.proofs.TickKept.{accepts-after_tick, repeated-after_tick, is_closed-after_tick}
@@ -243,7 +243,7 @@ places_early rules events n moment k within later few whole =
     ∙ ap (places rules) (sym (past_from-append rules [] first rest))
     ∙ ap (λ es. places rules (past_from rules [] es)) (sym (take_split events n k (omega arith) within))
 
-pub early : EarlyTicksChangeNothing
+pub early : EarlyTicksChangeNoDecision
 unfolding tick_event
 early rules events n moment within later =
     let each : AreEventsLater moment (drop n events) = recursion_from_All (λ (event : Event). moment ≤ event.moment) (drop n events) later in

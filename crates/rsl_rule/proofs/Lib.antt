@@ -14,3 +14,5 @@ pub mod EarlyTick
 pub mod Lowest
 pub mod Yielded
 pub mod ClosedHeld
+pub mod Memory
+pub mod Callers

@@ -16,7 +16,7 @@ use Rattle.rsl_session.specs.Held.{held_links, held_before, is_at}
 use Rattle.rsl_session.specs.Ask.{accepts}
 use Rattle.rsl_session.specs.Alive.{is_chosen, is_number, reservation_of}
 use Rattle.rsl_session.specs.Rule.{IsRuled}
-use Rattle.rsl_session.proofs.Ruled.{is_in, is_in-true, links-in}
+use Rattle.rsl_session.proofs.Callers.{is_in, is_in-true, links-in}
 use Rattle.rsl_rule.proofs.Numbers.{accepts-cons, IsNext, IsNext-outcome_of}
 use Rattle.rsl_rule.proofs.Shift.{number_cons, number_later, number_nil}
 

@@ -19,7 +19,7 @@ use Rattle.rsl_session.specs.Ask.{accepts, ask_outcome, fresh_outcome, has_a_pla
 use Rattle.rsl_session.specs.Alive.{alive_outcome, unbound_outcome, reservation_of, has_room}
 use Rattle.rsl_session.specs.Closed.{is_closed}
 use Rattle.rsl_session.specs.Rule.{IsRuled, outcome_of, outcome_by, past_of}
-use Rattle.rsl_session.proofs.Ruled.{IsRuled-past_of}
+use Rattle.rsl_session.proofs.Callers.{IsRuled-past_of}
 use Rattle.rsl_rule.specs.Laws.{accept_numbers}
 
 -- the number that an outcome gives is how many were accepted before

@@ -20,8 +20,8 @@ use Rattle.rsl_session.specs.Ask.{accepts, ask_outcome, fresh_outcome, has_a_pla
 use Rattle.rsl_session.specs.Alive.{alive_outcome, unbound_outcome, reservation_of, has_room}
 use Rattle.rsl_session.specs.Closed.{is_closed}
 use Rattle.rsl_session.specs.Rule.{outcome_of, outcome_by}
-use Rattle.rsl_session.proofs.Sameness.{same_key-true}
-use Rattle.rsl_rule.specs.Laws.{IsDecided, key_of}
+use Rattle.rsl_session.proofs.Callers.{same_key-true}
+use Rattle.rsl_rule.specs.Laws.{IsFreshDecision, key_of}
 
 any_here : (P : PastEvent → Type 0) (x : PastEvent) (xs : List PastEvent) → P x → Any P (x ∷ xs)
 any_here P x xs p = (0, x, (omega arith), refl, p)
@@ -31,7 +31,7 @@ any_later P x xs (k, y, within, is, p) = (suc k, y, (omega arith), is, p)
 
 -- an ask that is kept was fresh
 kept_is : (now : ℕ) (since : List PastEvent) (entry : PastEvent) (act : Act) (decision : Option Decision) (ask : KeptAsk) → entry.event.act ≡ act → fresh_decision entry.outcome ≡ decision
-    → kept_ask now since act decision ≡ Some ask → IsDecided (Some ask.key) ask.decision entry
+    → kept_ask now since act decision ≡ Some ask → IsFreshDecision (Some ask.key) ask.decision entry
 kept_is now since entry (Ask key nas) (Some decision) ask act fresh kept =
     let same : key ≡ ask.key = cc in
     let decided : decision ≡ ask.decision = cc in
@@ -48,46 +48,46 @@ kept_is now since entry Tick None ask act fresh kept = cc
 
 -- a kept ask that is found passes the test, and was fresh
 found_is : (p : KeptAsk → Bool) (n : ℕ) (since : List PastEvent) (past : Past) (ask : KeptAsk) → find p (take n (fresh_asks since past)) ≡ Some ask
-    → (p ask ≡ true) × Any (IsDecided (Some ask.key) ask.decision) past
+    → (p ask ≡ true) × Any (IsFreshDecision (Some ask.key) ask.decision) past
 unfolding fresh_asks
 found_is p zero since [] ask found = cc
 found_is p (suc n) since [] ask found = cc
 found_is p n since (entry ∷ past) ask found =
     by_cases n (kept_ask (clock (entry ∷ past)) since entry.event.act (fresh_decision entry.outcome)) refl found (λ m. found_is p m (entry ∷ since) past ask) where
-      later : (p ask ≡ true) × Any (IsDecided (Some ask.key) ask.decision) past → (p ask ≡ true) × Any (IsDecided (Some ask.key) ask.decision) (entry ∷ past)
-      later both = (both.0, any_later (IsDecided (Some ask.key) ask.decision) entry past both.1)
+      later : (p ask ≡ true) × Any (IsFreshDecision (Some ask.key) ask.decision) past → (p ask ≡ true) × Any (IsFreshDecision (Some ask.key) ask.decision) (entry ∷ past)
+      later both = (both.0, any_later (IsFreshDecision (Some ask.key) ask.decision) entry past both.1)
 
       here : (m : ℕ) (kept : KeptAsk) (test : Bool) → p kept ≡ test → kept_ask (clock (entry ∷ past)) since entry.event.act (fresh_decision entry.outcome) ≡ Some kept
           → cond test (Some kept) (find p (take m (fresh_asks (entry ∷ since) past))) ≡ Some ask
-          → ((n : ℕ) → find p (take n (fresh_asks (entry ∷ since) past)) ≡ Some ask → (p ask ≡ true) × Any (IsDecided (Some ask.key) ask.decision) past)
-          → (p ask ≡ true) × Any (IsDecided (Some ask.key) ask.decision) (entry ∷ past)
+          → ((n : ℕ) → find p (take n (fresh_asks (entry ∷ since) past)) ≡ Some ask → (p ask ≡ true) × Any (IsFreshDecision (Some ask.key) ask.decision) past)
+          → (p ask ≡ true) × Any (IsFreshDecision (Some ask.key) ask.decision) (entry ∷ past)
       here m kept true passes is found rest =
           let same : kept ≡ ask = cc in
           let asked : kept_ask (clock (entry ∷ past)) since entry.event.act (fresh_decision entry.outcome) ≡ Some ask = is ∙ ap Some same in (
             sym (ap p same) ∙ passes,
-            any_here (IsDecided (Some ask.key) ask.decision) entry past (kept_is (clock (entry ∷ past)) since entry entry.event.act (fresh_decision entry.outcome) ask refl refl asked),
+            any_here (IsFreshDecision (Some ask.key) ask.decision) entry past (kept_is (clock (entry ∷ past)) since entry entry.event.act (fresh_decision entry.outcome) ask refl refl asked),
           )
       here m kept false passes is found rest = later (rest m found)
 
       by_cases : (n : ℕ) (kept : Option KeptAsk) → kept_ask (clock (entry ∷ past)) since entry.event.act (fresh_decision entry.outcome) ≡ kept
           → find p (take n (cons_option kept (fresh_asks (entry ∷ since) past))) ≡ Some ask
-          → ((n : ℕ) → find p (take n (fresh_asks (entry ∷ since) past)) ≡ Some ask → (p ask ≡ true) × Any (IsDecided (Some ask.key) ask.decision) past)
-          → (p ask ≡ true) × Any (IsDecided (Some ask.key) ask.decision) (entry ∷ past)
+          → ((n : ℕ) → find p (take n (fresh_asks (entry ∷ since) past)) ≡ Some ask → (p ask ≡ true) × Any (IsFreshDecision (Some ask.key) ask.decision) past)
+          → (p ask ≡ true) × Any (IsFreshDecision (Some ask.key) ask.decision) (entry ∷ past)
       by_cases n None is found rest = later (rest n found)
       by_cases zero (Some kept) is found rest = cc
       by_cases (suc m) (Some kept) is found rest = here m kept (p kept) refl is found rest
 
 -- the ask that a repeat repeats
-repeated_is : (rules : Rules) (past : Past) (event : Event) (key : Key) (ask : KeptAsk) → repeated_ask rules past event key ≡ Some ask → Any (IsDecided (Some key) ask.decision) past
+repeated_is : (rules : Rules) (past : Past) (event : Event) (key : Key) (ask : KeptAsk) → repeated_ask rules past event key ≡ Some ask → Any (IsFreshDecision (Some key) ask.decision) past
 unfolding repeated_ask repeats
 repeated_is rules past event key ask found =
     let is = found_is (repeats rules key (clock_at past event)) KEPT_ASKS [] past ask found in
     let tests = and_parts (same_key ask.key key && nat_lt (clock_at past event - ask.at) rules.keep) (not ask.swept) is.0 in
     let keys = and_parts (same_key ask.key key) (nat_lt (clock_at past event - ask.at) rules.keep) tests.0 in
     let same : ask.key ≡ key = same_key-true ask.key key keys.0 in
-    subst (λ (k : Key). Any (IsDecided (Some k) ask.decision) past) same is.1
+    subst (λ (k : Key). Any (IsFreshDecision (Some k) ask.decision) past) same is.1
 
-pub repeats_are : (rules : Rules) (past : Past) (event : Event) (decision : Decision) → outcome_of rules past event ≡ Repeated decision → Any (IsDecided (key_of event.act) decision) past
+pub repeats_are : (rules : Rules) (past : Past) (event : Event) (decision : Decision) → outcome_of rules past event ≡ Repeated decision → Any (IsFreshDecision (key_of event.act) decision) past
 unfolding outcome_of fresh_outcome
 repeats_are rules past event decision = by_act event.act where
   without : (link : ℕ) (fits : Bool) → cond fits (AcceptedInPlace (accepts past) link) Refused ≡ Repeated decision → ⊥
@@ -106,10 +106,10 @@ repeats_are rules past event decision = by_act event.act where
   numbered true is = by_place (has_a_place rules past event) is
   numbered false is = cc
 
-  of_ask : (key : Key) (found : Option KeptAsk) → repeated_ask rules past event key ≡ found → ask_outcome rules past event found ≡ Repeated decision → Any (IsDecided (Some key) decision) past
+  of_ask : (key : Key) (found : Option KeptAsk) → repeated_ask rules past event key ≡ found → ask_outcome rules past event found ≡ Repeated decision → Any (IsFreshDecision (Some key) decision) past
   of_ask key (Some ask) found is =
       let same : ask.decision ≡ decision = cc in
-      subst (λ (d : Decision). Any (IsDecided (Some key) d) past) same (repeated_is rules past event key ask found)
+      subst (λ (d : Decision). Any (IsFreshDecision (Some key) d) past) same (repeated_is rules past event key ask found)
   of_ask key None found is = absurd (numbered (nat_lt (accepts past) (2 ^ 64 - 1)) is)
 
   opened : (room : Bool) → cond room Opened Over ≡ Repeated decision → ⊥
@@ -128,7 +128,7 @@ repeats_are rules past event decision = by_act event.act where
   of_alive session class (Some link) is = cc
   of_alive session class None is = open_or_closed (is_closed rules past event session) (reservation_of rules past event session.nas class) is
 
-  by_act : (act : Act) → outcome_by rules past event act ≡ Repeated decision → Any (IsDecided (key_of act) decision) past
+  by_act : (act : Act) → outcome_by rules past event act ≡ Repeated decision → Any (IsFreshDecision (key_of act) decision) past
   by_act (Ask key nas) is = of_ask key (repeated_ask rules past event key) refl is
   by_act (Alive nas id bundle class) is = absurd (of_alive _ class _ is)
   by_act (Stop nas id) is = cc

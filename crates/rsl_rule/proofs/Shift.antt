@@ -24,7 +24,7 @@ use Rattle.rsl_session.specs.Touch.{touched_at}
 use Rattle.rsl_session.specs.Lapse.{is_idle, lapses}
 use Rattle.rsl_session.specs.Held.{is_at, ended_by, yields}
 use Rattle.rsl_session.specs.Rule.{IsRuled}
-use Rattle.rsl_session.proofs.Ruled.{bound-later, bundle_at-later, touched-later, is_in, is_in-true, links-in}
+use Rattle.rsl_session.proofs.Callers.{bound-later, bundle_at-later, touched-later, is_in, is_in-true, links-in}
 
 -- the new name of a link, where the tick has the place after n events
 pub shift : ℕ → ℕ → ℕ

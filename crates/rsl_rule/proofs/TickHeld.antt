@@ -20,8 +20,7 @@ use Rattle.rsl_session.specs.Places.{bundles, places, places_of}
 use Rattle.rsl_session.specs.Ask.{held_without, has_place_beside, has_a_place_without, idle_links, is_touched_first, yielding_link, has_a_place}
 use Rattle.rsl_session.specs.Alive.{has_room, is_chosen, link_of, reservation_of}
 use Rattle.rsl_session.specs.Rule.{IsRuled}
-use Rattle.rsl_session.proofs.Ruled.{is_in, is_in-true, links-in}
-use Rattle.rsl_session.proofs.Ending.{freed_later, freed_older, filter-filter, any_link, list_all_any, not-or}
+use Rattle.rsl_session.proofs.Callers.{is_in, is_in-true, links-in, freed_later, freed_older, filter-filter, any_link, list_all_any, not-or}
 use Rattle.rsl_rule.proofs.Shift.{touched-after_tick, yields-shift, is_idle-after_tick, eqb-shift, shift, shift-old, shift-new, shift_outcome, shift_entry, tick_event, tick_entry, after_tick, length-after_tick, older-le, number_at-after_tick, links-after_tick, bundle_at-after_tick, lapses-after_tick, is_bound_to-after_tick, is_reserved-after_tick, is_at-after_tick, ended_by-after_tick}
 
 -- each of some entries has a moment that is not before the tick's

@@ -10,7 +10,7 @@ use Rattle.rsl_session.specs.declared.outcome.Outcome.{Outcome}
 use Rattle.rsl_session.specs.Past.{Past, looking_back}
 use Rattle.rsl_session.specs.Places.{places}
 use Rattle.rsl_session.specs.Rule.{decision_of, decisions, decisions_from, entry_of, outcome_of, past_from, past_of, places_after}
-use Rattle.rsl_session.proofs.Limit.{places_after-le}
+use Rattle.rsl_session.proofs.Callers.{places_after-le}
 
 pub looking_back-push : (entries : List PastEvent) (entry : PastEvent) → looking_back (entries ++ entry ∷ []) ≡ entry ∷ looking_back entries
 unfolding looking_back

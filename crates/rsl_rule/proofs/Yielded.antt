@@ -18,7 +18,7 @@ use Rattle.rsl_session.specs.Ask.{accepts, ask_outcome, fresh_outcome, has_a_pla
 use Rattle.rsl_session.specs.Alive.{alive_outcome, has_room, reservation_of, unbound_outcome}
 use Rattle.rsl_session.specs.Closed.{is_closed}
 use Rattle.rsl_session.specs.Rule.{entry_of, outcome_by, outcome_of}
-use Rattle.rsl_session.proofs.Ruled.{yielded-le}
+use Rattle.rsl_session.proofs.Callers.{yielded-le}
 use Rattle.rsl_rule.specs.Yielding.{IsFreshAsk, HasYielded}
 use Rattle.rsl_rule.proofs.Lowest.{found_passes}
 

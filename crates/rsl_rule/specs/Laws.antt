@@ -23,7 +23,8 @@ use Rattle.rsl_session.specs.Rule.{IsRuled, decisions, outcome_of, past_of, plac
 
 -- after each event of a list, the places are at most the account's
 abbrev pub PlacesStayWithinTheLimit : Type 0
-PlacesStayWithinTheLimit = (rules : Rules) (events : List Event) (n : ℕ) → RulesFit rules → places_after rules (take n events) ≤ rules.places
+PlacesStayWithinTheLimit = (rules : Rules) (events : List Event) (n : ℕ) → RulesFit rules
+    → places_after rules (take n events) ≤ rules.places
 
 -- the past of a list of events has its events, newest first, and each did what the rule says by what came before it
 abbrev pub PastsFollowTheRule : Type 0
@@ -70,7 +71,7 @@ key_of (Ask key nas) = Some key
 key_of _ = None
 
 -- a fresh ask of a key was decided so
-pub record IsDecided (key : Option Key) (decision : Decision) (entry : PastEvent) : Type 0 where
+pub record IsFreshDecision (key : Option Key) (decision : Decision) (entry : PastEvent) : Type 0 where
   pub same_key : key_of entry.event.act ≡ key
   pub decided : fresh_decision entry.outcome ≡ Some decision
 
@@ -78,13 +79,14 @@ pub record IsDecided (key : Option Key) (decision : Decision) (entry : PastEvent
 abbrev pub RepeatsAreDecidedAsAFreshAsk : Type 0
 RepeatsAreDecidedAsAFreshAsk = (rules : Rules) (events : List Event) (event : Event) (decision : Decision)
     → outcome_of rules (past_of rules events) event ≡ Repeated decision
-    → Any (IsDecided (key_of event.act) decision) (past_of rules events)
+    → Any (IsFreshDecision (key_of event.act) decision) (past_of rules events)
 
 -- a tick that is put into a list where no event after it has a lower moment leaves every decision
 -- as it was, and the places after each event after it
-abbrev pub EarlyTicksChangeNothing : Type 0
-EarlyTicksChangeNothing = (rules : Rules) (events : List Event) (n moment : ℕ) → n ≤ length events
+abbrev pub EarlyTicksChangeNoDecision : Type 0
+EarlyTicksChangeNoDecision = (rules : Rules) (events : List Event) (n moment : ℕ) → n ≤ length events
     → All (λ (event : Event). moment ≤ event.moment) (drop n events)
     → (decisions rules (insert events n (record { moment = moment; act = Tick })) ≡ insert (decisions rules events) n Done)
     × ((k : ℕ) → n < k → k ≤ length events
-    → places_after rules (take (suc k) (insert events n (record { moment = moment; act = Tick }))) ≡ places_after rules (take k events))
+    → places_after rules (take (suc k) (insert events n (record { moment = moment; act = Tick })))
+    ≡ places_after rules (take k events))

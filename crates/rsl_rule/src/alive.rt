@@ -1,7 +1,14 @@
 ghost use Rattle.std.specs.Prelude.{◌≡◌, IfOk};
 ghost use Rattle.rsl_accounts.specs.Limits.{RulesFit};
 ghost use Rattle.rsl_session.specs.Past.{looking_back};
-ghost use Rattle.rsl_session.specs.Alive.{alive_outcome, has_room, is_number, link_of, reservation_of, unbound_outcome};
+ghost use Rattle.rsl_session.specs.Alive.{
+  alive_outcome,
+  has_room,
+  is_number,
+  link_of,
+  reservation_of,
+  unbound_outcome,
+};
 ghost use Rattle.rsl_session.specs.Binding.{is_session};
 ghost use Rattle.rsl_session.specs.Held.{held_before};
 ghost use Rattle.rsl_rule.specs.Holding.{standings};
@@ -21,7 +28,8 @@ use std::alloc::Global;
 
 /// The link that a session is bound to, of those that are held when its alive comes.
 fn link_of_session(before: &[HeldLink], session: &Session) -> Option<usize>
-    ensures { result ≡ link_where (λ held. is_session held.standing.session session.now) before.now }
+    ensures { result ≡
+        link_where (λ held. is_session held.standing.session session.now) before.now }
 {
     before
         .iter()
@@ -56,7 +64,8 @@ fn chosen_reservation(
     nas: &Nas,
     class: Option<u64>,
 ) -> Option<usize>
-    ensures { result ≡ link_where (is_taken_so (looking_back history.now) nas.now class) before.now }
+    ensures { result ≡
+        link_where (is_taken_so (looking_back history.now) nas.now class) before.now }
 {
     before
         .iter()
@@ -74,7 +83,8 @@ fn can_open(
     before: &[HeldLink],
 ) -> Result<bool, NoMemory>
     requires rules_fit { RulesFit rules.now }
-    requires stand_so { before.now ≡ standings (looking_back history.now) (held_before rules.now (looking_back history.now) event.now) }
+    requires stand_so { before.now ≡ standings (looking_back history.now)
+        (held_before rules.now (looking_back history.now) event.now) }
     ensures { IfOk result (λ room. room ≡ has_room rules.now (looking_back history.now) event.now) }
 {
     let links = numbers_of(alloc, before)?;
@@ -94,8 +104,11 @@ fn outcome_of_unbound(
     class: Option<u64>,
 ) -> Result<Outcome, NoMemory>
     requires rules_fit { RulesFit rules.now }
-    requires stand_so { before.now ≡ standings (looking_back history.now) (held_before rules.now (looking_back history.now) event.now) }
-    ensures { IfOk result (λ outcome. outcome ≡ unbound_outcome rules.now (looking_back history.now) event.now (reservation_of rules.now (looking_back history.now) event.now nas.now class)) }
+    requires stand_so { before.now ≡ standings (looking_back history.now)
+        (held_before rules.now (looking_back history.now) event.now) }
+    ensures { IfOk result (λ outcome. outcome ≡
+        unbound_outcome rules.now (looking_back history.now) event.now
+        (reservation_of rules.now (looking_back history.now) event.now nas.now class)) }
 {
     if let Some(link) = chosen_reservation(history, before, nas, class) {
         return Ok(Outcome::Took(link));
@@ -117,7 +130,9 @@ pub(crate) fn outcome_of_alive(
     class: Option<u64>,
 ) -> Result<Outcome, NoMemory>
     requires { RulesFit rules.now }
-    ensures { IfOk result (λ outcome. outcome ≡ alive_outcome rules.now (looking_back history.now) event.now session.now class (link_of rules.now (looking_back history.now) event.now session.now)) }
+    ensures { IfOk result (λ outcome. outcome ≡
+        alive_outcome rules.now (looking_back history.now) event.now session.now class
+        (link_of rules.now (looking_back history.now) event.now session.now)) }
 {
     let before = links_before(alloc, rules, history, event)?;
     if let Some(link) = link_of_session(&before, session) {

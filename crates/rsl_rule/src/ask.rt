@@ -1,8 +1,17 @@
-ghost use Rattle.std.specs.Prelude.{◌≡◌, [], ◌<◌, IfOk, length, take};
+ghost use Rattle.std.specs.Prelude.{◌≡◌, [], ◌<◌, IfOk, length, take, OnErr};
 ghost use Rattle.std.specs.Option.{option_map};
 ghost use Rattle.rsl_accounts.specs.Limits.{RulesFit};
 ghost use Rattle.rsl_session.specs.Past.{looking_back};
-ghost use Rattle.rsl_session.specs.Ask.{accepts, ask_outcome, fresh_asks, fresh_decision, fresh_outcome, kept_ask, repeated_ask, repeats};
+ghost use Rattle.rsl_session.specs.Ask.{
+  accepts,
+  ask_outcome,
+  fresh_asks,
+  fresh_decision,
+  fresh_outcome,
+  kept_ask,
+  repeated_ask,
+  repeats,
+};
 ghost use Rattle.rsl_session.specs.Sweep.{is_sweep_of, swept_in};
 ghost use Rattle.rsl_session.specs.Clock.{clock};
 
@@ -13,12 +22,9 @@ use crate::link::accept_number;
 use crate::yielding::yielding_link;
 use rsl_accounts::Rules;
 use rsl_event::{Act, Decision, Event, Key, Nas};
-use rsl_session::{KeptAsk, Outcome, PastEvent};
+use rsl_session::{KEPT_ASKS, KeptAsk, Outcome, PastEvent};
 use rsl_wire::NoMemory;
 use std::alloc::Global;
-
-/// How many of the last fresh asks can be repeated.
-const KEPT_ASKS: usize = 8;
 
 /// Whether an act is a sweep of an access server.
 fn sweeps(nas: &Nas, act: &Act) -> bool
@@ -60,7 +66,8 @@ fn keep_ask(
     act: &Act,
     decision: Option<Decision>,
 ) -> Result<Option<KeptAsk>, NoMemory>
-    ensures { IfOk result (λ ask. ask ≡ kept_ask (clock (looking_back history.now)) since.now act.now decision) }
+    ensures { IfOk result (λ ask. ask ≡
+        kept_ask (clock (looking_back history.now)) since.now act.now decision) }
 {
     match (act, decision) {
         (Act::Ask { key, nas }, Some(decision)) => Ok(Some(KeptAsk {
@@ -77,7 +84,9 @@ fn keep_ask(
 /// The last fresh asks of a past, newest first, as many as can be repeated.
 #[tactic(auto, using(crate::proofs::Kept::asks_steps))]
 fn asks_of(alloc: Global, history: &[PastEvent]) -> Result<Vec<KeptAsk>, NoMemory>
-    ensures { IfOk result (λ asks. asks.items ≡ take KEPT_ASKS (fresh_asks [] (looking_back history.now))) }
+    ensures asks { IfOk result (λ asks. asks.items ≡
+        take KEPT_ASKS (fresh_asks [] (looking_back history.now))) }
+    ensures refused { OnErr result (0 < length history.now) }
 {
     let mut asks = Vec::new(alloc);
     let mut at = history.len();
@@ -110,7 +119,9 @@ fn repeated_decision(
     event: &Event,
     key: &Key,
 ) -> Result<Option<Decision>, NoMemory>
-    ensures { IfOk result (λ decision. decision ≡ option_map (λ ask. ask.decision) (repeated_ask rules.now (looking_back history.now) event.now key.now)) }
+    ensures decision { IfOk result (λ decision. decision ≡ option_map (λ ask. ask.decision)
+        (repeated_ask rules.now (looking_back history.now) event.now key.now)) }
+    ensures refused { OnErr result (0 < length history.now) }
 {
     let now = clock_with(history, event);
     let asks = asks_of(alloc, history)?;
@@ -124,16 +135,16 @@ fn repeated_decision(
 
 /// How many fresh asks were accepted.
 #[tactic(auto, unfolding(rsl_session::specs::Ask::accepts), using(crate::proofs::Looking::accepts_steps))]
-fn accepted(history: &[PastEvent]) -> u64
+fn accept_count(history: &[PastEvent]) -> u64
     ensures { result ≡ accepts (looking_back history.now) }
 {
-    let mut accepted = 0;
+    let mut count = 0;
     for entry in history {
         if accept_number(entry.outcome).is_some() {
-            accepted += 1;
+            count += 1;
         }
     }
-    accepted
+    count
 }
 
 /// What a fresh ask does, while there is an accept number for it.
@@ -146,7 +157,9 @@ fn outcome_of_fresh(
 ) -> Result<Outcome, NoMemory>
     requires rules_fit { RulesFit rules.now }
     requires next { number ≡ accepts (looking_back history.now) }
-    ensures { IfOk result (λ did. did ≡ fresh_outcome rules.now (looking_back history.now) event.now) }
+    ensures outcome { IfOk result (λ did. did ≡
+        fresh_outcome rules.now (looking_back history.now) event.now) }
+    ensures refused { OnErr result (0 < length history.now) }
 {
     let before = links_before(alloc, rules, history, event)?;
     let links = numbers_of(alloc, &before)?;
@@ -176,12 +189,15 @@ pub(crate) fn outcome_of_ask(
     key: &Key,
 ) -> Result<Outcome, NoMemory>
     requires { RulesFit rules.now }
-    ensures { IfOk result (λ outcome. outcome ≡ ask_outcome rules.now (looking_back history.now) event.now (repeated_ask rules.now (looking_back history.now) event.now key.now)) }
+    ensures outcome { IfOk result (λ outcome. outcome ≡
+        ask_outcome rules.now (looking_back history.now) event.now
+        (repeated_ask rules.now (looking_back history.now) event.now key.now)) }
+    ensures refused { OnErr result (0 < length history.now) }
 {
     if let Some(decision) = repeated_decision(alloc, rules, history, event, key)? {
         return Ok(Outcome::Repeated(decision));
     }
-    let number = accepted(history);
+    let number = accept_count(history);
     if number < u64::MAX {
         outcome_of_fresh(alloc, rules, history, event, number)
     } else {

@@ -1,7 +1,15 @@
 ghost use Rattle.std.specs.Prelude.{◌≡◌, IfOk, is_some};
 ghost use Rattle.std.specs.Option.{option_or};
 ghost use Rattle.rsl_session.specs.Past.{looking_back};
-ghost use Rattle.rsl_session.specs.Binding.{binds, session_of, bundle_of, bound_by, bundled_by, session_at, bundle_at};
+ghost use Rattle.rsl_session.specs.Binding.{
+  binds,
+  session_of,
+  bundle_of,
+  bound_by,
+  bundled_by,
+  session_at,
+  bundle_at,
+};
 
 use crate::link::touches_link;
 use rsl_event::Act;

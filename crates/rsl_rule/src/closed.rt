@@ -7,12 +7,9 @@ use crate::ask::is_swept_in;
 use crate::clock::{clock_of, clock_with};
 use rsl_accounts::Rules;
 use rsl_event::{Act, Event};
-use rsl_session::{KeptStop, PastEvent, Session};
+use rsl_session::{KEPT_STOPS, KeptStop, PastEvent, Session};
 use rsl_wire::NoMemory;
 use std::alloc::Global;
-
-/// How many of the last stops can close a session.
-const KEPT_STOPS: usize = 16;
 
 /// A stop as it is kept, by the past up to it and the entries since.
 fn keep_stop(
@@ -21,7 +18,8 @@ fn keep_stop(
     since: &[PastEvent],
     act: &Act,
 ) -> Result<Option<KeptStop>, NoMemory>
-    ensures { IfOk result (λ stop. stop ≡ kept_stop (clock (looking_back history.now)) since.now act.now) }
+    ensures { IfOk result (λ stop. stop ≡
+        kept_stop (clock (looking_back history.now)) since.now act.now) }
 {
     match act {
         Act::Stop { nas, session } => Ok(Some(KeptStop {
@@ -39,7 +37,8 @@ fn keep_stop(
 /// The last stops of a past, newest first, as many as can close a session.
 #[tactic(auto, using(crate::proofs::Kept::stops_steps))]
 fn stops_of(alloc: Global, history: &[PastEvent]) -> Result<Vec<KeptStop>, NoMemory>
-    ensures { IfOk result (λ each. each.items ≡ take KEPT_STOPS (stops [] (looking_back history.now))) }
+    ensures { IfOk result (λ each. each.items ≡
+        take KEPT_STOPS (stops [] (looking_back history.now))) }
 {
     let mut each = Vec::new(alloc);
     let mut at = history.len();
@@ -71,7 +70,8 @@ pub(crate) fn is_session_closed(
     event: &Event,
     session: &Session,
 ) -> Result<bool, NoMemory>
-    ensures { IfOk result (λ answer. answer ≡ is_closed rules.now (looking_back history.now) event.now session.now) }
+    ensures { IfOk result (λ answer. answer ≡
+        is_closed rules.now (looking_back history.now) event.now session.now) }
 {
     let now = clock_with(history, event);
     let stops = stops_of(alloc, history)?;

@@ -1,4 +1,4 @@
-ghost use Rattle.std.specs.Prelude.{◌≡◌, ◌<◌, IfOk, count_by};
+ghost use Rattle.std.specs.Prelude.{◌≡◌, ◌<◌, IfOk, count_by, OnErr, length};
 ghost use Rattle.rsl_session.specs.Past.{looking_back};
 ghost use Rattle.std.specs.Int.{div_ceil};
 ghost use Rattle.rsl_accounts.specs.Limits.{RulesFit};
@@ -19,7 +19,8 @@ pub(crate) fn bundles_of(
     history: &[PastEvent],
     links: &[usize],
 ) -> Result<Vec<Option<Bundle>>, NoMemory>
-    ensures { IfOk result (λ each. each.items ≡ bundles (looking_back history.now) links.now) }
+    ensures bundles { IfOk result (λ each. each.items ≡ bundles (looking_back history.now) links.now) }
+    ensures refused { OnErr result (0 < length links.now) }
 {
     let mut each = Vec::new(alloc);
     for link in links {
@@ -39,7 +40,7 @@ fn is_link_of(bundle: &Bundle, other: &Option<Bundle>) -> bool
 }
 
 /// How many of some links are in a bundle.
-fn links_of(bundle: &Bundle, bundles: &[Option<Bundle>]) -> usize
+fn link_count(bundle: &Bundle, bundles: &[Option<Bundle>]) -> usize
     ensures { result ≡ count_by (is_bundle bundle.now) bundles.now }
 {
     bundles
@@ -53,10 +54,11 @@ fn places_of_bundle(ports: u64, bundle: &Bundle, bundles: &[Option<Bundle>]) -> 
     requires { 0 < ports }
     ensures { result ≡ div_ceil (count_by (is_bundle bundle.now) bundles.now) ports }
 {
-    (links_of(bundle, bundles) as u64).div_ceil(ports)
+    (link_count(bundle, bundles) as u64).div_ceil(ports)
 }
 
-/// The places of some links, told by the bundle of each: the last of a bundle's links counts the bundle.
+/// The places of some links, told by the bundle of each: the last of a bundle's links counts the
+/// bundle.
 #[tactic(auto, using(crate::proofs::Counted::places_steps))]
 pub(crate) fn places_taken(ports: u64, bundles: &[Option<Bundle>]) -> u64
     requires { 0 < ports }
@@ -67,7 +69,7 @@ pub(crate) fn places_taken(ports: u64, bundles: &[Option<Bundle>]) -> u64
         match bundle {
             None => places += 1,
             Some(bundle) => {
-                if links_of(bundle, &bundles[at + 1..]) == 0 {
+                if link_count(bundle, &bundles[at + 1..]) == 0 {
                     places += places_of_bundle(ports, bundle, bundles);
                 }
             }
@@ -85,21 +87,24 @@ pub(crate) fn has_place_beside(
     links: &[usize],
 ) -> Result<bool, NoMemory>
     requires { RulesFit rules.now }
-    ensures { IfOk result (λ free. free ≡ has_place_beside rules.now (looking_back history.now) links.now) }
+    ensures free { IfOk result (λ free. free ≡
+        has_place_beside rules.now (looking_back history.now) links.now) }
+    ensures refused { OnErr result (0 < length links.now) }
 {
     let bundles = bundles_of(alloc, history, links)?;
     Ok(places_taken(rules.ports, &bundles) < rules.places)
 }
 
 /// The places that are held.
-#[tactic(auto, unfolding(rsl_session::specs::Places::places))]
+#[tactic(auto, using(crate::proofs::Memory::links_some), unfolding(rsl_session::specs::Places::places))]
 pub(crate) fn places_held(
     alloc: Global,
     rules: &Rules,
     history: &[PastEvent],
 ) -> Result<u64, NoMemory>
     requires { RulesFit rules.now }
-    ensures { IfOk result (λ held. held ≡ places rules.now (looking_back history.now)) }
+    ensures places { IfOk result (λ held. held ≡ places rules.now (looking_back history.now)) }
+    ensures refused { OnErr result (0 < length history.now) }
 {
     let links = held_links(alloc, rules, history)?;
     let bundles = bundles_of(alloc, history, &links)?;

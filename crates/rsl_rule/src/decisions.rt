@@ -1,5 +1,6 @@
-ghost use Rattle.std.specs.Prelude.{◌≡◌, ◌≤◌, IfOk};
+ghost use Rattle.std.specs.Prelude.{◌≡◌, ◌≤◌, IfOk, ◌<◌, OnErr, length};
 ghost use Rattle.rsl_accounts.specs.Limits.{RulesFit};
+ghost use Rattle.rsl_rule.specs.Memory.{LooksBack};
 ghost use Rattle.rsl_session.specs.Past.{looking_back};
 ghost use Rattle.rsl_session.specs.Rule.{decision_of, decisions, outcome_of, past_of, places_after};
 
@@ -12,7 +13,8 @@ use rsl_session::{Outcome, PastEvent, Session};
 use rsl_wire::NoMemory;
 use std::alloc::Global;
 
-/// What an event does to an account with this past, by the session rule. The history is the account's past, oldest first.
+/// What an event does to an account with this past, by the session rule. The history is the
+/// account's past, oldest first.
 ///
 /// It takes memory for what it looks up, and fails only where memory is refused.
 #[tactic(auto, unfolding(rsl_session::specs::Rule::outcome_of))]
@@ -23,7 +25,8 @@ pub fn outcome(
     event: &Event,
 ) -> Result<Outcome, NoMemory>
     requires { RulesFit rules.now }
-    ensures { IfOk result (λ did. did ≡ outcome_of rules.now (looking_back history.now) event.now) }
+    ensures outcome { IfOk result (λ did. did ≡ outcome_of rules.now (looking_back history.now) event.now) }
+    ensures refused { OnErr result (LooksBack history.now event.now.act) }
 {
     match &event.act {
         Act::Ask { key, .. } => outcome_of_ask(alloc, rules, history, event, key),
@@ -47,7 +50,8 @@ pub fn outcome(
 #[tactic(auto, using(crate::proofs::Whole::past_steps))]
 fn past_after(alloc: Global, rules: &Rules, events: &[Event]) -> Result<Vec<PastEvent>, NoMemory>
     requires { RulesFit rules.now }
-    ensures { IfOk result (λ history. looking_back history.items ≡ past_of rules.now events.now) }
+    ensures past { IfOk result (λ history. looking_back history.items ≡ past_of rules.now events.now) }
+    ensures refused { OnErr result (0 < length events.now) }
 {
     let mut history = Vec::new(alloc);
     for event in events {
@@ -77,10 +81,11 @@ pub fn decision(outcome: Outcome) -> Decision
 /// The decision on each of an account's events, in their order, by the session rule.
 ///
 /// It takes memory for the answer and for what it looks up, and fails only where memory is refused.
-#[tactic(auto, using(crate::proofs::Whole::decided_steps))]
+#[tactic(auto, using(crate::proofs::Whole::decided_steps, crate::proofs::Memory::events_some))]
 pub fn decide(alloc: Global, rules: &Rules, events: &[Event]) -> Result<Vec<Decision>, NoMemory>
     requires { RulesFit rules.now }
-    ensures { IfOk result (λ answer. answer.items ≡ decisions rules.now events.now) }
+    ensures decisions { IfOk result (λ answer. answer.items ≡ decisions rules.now events.now) }
+    ensures refused { OnErr result (0 < length events.now) }
 {
     let history = past_after(alloc, rules, events)?;
     let mut decisions = Vec::new(alloc);
@@ -90,14 +95,16 @@ pub fn decide(alloc: Global, rules: &Rules, events: &[Event]) -> Result<Vec<Deci
     Ok(decisions)
 }
 
-/// The places that an account holds after its events, by the session rule: never more than its rules allow.
+/// The places that an account holds after its events, by the session rule: never more than its
+/// rules allow.
 ///
 /// It takes memory for what it looks up, and fails only where memory is refused.
-#[tactic(auto, using(crate::proofs::Whole::places_steps))]
+#[tactic(auto, using(crate::proofs::Whole::places_steps, crate::proofs::Memory::events_some))]
 pub fn places(alloc: Global, rules: &Rules, events: &[Event]) -> Result<u32, NoMemory>
     requires { RulesFit rules.now }
     ensures exact { IfOk result (λ held. held ≡ places_after rules.now events.now) }
     ensures limit { IfOk result (λ held. held ≤ rules.now.places) }
+    ensures refused { OnErr result (0 < length events.now) }
 {
     let history = past_after(alloc, rules, events)?;
     Ok(places_held(alloc, rules, &history)? as u32)

@@ -1,4 +1,4 @@
-ghost use Rattle.std.specs.Prelude.{◌≡◌, [], ◌∷◌, ◌<◌, ◌+◌, ◌||◌, length, max, true, IfOk};
+ghost use Rattle.std.specs.Prelude.{◌≡◌, [], ◌∷◌, ◌<◌, ◌+◌, ◌||◌, length, max, true, IfOk, OnErr};
 ghost use Rattle.rsl_accounts.specs.Limits.{RulesFit};
 ghost use Rattle.rsl_accounts.specs.declared.rules.Rules.{Rules};
 ghost use Rattle.rsl_session.specs.Past.{looking_back};
@@ -88,7 +88,8 @@ fn is_freed_by(
 ) -> bool
     requires rules_fit { RulesFit rules.now }
     requires stands_so { standing.now ≡ standing_of link (looking_back history.now) }
-    ensures { result ≡ (ends rules.now (looking_back history.now) entry.now.event link || yields link entry.now.outcome) }
+    ensures { result ≡ (ends rules.now (looking_back history.now) entry.now.event link ||
+        yields link entry.now.outcome) }
 {
     ends_at(rules, history, &entry.event, link, standing) || yields_to(link, entry.outcome)
 }
@@ -102,8 +103,10 @@ fn links_left(
     links: Vec<HeldLink>,
 ) -> Result<Vec<HeldLink>, NoMemory>
     requires rules_fit { RulesFit rules.now }
-    requires stand_so { links.items ≡ standings (looking_back history.now) (held_links rules.now (looking_back history.now)) }
-    ensures { IfOk result (λ left. left.items ≡ standings (entry.now ∷ looking_back history.now) (lasting rules.now entry.now (looking_back history.now))) }
+    requires stand_so { links.items ≡
+        standings (looking_back history.now) (held_links rules.now (looking_back history.now)) }
+    ensures { IfOk result (λ left. left.items ≡ standings (entry.now ∷ looking_back history.now)
+        (lasting rules.now entry.now (looking_back history.now))) }
 {
     let mut left = Vec::new(alloc);
     for held in links {
@@ -129,8 +132,8 @@ fn link_taken(outcome: Outcome) -> usize
 
 /// The session that a link is bound to before the entry that opens it.
 ///
-/// There is one only where an alive took the number of a link that had not opened. The rule takes held
-/// links alone, so no past that follows it is gone over here.
+/// There is one only where an alive took the number of a link that had not opened. The rule takes
+/// held links alone, so no past that follows it is gone over here.
 #[tactic(auto, using(crate::proofs::Carried::unbound))]
 fn session_before(
     alloc: Global,
@@ -161,7 +164,8 @@ fn standing_of_opened(
     requires opened { opens entry.now.outcome ≡ true }
     requires at { now ≡ max (clock (looking_back history.now)) entry.now.event.moment }
     requires greatest { furthest ≡ furthest_taken (looking_back history.now) }
-    ensures { IfOk result (λ standing. standing ≡ standing_of (length history.now + 1) (entry.now ∷ looking_back history.now)) }
+    ensures { IfOk result (λ standing. standing ≡
+        standing_of (length history.now + 1) (entry.now ∷ looking_back history.now)) }
 {
     let link = history.len() + 1;
     let bound = session_before(alloc, link, history, furthest)?;
@@ -196,7 +200,8 @@ impl Holding {
     ) -> Result<Holding, NoMemory>
         requires rules_fit { RulesFit rules.now }
         requires held_so { IsHolding rules.now (looking_back history.now) self }
-        ensures { IfOk result (λ next. IsHolding rules.now (entry.now ∷ looking_back history.now) next) }
+        ensures { IfOk result (λ next.
+            IsHolding rules.now (entry.now ∷ looking_back history.now) next) }
     {
         let clock = self.clock.max(entry.event.moment);
         let furthest = self.furthest;
@@ -221,7 +226,8 @@ pub(crate) fn holding_after(
     history: &[PastEvent],
 ) -> Result<Holding, NoMemory>
     requires { RulesFit rules.now }
-    ensures { IfOk result (λ holding. IsHolding rules.now (looking_back history.now) holding) }
+    ensures holding { IfOk result (λ holding. IsHolding rules.now (looking_back history.now) holding) }
+    ensures refused { OnErr result (0 < length history.now) }
 {
     let mut holding = Holding::new(alloc);
     for (at, entry) in history.iter().enumerate() {

@@ -1,29 +1,40 @@
-//! Laws of the session rule, over every list of an account's events. Each is the contract of a function
-//! that does nothing.
+//! Laws of the session rule, over every list of an account's events. Each is the contract of a
+//! function that does nothing.
 
-ghost use Rattle.rsl_rule.specs.Laws.{AcceptNumbersCountUp, ClosedSessionsHoldNoLink, EarlyTicksChangeNothing, LowestReservationIsTaken, OnePastFollowsTheRule, PastsFollowTheRule, PlacesStayWithinTheLimit, RepeatsAreDecidedAsAFreshAsk, StaleLinksYield};
+ghost use Rattle.rsl_rule.specs.Laws.{
+  AcceptNumbersCountUp,
+  ClosedSessionsHoldNoLink,
+  EarlyTicksChangeNoDecision,
+  LowestReservationIsTaken,
+  OnePastFollowsTheRule,
+  PastsFollowTheRule,
+  PlacesStayWithinTheLimit,
+  RepeatsAreDecidedAsAFreshAsk,
+  StaleLinksYield,
+};
 
-/// After each event of a list, and not only after the last, the places held are at most the account's.
+/// After each event of a list, and not only after the last, the places held are at most the
+/// account's.
 pub fn places_stay_within_the_limit()
     ensures { PlacesStayWithinTheLimit }
 {}
 
-/// A link that yields to a fresh ask was stale when the ask came, no stale link was touched before it, and
-/// the places held after the ask are at most the account's.
+/// A link that yields to a fresh ask was stale when the ask came, no stale link was touched before
+/// it, and the places held after the ask are at most the account's.
 pub fn stale_links_yield()
     ensures { StaleLinksYield }
 {}
 
-/// A closed session has no held link, so the order of the first two cases of an alive decides nothing: its
-/// link is renewed, or the session is closed, or neither.
+/// A closed session has no held link, so the order of the first two cases of an alive decides
+/// nothing: its link is renewed, or the session is closed, or neither.
 pub fn closed_sessions_hold_no_link()
     ensures { ClosedSessionsHoldNoLink }
 {}
 
 /// A tick may be put into a list where none of the events after it has a lower moment: every
 /// decision stays as it was, and so do the places after each event after it.
-pub fn early_ticks_change_nothing()
-    ensures { EarlyTicksChangeNothing }
+pub fn early_ticks_change_no_decision()
+    ensures { EarlyTicksChangeNoDecision }
 {}
 
 /// The accept numbers of an account's fresh asks count up from 0 without a gap.
@@ -36,7 +47,8 @@ pub fn repeats_are_decided_as_a_fresh_ask()
     ensures { RepeatsAreDecidedAsAFreshAsk }
 {}
 
-/// The past of a list of events has its events, and each did what the rule says by what came before it.
+/// The past of a list of events has its events, and each did what the rule says by what came before
+/// it.
 pub fn pasts_follow_the_rule()
     ensures { PastsFollowTheRule }
 {}

@@ -35,7 +35,8 @@ impl Standing {
         entry: &PastEvent,
     ) -> Result<Standing, NoMemory>
         requires { self ≡ standing_of link (looking_back history.now) }
-        ensures { IfOk result (λ next. next ≡ standing_of link (entry.now ∷ looking_back history.now)) }
+        ensures { IfOk result (λ next.
+            next ≡ standing_of link (entry.now ∷ looking_back history.now)) }
     {
         let place = history.len() + 1;
         let clock = self.clock.max(entry.event.moment);
@@ -70,7 +71,8 @@ impl Standing {
     /// Whether the link lapses when an event comes.
     pub fn lapses(&self, rules: &Rules, event: &Event) -> bool
         requires { RulesFit rules.now }
-        ensures { result ≡ nat_le (standing_time rules.now self.now.session) (max self.now.clock event.now.moment - self.now.touched) }
+        ensures { result ≡ nat_le (standing_time rules.now self.now.session)
+            (max self.now.clock event.now.moment - self.now.touched) }
     {
         let untouched = self.clock.max(event.moment).saturating_sub(self.touched);
         match self.session {

@@ -13,8 +13,8 @@ fn is_touched_first(rules: &Rules, event: &Event, before: &[HeldLink], touched: 
         || touched <= other.standing.touched)
 }
 
-/// The link that can yield, of those that are held when an event comes: of the idle ones the one touched
-/// longest ago, and of these the first that opened.
+/// The link that can yield, of those that are held when an event comes: of the idle ones the one
+/// touched longest ago, and of these the first that opened.
 pub(crate) fn yielding_link(rules: &Rules, event: &Event, before: &[HeldLink]) -> Option<usize>
     ensures { result ≡ link_where (is_yielding_so rules.now event.now before.now) before.now }
 {

@@ -2,7 +2,6 @@ pub mod Numbers
 pub mod RestAfter
 pub mod Printed
 pub mod Mapped
-pub mod Fits
 pub mod Joined
 pub mod Requests
 pub mod Taken

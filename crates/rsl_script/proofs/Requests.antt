@@ -1,15 +1,12 @@
 -- Requests that are made of the values of their words.
-use Rattle.std.proofs.Common.{◌≡◌, ℕ, ◌+◌, ◌<◌, ◌≤◌, List, [], ◌∷◌, length, map, take, drop, ◌-◌, get_or, Bor, Option, None, Some, ap, sym, ◌∙◌, arith}
+use Rattle.std.proofs.Common.{◌≡◌, ℕ, ◌+◌, ◌<◌, ◌≤◌, List, [], ◌∷◌, length, map, take, drop, ◌-◌, get_or, Bor, Option, None, Some, refl, ap, sym, ◌∙◌, arith}
 use Rattle.std.proofs.lemmas.List.{drop_more, drop_all, take_rest}
 use Rattle.rsl_script.specs.declared.accounting.Ties.{Ties}
-use Rattle.rsl_script.specs.declared.request.AccessRequest.{AccessRequest}
-use Rattle.rsl_script.specs.declared.request.AccountingRequest.{AccountingRequest}
 use Rattle.rsl_script.specs.declared.request.Method.{Method}
 use Rattle.rsl_script.specs.declared.request.Status.{Status}
 use Rattle.rsl_script.specs.Access.{access_request}
 use Rattle.rsl_script.specs.Accounting.{ties_at, server_report, session_report}
 use Rattle.rsl_script.specs.Values.{read_id, read_name, read_nas, read_password}
-use Rattle.rsl_script.proofs.Fits.{access_fields, accounting_fields, fitting_access_is, fitting_accounting_is}
 
 abbrev pub seen : List (Bor (List ℕ)) → List (List ℕ)
 seen words = map (λ word. word.now) words
@@ -41,36 +38,32 @@ abbrev pub no_word : Bor (List ℕ)
 no_word = record { ref_ptr = (0, 0); now = [] }
 
 pub access_request_made :
-    (method : Method) (text : List ℕ) (words : List (List ℕ)) (nas name password id given_text : List ℕ) (given_nas : Option (List ℕ)) (given_name given_password : List ℕ) (given_id : ℕ) (request : AccessRequest)
+    (method : Method) (text : List ℕ) (words : List (List ℕ)) (nas name password id given_text : List ℕ) (given_nas : Option (List ℕ)) (given_name given_password : List ℕ) (given_id : ℕ)
     → text ≡ given_text
     → words ≡ nas ∷ name ∷ password ∷ id ∷ []
     → read_nas nas ≡ Some given_nas
     → read_name name ≡ Some given_name
     → read_password password ≡ Some given_password
     → read_id id ≡ Some given_id
-    → access_fields request ≡ record { method = method; text = given_text; nas = given_nas; name = given_name; password = given_password; id = given_id }
-    → access_request method text words ≡ Some request
+    → access_request method text words ≡ Some (record { method = method; text = given_text; nas = given_nas; name = given_name; password = given_password; id = given_id })
 unfolding access_request
-access_request_made method text words nas name password id given_text given_nas given_name given_password given_id request same_text same_words same_nas same_name same_password same_id fields =
-    rw (same_text, same_words, same_nas, same_name, same_password, same_id, sym fields) (fitting_access_is request)
+access_request_made method text words nas name password id given_text given_nas given_name given_password given_id same_text same_words same_nas same_name same_password same_id =
+    rw (same_text, same_words, same_nas, same_name, same_password, same_id) refl
 
 pub server_report_made :
-    (status : Status) (nas : Option (List ℕ)) (words : List (List ℕ)) (request : AccountingRequest)
+    (status : Status) (nas : Option (List ℕ)) (words : List (List ℕ))
     → words ≡ []
-    → accounting_fields request ≡ record { status = status; nas = nas; name = None; session = None; bundle = None; class = None }
-    → server_report status nas words ≡ Some request
+    → server_report status nas words ≡ Some (record { status = status; nas = nas; name = None; session = None; bundle = None; class = None })
 unfolding server_report
-server_report_made status nas words request same_words fields =
-    rw (same_words, sym fields) (fitting_accounting_is request)
+server_report_made status nas words same_words = rw same_words refl
 
 pub session_report_made :
-    (status : Status) (nas : Option (List ℕ)) (words : List (List ℕ)) (name session given_name given_session : List ℕ) (rest : List (List ℕ)) (ties : Ties) (request : AccountingRequest)
+    (status : Status) (nas : Option (List ℕ)) (words : List (List ℕ)) (name session given_name given_session : List ℕ) (rest : List (List ℕ)) (ties : Ties)
     → words ≡ name ∷ session ∷ rest
     → read_name name ≡ Some given_name
     → read_name session ≡ Some given_session
     → ties_at status rest ≡ Some ties
-    → accounting_fields request ≡ record { status = status; nas = nas; name = Some given_name; session = Some given_session; bundle = ties.bundle; class = ties.class }
-    → session_report status nas words ≡ Some request
+    → session_report status nas words ≡ Some (record { status = status; nas = nas; name = Some given_name; session = Some given_session; bundle = ties.bundle; class = ties.class })
 unfolding session_report
-session_report_made status nas words name session given_name given_session rest ties request same_words same_name same_session same_ties fields =
-    rw (same_words, same_name, same_session, same_ties, sym fields) (fitting_accounting_is request)
+session_report_made status nas words name session given_name given_session rest ties same_words same_name same_session same_ties =
+    rw (same_words, same_name, same_session, same_ties) refl

@@ -11,7 +11,7 @@ use Rattle.rsl_script.specs.declared.event_line.EventLine.{EventLine}
 use Rattle.rsl_script.specs.declared.line.Line.{Line}
 use Rattle.rsl_script.specs.declared.line.Line.TheVariants as lines
 use Rattle.rsl_script.specs.Line.{line_of}
-use Rattle.rsl_script.specs.Script.{Contents, contents_of, event_in, first_wrong, is_configuration, is_event, is_wrong, last_of, script_of}
+use Rattle.rsl_script.specs.Script.{Contents, contents_of, event_said, first_wrong, is_configuration, is_event, is_wrong, last_of, script_of}
 use Rattle.rsl_script.specs.Words.{lines_of}
 use Rattle.rsl_script.specs.declared.fault.ScriptFault.TheVariants.{Line as line_fault, NoMemory as no_memory}
 use Rattle.rsl_script.specs.declared.fault.ScriptFault.{ScriptFault}
@@ -41,19 +41,19 @@ contents_more said line =
 
 -- whether an event line stands among some lines
 
-begun_step : (said : Option Line) (rest : List Line) (begun : Bool) → begun ≡ nat_lt 0 (length (filter_map event_in rest)) → (is_event said || begun) ≡ nat_lt 0 (length (filter_map event_in (cons_option said rest)))
+begun_step : (said : Option Line) (rest : List Line) (begun : Bool) → begun ≡ nat_lt 0 (length (filter_map event_said rest)) → (is_event said || begun) ≡ nat_lt 0 (length (filter_map event_said (cons_option said rest)))
 begun_step None rest begun is = is
-begun_step (Some (lines.Event event)) rest begun is = sym (lt-ltb 0 (length (event ∷ filter_map event_in rest)) (omega arith))
+begun_step (Some (lines.Event event)) rest begun is = sym (lt-ltb 0 (length (event ∷ filter_map event_said rest)) (omega arith))
 begun_step (Some lines.Silent) rest begun is = is
 begun_step (Some (lines.Set setting value)) rest begun is = is
 begun_step (Some (lines.Client client)) rest begun is = is
 begun_step (Some (lines.Account account)) rest begun is = is
 
-begun_is : (front : List (List ℕ)) → list_any is_event (map line_of front) ≡ nat_lt 0 (length (filter_map event_in (filter_map line_of front)))
+begun_is : (front : List (List ℕ)) → list_any is_event (map line_of front) ≡ nat_lt 0 (length (filter_map event_said (filter_map line_of front)))
 begun_is [] = refl
 begun_is (line ∷ front) = begun_step (line_of line) (filter_map line_of front) (list_any is_event (map line_of front)) (begun_is front)
 
-events_held : (front : List (List ℕ)) → (contents_of (filter_map line_of front)).events ≡ filter_map event_in (filter_map line_of front)
+events_held : (front : List (List ℕ)) → (contents_of (filter_map line_of front)).events ≡ filter_map event_said (filter_map line_of front)
 unfolding contents_of
 events_held front = refl
 

@@ -7,18 +7,17 @@ use Rattle.rsl_script.specs.declared.event_line.Happening.TheVariants.{Access}
 use Rattle.rsl_script.specs.declared.request.AccessRequest.{AccessRequest}
 use Rattle.rsl_script.specs.declared.request.Method.{Method}
 use Rattle.rsl_script.specs.declared.request.Method.TheVariants.{Pap, Chap}
-use Rattle.rsl_script.specs.Fitting.{fitting_access}
 use Rattle.rsl_script.specs.Reads.{◌>>=◌}
 use Rattle.rsl_script.specs.Values.{read_id, read_name, read_nas, read_password}
 
 -- the first word of the line
-abbrev pub word_of : Method → List ℕ
-word_of Pap = codes "ask"
-word_of Chap = codes "chap"
+abbrev pub method_word : Method → List ℕ
+method_word Pap = codes "ask"
+method_word Chap = codes "chap"
 
 -- the line without its moment: its words, joined by one space
 unfoldable pub text_without_moment : Method → (words : List (List ℕ)) → List ℕ
-text_without_moment method words = join_with_byte 32 (word_of method ∷ words)
+text_without_moment method words = join_with_byte 32 (method_word method ∷ words)
 
 -- the request that NAS NAME PASSWORD ID say, on a line with this text
 unfoldable pub access_request : Method → (text : List ℕ) → (words : List (List ℕ)) → Option AccessRequest
@@ -27,7 +26,7 @@ access_request method text (nas ∷ name ∷ password ∷ id ∷ []) = do
   name ← read_name name
   password ← read_password password
   id ← read_id id
-  fitting_access (record { method = method; text = text; nas = nas; name = name; password = password; id = id })
+  Some (record { method = method; text = text; nas = nas; name = name; password = password; id = id })
 access_request method text _ = None
 
 -- what the words after the moment say

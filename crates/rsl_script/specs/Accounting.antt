@@ -8,7 +8,6 @@ use Rattle.rsl_script.specs.declared.event_line.Happening.TheVariants.{Accountin
 use Rattle.rsl_script.specs.declared.request.AccountingRequest.{AccountingRequest}
 use Rattle.rsl_script.specs.declared.request.Status.{Status}
 use Rattle.rsl_script.specs.declared.request.Status.TheVariants.{Start, Stop, Interim, On, Off}
-use Rattle.rsl_script.specs.Fitting.{fitting_accounting}
 use Rattle.rsl_script.specs.Reads.{◌>>=◌}
 use Rattle.rsl_script.specs.Values.{read_bundle, read_class, read_name, read_nas}
 
@@ -39,12 +38,20 @@ session_report status nas (name ∷ session ∷ rest) = do
   name ← read_name name
   session ← read_name session
   ties ← ties_at status rest
-  fitting_accounting (record { status = status; nas = nas; name = Some name; session = Some session; bundle = ties.bundle; class = ties.class })
+  Some (record {
+    status = status;
+    nas = nas;
+    name = Some name;
+    session = Some session;
+    bundle = ties.bundle;
+    class = ties.class;
+  })
 session_report status nas _ = None
 
 -- the report on an access server, after which stands nothing
 unfoldable pub server_report : Status → (nas : Option (List ℕ)) → (words : List (List ℕ)) → Option AccountingRequest
-server_report status nas [] = fitting_accounting (record { status = status; nas = nas; name = None; session = None; bundle = None; class = None })
+server_report status nas [] =
+    Some (record { status = status; nas = nas; name = None; session = None; bundle = None; class = None })
 server_report status nas _ = None
 
 unfoldable pub report_of : Status → (nas : Option (List ℕ)) → (words : List (List ℕ)) → Option AccountingRequest

@@ -2,7 +2,6 @@ pub mod Reads
 pub mod Words
 pub mod Values
 pub mod Verb
-pub mod Fitting
 pub mod Access
 pub mod Accounting
 pub mod Event

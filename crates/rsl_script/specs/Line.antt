@@ -11,7 +11,7 @@ use Rattle.rsl_script.specs.Event.{read_event}
 use Rattle.rsl_script.specs.Reads.{◌>>=◌}
 use Rattle.rsl_script.specs.Values.{leading_number, read_number}
 use Rattle.rsl_script.specs.Verb.{setting_of, verb_of}
-use Rattle.rsl_script.specs.Words.{is_printed, is_silent, are_words, words_of}
+use Rattle.rsl_script.specs.Words.{is_printed, is_silent, are_words, line_words}
 
 -- a setting: NAME VALUE
 unfoldable pub set_line : (words : List (List ℕ)) → Option Line
@@ -86,5 +86,5 @@ line_of octets =
     if is_printed octets
     then if is_silent octets
     then Some lines.Silent
-    else if are_words (words_of octets) then said_in (words_of octets) else None
+    else if are_words (line_words octets) then said_in (line_words octets) else None
     else None

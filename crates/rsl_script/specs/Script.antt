@@ -31,17 +31,17 @@ contents script = record {
 }
 
 -- the part of a line that says this kind of thing
-abbrev pub client_in : Line → Option Client
-client_in (lines.Client client) = Some client
-client_in _ = None
+abbrev pub client_said : Line → Option Client
+client_said (lines.Client client) = Some client
+client_said _ = None
 
-abbrev pub account_in : Line → Option Entry
-account_in (lines.Account account) = Some account
-account_in _ = None
+abbrev pub account_said : Line → Option Entry
+account_said (lines.Account account) = Some account
+account_said _ = None
 
-abbrev pub event_in : Line → Option EventLine
-event_in (lines.Event event) = Some event
-event_in _ = None
+abbrev pub event_said : Line → Option EventLine
+event_said (lines.Event event) = Some event
+event_said _ = None
 
 abbrev pub is_same : Setting → Setting → Bool
 is_same Shards Shards = true
@@ -52,9 +52,9 @@ is_same Closed Closed = true
 is_same Keep Keep = true
 is_same _ _ = false
 
-abbrev pub value_in : Setting → Line → Option ℕ
-value_in setting (lines.Set other value) = if is_same setting other then Some value else None
-value_in setting _ = None
+abbrev pub value_said : Setting → Line → Option ℕ
+value_said setting (lines.Set other value) = if is_same setting other then Some value else None
+value_said setting _ = None
 
 -- the last of some values, or else the first one
 abbrev pub last_of : (first : ℕ) → List ℕ → ℕ
@@ -63,7 +63,7 @@ last_of first (value ∷ rest) = last_of value rest
 
 -- the value of the last line that sets it, or else what it is without one
 abbrev pub setting_in : Setting → (otherwise : ℕ) → List Line → ℕ
-setting_in setting otherwise said = last_of otherwise (filter_map (value_in setting) said)
+setting_in setting otherwise said = last_of otherwise (filter_map (value_said setting) said)
 
 -- what lines say together: settings, and clients, accounts and events in the order of their lines
 unfoldable pub contents_of : List Line → Contents
@@ -77,9 +77,9 @@ contents_of said = record {
     closed = setting_in Closed 3600 said;
     keep = setting_in Keep 10 said;
   };
-  clients = filter_map client_in said;
-  accounts = filter_map account_in said;
-  events = filter_map event_in said;
+  clients = filter_map client_said said;
+  accounts = filter_map account_said said;
+  events = filter_map event_said said;
 }
 
 abbrev pub is_configuration : Line → Bool

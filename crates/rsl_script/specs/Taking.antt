@@ -3,25 +3,25 @@ use Rattle.std.specs.Prelude.{◌&&◌, nat_lt, if◌then◌else◌, ◌++◌, l
 use Rattle.rsl_accounts.specs.declared.settings.Settings.{Settings}
 use Rattle.rsl_script.specs.declared.line.Line.{Line}
 use Rattle.rsl_script.specs.declared.verb.Setting.TheVariants.{Shards, Reserve, Live, Grace, Closed, Keep}
-use Rattle.rsl_script.specs.Script.{Contents, account_in, client_in, event_in, is_configuration, value_in}
+use Rattle.rsl_script.specs.Script.{Contents, account_said, client_said, event_said, is_configuration, value_said}
 
 abbrev pub with_setting : Settings → Line → Settings
 with_setting settings line = record {
   version = settings.version;
-  shards = unwrap_or (value_in Shards line) settings.shards;
-  reserve = unwrap_or (value_in Reserve line) settings.reserve;
-  live = unwrap_or (value_in Live line) settings.live;
-  grace = unwrap_or (value_in Grace line) settings.grace;
-  closed = unwrap_or (value_in Closed line) settings.closed;
-  keep = unwrap_or (value_in Keep line) settings.keep;
+  shards = unwrap_or (value_said Shards line) settings.shards;
+  reserve = unwrap_or (value_said Reserve line) settings.reserve;
+  live = unwrap_or (value_said Live line) settings.live;
+  grace = unwrap_or (value_said Grace line) settings.grace;
+  closed = unwrap_or (value_said Closed line) settings.closed;
+  keep = unwrap_or (value_said Keep line) settings.keep;
 }
 
 abbrev pub with_line : Contents → Line → Contents
 with_line held line = record {
   settings = with_setting held.settings line;
-  clients = held.clients ++ option_to_list (client_in line);
-  accounts = held.accounts ++ option_to_list (account_in line);
-  events = held.events ++ option_to_list (event_in line);
+  clients = held.clients ++ option_to_list (client_said line);
+  accounts = held.accounts ++ option_to_list (account_said line);
+  events = held.events ++ option_to_list (event_said line);
 }
 
 -- a line of the configuration after an event line is not taken

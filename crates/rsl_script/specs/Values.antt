@@ -1,5 +1,5 @@
 -- The values that a word may write. (The octets of an IPv4 address are `address_of`, of the accounts.)
-use Rattle.std.specs.Prelude.{ℕ, ◌^◌, ◌&&◌, nat_lt, nat_le, Bool, if◌then◌else◌, List, [], ◌∷◌, length, take, drop, codes, bytes_eq, Option, None, Some, option_map, option_and_then}
+use Rattle.std.specs.Prelude.{ℕ, ◌≤◌, ◌^◌, ◌&&◌, nat_lt, nat_le, Bool, if◌then◌else◌, List, [], ◌∷◌, length, take, drop, codes, bytes_eq, Option, None, Some, option_map, option_and_then}
 use Rattle.std.specs.Result.{result_ok}
 use Rattle.std.specs.Str.{all_ascii_digits}
 use Rattle.std.specs.Str.Parse.{digits_value}
@@ -19,6 +19,11 @@ octet_of number = if nat_lt number 256 then Some number else None
 -- an Identifier: a number 0 to 255
 unfoldable pub read_id : List ℕ → Option ℕ
 read_id word = option_and_then octet_of (read_number word)
+
+-- a word has 1 octet up to so many
+pub record IsUpTo (most : ℕ) (word : List ℕ) : Type 0 where
+  pub some : 1 ≤ length word
+  pub fits : length word ≤ most
 
 -- 1 octet up to so many
 unfoldable pub up_to : (most : ℕ) → List ℕ → Option (List ℕ)

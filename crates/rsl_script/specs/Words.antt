@@ -6,13 +6,13 @@ use Rattle.std.specs.List.{list_all, slice_split}
 abbrev pub pieces : (separator : ℕ) → List ℕ → List (List ℕ)
 pieces separator octets = slice_split (λ octet. octet == separator) octets
 
--- the lines of a text, which is cut at each LF. Behind a last LF stands an empty line
+-- the lines of a text, which is cut at each LF. After a last LF stands an empty line
 abbrev pub lines_of : List ℕ → List (List ℕ)
 lines_of text = pieces 10 text
 
 -- the words of a line, which is cut at each space
-abbrev pub words_of : List ℕ → List (List ℕ)
-words_of line = pieces 32 line
+abbrev pub line_words : List ℕ → List (List ℕ)
+line_words line = pieces 32 line
 
 -- whether each octet is a visible character of ASCII or a space
 abbrev pub is_printed : List ℕ → Bool

@@ -1,12 +1,17 @@
 //! The lines `ask` and `chap`.
 ghost use Rattle.std.specs.Prelude.{◌≡◌, IfOk, map};
-ghost use Rattle.rsl_script.specs.Access.{read_access, access_request, text_without_moment, word_of};
+ghost use Rattle.rsl_script.specs.Access.{
+  read_access,
+  access_request,
+  text_without_moment,
+};
 ghost use Rattle.rsl_script.specs.Reads.{Reads};
 
 use crate::event_line::Happening;
 use crate::fault::LineFault;
+use crate::limited::{AttributeText, Password};
 use crate::request::{AccessRequest, Method};
-use crate::values::{read_id, read_name, read_nas, read_password};
+use crate::values::{read_id, read_nas};
 use rsl_accounts::{Secret, address_of};
 use rsl_wire::NoMemory;
 use std::alloc::Global;
@@ -46,35 +51,25 @@ fn access_request(
             method,
             text,
             nas: read_nas(alloc, nas)?,
-            name: read_name(alloc, name)?,
-            password: read_password(alloc, password)?,
+            name: AttributeText::read(alloc, name)?,
+            password: Password::read(alloc, password)?,
             id: read_id(id).ok_or(LineFault::Wrong)?,
         }),
         _ => Err(LineFault::Wrong),
     }
 }
 
-/// A line without its moment: its first word and the words after the moment, joined by one space. It
-/// fails only where memory is refused.
+/// A line without its moment: its first word and the words after the moment, joined by one space.
+/// It fails only where memory is refused.
 #[tactic(auto, unfolding(crate::specs::Access::text_without_moment))]
 fn text_without_moment(alloc: Global, method: Method, words: &[&str]) -> Result<Secret, NoMemory>
     ensures { IfOk result (λ text.
         text ≡ text_without_moment method (map (λ word. word.now) words.now)) }
 {
-    let mut text = String::from_str(alloc, word_of(method))?;
+    let mut text = String::from_str(alloc, method.word())?;
     for word in words {
         text.push_str(" ")?;
         text.push_str(word)?;
     }
     Ok(Secret::from(text))
-}
-
-/// The first word of a line.
-fn word_of(method: Method) -> &'static str
-    ensures { result.now ≡ word_of method }
-{
-    match method {
-        Method::Pap => "ask",
-        Method::Chap => "chap",
-    }
 }

@@ -1,23 +1,30 @@
 //! The lines `start`, `interim`, `stop`, `on` and `off`.
-ghost use Rattle.std.specs.Prelude.{◌≤◌, IfOk, length, map};
-ghost use Rattle.std.specs.Option.{ForSome};
-ghost use Rattle.rsl_script.specs.Accounting.{read_accounting, ties_at, ties_of, one_tie, report_of, server_report, session_report};
+ghost use Rattle.std.specs.Prelude.{map};
+ghost use Rattle.rsl_script.specs.Accounting.{
+  read_accounting,
+  ties_at,
+  ties_of,
+  one_tie,
+  report_of,
+  server_report,
+  session_report,
+};
 ghost use Rattle.rsl_script.specs.Reads.{Reads};
 ghost use Rattle.rsl_script.specs.Values.{read_bundle, read_class};
 
 use crate::event_line::Happening;
 use crate::fault::LineFault;
+use crate::limited::AttributeText;
 use crate::request::{AccountingRequest, Status};
-use crate::values::{read_bundle, read_class, read_name, read_nas};
+use crate::values::{read_bundle, read_class, read_nas};
 use rsl_accounts::address_of;
-use rsl_wire::Octets;
 use std::alloc::Global;
 
 /// What ties a session to its bundle and to its accept.
 #[derive(Drop)]
 pub(crate) struct Ties {
     /// The Acct-Multi-Session-Id, where the line has a word `multi=`.
-    bundle: Option<Octets>,
+    bundle: Option<AttributeText>,
     /// The number of the Class, where the line has a word `class=`.
     class: Option<u64>,
 }
@@ -47,10 +54,9 @@ pub(crate) fn read_accounting(
 fn report_of(
     alloc: Global,
     status: Status,
-    nas: Option<Octets>,
+    nas: Option<AttributeText>,
     words: &[&str],
 ) -> Result<AccountingRequest, LineFault>
-    requires { ForSome nas (λ nas. length nas ≤ 253) }
     ensures { Reads (report_of status nas (map (λ word. word.now) words.now)) result }
 {
     match status {
@@ -63,10 +69,9 @@ fn report_of(
 #[tactic(auto, unfolding(crate::specs::Accounting::server_report))]
 fn server_report(
     status: Status,
-    nas: Option<Octets>,
+    nas: Option<AttributeText>,
     words: &[&str],
 ) -> Result<AccountingRequest, LineFault>
-    requires { ForSome nas (λ nas. length nas ≤ 253) }
     ensures { Reads (server_report status nas (map (λ word. word.now) words.now)) result }
 {
     match words {
@@ -87,16 +92,15 @@ fn server_report(
 fn session_report(
     alloc: Global,
     status: Status,
-    nas: Option<Octets>,
+    nas: Option<AttributeText>,
     words: &[&str],
 ) -> Result<AccountingRequest, LineFault>
-    requires { ForSome nas (λ nas. length nas ≤ 253) }
     ensures { Reads (session_report status nas (map (λ word. word.now) words.now)) result }
 {
     match words {
         [name, session, rest @ ..] => {
-            let name = read_name(alloc, name)?;
-            let session = read_name(alloc, session)?;
+            let name = AttributeText::read(alloc, name)?;
+            let session = AttributeText::read(alloc, session)?;
             let ties = ties_at(alloc, status, rest)?;
             Ok(AccountingRequest {
                 status,
@@ -114,8 +118,7 @@ fn session_report(
 /// What ties a session to its bundle and to its accept, which its end does not have.
 #[tactic(auto, unfolding(crate::specs::Accounting::ties_at))]
 fn ties_at(alloc: Global, status: Status, words: &[&str]) -> Result<Ties, LineFault>
-    ensures reads { Reads (ties_at status (map (λ word. word.now) words.now)) result }
-    ensures fits { IfOk result (λ ties. ForSome ties.bundle (λ bundle. length bundle ≤ 253)) }
+    ensures { Reads (ties_at status (map (λ word. word.now) words.now)) result }
 {
     match (status, words) {
         (Status::Stop, [_, ..]) => Err(LineFault::Wrong),
@@ -126,8 +129,7 @@ fn ties_at(alloc: Global, status: Status, words: &[&str]) -> Result<Ties, LineFa
 /// What the words `multi=M` and `class=N` say, in this order and where they stand.
 #[tactic(auto, unfolding(crate::specs::Accounting::ties_of))]
 fn ties_of(alloc: Global, words: &[&str]) -> Result<Ties, LineFault>
-    ensures reads { Reads (ties_of (map (λ word. word.now) words.now)) result }
-    ensures fits { IfOk result (λ ties. ForSome ties.bundle (λ bundle. length bundle ≤ 253)) }
+    ensures { Reads (ties_of (map (λ word. word.now) words.now)) result }
 {
     match words {
         [] => Ok(Ties {
@@ -145,8 +147,7 @@ fn ties_of(alloc: Global, words: &[&str]) -> Result<Ties, LineFault>
 
 /// What one of the two words alone says.
 fn one_tie(alloc: Global, word: &str) -> Result<Ties, LineFault>
-    ensures reads { Reads (one_tie (read_class word.now) (read_bundle word.now)) result }
-    ensures fits { IfOk result (λ ties. ForSome ties.bundle (λ bundle. length bundle ≤ 253)) }
+    ensures { Reads (one_tie (read_class word.now) (read_bundle word.now)) result }
 {
     match read_class(word) {
         Some(class) => Ok(Ties {

@@ -9,7 +9,8 @@ use thiserror::Error;
 /// Why there is no script. It prints as `line 7` or `no memory`.
 #[derive(Clone, Copy, Debug, PartialEq, Eq, Error)]
 pub enum ScriptFault {
-    /// The line with this number is wrong. Every line counts, from 1, and the first wrong one is named.
+    /// The line with this number is wrong. Every line counts, from 1, and the first wrong one is
+    /// named.
     #[error("line {0}")]
     Line(u64),
     /// Memory was refused.

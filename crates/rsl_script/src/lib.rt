@@ -2,9 +2,10 @@
 //! configuration, and whose further lines say what happens and when.
 //!
 //! `Script::read` answers exactly what its definition says, `script_of` of `specs/Script.antt`: the
-//! script of a text whose lines are all right, or the number of its first wrong line; or it answers that
-//! memory was refused. What a line says stands in `specs/Line.antt`, and after it `specs/Event.antt`,
-//! `specs/Access.antt` and `specs/Accounting.antt`; the values of words in `specs/Values.antt`.
+//! script of a text whose lines are all right, or the number of its first wrong line; or it answers
+//! that memory was refused. What a line says stands in `specs/Line.antt`, and after it
+//! `specs/Event.antt`, `specs/Access.antt` and `specs/Accounting.antt`; the values of words in
+//! `specs/Values.antt`.
 //!
 //! | words of a line | says |
 //! |---|---|
@@ -18,9 +19,9 @@
 //! | `raw-auth MOMENT CLIENT HEX`, `raw-acct` the same | a datagram comes to that port |
 //! | `tick MOMENT` | time passes |
 //!
-//! A text is cut into lines at each LF, and a line into words at each space. Every octet of a line is 0x20
-//! to 0x7E, and no word is empty. An empty line says nothing, nor does one that begins with `#`. Lines of
-//! the configuration stand before the first of the others. Lines are numbered from 1.
+//! A text is cut into lines at each LF, and a line into words at each space. Every octet of a line
+//! is 0x20 to 0x7E, and no word is empty. An empty line says nothing, nor does one that begins with
+//! `#`. Lines of the configuration stand before the first of the others. Lines are numbered from 1.
 #![tactic(auto)]
 
 mod access;
@@ -28,6 +29,7 @@ mod accounting;
 mod event_line;
 mod fault;
 mod happening;
+mod limited;
 mod line;
 mod request;
 mod script;
@@ -37,5 +39,6 @@ mod words;
 
 pub use event_line::{EventLine, Happening};
 pub use fault::ScriptFault;
+pub use limited::{AttributeText, Password};
 pub use request::{AccessRequest, AccountingRequest, Method, Status};
 pub use script::Script;

@@ -17,7 +17,7 @@ use crate::fault::LineFault;
 use crate::happening::read_event;
 use crate::values::{leading_number, read_number};
 use crate::verb::{Setting, Verb, setting_of, verb_of};
-use crate::words::{are_words, is_silent, text_of, words_of};
+use crate::words::{are_words, is_silent, line_words, text_of};
 use rsl_accounts::{Client, Entry, Rules, Secret, Text, address_of};
 use rsl_wire::NoMemory;
 use std::alloc::Global;
@@ -58,7 +58,7 @@ impl Line {
         if is_silent(line) {
             return Ok(Line::Silent);
         }
-        let words = words_of(alloc, line)?;
+        let words = line_words(alloc, line)?;
         if are_words(words.as_slice()) {
             said_in(alloc, words.as_slice())
         } else {
@@ -165,8 +165,8 @@ fn read_options(words: &[&str]) -> Option<Options>
     Some(Options { ports, live, grace })
 }
 
-/// An account of one port, if no ports are given, whose other times are those of the settings. It fails
-/// only where memory is refused.
+/// An account of one port, if no ports are given, whose other times are those of the settings. It
+/// fails only where memory is refused.
 fn account_with(
     alloc: Global,
     name: &str,

@@ -1,8 +1,8 @@
-ghost use Rattle.std.specs.Prelude.{◌≤◌, length};
-ghost use Rattle.std.specs.Option.{ForSome};
+ghost use Rattle.std.specs.Prelude.{◌≡◌};
+ghost use Rattle.rsl_script.specs.Access.{method_word};
 
+use crate::limited::{AttributeText, Password};
 use rsl_accounts::Secret;
-use rsl_wire::Octets;
 
 /// How a request shows that it knows the password.
 #[derive(Clone, Copy, Debug, PartialEq, Eq)]
@@ -11,6 +11,18 @@ pub enum Method {
     Pap,
     /// By a CHAP-Password without a CHAP-Challenge: the line `chap`.
     Chap,
+}
+
+impl Method {
+    /// The first word of its lines.
+    pub(crate) fn word(self) -> &'static str
+        ensures { result.now ≡ method_word self }
+    {
+        match self {
+            Method::Pap => "ask",
+            Method::Chap => "chap",
+        }
+    }
 }
 
 /// The Access-Request of a line `ask` or `chap` (RFC 2865 section 4.1).
@@ -22,18 +34,14 @@ pub struct AccessRequest {
     /// Authenticator: the same words at another moment are the same packet, sent again. It has the
     /// password, so it is a secret too.
     pub text: Secret,
-    /// The NAS-Identifier: 1 to 253 octets, or none.
-    pub nas: Option<Octets>,
-    /// The User-Name: 1 to 253 octets.
-    pub name: Octets,
-    /// The password: 1 to 128 octets (RFC 2865 section 5.2).
-    pub password: Secret,
+    /// The NAS-Identifier, if there is one.
+    pub nas: Option<AttributeText>,
+    /// The User-Name.
+    pub name: AttributeText,
+    /// The password.
+    pub password: Password,
     /// The Identifier, and the CHAP Ident.
     pub id: u8,
-    ghost nas_fits: { ForSome nas (λ nas. length nas ≤ 253) },
-    ghost name_fits: { length name ≤ 253 },
-    ghost password_there: { 1 ≤ length password },
-    ghost password_fits: { length password ≤ 128 },
 }
 
 /// What an Accounting-Request reports (RFC 2866 section 5.1).
@@ -51,23 +59,20 @@ pub enum Status {
     Off,
 }
 
-/// The Accounting-Request of a line `start`, `interim`, `stop`, `on` or `off` (RFC 2866 section 4.1).
+/// The Accounting-Request of a line `start`, `interim`, `stop`, `on` or `off` (RFC 2866 section
+/// 4.1).
 #[derive(Debug, PartialEq, Eq, Drop)]
 pub struct AccountingRequest {
     /// What it reports.
     pub status: Status,
-    /// The NAS-Identifier: 1 to 253 octets, or none.
-    pub nas: Option<Octets>,
-    /// The User-Name, where the line has one: 1 to 253 octets.
-    pub name: Option<Octets>,
-    /// The Acct-Session-Id, where the line has one: 1 to 253 octets.
-    pub session: Option<Octets>,
-    /// The Acct-Multi-Session-Id, where the line has a word `multi=`: 1 to 253 octets.
-    pub bundle: Option<Octets>,
+    /// The NAS-Identifier, if there is one.
+    pub nas: Option<AttributeText>,
+    /// The User-Name, where the line has one.
+    pub name: Option<AttributeText>,
+    /// The Acct-Session-Id, where the line has one.
+    pub session: Option<AttributeText>,
+    /// The Acct-Multi-Session-Id, where the line has a word `multi=`.
+    pub bundle: Option<AttributeText>,
     /// The number of the Class, where the line has a word `class=`.
     pub class: Option<u64>,
-    ghost nas_fits: { ForSome nas (λ nas. length nas ≤ 253) },
-    ghost name_fits: { ForSome name (λ name. length name ≤ 253) },
-    ghost session_fits: { ForSome session (λ session. length session ≤ 253) },
-    ghost bundle_fits: { ForSome bundle (λ bundle. length bundle ≤ 253) },
 }

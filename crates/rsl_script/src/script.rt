@@ -17,16 +17,17 @@ pub struct Script {
     pub settings: Settings,
     /// The clients, in the order of their lines.
     pub clients: Vec<Client>,
-    /// The accounts, in the order of their lines. Their times are 0, for the configuration to fill in.
+    /// The accounts, in the order of their lines. Their times are 0, for the configuration to fill
+    /// in.
     pub accounts: Vec<Entry>,
     /// What happens, in the order of its lines.
     pub events: Vec<EventLine>,
 }
 
 impl Script {
-    /// The script that a text writes: it holds exactly what its lines say. `Line` is given where a line
-    /// is wrong, with the number of the first that is, and never else. `NoMemory` comes where memory is
-    /// refused before that.
+    /// The script that a text writes: it holds exactly what its lines say. `Line` is given where a
+    /// line is wrong, with the number of the first that is, and never else. `NoMemory` comes where
+    /// memory is refused before that.
     pub fn read(alloc: Global, text: &[u8]) -> Result<Script, ScriptFault>
         ensures script { IfOk result (λ script. script_of text.now ≡ Ok (contents script)) }
         ensures line { IfErr result (λ fault.

@@ -1,19 +1,22 @@
-ghost use Rattle.std.specs.Prelude.{◌≡◌, ◌≤◌, IfOk, length, map, option_copied};
-ghost use Rattle.std.specs.Option.{ForSome};
+ghost use Rattle.std.specs.Prelude.{◌≡◌, map, option_copied};
 ghost use Rattle.rsl_script.specs.Reads.{Reads};
-ghost use Rattle.rsl_script.specs.Values.{read_number, read_id, up_to, read_name, read_password, read_nas, read_octets, rest_after, read_bundle, read_class, number_after, leading_number};
+ghost use Rattle.rsl_script.specs.Values.{
+  read_number,
+  read_id,
+  read_nas,
+  read_octets,
+  rest_after,
+  read_bundle,
+  read_class,
+  number_after,
+  leading_number,
+};
 
 use crate::fault::LineFault;
+use crate::limited::AttributeText;
 use hex::FromHexError;
-use rsl_accounts::Secret;
 use rsl_wire::Octets;
 use std::alloc::Global;
-
-/// The most octets of a text that fits an attribute (RFC 2865 section 5).
-const MAX_NAME_LEN: usize = 253;
-
-/// The most octets of a password (RFC 2865 section 5.2).
-const MAX_PASSWORD_LEN: usize = 128;
 
 /// The number that a word of decimal digits writes, where it is under 2^64.
 #[tactic(auto, using(crate::proofs::Numbers::number_of_parsed))]
@@ -34,50 +37,14 @@ pub(crate) fn read_id(word: &str) -> Option<u8>
     u8::try_from(read_number(word)?).ok()
 }
 
-/// A copy of a word of 1 octet up to so many.
-#[tactic(auto, unfolding(crate::specs::Values::up_to))]
-fn up_to(alloc: Global, most: usize, word: &str) -> Result<Octets, LineFault>
-    ensures reads { Reads (up_to most word.now) result }
-    ensures there { IfOk result (λ octets. 1 ≤ length octets) }
-    ensures fits { IfOk result (λ octets. length octets ≤ most) }
-{
-    if word.is_empty() || most < word.len() {
-        return Err(LineFault::Wrong);
-    }
-    Ok(Octets::from_slice(alloc, word.as_bytes())?)
-}
-
-/// A copy of a word that fits an attribute.
-#[tactic(auto, unfolding(crate::specs::Values::read_name))]
-pub(crate) fn read_name(alloc: Global, word: &str) -> Result<Octets, LineFault>
-    ensures reads { Reads (read_name word.now) result }
-    ensures fits { IfOk result (λ name. length name ≤ 253) }
-{
-    up_to(alloc, MAX_NAME_LEN, word)
-}
-
-/// A copy of a word that fits a User-Password.
-#[tactic(auto, unfolding(crate::specs::Values::read_password, crate::specs::Values::up_to))]
-pub(crate) fn read_password(alloc: Global, word: &str) -> Result<Secret, LineFault>
-    ensures reads { Reads (read_password word.now) result }
-    ensures there { IfOk result (λ password. 1 ≤ length password) }
-    ensures fits { IfOk result (λ password. length password ≤ 128) }
-{
-    if word.is_empty() || MAX_PASSWORD_LEN < word.len() {
-        return Err(LineFault::Wrong);
-    }
-    Ok(Secret::from_str(alloc, word)?)
-}
-
 /// The NAS-Identifier that a word writes, or none at `-`.
 #[tactic(auto, unfolding(crate::specs::Values::read_nas))]
-pub(crate) fn read_nas(alloc: Global, word: &str) -> Result<Option<Octets>, LineFault>
-    ensures reads { Reads (read_nas word.now) result }
-    ensures fits { IfOk result (λ nas. ForSome nas (λ nas. length nas ≤ 253)) }
+pub(crate) fn read_nas(alloc: Global, word: &str) -> Result<Option<AttributeText>, LineFault>
+    ensures { Reads (read_nas word.now) result }
 {
     match word {
         "-" => Ok(None),
-        _ => Ok(Some(read_name(alloc, word)?)),
+        _ => Ok(Some(AttributeText::read(alloc, word)?)),
     }
 }
 
@@ -106,11 +73,10 @@ fn rest_after<'a>(beginning: &str, word: &'a str) -> Option<&'a str>
 
 /// The bundle of a word `multi=M`.
 #[tactic(auto, unfolding(crate::specs::Values::read_bundle))]
-pub(crate) fn read_bundle(alloc: Global, word: &str) -> Result<Octets, LineFault>
-    ensures reads { Reads (read_bundle word.now) result }
-    ensures fits { IfOk result (λ bundle. length bundle ≤ 253) }
+pub(crate) fn read_bundle(alloc: Global, word: &str) -> Result<AttributeText, LineFault>
+    ensures { Reads (read_bundle word.now) result }
 {
-    read_name(alloc, rest_after("multi=", word).ok_or(LineFault::Wrong)?)
+    AttributeText::read(alloc, rest_after("multi=", word).ok_or(LineFault::Wrong)?)
 }
 
 /// The number that a word writes after this beginning.
@@ -129,7 +95,8 @@ pub(crate) fn read_class(word: &str) -> Option<u64>
     number_after("class=", word)
 }
 
-/// The number of the first word, if it writes one after this beginning, and the words that are left.
+/// The number of the first word, if it writes one after this beginning, and the words that are
+/// left.
 #[tactic(auto, unfolding(crate::specs::Values::leading_number))]
 pub(crate) fn leading_number<'a, 'b>(
     beginning: &str,

@@ -1,13 +1,13 @@
 ghost use Rattle.std.specs.Prelude.{◌≡◌, map, IfOk, IfSome, is_some};
-ghost use Rattle.rsl_script.specs.Words.{words_of, is_printed, is_silent, are_words};
+ghost use Rattle.rsl_script.specs.Words.{line_words, is_printed, is_silent, are_words};
 
 use rsl_wire::NoMemory;
 use std::alloc::Global;
 use std::str;
 
 /// The words of a line, which is cut at each space. It fails only where memory is refused.
-pub(crate) fn words_of(alloc: Global, line: &str) -> Result<Vec<&str>, NoMemory>
-    ensures { IfOk result (λ words. map (λ word. word.now) words.items ≡ words_of line.now) }
+pub(crate) fn line_words(alloc: Global, line: &str) -> Result<Vec<&str>, NoMemory>
+    ensures { IfOk result (λ words. map (λ word. word.now) words.items ≡ line_words line.now) }
 {
     Ok(line.split(' ').collect(alloc)?)
 }

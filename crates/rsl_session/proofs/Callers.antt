@@ -14,7 +14,8 @@ pub use Rattle.rsl_session.proofs.Limit.{places_after-le}
 pub use Rattle.rsl_session.proofs.Ruled.{IsRuled-past_of, bound-later, bundle_at-later, is_in, is_in-true, links-in, same_past, touched-later, yielded-le}
 
 -- which links are held after an event
-pub use Rattle.rsl_session.proofs.Ending.{any_link, filter-filter, freed_later, freed_older, gives_way, held-opened, held-quiet, left_by, left_by-held, list_all_any, not-or}
+unfoldable pub use Rattle.rsl_session.proofs.Ending.{gives_way, left_by}
+pub use Rattle.rsl_session.proofs.Ending.{any_link, filter-filter, freed_later, freed_older, held-opened, held-quiet, left_by-held, list_all_any, not-or}
 
 -- the book of a past
 pub use Rattle.rsl_session.proofs.BookJoined.{books_are, books_hold, joins}

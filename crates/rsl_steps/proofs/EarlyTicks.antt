@@ -20,7 +20,7 @@ use Rattle.rsl_event.specs.declared.meaning.Meaning.{Meaning}
 use Rattle.rsl_event.specs.declared.meaning.Meaning.TheVariants.{Bare, Reject, Own, Restart, Stray}
 use Rattle.rsl_session.specs.Past.{Past}
 use Rattle.rsl_session.specs.Rule.{decision_of, decisions, decisions_from, entry_of, outcome_of, past_from, past_of, places_after}
-use Rattle.rsl_rule.proofs.EarlyTick.{early}
+use Rattle.rsl_rule.proofs.Callers.{early}
 use Rattle.rsl_wire.specs.Packet.{packet_of}
 use Rattle.rsl_steps.specs.Laws.{EarlyTicksChangeNothing, moment_of}
 use Rattle.rsl_steps.specs.Own.{event_in, event_of, is_of_shard, own, own_events}

@@ -7,8 +7,7 @@ use Rattle.rsl_accounts.specs.declared.rules.Rules.{Rules}
 use Rattle.rsl_event.specs.declared.event.Decision.{Decision}
 use Rattle.rsl_event.specs.declared.event.Decision.TheVariants.{Done}
 use Rattle.rsl_event.specs.declared.event.Event.{Event}
-use Rattle.rsl_session.proofs.BookJoined.{books_are, books_hold, joins}
-use Rattle.rsl_session.proofs.Ruled.{IsRuled-past_of}
+use Rattle.rsl_session.proofs.Callers.{books_are, books_hold, joins, IsRuled-past_of}
 use Rattle.rsl_session.specs.Book.{Book, places_in}
 use Rattle.rsl_session.specs.BookOf.{book_of}
 use Rattle.rsl_session.specs.BookStep.{step}

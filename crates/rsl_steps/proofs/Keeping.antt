@@ -13,8 +13,7 @@ use Rattle.rsl_session.specs.declared.past_event.PastEvent.{PastEvent}
 use Rattle.rsl_session.specs.declared.outcome.Outcome.{Outcome}
 use Rattle.rsl_session.specs.Past.{Past, looking_back}
 use Rattle.rsl_session.specs.Rule.{decision_of, entry_of, outcome_of, past_from, past_of}
-use Rattle.rsl_rule.proofs.EarlyTick.{past_from-append}
-use Rattle.rsl_rule.proofs.Whole.{looking_back-push}
+use Rattle.rsl_rule.proofs.Callers.{past_from-append, looking_back-push}
 use Rattle.rsl_wire.specs.Packet.{Fields, packet_of}
 use Rattle.rsl_wire.specs.declared.packet.WireFault.{WireFault}
 use Rattle.rsl_event.specs.Answer.{answer, said}

@@ -9,7 +9,7 @@ use Rattle.rsl_event.specs.declared.event.Event.{Event}
 use Rattle.rsl_session.specs.declared.past_event.PastEvent.{PastEvent}
 use Rattle.rsl_session.specs.Past.{looking_back}
 use Rattle.rsl_session.specs.Rule.{past_of}
-use Rattle.rsl_rule.proofs.Whole.{events_of}
+use Rattle.rsl_rule.proofs.Callers.{events_of}
 use Rattle.rsl_steps.specs.Own.{own}
 use Rattle.rsl_steps.specs.Taking.{AreKept, past_kept}
 use Rattle.rsl_steps.specs.declared.kept.Kept.{Kept}

@@ -11,7 +11,7 @@ use Rattle.rsl_accounts.specs.declared.rules.Rules.{Rules}
 use Rattle.rsl_wire.specs.Packet.{Fields, packet_of}
 use Rattle.rsl_wire.specs.declared.packet.WireFault.{WireFault}
 use Rattle.rsl_wire.specs.declared.packet.WireFault.TheVariants as wire
-use Rattle.rsl_event.proofs.PreparedLaws.{meaning_meant}
+use Rattle.rsl_event.proofs.Callers.{meaning_meant}
 use Rattle.rsl_event.specs.Answer.{said, said_of}
 use Rattle.rsl_event.specs.Meaning.{if_packet, meaning}
 use Rattle.rsl_event.specs.Prepared.{IsOfOneAccount}

@@ -1,8 +1,9 @@
 //! Tests of `rsl_script`: what the lines of a script say. Which lines are right and which are wrong is
 //! shown by `script_rows`.
 
-use rsl_script::{AccessRequest, AccountingRequest, EventLine, Happening, Script, ScriptFault};
-use rsl_wire::Octets;
+use rsl_script::{
+    AccessRequest, AccountingRequest, AttributeText, EventLine, Happening, Script, ScriptFault,
+};
 use std::alloc::Global;
 use std::str;
 use std::test::Fail;
@@ -12,7 +13,7 @@ fn text(octets: &[u8]) -> &str {
     str::from_utf8(octets).unwrap_or("no text")
 }
 
-fn option_text(octets: &Option<Octets>) -> &str {
+fn option_text(octets: &Option<AttributeText>) -> &str {
     match octets {
         Some(octets) => text(octets.as_slice()),
         None => "none",

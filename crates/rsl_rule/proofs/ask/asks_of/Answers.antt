@@ -13,8 +13,8 @@ loop-at-preserved-in-Continue-branch-3 c = (
   search rules,
 )
 
-pub returns : goal.returns
-returns c = elim c.loop-at-test.branch [
+pub returns-clause-asks : goal.returns-clause-asks
+returns-clause-asks c = elim c.loop-at-test.branch [
   | then-loop-at-test+else-len-lt-KEPT_ASKS w ↦ taken_enough _ c.loop-at.asks.items _ _ c.loop-at.invariant.1 c.loop-at.invariant.2 (omega (arith, w.len.ensures, w.if-len-lt-KEPT_ASKS))
   | else-loop-at-test w ↦ taken_all _ c.loop-at.asks.items _ _ c.loop-at.invariant.1 c.loop-at.invariant.2 (asks_end c.args.history.now c.loop-at.at (omega (arith, w.loop-at-test)))
 ]

@@ -1,5 +1,5 @@
 use Rattle.rsl_session.specs.Rule.{past_of}
-use Rattle.rsl_session.proofs.Ruled.{IsRuled-past_of}
+use Rattle.rsl_session.proofs.Callers.{IsRuled-past_of}
 use Rattle.rsl_rule.proofs.ClosedHeld.{closed_unheld}
 use Rattle.rsl_rule.proofs.laws.closed_sessions_hold_no_link.Goals as goal
 

@@ -1,5 +1,5 @@
 use Rattle.rsl_session.specs.Rule.{past_of}
-use Rattle.rsl_session.proofs.Ruled.{IsRuled-past_of}
+use Rattle.rsl_session.proofs.Callers.{IsRuled-past_of}
 use Rattle.rsl_rule.proofs.Lowest.{lowest}
 use Rattle.rsl_rule.proofs.laws.lowest_reservation_is_taken.Goals as goal
 

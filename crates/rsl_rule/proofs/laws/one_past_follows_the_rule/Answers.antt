@@ -1,4 +1,4 @@
-use Rattle.rsl_session.proofs.Ruled.{same_past}
+use Rattle.rsl_session.proofs.Callers.{same_past}
 use Rattle.rsl_rule.proofs.laws.one_past_follows_the_rule.Goals as goal
 
 pub returns : goal.returns

@@ -1,4 +1,4 @@
-use Rattle.rsl_session.proofs.Ruled.{IsRuled-past_of}
+use Rattle.rsl_session.proofs.Callers.{IsRuled-past_of}
 use Rattle.rsl_rule.proofs.Whole.{events_of}
 use Rattle.rsl_rule.proofs.laws.pasts_follow_the_rule.Goals as goal
 

@@ -1,5 +1,5 @@
 use Rattle.std.proofs.Common.{take}
-use Rattle.rsl_session.proofs.Limit.{places_after-le}
+use Rattle.rsl_session.proofs.Callers.{places_after-le}
 use Rattle.rsl_rule.proofs.laws.places_stay_within_the_limit.Goals as goal
 
 pub returns : goal.returns

@@ -1,6 +1,6 @@
 use Rattle.std.proofs.Common.{◌++◌, ◌∷◌, []}
 use Rattle.rsl_session.specs.Rule.{past_of}
-use Rattle.rsl_session.proofs.Limit.{places_after-le}
+use Rattle.rsl_session.proofs.Callers.{places_after-le}
 use Rattle.rsl_rule.proofs.Yielded.{yielded_is}
 use Rattle.rsl_rule.proofs.laws.stale_links_yield.Goals as goal
 

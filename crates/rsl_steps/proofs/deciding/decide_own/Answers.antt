@@ -12,7 +12,7 @@ returns-clause-decided c =
     let rules = c.entry.result.now.rules in
     let past_is : c.as_slice-2.result.now ≡ past_kept c.args.config.now c.args.account c.args.kept.now.items =
     c.as_slice-2.ensures.value ∙ c.in_ok-past.ensures ∙ ap (past_kept c.args.config.now c.args.account) c.as_slice.ensures.value in
-    let did = c.in_ok-outcome.ensures ∙ ap (λ (past : List PastEvent). outcome_of rules (looking_back past) c.args.event) past_is in
+    let did = c.in_ok-outcome.ensures.outcome ∙ ap (λ (past : List PastEvent). outcome_of rules (looking_back past) c.args.event) past_is in
     record {
       account = c.entry.result.now;
       there = c.entry.ensures.entry;

@@ -1,6 +1,6 @@
 use Rattle.std.proofs.Common.{arith, [], take}
 use Rattle.std.proofs.lemmas.List.{take_more}
-use Rattle.rsl_session.proofs.Limit.{places_after-le}
+use Rattle.rsl_session.proofs.Callers.{places_after-le}
 use Rattle.rsl_steps.proofs.Limits.{account_fits}
 use Rattle.rsl_steps.proofs.Keeping.{kept_start}
 use Rattle.rsl_steps.proofs.Snoc.{run_start, run_more}

@@ -1,7 +1,7 @@
 use Rattle.std.proofs.Common.{◌≡◌, ◌≤◌, take}
 use Rattle.rsl_session.specs.Past.{looking_back}
 use Rattle.rsl_session.specs.Ask.{accepts}
-use Rattle.rsl_rule.proofs.ask.accepted.Given as goal
+use Rattle.rsl_rule.proofs.ask.accept_count.Given as goal
 
 abbrev pub invariant-loop-entry : goal.invariant-loop-entry
-invariant-loop-entry l = (l.accepted ≡ accepts (looking_back (take l.entry-index l.history))) × (l.accepted ≤ l.entry-index)
+invariant-loop-entry l = (l.count ≡ accepts (looking_back (take l.entry-index l.history))) × (l.count ≤ l.entry-index)

@@ -1,0 +1,130 @@
+//! What a request carries in an attribute: octets whose number the attribute limits.
+ghost use Rattle.std.specs.Prelude.{◌≡◌, IfOk, nat_eq};
+ghost use Rattle.std.specs.Cmp.{partial_equiv_from_equiv};
+ghost use Rattle.std.specs.Cmp.Lexicographic.{pointwise, nat_list_eq_equiv};
+ghost use Rattle.rsl_script.specs.Reads.{Reads};
+ghost use Rattle.rsl_script.specs.Values.{IsUpTo, read_name, read_password, up_to};
+
+use crate::fault::LineFault;
+use rsl_accounts::Secret;
+use rsl_auth::MAX_PASSWORD_LEN;
+use rsl_wire::{MAX_VALUE_LEN, NoMemory, Octets};
+use std::alloc::Global;
+use std::marker::Model;
+
+/// A text that fits an attribute: 1 to 253 octets (RFC 2865 section 5). A contract sees it as the
+/// list of its octets.
+#[derive(Debug, Drop)]
+pub struct AttributeText {
+    octets: Octets,
+}
+
+impl Model for AttributeText {
+    ghost use Rattle.std.specs.Prelude.{List, ℕ};
+    ghost use Rattle.rsl_script.specs.Values.{IsUpTo};
+
+    ghost Value = { List ℕ };
+
+    ghost view = { λ text. text.octets };
+
+    ghost invariant = { λ text. IsUpTo 253 text.octets };
+}
+
+impl AttributeText {
+    /// The text that a word is, where it fits.
+    #[tactic(auto, unfolding(crate::specs::Values::read_name, crate::specs::Values::up_to))]
+    pub(crate) fn read(alloc: Global, word: &str) -> Result<AttributeText, LineFault>
+        ensures { Reads (read_name word.now) result }
+    {
+        if word.is_empty() || MAX_VALUE_LEN < word.len() {
+            return Err(LineFault::Wrong);
+        }
+        Ok(AttributeText {
+            octets: Octets::from_slice(alloc, word.as_bytes())?,
+        })
+    }
+
+    /// Its octets, lent.
+    pub fn as_slice(&self) -> &[u8]
+        ensures octets { result.now ≡ self.now }
+        ensures limits { IsUpTo 253 self.now }
+    {
+        self.octets.as_slice()
+    }
+
+    /// Its octets as an octet string of their own. It fails only where memory is refused.
+    pub fn to_octets(&self, alloc: Global) -> Result<Octets, NoMemory>
+        ensures { IfOk result (λ copy. copy ≡ self.now) }
+    {
+        self.octets.try_copy(alloc)
+    }
+}
+
+impl PartialEq for AttributeText {
+    ghost eq = { pointwise nat_eq };
+
+    ghost laws = { partial_equiv_from_equiv nat_list_eq_equiv };
+
+    fn eq(&self, other: &AttributeText) -> bool {
+        self.octets == other.octets
+    }
+}
+
+impl Eq for AttributeText {
+    ghost laws = { nat_list_eq_equiv };
+}
+
+/// A password that a User-Password can hide: 1 to 128 octets (RFC 2865 section 5.2). It is a secret,
+/// so `Debug` does not print it. A contract sees it as the list of its octets.
+#[derive(Debug, Drop)]
+pub struct Password {
+    secret: Secret,
+}
+
+impl Model for Password {
+    ghost use Rattle.std.specs.Prelude.{List, ℕ};
+    ghost use Rattle.rsl_script.specs.Values.{IsUpTo};
+
+    ghost Value = { List ℕ };
+
+    ghost view = { λ password. password.secret };
+
+    ghost invariant = { λ password. IsUpTo 128 password.secret };
+}
+
+impl Password {
+    /// The password that a word is, where it fits.
+    #[tactic(auto, unfolding(crate::specs::Values::read_password, crate::specs::Values::up_to))]
+    pub(crate) fn read(alloc: Global, word: &str) -> Result<Password, LineFault>
+        ensures { Reads (read_password word.now) result }
+    {
+        if word.is_empty() || MAX_PASSWORD_LEN < word.len() {
+            return Err(LineFault::Wrong);
+        }
+        Ok(Password {
+            secret: Secret::from_str(alloc, word)?,
+        })
+    }
+
+    /// The octets of the password, lent.
+    pub fn expose(&self) -> &[u8]
+        ensures octets { result.now ≡ self.now }
+        ensures limits { IsUpTo 128 self.now }
+    {
+        self.secret.expose()
+    }
+}
+
+impl PartialEq for Password {
+    ghost eq = { pointwise nat_eq };
+
+    ghost laws = { partial_equiv_from_equiv nat_list_eq_equiv };
+
+    fn eq(&self, other: &Password) -> bool {
+        self.secret == other.secret
+    }
+}
+
+impl Eq for Password {
+    ghost laws = { nat_list_eq_equiv };
+}
