@@ -1,0 +1,140 @@
+ghost use Rattle.rsl_accounts.specs.Limits.{RulesFit};
+
+use crate::draw::Draw;
+use crate::found::Found;
+use rsl_accounts::Rules;
+use rsl_book::Book;
+use rsl_event::{Act, Decision, Event};
+use rsl_rule::{decide, decision, outcome, places};
+use rsl_session::PastEvent;
+use rsl_wire::NoMemory;
+use std::alloc::Global;
+
+/// An account's events so far, on two books and as the rule sees them.
+#[derive(Drop)]
+struct Account {
+    /// It takes every event by `apply`.
+    book: Book,
+    /// It takes sweeps and ticks by the calls of their names.
+    called: Book,
+    events: Vec<Event>,
+    past: Vec<PastEvent>,
+    decisions: Vec<Decision>,
+}
+
+/// The rules and the past of the next list that is drawn, up to where the books and the rule
+/// differ, if they do.
+pub(crate) fn difference(
+    alloc: Global,
+    draw: &mut Draw,
+    found: &mut Found,
+    events: u64,
+) -> Result<Option<String>, NoMemory> {
+    draw.begin();
+    let rules = draw.rules();
+    let mut account = Account::new(alloc, rules)?;
+    for _ in 0..events {
+        let event = draw.event(alloc, &rules)?;
+        if !account.agrees_on(alloc, &rules, found, event)? {
+            return Ok(Some(account.told(alloc, &rules)?));
+        }
+    }
+    let decisions = decide(alloc, &rules, &account.events)?;
+    if decisions == account.decisions {
+        Ok(None)
+    } else {
+        Ok(Some(account.told(alloc, &rules)?))
+    }
+}
+
+/// An equal event.
+fn copy_of(alloc: Global, event: &Event) -> Result<Event, NoMemory> {
+    Ok(Event {
+        moment: event.moment,
+        act: event.act.try_copy(alloc)?,
+    })
+}
+
+/// Hands an event to a book, a sweep and a tick by the calls of their names.
+fn call(alloc: Global, book: &mut Book, event: &Event) -> Result<Decision, NoMemory> {
+    match &event.act {
+        Act::Sweep { nas } => book.sweep(event.moment, nas),
+        Act::Tick => book.tick(event.moment),
+        _ => return Ok(book.apply(copy_of(alloc, event)?)),
+    }
+    Ok(Decision::Done)
+}
+
+/// What a book shows of itself.
+fn shown(book: &Book) -> [u64; 9] {
+    let stored = book.stored();
+    [
+        book.held(),
+        book.reserved(),
+        book.live(),
+        book.stale(),
+        book.over(),
+        book.now(),
+        stored.links as u64,
+        stored.kept as u64,
+        stored.closed as u64,
+    ]
+}
+
+/// Whether every link that a book stores is reserved, live or stale.
+fn is_each_link_shown(book: &Book) -> bool {
+    book.reserved()
+        .saturating_add(book.live())
+        .saturating_add(book.stale())
+        == book.stored().links as u64
+}
+
+impl Account {
+    fn new(alloc: Global, rules: Rules) -> Result<Account, NoMemory>
+        requires { RulesFit rules }
+    {
+        Ok(Account {
+            book: Book::new(alloc, rules)?,
+            called: Book::new(alloc, rules)?,
+            events: Vec::new(alloc),
+            past: Vec::new(alloc),
+            decisions: Vec::new(alloc),
+        })
+    }
+
+    /// Whether both books decide on an event as the rule does, hold as many places, and show the
+    /// same.
+    fn agrees_on(
+        &mut self,
+        alloc: Global,
+        rules: &Rules,
+        found: &mut Found,
+        event: Event,
+    ) -> Result<bool, NoMemory>
+        requires { RulesFit rules.now }
+    {
+        let did = outcome(alloc, rules, &self.past, &event)?;
+        found.note(did);
+        self.past.push(PastEvent {
+            event: copy_of(alloc, &event)?,
+            outcome: did,
+        })?;
+        self.events.push(copy_of(alloc, &event)?)?;
+        let called = call(alloc, &mut self.called, &event)?;
+        let decided = self.book.apply(event);
+        self.decisions.push(decided)?;
+        let held = u64::from(places(alloc, rules, &self.events)?);
+        Ok(
+            decided == decision(did)
+                && decided == called
+                && self.book.held() == held
+                && is_each_link_shown(&self.book)
+                && shown(&self.book) == shown(&self.called),
+        )
+    }
+
+    /// The account's rules and past.
+    fn told(&self, alloc: Global, rules: &Rules) -> Result<String, NoMemory> {
+        Ok(format!(in alloc; "{rules:?} {:?}", self.past)?)
+    }
+}

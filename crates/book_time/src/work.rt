@@ -1,0 +1,94 @@
+ghost use Rattle.rsl_accounts.specs.Limits.{RulesFit};
+
+use crate::events::{Size, mixed, tick_of};
+use rsl_accounts::Rules;
+use rsl_book::Book;
+use rsl_event::Event;
+use rsl_wire::NoMemory;
+use std::alloc::Global;
+
+/// What the book shows once it has done some work so many times. There is none where the work has
+/// no such name, or the account is no account.
+pub(crate) fn shown_after(
+    alloc: Global,
+    work: &str,
+    size: &Size,
+    times: u64,
+) -> Result<Option<String>, NoMemory> {
+    let rules = size.rules();
+    if !rules.fits() {
+        return Ok(None);
+    }
+    let mut book = Book::new(alloc, rules)?;
+    for number in 0..size.links {
+        let _ = book.apply(size.alive(alloc, 0, number)?);
+    }
+    match work {
+        "interims" => renew(alloc, &mut book, size, times)?,
+        "making" => make(alloc, size, times)?,
+        "ticks" => pass(&mut book, times),
+        "mixed" => mix(alloc, &mut book, times)?,
+        "books" => make_books(alloc, rules, times)?,
+        _ => return Ok(None),
+    }
+    Ok(Some(shown(alloc, &book)?))
+}
+
+/// What a book shows of itself.
+fn shown(alloc: Global, book: &Book) -> Result<String, NoMemory> {
+    let stored = book.stored();
+    Ok(format!(in alloc;
+        "now {} held {} reserved {} live {} stale {} over {} links {} kept {} closed {}",
+        book.now(),
+        book.held(),
+        book.reserved(),
+        book.live(),
+        book.stale(),
+        book.over(),
+        stored.links,
+        stored.kept,
+        stored.closed
+    )?)
+}
+
+/// An Interim-Update of each link in turn.
+fn renew(alloc: Global, book: &mut Book, size: &Size, times: u64) -> Result<(), NoMemory> {
+    for turn in 0..times {
+        let _ = book.apply(size.alive(alloc, turn, turn)?);
+    }
+    Ok(())
+}
+
+/// The events of `renew`, each let go.
+fn make(alloc: Global, size: &Size, times: u64) -> Result<(), NoMemory> {
+    let mut last = tick_of(0);
+    for turn in 0..times {
+        last = size.alive(alloc, turn, turn)?;
+    }
+    let _ = last;
+    Ok(())
+}
+
+fn pass(book: &mut Book, times: u64) {
+    for turn in 0..times {
+        let _ = book.apply(tick_of(turn));
+    }
+}
+
+fn mix(alloc: Global, book: &mut Book, times: u64) -> Result<(), NoMemory> {
+    for turn in 0..times {
+        let _ = book.apply(mixed(alloc, turn)?);
+    }
+    Ok(())
+}
+
+/// New books, all kept until the last is made.
+fn make_books(alloc: Global, rules: Rules, times: u64) -> Result<(), NoMemory>
+    requires { RulesFit rules }
+{
+    let mut books = Vec::with_capacity(alloc, times as usize)?;
+    for _ in 0..times {
+        books.push(Book::new(alloc, rules)?)?;
+    }
+    Ok(())
+}
