@@ -29,6 +29,11 @@ pub(crate) struct Counts {
 }
 
 impl fmt::Display for Counts {
+    ghost use Rattle.account_file.specs.Trial.{counts_text};
+    ghost use Rattle.std.specs.Prelude.{Some};
+
+    ghost output = { λ counts. Some (counts_text counts) };
+
     fn fmt<W: fmt::Write>(&self, f: &mut fmt::Formatter<W>) -> fmt::Result {
         write!(f, "clients {} accounts {}", self.clients, self.accounts)
     }

@@ -9,7 +9,7 @@ use Rattle.rsl_session.specs.declared.session.Session.{Session}
 use Rattle.rsl_session.specs.Same.{same_nas}
 use Rattle.rsl_session.specs.Book.{BookLink, Holder, Reserved, Bound}
 use Rattle.rsl_session.specs.BookLinks.{change_first, without_first, is_holder, is_link_of, is_wanted, can_be_taken, touch, take_for}
-use Rattle.rsl_session.proofs.Sameness.{same_nas-true, same_session-true}
+use Rattle.rsl_session.proofs.Callers.{same_nas-true, same_session-true}
 use Rattle.rsl_book.specs.declared.link.Link.{Link}
 use Rattle.rsl_book.specs.declared.link.Hold.{Hold}
 use Rattle.rsl_book.specs.declared.link.Hold.TheVariants.{Number, Session as InSession}

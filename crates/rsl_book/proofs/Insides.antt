@@ -14,7 +14,7 @@ use Rattle.rsl_session.specs.Places.{places_of, each_bundle}
 use Rattle.rsl_session.specs.Book.{Book, BookLink, Reserved, Bound, bundles_in, places_in}
 use Rattle.rsl_session.specs.BookLinks.{lapses_at}
 use Rattle.rsl_session.specs.BookStep.{come_to, open_link}
-use Rattle.rsl_session.proofs.Counting.{length-le-places}
+use Rattle.rsl_session.proofs.Callers.{length-le-places}
 use Rattle.rsl_book.specs.declared.book.Book.TheInside.{Inside}
 use Rattle.rsl_book.specs.declared.links.Links.{Links}
 use Rattle.rsl_book.specs.declared.link.Link.{Link}

@@ -14,8 +14,7 @@ use Rattle.rsl_session.specs.declared.bundle.Bundle.{Bundle}
 use Rattle.rsl_session.specs.Same.{same_bundle}
 use Rattle.rsl_session.specs.Places.{places_of, is_bundle}
 use Rattle.rsl_session.specs.Book.{BookLink, bundles_in}
-use Rattle.rsl_session.proofs.Sameness.{same_bundle-refl}
-use Rattle.rsl_session.proofs.Counting.{places_of_front, places_of_alone, places_of-Some}
+use Rattle.rsl_session.proofs.Callers.{same_bundle-refl, places_of_front, places_of_alone, places_of-Some}
 use Rattle.rsl_book.specs.declared.link.Link.{Link}
 use Rattle.rsl_book.specs.Seen.{link_seen, links_seen, nas_at, bundle_with}
 use Rattle.rsl_book.specs.First.{change_at}

@@ -1,4 +1,4 @@
-use Rattle.rsl_session.proofs.Sameness.{key_is_same}
+use Rattle.rsl_session.proofs.Callers.{key_is_same}
 use Rattle.rsl_book.proofs.kept.is_same_key.Goals as goal
 
 pub returns : goal.returns

@@ -1,6 +1,6 @@
 use Rattle.std.proofs.Common.{ap, ◌∙◌}
 use Rattle.rsl_session.specs.Same.{same_nas}
-use Rattle.rsl_session.proofs.Sameness.{nas_is_same}
+use Rattle.rsl_session.proofs.Callers.{nas_is_same}
 use Rattle.rsl_book.proofs.servers.Servers.is_as.Goals as goal
 
 pub returns : goal.returns
