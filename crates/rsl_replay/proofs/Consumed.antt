@@ -28,3 +28,5 @@ pub consumed_over : (from new : Option (List ℕ)) (text : List ℕ) (most : ℕ
 consumed_over None new text most so_far over = tt
 consumed_over (Some given) None text most so_far over = absurd so_far
 consumed_over (Some given) (Some rest) text most so_far over = rw so_far (omega (arith, over, length-append text rest))
+
+pub ruleset consumed_steps = (consumed_none, consumed_more, consumed_kept, consumed_all, consumed_over)

@@ -5,7 +5,12 @@ ghost use Rattle.rsl_auth.specs.Password.{hidden};
 ghost use Rattle.rsl_wire.specs.Attributes.{attribute_octets, attribute_of, list_octets};
 ghost use Rattle.rsl_wire.specs.Packet.{packet_octets};
 ghost use Rattle.rsl_event.specs.Answer.{signed_if};
-ghost use Rattle.rsl_replay.specs.Access.{access_octets, password_kind, password_value, request_attributes};
+ghost use Rattle.rsl_replay.specs.Access.{
+  access_octets,
+  password_kind,
+  password_value,
+  request_attributes,
+};
 
 use crate::accounting::push_text;
 use md5::{Digest, Md5};
@@ -17,7 +22,8 @@ use rsl_wire::{Draft, NoMemory};
 use std::alloc::Global;
 
 /// The octets of the Access-Request, for a client with this secret (RFC 2865 section 4.1). If it is
-/// signed, a right Message-Authenticator is its first attribute. It fails only where memory is refused.
+/// signed, a right Message-Authenticator is its first attribute. It fails only where memory is
+/// refused.
 pub(crate) fn access_octets(
     alloc: Global,
     request: &AccessRequest,
@@ -73,10 +79,11 @@ fn user_password(alloc: Global, request: &AccessRequest, secret: &[u8]) -> Resul
     )
 }
 
-/// The CHAP-Password: the CHAP Ident is the Identifier, and the challenge is the Request Authenticator
-/// (RFC 2865 section 5.3).
+/// The CHAP-Password: the CHAP Ident is the Identifier, and the challenge is the Request
+/// Authenticator (RFC 2865 section 5.3).
 fn chap_password(request: &AccessRequest) -> [u8; CHAP_PASSWORD_LEN]
-    ensures { result ≡ request.now.id ∷ chap_response request.now.id request.now.password (md5 request.now.text) }
+    ensures { result ≡ request.now.id ∷
+        chap_response request.now.id request.now.password (md5 request.now.text) }
 {
     let response = chap_response(
         request.id,

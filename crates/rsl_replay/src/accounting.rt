@@ -24,7 +24,8 @@ use std::alloc::Global;
 const IDENTIFIER: u8 = 0;
 
 /// The octets of the Accounting-Request, for a client with this secret (RFC 2866 section 4.1). Its
-/// Class, if it has one, is of the server with this boot number. It fails only where memory is refused.
+/// Class, if it has one, is of the server with this boot number. It fails only where memory is
+/// refused.
 pub(crate) fn accounting_octets(
     alloc: Global,
     boot: u64,
@@ -58,7 +59,8 @@ fn write_request(draft: &mut Draft, boot: u64, request: &AccountingRequest)
 fn push_status(draft: &mut Draft, status: Status)
     requires { length draft.old.attributes ≤ 2048 }
     ensures written { draft.new ≡ record draft.old {
-      attributes = draft.old.attributes ++ attribute_octets (number_attribute ACCT_STATUS_TYPE (status_number status));
+      attributes = draft.old.attributes ++
+          attribute_octets (number_attribute ACCT_STATUS_TYPE (status_number status));
     } }
     ensures length { length draft.new.attributes ≡ length draft.old.attributes + 6 }
 {

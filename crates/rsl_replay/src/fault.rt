@@ -1,5 +1,8 @@
 ghost use Rattle.std.specs.Prelude.{◌≡◌};
-ghost use Rattle.rsl_replay.specs.declared.fault.ReplayFault.TheVariants.{InputOutput, NoMemory as no_memory};
+ghost use Rattle.rsl_replay.specs.declared.fault.ReplayFault.TheVariants.{
+  InputOutput,
+  NoMemory as no_memory,
+};
 
 use rsl_accounts::ConfigFault;
 use rsl_script::ScriptFault;
@@ -11,7 +14,8 @@ use thiserror::Error;
 /// Why a script was not replayed. It prints as the text for standard error.
 #[derive(Clone, Copy, Debug, PartialEq, Eq, Error)]
 pub enum ReplayFault {
-    /// The line with this number is wrong. Every line counts, from 1, and the first wrong one is named.
+    /// The line with this number is wrong. Every line counts, from 1, and the first wrong one is
+    /// named.
     #[error("bad script: line {0}")]
     Line(u64),
     /// The script has over 1,048,576 octets. This comes before a wrong line.

@@ -1,10 +1,10 @@
-//! Replaying a script: the packets and steps that its event lines stand for, and what is printed of the
-//! answers.
+//! Replaying a script: the packets and steps that its event lines stand for, and what is printed of
+//! the answers.
 //!
-//! `replay` reads a script, has `run` of `rsl_steps` answer its steps, and writes a line for each event line
-//! (`specs/Replay.antt`); the script's grammar is that of `rsl_script`. The packets and steps of event lines
-//! stand in `specs/Access.antt`, `specs/Accounting.antt` and `specs/Stepping.antt`, what is printed in
-//! `specs/Printing.antt`.
+//! `replay` reads a script, has `run` of `rsl_steps` answer its steps, and writes a line for each
+//! event line (`specs/Replay.antt`); the script's grammar is that of `rsl_script`. The packets and
+//! steps of event lines stand in `specs/Access.antt`, `specs/Accounting.antt` and
+//! `specs/Stepping.antt`, what is printed in `specs/Printing.antt`.
 #![tactic(auto)]
 
 mod access;

@@ -1,4 +1,13 @@
-ghost use Rattle.std.specs.Prelude.{◌≡◌, ◌++◌, IfOk, OnOk, length, option_copied, string_bytes, sum_by};
+ghost use Rattle.std.specs.Prelude.{
+  ◌≡◌,
+  ◌++◌,
+  IfOk,
+  OnOk,
+  length,
+  option_copied,
+  string_bytes,
+  sum_by,
+};
 ghost use Rattle.std.specs.List.{list_any};
 ghost use Rattle.rsl_replay.specs.Printing.{answer_word, is_refused, line_text, printed, word_of};
 ghost use Rattle.rsl_replay.specs.Stepping.{step_count};
@@ -10,9 +19,9 @@ use rsl_script::{EventLine, Happening};
 use rsl_steps::Answer;
 use std::alloc::{AllocError, Global};
 
-/// The text that is printed of event lines and the answers to their steps, one answer for each step in
-/// order: for each event line its number, counted from 1, a space, its word and a line feed. It fails
-/// only where memory is refused.
+/// The text that is printed of event lines and the answers to their steps, one answer for each step
+/// in order: for each event line its number, counted from 1, a space, its word and a line feed. It
+/// fails only where memory is refused.
 pub fn lines_of(
     alloc: Global,
     config: &Config,

@@ -1,4 +1,16 @@
-ghost use Rattle.std.specs.Prelude.{◌≡◌, ◌≢◌, ◌≤◌, ℕ, List, IfErr, IfOk, IfSome, OnOk, length, string_bytes};
+ghost use Rattle.std.specs.Prelude.{
+  ◌≡◌,
+  ◌≢◌,
+  ◌≤◌,
+  ℕ,
+  List,
+  IfErr,
+  IfOk,
+  IfSome,
+  OnOk,
+  length,
+  string_bytes,
+};
 ghost use Rattle.std.specs.Io.KnownBytes.{Appends, Keeps};
 ghost use Rattle.rsl_replay.specs.Replay.{IsFaultOf, IsReplayed, most_octets};
 
@@ -15,14 +27,15 @@ use std::io::{Read, Write};
 /// The boot number of a server that replays a script.
 const BOOT: u64 = 1;
 
-/// Reads a script, gives its event lines to the server one after the other, and writes one line for each.
+/// Reads a script, gives its event lines to the server one after the other, and writes one line for
+/// each.
 ///
-/// The faults come in this order, and nothing is written before the last: `InputOutput` where a read
-/// fails or 2,097,152 reads have come to no end, and `TooLong` where the script has over 1,048,576 octets,
-/// whichever comes first; `Line` of the first wrong line; `Config` where the configuration lines are
-/// refused; `InputOutput` where a write fails, after which nothing is said of how much was written.
-/// `NoMemory` comes where memory is refused, before the checks that follow; a step whose memory is
-/// refused is answered in its own line.
+/// The faults come in this order, and nothing is written before the last: `InputOutput` where a
+/// read fails or 2,097,152 reads have come to no end, and `TooLong` where the script has over
+/// 1,048,576 octets, whichever comes first; `Line` of the first wrong line; `Config` where the
+/// configuration lines are refused; `InputOutput` where a write fails, after which nothing is said
+/// of how much was written. `NoMemory` comes where memory is refused, before the checks that
+/// follow; a step whose memory is refused is answered in its own line.
 #[tactic(auto, using(crate::proofs::Written::read_fault))]
 pub fn replay<R: Read, W: Write>(
     alloc: Global,
@@ -31,7 +44,8 @@ pub fn replay<R: Read, W: Write>(
 ) -> Result<(), ReplayFault>
     // What is written is what the server answers to the script that was read, and nothing else.
     ensures replayed { OnOk result (IfSome (R.remaining reader.old) (λ text.
-        (written : List ℕ) × IsReplayed text written × Appends (W.contents writer.old) (W.contents writer.new) written)) }
+        (written : List ℕ) × IsReplayed text written ×
+        Appends (W.contents writer.old) (W.contents writer.new) written)) }
     // A fault of the script is there, and is the first.
     ensures fault { IfErr result (λ fault. IfSome (R.remaining reader.old) (λ text.
         IsFaultOf text fault)) }
@@ -62,7 +76,8 @@ fn replay_text(alloc: Global, text: &[u8]) -> Result<String, ReplayFault>
 /// Writes the lines, and has the writer pass them on.
 #[tactic(auto, using(crate::proofs::Written::flushed))]
 fn write_lines<W: Write>(writer: &mut W, lines: &[u8]) -> Result<(), ReplayFault>
-    ensures written { OnOk result (Appends (W.contents writer.old) (W.contents writer.new) lines.now) }
+    ensures written { OnOk result
+        (Appends (W.contents writer.old) (W.contents writer.new) lines.now) }
     ensures fault { IfErr result (λ fault. fault ≡ ReplayFault.InputOutput) }
 {
     writer.write_all(lines)?;

@@ -34,8 +34,8 @@ const SOURCE_PORT: u16 = 1024;
 /// The secret of an address that is no client's.
 const NO_SECRET: &[u8] = b"none";
 
-/// The steps of event lines, in order, to a server with this boot number. It fails only where memory is
-/// refused.
+/// The steps of event lines, in order, to a server with this boot number. It fails only where
+/// memory is refused.
 pub fn steps_of(
     alloc: Global,
     config: &Config,

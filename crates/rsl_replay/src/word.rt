@@ -4,7 +4,8 @@ use std::fmt;
 /// What is printed of an event line, in a word.
 #[derive(Clone, Copy)]
 pub(crate) enum Word {
-    /// Its datagram was answered: `accept` and the accept number, `reject limit`, `reject` or `account`.
+    /// Its datagram was answered: `accept` and the accept number, `reject limit`, `reject` or
+    /// `account`.
     Said(Said),
     /// Its datagram was dropped: `drop` and the name of the reason.
     Dropped(Dropped),

@@ -101,7 +101,7 @@ pub made_is : (rules : Rules) (past : Past) (event : Event) (outcome : Outcome) 
 unfolding entry_of
 made_is rules past event outcome is = λ i. record { event = event; outcome = is i }
 
--- what is kept of an event is the entry that it makes behind the past
+-- what is kept of an event is the entry that it makes after the past
 abbrev Adds : Rules → Past → Option Event → Option PastEvent → Type 0
 Adds rules past None None = Unit {0}
 Adds rules past (Some event) (Some entry) = entry ≡ entry_of rules past event
@@ -166,7 +166,7 @@ pub decision_after-is : (rules : Rules) (events : List Event) (event : Event) �
 unfolding decision_after
 decision_after-is rules events event = refl
 
--- the entry that an event makes behind the past that is kept
+-- the entry that an event makes after the past that is kept
 same_made : (config : Configuration) (boot : ℕ) (before : List Step) (old : List Kept) (number other : ℕ) (found account : Account) (event : Event) → AreKept config boot before old → number ≡ other
     → slice_get config.accounts number ≡ Some found → slice_get config.accounts other ≡ Some account
     → entry_of found.rules (looking_back (past_kept config number old)) event ≡ entry_of account.rules (past_of account.rules (own config boot other before)) event

@@ -23,7 +23,7 @@ use Rattle.rsl_steps.specs.declared.step.Step.{Step}
 use Rattle.rsl_steps.specs.declared.step.Step.TheVariants as steps
 use Rattle.rsl_steps.specs.declared.step.Step.TheVariants.{Datagram}
 
--- the decision on an event behind events of an account with these rules
+-- the decision on an event after events of an account with these rules
 unfoldable pub decision_after : Rules → List Event → Event → Decision
 decision_after rules events event = decision_of (outcome_of rules (past_of rules events) event)
 
