@@ -1,10 +1,11 @@
-//! Tests of `rsl_accounts`: the sample of the account file and what is wrong with others, what `Config::make`
-//! takes, look-ups, and what is printed.
+//! Tests of `rsl_accounts`: the sample of the account file and what is wrong with others, what
+//! `Config::make` takes, look-ups, and what is printed.
 
 mod files;
 mod making;
 mod printing;
 
+use crate::support::{number, shown};
 use rsl_accounts::{Client, Config, ConfigFault, Entry, Rules, Secret, Settings, Text};
 use std::alloc::Global;
 use std::test::Fail;
@@ -35,10 +36,10 @@ idle_timeout = 600
 
 /// What comes of a configuration: `Ok`, or what its fault prints.
 fn said(alloc: Global, config: Result<Config, ConfigFault>) -> Result<String, Fail> {
-    Ok(match config {
-        Ok(_) => String::from_str(alloc, "Ok")?,
-        Err(fault) => format!(in alloc; "{fault}")?,
-    })
+    match config {
+        Ok(_) => shown(alloc, &"Ok"),
+        Err(fault) => shown(alloc, &fault),
+    }
 }
 
 fn settings(version: u64) -> Settings {
@@ -76,6 +77,7 @@ fn entry(alloc: Global, name: &str, password: &str) -> Result<Entry, Fail> {
     })
 }
 
+/// Rules of seven numbers: places, ports, and the reserve, live, grace, closed and keep time.
 fn rules(numbers: [u64; 7]) -> Rules {
     let [places, ports, reserve, live, grace, closed, keep] = numbers;
     Rules {
@@ -87,4 +89,22 @@ fn rules(numbers: [u64; 7]) -> Rules {
         closed,
         keep,
     }
+}
+
+/// The rules that seven numbers with blanks between them write.
+fn rules_of(alloc: Global, text: &str) -> Result<Rules, Fail> {
+    let numbers = numbers_of(alloc, text)?;
+    let [places, ports, reserve, live, grace, closed, keep] = numbers.as_slice() else {
+        return Err("rules are seven numbers")?;
+    };
+    Ok(rules([*places, *ports, *reserve, *live, *grace, *closed, *keep]))
+}
+
+/// Numbers with blanks between them.
+fn numbers_of(alloc: Global, text: &str) -> Result<Vec<u64>, Fail> {
+    let mut numbers = Vec::new(alloc);
+    for digits in text.split(' ') {
+        numbers.push(number(digits)?)?;
+    }
+    Ok(numbers)
 }

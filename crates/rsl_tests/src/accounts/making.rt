@@ -1,17 +1,50 @@
 //! What `Config::make` takes, look-ups, rules and addresses.
 
-use super::{SAMPLE, client, entry, rules, said, settings};
-use rsl_accounts::{Config, ConfigFault, address_of};
+use super::{SAMPLE, client, entry, numbers_of, rules_of, said, settings};
+use crate::support::{Subject, check_rows, printed, replaced, short_number, shown};
+use rsl_accounts::{Config, ConfigFault, Entry, Rules, Settings, address_of};
 use std::alloc::Global;
 use std::test::Fail;
+
+/// What comes of one client and one account where a key has each of some numbers.
+struct NumberRows;
+
+impl Subject for NumberRows {
+    fn found(&self, alloc: Global, fields: &[&str]) -> Result<String, Fail> {
+        let [key, numbers] = fields else {
+            return Err("a row has a key and numbers")?;
+        };
+        let mut found = String::new(alloc);
+        for number in numbers_of(alloc, numbers)? {
+            if !found.is_empty() {
+                found.push_str(", ")?;
+            }
+            found.push_str(made_with(alloc, key, number)?.as_str())?;
+        }
+        Ok(found)
+    }
+}
 
 /// What comes of one client and one account where the key has the number.
 fn made_with(alloc: Global, key: &str, number: u64) -> Result<String, Fail> {
     let mut settings = settings(2);
     settings.reserve = 86_400;
     settings.keep = 1;
+    set_setting(&mut settings, key, number);
     let mut nemo = entry(alloc, "nemo", "arctangent")?;
-    let short = u32::try_from(number).ok();
+    set_rule(&mut nemo.rules, key, number);
+    set_attribute(&mut nemo, key, number);
+    made_of(alloc, settings, "s", nemo)
+}
+
+/// What comes of one client with the secret, and one account.
+fn made_of(alloc: Global, settings: Settings, secret: &str, nemo: Entry) -> Result<String, Fail> {
+    let clients = Vec::from_array(alloc, [client(alloc, [10, 0, 0, 1], secret)?])?;
+    let accounts = Vec::from_array(alloc, [nemo])?;
+    said(alloc, Config::make(alloc, settings, clients, accounts))
+}
+
+fn set_setting(settings: &mut Settings, key: &str, number: u64) {
     match key {
         "version" => settings.version = number,
         "shards" => settings.shards = number,
@@ -20,87 +53,96 @@ fn made_with(alloc: Global, key: &str, number: u64) -> Result<String, Fail> {
         "grace_secs" => settings.grace = number,
         "closed_secs" => settings.closed = number,
         "keep_secs" => settings.keep = number,
-        "places" => nemo.rules.places = number,
-        "ports" => nemo.rules.ports = number,
+        _ => {}
+    }
+}
+
+fn set_rule(rules: &mut Rules, key: &str, number: u64) {
+    match key {
+        "places" => rules.places = number,
+        "ports" => rules.ports = number,
+        _ => {}
+    }
+}
+
+fn set_attribute(nemo: &mut Entry, key: &str, number: u64) {
+    let short = u32::try_from(number).ok();
+    match key {
         "service_type" => nemo.service_type = short,
         "framed_protocol" => nemo.framed_protocol = short,
         "session_timeout" => nemo.session_timeout = short,
         "idle_timeout" => nemo.idle_timeout = short,
         "own live_secs" => nemo.own_live = Some(number),
-        _ => nemo.own_grace = Some(number),
+        "own grace_secs" => nemo.own_grace = Some(number),
+        _ => {}
     }
-    let clients = Vec::from_array(alloc, [client(alloc, [10, 0, 0, 1], "s")?])?;
-    let accounts = Vec::from_array(alloc, [nemo])?;
-    said(alloc, Config::make(alloc, settings, clients, accounts))
 }
 
 #[test]
 fn numbers_are_taken_up_to_their_limits(rt: HostRuntime) -> Result<(), Fail> {
-    let alloc = rt.alloc();
-    for (key, least, most) in [
-        ("version", 1, 2),
-        ("shards", 1, 4),
-        ("reserve_secs", 1, 86_400),
-        ("live_secs", 1, 86_400),
-        ("grace_secs", 1, 86_400),
-        ("closed_secs", 1, 86_400),
-        ("keep_secs", 1, 86_400),
-        ("places", 0, 64),
-        ("ports", 1, 16),
-        ("service_type", 1, 4_294_967_295),
-        ("framed_protocol", 1, 4_294_967_295),
-        ("session_timeout", 1, 4_294_967_295),
-        ("idle_timeout", 1, 4_294_967_295),
-        ("own live_secs", 1, 86_400),
-        ("own grace_secs", 1, 86_400),
-    ] {
-        let bad = format!(in alloc; "BadValue {}", key.trim_start_matches("own "))?;
-        assert_eq!(rt;
-            made_with(alloc, key, least)?.as_str(),
-            "Ok",
-            "{key} {least}"
-        );
-        assert_eq!(rt; made_with(alloc, key, most)?.as_str(), "Ok", "{key} {most}");
-        if 0 < least {
-            assert_eq!(rt; made_with(alloc, key, 0)?.as_str(), bad.as_str(), "{key} 0");
-        }
-        if most < 4_294_967_295 {
-            let more = made_with(alloc, key, most.saturating_add(1))?;
-            assert_eq!(rt; more.as_str(), bad.as_str(), "{key} {most} and 1");
-        }
+    let rows = "
+        version | version | 0 1 2 3 | BadValue version, Ok, Ok, BadValue version
+        shards | shards | 0 1 4 5 | BadValue shards, Ok, Ok, BadValue shards
+        reserve time | reserve_secs | 0 1 86400 86401 | \
+          BadValue reserve_secs, Ok, Ok, BadValue reserve_secs
+        live time | live_secs | 0 1 86400 86401 | BadValue live_secs, Ok, Ok, BadValue live_secs
+        grace time | grace_secs | 0 1 86400 86401 | \
+          BadValue grace_secs, Ok, Ok, BadValue grace_secs
+        closed time | closed_secs | 0 1 86400 86401 | \
+          BadValue closed_secs, Ok, Ok, BadValue closed_secs
+        keep time | keep_secs | 0 1 86400 86401 | BadValue keep_secs, Ok, Ok, BadValue keep_secs
+        places | places | 0 64 65 | Ok, Ok, BadValue places
+        ports | ports | 0 1 16 17 | BadValue ports, Ok, Ok, BadValue ports
+        Service-Type | service_type | 0 1 4294967295 | BadValue service_type, Ok, Ok
+        Framed-Protocol | framed_protocol | 0 1 4294967295 | BadValue framed_protocol, Ok, Ok
+        Session-Timeout | session_timeout | 0 1 4294967295 | BadValue session_timeout, Ok, Ok
+        Idle-Timeout | idle_timeout | 0 1 4294967295 | BadValue idle_timeout, Ok, Ok
+        own live time | own live_secs | 0 1 86400 86401 | \
+          BadValue live_secs, Ok, Ok, BadValue live_secs
+        own grace time | own grace_secs | 0 1 86400 86401 | \
+          BadValue grace_secs, Ok, Ok, BadValue grace_secs
+    ";
+    check_rows(&rt, &NumberRows, rows)
+}
+
+/// Words of rows for texts of 64 and 128 octets.
+const LONG: &str = "\
+<128> = <64><64>
+<64> = 0123456789abcdef0123456789abcdef0123456789abcdef0123456789abcdef";
+
+/// What comes of a client with a secret, and an account with a name and a password.
+struct TextRows;
+
+impl Subject for TextRows {
+    fn found(&self, alloc: Global, fields: &[&str]) -> Result<String, Fail> {
+        let [secret, name, password] = fields else {
+            return Err("a row has a secret, a name and a password")?;
+        };
+        let nemo = entry(alloc, name, password)?;
+        made_of(alloc, settings(1), secret, nemo)
     }
-    Ok(())
 }
 
 #[test]
 fn texts_are_taken_up_to_their_limits(rt: HostRuntime) -> Result<(), Fail> {
-    let alloc = rt.alloc();
-    let long = "0123456789abcdef0123456789abcdef0123456789abcdef0123456789abcdef";
-    let longest = format!(in alloc; "{long}{long}")?;
-    let too_long = format!(in alloc; "{long}{long}x")?;
-    let name_too_long = format!(in alloc; "{long}x")?;
-    for (secret, name, password, expected) in [
-        ("s", "!~", "p", "Ok"),
-        ("\u{e9}", "nemo", "\u{e9}", "Ok"),
-        (longest.as_str(), long, longest.as_str(), "Ok"),
-        ("", "nemo", "", "BadValue secret"),
-        ("a\0", "nemo", "p", "BadValue secret"),
-        (too_long.as_str(), "nemo", "p", "BadValue secret"),
-        ("s", "", "", "BadValue name"),
-        ("s", "a b", "p", "BadValue name"),
-        ("s", "a\u{7f}", "p", "BadValue name"),
-        ("s", "\u{e9}", "p", "BadValue name"),
-        ("s", name_too_long.as_str(), "p", "BadValue name"),
-        ("s", "nemo", "", "BadValue password"),
-        ("s", "nemo", "a\0", "BadValue password"),
-        ("s", "nemo", too_long.as_str(), "BadValue password"),
-    ] {
-        let clients = Vec::from_array(alloc, [client(alloc, [10, 0, 0, 1], secret)?])?;
-        let accounts = Vec::from_array(alloc, [entry(alloc, name, password)?])?;
-        let found = said(alloc, Config::make(alloc, settings(1), clients, accounts))?;
-        assert_eq!(rt; found.as_str(), expected, "{secret} {name} {password}");
-    }
-    Ok(())
+    let rows = "
+        printable octets | s | !~ | p | Ok
+        other letters | \u{e9} | nemo | \u{e9} | Ok
+        the longest | <128> | <64> | <128> | Ok
+        an empty secret | | nemo | | BadValue secret
+        a secret with a zero octet | a\0 | nemo | p | BadValue secret
+        a secret of 129 octets | <128>x | nemo | p | BadValue secret
+        an empty name | s | | | BadValue name
+        a name with a blank | s | a b | p | BadValue name
+        a name with a control octet | s | a\u{7f} | p | BadValue name
+        a name with another letter | s | \u{e9} | p | BadValue name
+        a name of 65 octets | s | <64>x | p | BadValue name
+        an empty password | s | nemo | | BadValue password
+        a password with a zero octet | s | nemo | a\0 | BadValue password
+        a password of 129 octets | s | nemo | <128>x | BadValue password
+    ";
+    let rows = replaced(rt.alloc(), rows, LONG)?;
+    check_rows(&rt, &TextRows, rows.as_str())
 }
 
 /// So many clients and accounts, each with an address or a name of its own.
@@ -118,94 +160,130 @@ fn many(alloc: Global, clients: u32, accounts: u32) -> Result<Result<Config, Con
     Ok(Config::make(alloc, settings(2), some_clients, some_accounts))
 }
 
+/// Where a client and an account are found among so many of each, and the numbers of clients,
+/// accounts and shards.
+struct ManyRows;
+
+impl Subject for ManyRows {
+    fn found(&self, alloc: Global, fields: &[&str]) -> Result<String, Fail> {
+        let [clients, accounts, address, name] = fields else {
+            return Err("a row has two numbers, an address and a name")?;
+        };
+        match many(alloc, short_number(clients)?, short_number(accounts)?)? {
+            Ok(config) => places(alloc, &config, address, name),
+            Err(fault) => shown(alloc, &fault),
+        }
+    }
+}
+
+fn places(alloc: Global, config: &Config, address: &str, name: &str) -> Result<String, Fail> {
+    let Some(address) = address_of(address.as_bytes()) else {
+        return Err("an address is four numbers")?;
+    };
+    let (client, account) = (config.client(address), config.account(name.as_bytes()));
+    let (clients, accounts, shards) = (config.clients(), config.accounts(), config.shards());
+    printed(alloc, &(client, account, clients, accounts, shards))
+}
+
 #[test]
 fn clients_and_accounts_are_found_up_to_the_greatest_numbers(rt: HostRuntime) -> Result<(), Fail> {
-    let alloc = rt.alloc();
-    for (clients, accounts, address, account, expected) in [
-        (1, 1, [10, 0, 0, 0], "a0", "Some(0) Some(0) 1 1 2"),
-        (2, 3, [10, 0, 0, 1], "a2", "Some(1) Some(2) 2 3 2"),
-        (2, 3, [10, 0, 0, 2], "a", "None None 2 3 2"),
-        (
-            256,
-            16_384,
-            [10, 0, 0, 255],
-            "a16383",
-            "Some(255) Some(16383) 256 16384 2",
-        ),
-        (0, 0, [10, 0, 0, 0], "a0", "BadValue client"),
-        (257, 1, [10, 0, 0, 0], "a0", "BadValue client"),
-        (1, 0, [10, 0, 0, 0], "a0", "BadValue account"),
-        (1, 16_385, [10, 0, 0, 0], "a0", "BadValue account"),
-    ] {
-        let found = match many(alloc, clients, accounts)? {
-            Ok(config) => {
-                let (client, found) = (config.client(address), config.account(account.as_bytes()));
-                let (clients, accounts) = (config.clients(), config.accounts());
-                format!(in alloc;
-                    "{client:?} {found:?} {clients} {accounts} {}",
-                    config.shards()
-                )?
-            }
-            Err(fault) => format!(in alloc; "{fault}")?,
+    let rows = "
+        one of each | 1 | 1 | 10.0.0.0 | a0 | (Some(0), Some(0), 1, 1, 2)
+        the last of some | 2 | 3 | 10.0.0.1 | a2 | (Some(1), Some(2), 2, 3, 2)
+        none of these | 2 | 3 | 10.0.0.2 | a | (None, None, 2, 3, 2)
+        the most | 256 | 16384 | 10.0.0.255 | a16383 | (Some(255), Some(16383), 256, 16384, 2)
+        none | 0 | 0 | 10.0.0.0 | a0 | BadValue client
+        a client too many | 257 | 1 | 10.0.0.0 | a0 | BadValue client
+        no account | 1 | 0 | 10.0.0.0 | a0 | BadValue account
+        an account too many | 1 | 16385 | 10.0.0.0 | a0 | BadValue account
+    ";
+    check_rows(&rt, &ManyRows, rows)
+}
+
+/// The shard of an account of the sample, which has two shards.
+struct ShardRows;
+
+impl Subject for ShardRows {
+    fn found(&self, alloc: Global, fields: &[&str]) -> Result<String, Fail> {
+        let [account] = fields else {
+            return Err("a row has the number of an account")?;
         };
-        assert_eq!(rt;
-            found.as_str(),
-            expected,
-            "{clients} clients, {accounts} accounts"
-        );
+        let config = Config::read(alloc, SAMPLE.as_bytes())?;
+        printed(alloc, &config.shard_of(short_number(account)?))
     }
-    Ok(())
 }
 
 #[test]
 fn an_account_belongs_to_the_shard_of_its_remainder(rt: HostRuntime) -> Result<(), Fail> {
-    let config = Config::read(rt.alloc(), SAMPLE.as_bytes())?;
-    for (account, expected) in [(0, 0), (1, 1), (2, 0), (16_383, 1)] {
-        assert_eq!(rt; config.shard_of(account), expected, "account {account}");
-    }
-    Ok(())
+    let rows = "
+        the first | 0 | 0
+        the second | 1 | 1
+        the third | 2 | 0
+        the last | 16383 | 1
+    ";
+    check_rows(&rt, &ShardRows, rows)
 }
 
+/// Whether rules fit.
+struct RulesRows;
+
+impl Subject for RulesRows {
+    fn found(&self, alloc: Global, fields: &[&str]) -> Result<String, Fail> {
+        let [numbers] = fields else {
+            return Err("a row has seven numbers")?;
+        };
+        printed(alloc, &rules_of(alloc, numbers)?.fits())
+    }
+}
+
+// Places, ports, and the reserve, live, grace, closed and keep time.
 #[test]
 fn rules_fit_within_their_limits(rt: HostRuntime) -> Result<(), Fail> {
-    for (numbers, expected) in [
-        ([0, 1, 1, 1, 1, 1, 1], true),
-        ([64, 16, 86_400, 86_400, 86_400, 86_400, 86_400], true),
-        ([65, 1, 1, 1, 1, 1, 1], false),
-        ([1, 0, 1, 1, 1, 1, 1], false),
-        ([1, 17, 1, 1, 1, 1, 1], false),
-        ([1, 1, 0, 1, 1, 1, 0], false),
-        ([1, 1, 86_401, 1, 1, 1, 1], false),
-        ([1, 1, 1, 0, 1, 1, 1], false),
-        ([1, 1, 1, 86_401, 1, 1, 1], false),
-        ([1, 1, 1, 1, 0, 1, 1], false),
-        ([1, 1, 1, 1, 86_401, 1, 1], false),
-        ([1, 1, 1, 1, 1, 0, 1], false),
-        ([1, 1, 1, 1, 1, 86_401, 1], false),
-        ([1, 1, 1, 1, 1, 1, 0], false),
-        ([1, 1, 60, 1, 1, 1, 61], false),
-    ] {
-        assert_eq!(rt; rules(numbers).fits(), expected, "{numbers:?}");
+    let rows = "
+        the least | 0 1 1 1 1 1 1 | true
+        the greatest | 64 16 86400 86400 86400 86400 86400 | true
+        65 places | 65 1 1 1 1 1 1 | false
+        no ports | 1 0 1 1 1 1 1 | false
+        17 ports | 1 17 1 1 1 1 1 | false
+        no reserve time | 1 1 0 1 1 1 0 | false
+        a long reserve time | 1 1 86401 1 1 1 1 | false
+        no live time | 1 1 1 0 1 1 1 | false
+        a long live time | 1 1 1 86401 1 1 1 | false
+        no grace time | 1 1 1 1 0 1 1 | false
+        a long grace time | 1 1 1 1 86401 1 1 | false
+        no closed time | 1 1 1 1 1 0 1 | false
+        a long closed time | 1 1 1 1 1 86401 1 | false
+        no keep time | 1 1 1 1 1 1 0 | false
+        a keep time over the reserve time | 1 1 60 1 1 1 61 | false
+    ";
+    check_rows(&rt, &RulesRows, rows)
+}
+
+/// The address that a text writes.
+struct AddressRows;
+
+impl Subject for AddressRows {
+    fn found(&self, alloc: Global, fields: &[&str]) -> Result<String, Fail> {
+        let [text] = fields else {
+            return Err("a row has a text between quotes")?;
+        };
+        printed(alloc, &address_of(text.trim_matches('\'').as_bytes()))
     }
-    Ok(())
 }
 
 #[test]
 fn addresses_are_four_numbers(rt: HostRuntime) -> Result<(), Fail> {
-    for (text, expected) in [
-        ("192.168.1.16", "Some([192, 168, 1, 16])"),
-        ("0.0.0.0", "Some([0, 0, 0, 0])"),
-        ("255.255.255.255", "Some([255, 255, 255, 255])"),
-        ("256.0.0.1", "None"),
-        ("01.0.0.1", "None"),
-        ("1.2.3", "None"),
-        ("1.2.3.4.5", "None"),
-        ("1.2.3.4 ", "None"),
-        ("+1.2.3.4", "None"),
-        ("", "None"),
-    ] {
-        let found = format!(in rt.alloc(); "{:?}", address_of(text.as_bytes()))?;
-        assert_eq!(rt; found.as_str(), expected, "{text}");
-    }
-    Ok(())
+    let rows = "
+        an address | '192.168.1.16' | Some([192, 168, 1, 16])
+        zeros | '0.0.0.0' | Some([0, 0, 0, 0])
+        the greatest | '255.255.255.255' | Some([255, 255, 255, 255])
+        a number of 256 | '256.0.0.1' | None
+        a 0 before a number | '01.0.0.1' | None
+        three numbers | '1.2.3' | None
+        five numbers | '1.2.3.4.5' | None
+        a blank at the end | '1.2.3.4 ' | None
+        a sign | '+1.2.3.4' | None
+        nothing | '' | None
+    ";
+    check_rows(&rt, &AddressRows, rows)
 }
