@@ -1,6 +1,8 @@
-//! Tests of `rsl_script`: what the lines of a script say. Which lines are right and which are wrong is
-//! shown by `script_rows`.
+//! Tests of `rsl_script`: what the lines of a script say. Which lines are right and which are wrong
+//! is shown by `script_rows`.
 
+use crate::support::{Subject, check_rows};
+use rsl_accounts::{Client, Entry};
 use rsl_script::{
     AccessRequest, AccountingRequest, AttributeText, EventLine, Happening, Script, ScriptFault,
 };
@@ -70,239 +72,269 @@ fn told(alloc: Global, line: &EventLine) -> Result<String, Fail> {
     }
 }
 
+/// The one line of a script: what it says happens.
+struct Happens;
+
+impl Subject for Happens {
+    fn found(&self, alloc: Global, fields: &[&str]) -> Result<String, Fail> {
+        let [line] = fields else {
+            return Err("an event line")?;
+        };
+        let script = Script::read(alloc, line.as_bytes())?;
+        match script.events.first() {
+            Some(event) => told(alloc, event),
+            None => Err("no event")?,
+        }
+    }
+}
+
 #[test]
 fn event_lines_say_what_happens(rt: HostRuntime) -> Result<(), Fail> {
-    for (line, expected) in [
-        (
-            "ask 7 192.168.1.16 n u pw 255",
-            "7 [192, 168, 1, 16] Pap, nas n, name u, password pw, id 255, of `ask 192.168.1.16 n u pw 255`",
-        ),
-        (
-            "chap 18446744073709551615 10.0.0.1 - u pw 007",
-            "18446744073709551615 [10, 0, 0, 1] Chap, nas none, name u, password pw, id 7, of `chap 10.0.0.1 - u pw 007`",
-        ),
-        (
-            "start 1 10.0.0.1 n u s multi=m class=9",
-            "1 [10, 0, 0, 1] Start, nas n, name u, session s, bundle m, class Some(9)",
-        ),
-        (
-            "interim 1 10.0.0.1 n u multi=s class=9",
-            "1 [10, 0, 0, 1] Interim, nas n, name u, session multi=s, bundle none, class Some(9)",
-        ),
-        (
-            "interim 1 10.0.0.1 n u s multi=class=1",
-            "1 [10, 0, 0, 1] Interim, nas n, name u, session s, bundle class=1, class None",
-        ),
-        (
-            "stop 1 10.0.0.1 - u s",
-            "1 [10, 0, 0, 1] Stop, nas none, name u, session s, bundle none, class None",
-        ),
-        (
-            "on 1 10.0.0.1 n",
-            "1 [10, 0, 0, 1] On, nas n, name none, session none, bundle none, class None",
-        ),
-        (
-            "off 1 10.0.0.1 -",
-            "1 [10, 0, 0, 1] Off, nas none, name none, session none, bundle none, class None",
-        ),
-        ("raw-auth 1 10.0.0.1 01fF", "1 [10, 0, 0, 1] Auth 01ff"),
-        ("raw-acct 1 10.0.0.1 00", "1 [10, 0, 0, 1] Acct 00"),
-        ("tick 3", "3 tick"),
-    ] {
-        let script = Script::read(rt.alloc(), line.as_bytes())?;
-        let mut found = String::new(rt.alloc());
-        for event in &script.events {
-            found.push_str(told(rt.alloc(), event)?.as_str())?;
+    check_rows(
+        &rt,
+        &Happens,
+        "
+an ask | ask 7 192.168.1.16 n u pw 255 | 7 [192, 168, 1, 16] Pap, nas n, name u, password pw, \
+    id 255, of `ask 192.168.1.16 n u pw 255`
+a CHAP ask | chap 18446744073709551615 10.0.0.1 - u pw 007 \
+    | 18446744073709551615 [10, 0, 0, 1] Chap, nas none, name u, password pw, id 7, \
+    of `chap 10.0.0.1 - u pw 007`
+a start | start 1 10.0.0.1 n u s multi=m class=9 \
+    | 1 [10, 0, 0, 1] Start, nas n, name u, session s, bundle m, class Some(9)
+a session like a bundle | interim 1 10.0.0.1 n u multi=s class=9 \
+    | 1 [10, 0, 0, 1] Interim, nas n, name u, session multi=s, bundle none, class Some(9)
+a bundle like a class | interim 1 10.0.0.1 n u s multi=class=1 \
+    | 1 [10, 0, 0, 1] Interim, nas n, name u, session s, bundle class=1, class None
+a stop | stop 1 10.0.0.1 - u s \
+    | 1 [10, 0, 0, 1] Stop, nas none, name u, session s, bundle none, class None
+an on | on 1 10.0.0.1 n \
+    | 1 [10, 0, 0, 1] On, nas n, name none, session none, bundle none, class None
+an off | off 1 10.0.0.1 - \
+    | 1 [10, 0, 0, 1] Off, nas none, name none, session none, bundle none, class None
+octets for authentication | raw-auth 1 10.0.0.1 01fF | 1 [10, 0, 0, 1] Auth 01ff
+octets for accounting | raw-acct 1 10.0.0.1 00 | 1 [10, 0, 0, 1] Acct 00
+a tick | tick 3 | 3 tick
+",
+    )
+}
+
+/// A line of a configuration: the client or the account that it gives.
+struct Configured;
+
+impl Subject for Configured {
+    fn found(&self, alloc: Global, fields: &[&str]) -> Result<String, Fail> {
+        let [line] = fields else {
+            return Err("a line")?;
+        };
+        let script = Script::read(alloc, line.as_bytes())?;
+        match (script.clients.as_slice(), script.accounts.as_slice()) {
+            ([client], []) => told_client(alloc, client),
+            ([], [account]) => told_account(alloc, account),
+            _ => Err("not one client and not one account")?,
         }
-        assert_eq!(rt; found.as_str(), expected, "{line}");
     }
-    Ok(())
+}
+
+fn told_client(alloc: Global, client: &Client) -> Result<String, Fail> {
+    let [a, b, c, d] = client.address;
+    let mut found = format!(in alloc; "{a}.{b}.{c}.{d}")?;
+    write!(
+        found,
+        " {} signed {}",
+        text(client.secret.expose()),
+        client.signed
+    )?;
+    Ok(found)
+}
+
+fn told_account(alloc: Global, account: &Entry) -> Result<String, Fail> {
+    let mut found = String::from_str(alloc, account.name.as_str())?;
+    write!(found, " {}", text(account.password.expose()))?;
+    write!(
+        found,
+        " places {} ports {}",
+        account.rules.places, account.rules.ports
+    )?;
+    write!(
+        found,
+        " live {:?} grace {:?}",
+        account.own_live, account.own_grace
+    )?;
+    Ok(found)
 }
 
 #[test]
 fn configuration_lines_say_what_there_is(rt: HostRuntime) -> Result<(), Fail> {
-    for (line, expected) in [
-        (
-            "client 192.168.1.16 xyzzy5461",
-            "192.168.1.16 xyzzy5461 signed false",
-        ),
-        ("client 10.0.0.1 s signed", "10.0.0.1 s signed true"),
-        (
-            "account u pw 1",
-            "u pw places 1 ports 1 live None grace None",
-        ),
-        (
-            "account u pw 64 16",
-            "u pw places 64 ports 16 live None grace None",
-        ),
-        (
-            "account u pw 2 3 live=30 grace=5",
-            "u pw places 2 ports 3 live Some(30) grace Some(5)",
-        ),
-        (
-            "account u pw 2 grace=5",
-            "u pw places 2 ports 1 live None grace Some(5)",
-        ),
-    ] {
-        let script = Script::read(rt.alloc(), line.as_bytes())?;
-        let mut found = String::new(rt.alloc());
-        for client in &script.clients {
-            let [a, b, c, d] = client.address;
-            let secret = text(client.secret.expose());
-            write!(found, "{a}.{b}.{c}.{d} {secret} signed {}", client.signed)?;
+    check_rows(
+        &rt,
+        &Configured,
+        "
+a client | client 192.168.1.16 xyzzy5461 | 192.168.1.16 xyzzy5461 signed false
+a client that signs | client 10.0.0.1 s signed | 10.0.0.1 s signed true
+places | account u pw 1 | u pw places 1 ports 1 live None grace None
+ports | account u pw 64 16 | u pw places 64 ports 16 live None grace None
+times | account u pw 2 3 live=30 grace=5 | u pw places 2 ports 3 live Some(30) grace Some(5)
+a grace | account u pw 2 grace=5 | u pw places 2 ports 1 live None grace Some(5)
+",
+    )
+}
+
+/// A script of lines with `/` between them.
+fn read_lines(alloc: Global, lines: &str) -> Result<Result<Script, ScriptFault>, Fail> {
+    let script = lines.replace(alloc, "/", "\n")?;
+    Ok(Script::read(alloc, script.as_bytes()))
+}
+
+/// Lines: the settings of a script of them.
+struct Set;
+
+impl Subject for Set {
+    fn found(&self, alloc: Global, fields: &[&str]) -> Result<String, Fail> {
+        let [lines] = fields else {
+            return Err("lines")?;
+        };
+        match read_lines(alloc, lines)? {
+            Ok(script) => Ok(format!(in alloc; "{:?}", script.settings)?),
+            Err(fault) => Ok(format!(in alloc; "{fault:?}")?),
         }
-        for account in &script.accounts {
-            write!(
-                found,
-                "{} {} places {} ports {} live {:?} grace {:?}",
-                account.name.as_str(),
-                text(account.password.expose()),
-                account.rules.places,
-                account.rules.ports,
-                account.own_live,
-                account.own_grace
-            )?;
-        }
-        assert_eq!(rt; found.as_str(), expected, "{line}");
     }
-    Ok(())
 }
 
 #[test]
 fn settings_are_those_of_their_last_lines(rt: HostRuntime) -> Result<(), Fail> {
-    for (lines, expected) in [
-        (
-            "",
-            "Settings { version: 2, shards: 1, reserve: 60, live: 900, grace: 900, closed: 3600, keep: 10 }",
-        ),
-        (
-            "set shards 4\nset reserve 1\nset live 2\nset grace 3\nset closed 4\nset keep 6\nset keep 005\n",
-            "Settings { version: 2, shards: 4, reserve: 1, live: 2, grace: 3, closed: 4, keep: 5 }",
-        ),
-    ] {
-        let settings = Script::read(rt.alloc(), lines.as_bytes())?.settings;
-        let found = format!(in rt.alloc(); "{settings:?}")?;
-        assert_eq!(rt; found.as_str(), expected);
+    check_rows(
+        &rt,
+        &Set,
+        "
+none | \
+    | Settings { version: 2, shards: 1, reserve: 60, live: 900, grace: 900, closed: 3600, keep: 10 }
+all, one twice \
+    | set shards 4/set reserve 1/set live 2/set grace 3/set closed 4/set keep 6/set keep 005/ \
+    | Settings { version: 2, shards: 4, reserve: 1, live: 2, grace: 3, closed: 4, keep: 5 }
+",
+    )
+}
+
+/// A line with the password `Sesame`: `hidden`, or what is printed of it where the password is
+/// seen.
+struct Secretive;
+
+impl Subject for Secretive {
+    fn found(&self, alloc: Global, fields: &[&str]) -> Result<String, Fail> {
+        let [line] = fields else {
+            return Err("a line")?;
+        };
+        let script = Script::read(alloc, line.as_bytes())?;
+        let printed = format!(in alloc; "{script:?}")?;
+        if is_hidden(printed.as_str()) {
+            return Ok(String::from_str(alloc, "hidden")?);
+        }
+        Ok(printed)
     }
-    Ok(())
+}
+
+/// Whether a text has a secret in it, and neither `Sesame` nor its octets.
+fn is_hidden(printed: &str) -> bool {
+    printed.contains("Secret(..)")
+        && !printed.contains("Sesame")
+        && !printed.contains("83, 101, 115")
 }
 
 #[test]
 fn passwords_are_not_printed(rt: HostRuntime) -> Result<(), Fail> {
-    for line in [
-        "client 1.2.3.4 Sesame",
-        "account u Sesame 1",
-        "ask 0 1.2.3.4 n u Sesame 1",
-        "chap 0 1.2.3.4 n u Sesame 1",
-    ] {
-        let script = Script::read(rt.alloc(), line.as_bytes())?;
-        let found = format!(in rt.alloc(); "{script:?}")?;
-        assert!(rt; found.contains("Secret(..)"), "{line}: {found}");
-        assert!(rt; !found.contains("Sesame"), "{line}: {found}");
-        // Neither are its octets.
-        assert!(rt; !found.contains("83, 101, 115"), "{line}: {found}");
+    check_rows(
+        &rt,
+        &Secretive,
+        "
+a client's secret | client 1.2.3.4 Sesame | hidden
+an account's | account u Sesame 1 | hidden
+an ask's | ask 0 1.2.3.4 n u Sesame 1 | hidden
+a CHAP ask's | chap 0 1.2.3.4 n u Sesame 1 | hidden
+",
+    )
+}
+
+/// Lines: what the fault of a script of them prints. With no lines, that there is no memory.
+struct Wrong;
+
+impl Subject for Wrong {
+    fn found(&self, alloc: Global, fields: &[&str]) -> Result<String, Fail> {
+        let [lines] = fields else {
+            return Ok(format!(in alloc; "{}", ScriptFault::NoMemory)?);
+        };
+        match read_lines(alloc, lines)? {
+            Ok(script) => Ok(format!(in alloc; "{script:?}")?),
+            Err(fault) => Ok(format!(in alloc; "{fault}")?),
+        }
     }
-    Ok(())
 }
 
 #[test]
 fn faults_name_the_first_wrong_line(rt: HostRuntime) -> Result<(), Fail> {
-    for (text, expected) in [
-        ("\n\n no word", "line 3"),
-        ("tick 1\n# comment\nset keep 1\nunknown", "line 3"),
-        ("wrong\nwrong", "line 1"),
-        ("tick 1\r\n", "line 1"),
-        ("tick 1\n\u{7f}", "line 2"),
-    ] {
-        let found = match Script::read(rt.alloc(), text.as_bytes()) {
-            Ok(script) => format!(in rt.alloc(); "{script:?}")?,
-            Err(fault) => format!(in rt.alloc(); "{fault}")?,
-        };
-        assert_eq!(rt; found.as_str(), expected, "{text}");
-    }
-    let found = format!(in rt.alloc(); "{}", ScriptFault::NoMemory)?;
-    assert_eq!(rt; found.as_str(), "no memory");
-    Ok(())
+    check_rows(
+        &rt,
+        &Wrong,
+        "
+empty lines before | // no word | line 3
+a comment before | tick 1/# comment/set keep 1/unknown | line 3
+the first of two | wrong/wrong | line 1
+a carriage return | tick 1\r/ | line 1
+a control character | tick 1/\u{7f} | line 2
+no memory | no memory
+",
+    )
 }
 
-// No limit of memory is made up: each line is read at the greatest length that it has a use for, and as
-// many lines as a configuration can have.
+/// A line with `WORD` in it, what stands there, so many times over, and how many such lines there
+/// are: how many clients, accounts and events are read of them.
+struct Counted;
+
+impl Subject for Counted {
+    fn found(&self, alloc: Global, fields: &[&str]) -> Result<String, Fail> {
+        let [line, word, times, lines] = fields else {
+            return Err("a line, a word and two numbers")?;
+        };
+        let word = word.repeat(alloc, times.parse()?)?;
+        let line = line.replace(alloc, "WORD", word.as_str())?;
+        counted_in(alloc, line.as_str(), lines.parse()?)
+    }
+}
+
+fn counted_in(alloc: Global, line: &str, lines: usize) -> Result<String, Fail> {
+    let line = format!(in alloc; "{line}\n")?;
+    let script = line.as_str().repeat(alloc, lines)?;
+    match Script::read(alloc, script.as_bytes()) {
+        Ok(script) => counts_of(alloc, &script),
+        Err(fault) => Ok(format!(in alloc; "{fault:?}")?),
+    }
+}
+
+fn counts_of(alloc: Global, script: &Script) -> Result<String, Fail> {
+    let mut found = format!(in alloc; "{} {}", script.clients.len(), script.accounts.len())?;
+    write!(found, " {}", script.events.len())?;
+    Ok(found)
+}
+
+// No limit of memory is made up: each line is read at the greatest length that it has a use for,
+// and as many lines as a configuration can have.
 #[test]
 fn long_lines_and_many_are_read(rt: HostRuntime) -> Result<(), Fail> {
-    for (name, before, word, times, after, lines, expected) in [
-        (
-            "a secret",
-            "client 1.2.3.4 ",
-            "s",
-            65_535usize,
-            "",
-            1usize,
-            (1, 0, 0),
-        ),
-        ("a name", "account ", "n", 65_535, " p 1", 1, (0, 1, 0)),
-        ("a password", "account n ", "p", 65_535, " 1", 1, (0, 1, 0)),
-        (
-            "a datagram",
-            "raw-auth 0 1.2.3.4 ",
-            "0f",
-            65_507,
-            "",
-            1,
-            (0, 0, 1),
-        ),
-        (
-            "a password of an ask",
-            "ask 0 1.2.3.4 n u ",
-            "p",
-            128,
-            " 1",
-            1,
-            (0, 0, 1),
-        ),
-        ("a NAS", "ask 0 1.2.3.4 ", "n", 253, " u p 1", 1, (0, 0, 1)),
-        (
-            "a session",
-            "start 0 1.2.3.4 n u ",
-            "s",
-            253,
-            " multi=m",
-            1,
-            (0, 0, 1),
-        ),
-        ("a comment", "# ", "x", 1_000_000, "", 1, (0, 0, 0)),
-        ("clients", "client 1.2.3.4 s", "", 0, "", 257, (257, 0, 0)),
-        (
-            "accounts",
-            "account n p 1",
-            "",
-            0,
-            "",
-            16_385,
-            (0, 16_385, 0),
-        ),
-        (
-            "events",
-            "ask 0 1.2.3.4 n u p 1",
-            "",
-            0,
-            "",
-            5_000,
-            (0, 0, 5_000),
-        ),
-        ("ticks", "tick 0", "", 0, "", 149_000, (0, 0, 149_000)),
-    ] {
-        let word = word.repeat(rt.alloc(), times)?;
-        let line = format!(in rt.alloc(); "{before}{word}{after}\n")?;
-        let script = line.as_str().repeat(rt.alloc(), lines)?;
-        let found = match Script::read(rt.alloc(), script.as_bytes()) {
-            Ok(script) => Ok((
-                script.clients.len(),
-                script.accounts.len(),
-                script.events.len(),
-            )),
-            Err(fault) => Err(fault),
-        };
-        assert_eq!(rt; found, Ok(expected), "{name}");
-    }
-    Ok(())
+    check_rows(
+        &rt,
+        &Counted,
+        "
+a secret | client 1.2.3.4 WORD | s | 65535 | 1 | 1 0 0
+a name | account WORD p 1 | n | 65535 | 1 | 0 1 0
+a password | account n WORD 1 | p | 65535 | 1 | 0 1 0
+a datagram | raw-auth 0 1.2.3.4 WORD | 0f | 65507 | 1 | 0 0 1
+a password of an ask | ask 0 1.2.3.4 n u WORD 1 | p | 128 | 1 | 0 0 1
+a NAS | ask 0 1.2.3.4 WORD u p 1 | n | 253 | 1 | 0 0 1
+a session | start 0 1.2.3.4 n u WORD multi=m | s | 253 | 1 | 0 0 1
+a comment | # WORD | x | 1000000 | 1 | 0 0 0
+clients | client 1.2.3.4 s | | 0 | 257 | 257 0 0
+accounts | account n p 1 | | 0 | 16385 | 0 16385 0
+events | ask 0 1.2.3.4 n u p 1 | | 0 | 5000 | 0 0 5000
+ticks | tick 0 | | 0 | 149000 | 0 0 149000
+",
+    )
 }

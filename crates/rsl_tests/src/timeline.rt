@@ -1,8 +1,8 @@
 //! Timelines of an account as text: its rules in one line, and then a line an event.
 //!
-//! The line of the rules has words `NAME=NUMBER`; what is not told is as an account file has it by default.
-//! The line of an event is one of these, where a NAS is a NAS-Identifier, after `CLIENT:` where it is not
-//! at client 0:
+//! The line of the rules has words `NAME=NUMBER`; what is not told is as an account file has it by
+//! default. The line of an event is one of these, where a NAS is a NAS-Identifier, after `CLIENT:`
+//! where it is not at client 0:
 //!
 //! - `ask MOMENT NAS ID [port=PORT]`
 //! - `alive MOMENT NAS SESSION [multi=BUNDLE] [class=NUMBER]`
@@ -15,6 +15,7 @@
 use rsl_accounts::Rules;
 use rsl_event::{Act, Event, Key, Nas, NasName, Source};
 use rsl_wire::Octets;
+use std::alloc::Global;
 use std::test::Fail;
 
 /// The rules of a line: one place and one port a place, where it does not tell them.
@@ -29,42 +30,42 @@ pub(crate) fn rules_of(line: &str) -> Result<Rules, Fail> {
         keep: 10,
     };
     for word in line.split_whitespace() {
-        let Some((name, number)) = word.split_once('=') else {
-            return Err(Fail::from("a rule without a number"));
-        };
-        let number: u64 = number.parse()?;
-        match name {
-            "places" => rules.places = number,
-            "ports" => rules.ports = number,
-            "reserve" => rules.reserve = number,
-            "live" => rules.live = number,
-            "grace" => rules.grace = number,
-            "closed" => rules.closed = number,
-            "keep" => rules.keep = number,
-            _ => return Err(Fail::from("an unknown rule")),
-        }
+        set(&mut rules, word)?;
     }
     Ok(rules)
 }
 
+/// Sets the rule that a word names to its number.
+fn set(rules: &mut Rules, word: &str) -> Result<(), Fail> {
+    let Some((name, number)) = word.split_once('=') else {
+        return Err("a rule without a number")?;
+    };
+    let number: u64 = number.parse()?;
+    match name {
+        "places" => rules.places = number,
+        "ports" => rules.ports = number,
+        "reserve" => rules.reserve = number,
+        "live" => rules.live = number,
+        "grace" => rules.grace = number,
+        "closed" => rules.closed = number,
+        "keep" => rules.keep = number,
+        _ => Err("an unknown rule")?,
+    }
+    Ok(())
+}
+
 /// The event of a line.
 pub(crate) fn event_of<R: AllocGlobal>(rt: &R, line: &str) -> Result<Event, Fail> {
-    let words: Vec<&str> = text_of(line).split(' ').collect(rt.alloc())?;
-    let moment = word_at(&words, 1)?.parse()?;
-    let act = match word_at(&words, 0)? {
-        "ask" => ask_of(rt, &words)?,
-        "alive" => alive_of(rt, &words)?,
-        "stop" => Act::Stop {
-            nas: nas_of(rt, word_at(&words, 2)?)?,
-            session: octets_of(rt, word_at(&words, 3)?)?,
-        },
-        "sweep" => Act::Sweep {
-            nas: nas_of(rt, word_at(&words, 2)?)?,
-        },
-        "tick" => Act::Tick,
-        _ => return Err(Fail::from("an unknown event")),
-    };
-    Ok(Event { moment, act })
+    event_in(rt.alloc(), line)
+}
+
+/// The event of a line.
+pub(crate) fn event_in(alloc: Global, line: &str) -> Result<Event, Fail> {
+    let words: Vec<&str> = text_of(line).split(' ').collect(alloc)?;
+    Ok(Event {
+        moment: word_at(&words, 1)?.parse()?,
+        act: act_of(alloc, &words)?,
+    })
 }
 
 /// What stands before ` -> ` in a line.
@@ -78,68 +79,89 @@ pub(crate) fn text_of(line: &str) -> &str {
 fn word_at<'a>(words: &[&'a str], at: usize) -> Result<&'a str, Fail> {
     match words.get(at) {
         Some(word) => Ok(*word),
-        None => Err(Fail::from("a word is missing")),
+        None => Err("a word is missing")?,
     }
 }
 
-/// What an optional word tells after its name and `=`, from the fifth word on.
+fn act_of(alloc: Global, words: &[&str]) -> Result<Act, Fail> {
+    match words {
+        ["ask", _, nas, id, ..] => ask_of(nas_of(alloc, nas)?, id, told(words, "port=")),
+        ["alive", _, nas, session, ..] => alive_of(alloc, nas, session, words),
+        ["stop", _, nas, session] => stop_of(alloc, nas, session),
+        ["sweep", _, nas] => Ok(Act::Sweep {
+            nas: nas_of(alloc, nas)?,
+        }),
+        ["tick", _] => Ok(Act::Tick),
+        _ => Err("an unknown event")?,
+    }
+}
+
+/// What an optional word tells after its name and `=`.
 fn told<'a>(words: &[&'a str], name: &str) -> Option<&'a str> {
-    for word in words.iter().skip(4) {
-        if let Some((first, rest)) = word.split_once('=') {
-            if first == name {
-                return Some(rest);
-            }
+    for word in words {
+        if let Some(rest) = word.strip_prefix(name) {
+            return Some(rest);
         }
     }
     None
 }
 
-fn ask_of<R: AllocGlobal>(rt: &R, words: &[&str]) -> Result<Act, Fail> {
-    let port = match told(words, "port") {
-        Some(port) => port.parse()?,
-        None => 1024,
-    };
+fn ask_of(nas: Nas, id: &str, port: Option<&str>) -> Result<Act, Fail> {
     let source = Source {
         address: [192, 168, 1, 16],
-        port,
+        port: port.unwrap_or("1024").parse()?,
     };
     let key = Key {
         source,
-        id: word_at(words, 3)?.parse()?,
+        id: id.parse()?,
         authenticator: [0; 16],
     };
-    let nas = nas_of(rt, word_at(words, 2)?)?;
     Ok(Act::Ask { key, nas })
 }
 
-fn alive_of<R: AllocGlobal>(rt: &R, words: &[&str]) -> Result<Act, Fail> {
-    let bundle = match told(words, "multi") {
-        Some(id) => Some(octets_of(rt, id)?),
-        None => None,
-    };
-    let class = match told(words, "class") {
-        Some(number) => Some(number.parse()?),
-        None => None,
-    };
+fn alive_of(alloc: Global, nas: &str, session: &str, words: &[&str]) -> Result<Act, Fail> {
+    let class = class_of(told(words, "class="))?;
+    let bundle = bundle_of(alloc, told(words, "multi="))?;
+    let nas = nas_of(alloc, nas)?;
     Ok(Act::Alive {
-        nas: nas_of(rt, word_at(words, 2)?)?,
-        session: octets_of(rt, word_at(words, 3)?)?,
+        nas,
+        session: octets_of(alloc, session)?,
         bundle,
         class,
     })
 }
 
-fn nas_of<R: AllocGlobal>(rt: &R, word: &str) -> Result<Nas, Fail> {
+fn bundle_of(alloc: Global, id: Option<&str>) -> Result<Option<Octets>, Fail> {
+    match id {
+        Some(id) => Ok(Some(octets_of(alloc, id)?)),
+        None => Ok(None),
+    }
+}
+
+fn class_of(number: Option<&str>) -> Result<Option<u64>, Fail> {
+    match number {
+        Some(number) => Ok(Some(number.parse()?)),
+        None => Ok(None),
+    }
+}
+
+fn stop_of(alloc: Global, nas: &str, session: &str) -> Result<Act, Fail> {
+    let nas = nas_of(alloc, nas)?;
+    let session = octets_of(alloc, session)?;
+    Ok(Act::Stop { nas, session })
+}
+
+fn nas_of(alloc: Global, word: &str) -> Result<Nas, Fail> {
     let (client, name) = match word.split_once(':') {
         Some((client, name)) => (client.parse()?, name),
         None => (0, word),
     };
     Ok(Nas {
         client,
-        name: NasName::Identifier(octets_of(rt, name)?),
+        name: NasName::Identifier(octets_of(alloc, name)?),
     })
 }
 
-fn octets_of<R: AllocGlobal>(rt: &R, word: &str) -> Result<Octets, Fail> {
-    Ok(Octets::from_slice(rt.alloc(), word.as_bytes())?)
+fn octets_of(alloc: Global, word: &str) -> Result<Octets, Fail> {
+    Ok(Octets::from_slice(alloc, word.as_bytes())?)
 }

@@ -1,380 +1,461 @@
-//! Tests of `rsl_wire`: the Access-Request of RFC 2865 section 7.1, read and written, what is no packet, and
-//! hostile lists of attributes.
+//! Tests of `rsl_wire`: the Access-Request of RFC 2865 section 7.1, read and written, what is no
+//! packet, and hostile lists of attributes.
 
-use crate::support::{front, hex_of, octets};
-use rsl_wire::{Attr, BuildFault, Draft, NoMemory, Octets, TooLong, WireFault, build, read};
+use crate::support::{Subject, check_rows, front, octets_of};
+use rsl_wire::{
+    Attr, Attrs, BuildFault, Draft, NoMemory, Octets, Packet, TooLong, WireFault, build, read,
+};
+use std::alloc::Global;
 use std::fmt::Display;
 use std::test::Fail;
 
-/// The Access-Request of RFC 2865 section 7.1.
-const REQUEST: &str =
-    "010000380f403f9473978057bd83d5cb98f4227a01066e656d6f02120dbe708d93d413ce3196e43f782a0aee0406c0a80110050600000003";
+/// Octets, and how many in all with zeros after them: what `read` says of them.
+struct Padded;
 
-/// Its Authenticator.
-const AUTHENTICATOR: [u8; 16] = [
-    0x0f, 0x40, 0x3f, 0x94, 0x73, 0x97, 0x80, 0x57, 0xbd, 0x83, 0xd5, 0xcb, 0x98, 0xf4, 0x22, 0x7a,
-];
-
-/// Its User-Password.
-const HIDDEN: [u8; 16] = [
-    0x0d, 0xbe, 0x70, 0x8d, 0x93, 0xd4, 0x13, 0xce, 0x31, 0x96, 0xe4, 0x3f, 0x78, 0x2a, 0x0a, 0xee,
-];
-
-/// Its attributes.
-const ATTRIBUTES: &str = "01066e656d6f02120dbe708d93d413ce3196e43f782a0aee0406c0a80110050600000003";
-
-/// The octets with zeros after them, so many in all.
-fn padded<R: AllocGlobal>(rt: &R, digits: &str, len: usize) -> Result<Vec<u8>, Fail> {
-    let mut datagram = octets(rt, digits)?;
-    for _ in datagram.len()..len {
-        datagram.push(0)?;
+impl Subject for Padded {
+    fn found(&self, alloc: Global, fields: &[&str]) -> Result<String, Fail> {
+        let [octets, len] = fields else {
+            return Err("octets and a length")?;
+        };
+        let mut datagram = octets_of(alloc, octets)?;
+        datagram.resize(len.parse()?, 0)?;
+        said(alloc, &datagram)
     }
-    Ok(datagram)
 }
 
-/// What is read of a datagram: its Code, Identifier and Authenticator, and how many octets the packet and its
-/// attributes have.
-fn said<R: AllocGlobal>(rt: &R, datagram: &[u8]) -> Result<String, Fail> {
-    Ok(match read(datagram) {
-        Ok(packet) => {
-            let authenticator = hex_of(rt, &packet.authenticator)?;
-            let (len, attributes) = (packet.octets().len(), packet.attrs.len());
-            format!(in rt.alloc();
-                "{} {} {authenticator} {len} {attributes}",
-                packet.code, packet.id
-            )?
-        }
-        Err(fault) => format!(in rt.alloc(); "{fault:?}")?,
-    })
+/// What `read` says of a datagram.
+fn said(alloc: Global, datagram: &[u8]) -> Result<String, Fail> {
+    match read(datagram) {
+        Ok(packet) => said_of(alloc, &packet),
+        Err(fault) => Ok(format!(in alloc; "{fault:?}")?),
+    }
+}
+
+/// A packet's Authenticator, Code and Identifier, and how many octets it and its attributes have.
+fn said_of(alloc: Global, packet: &Packet<'_>) -> Result<String, Fail> {
+    let mut text = hex::encode(alloc, &packet.authenticator)?;
+    write!(text, " {} {}", packet.code, packet.id)?;
+    write!(text, " {} {}", packet.octets().len(), packet.attrs.len())?;
+    Ok(text)
 }
 
 #[test]
 fn datagrams_are_read_up_to_their_length(rt: HostRuntime) -> Result<(), Fail> {
-    for (name, head, len, expected) in [
-        ("nothing", "", 0, "Short"),
-        ("19 octets", "01000013", 19, "Short"),
-        (
-            "a header",
-            "02070014",
-            20,
-            "2 7 00000000000000000000000000000000 20 0",
-        ),
-        (
-            "the request",
-            REQUEST,
-            56,
-            "1 0 0f403f9473978057bd83d5cb98f4227a 56 36",
-        ),
-        (
-            "padding",
-            REQUEST,
-            61,
-            "1 0 0f403f9473978057bd83d5cb98f4227a 56 36",
-        ),
-        ("a Length of 0", "01000000", 4100, "BadLength"),
-        ("a Length of 19", "01000013", 4100, "BadLength"),
-        ("a Length over the datagram", "01000015", 20, "BadLength"),
-        (
-            "4096 octets",
-            "01001000",
-            4096,
-            "1 0 00000000000000000000000000000000 4096 4076",
-        ),
-        (
-            "4097 octets, padded",
-            "01001000",
-            4097,
-            "1 0 00000000000000000000000000000000 4096 4076",
-        ),
-        ("a Length of 4097", "01001001", 4100, "BadLength"),
-        (
-            "65507 octets, padded",
-            "04ff1000",
-            65507,
-            "4 255 00000000000000000000000000000000 4096 4076",
-        ),
-        (
-            "65507 octets, a Length of 65507",
-            "0400ffe3",
-            65507,
-            "BadLength",
-        ),
-    ] {
-        let datagram = padded(&rt, head, len)?;
-        assert_eq!(rt; said(&rt, &datagram)?.as_str(), expected, "{name}");
+    check_rows(
+        &rt,
+        &Padded,
+        "
+nothing | | 0 | Short
+19 octets | 01000013 | 19 | Short
+a header | 02070014 | 20 | 00000000000000000000000000000000 2 7 20 0
+the request | 010000380f403f9473978057bd83d5cb98f4227a \
+    01066e656d6f 02120dbe708d93d413ce3196e43f782a0aee 0406c0a80110 050600000003 | 56 \
+    | 0f403f9473978057bd83d5cb98f4227a 1 0 56 36
+padding | 010000380f403f9473978057bd83d5cb98f4227a \
+    01066e656d6f 02120dbe708d93d413ce3196e43f782a0aee 0406c0a80110 050600000003 | 61 \
+    | 0f403f9473978057bd83d5cb98f4227a 1 0 56 36
+a Length of 0 | 01000000 | 4100 | BadLength
+a Length of 19 | 01000013 | 4100 | BadLength
+a Length over the datagram | 01000015 | 20 | BadLength
+4096 octets | 01001000 | 4096 | 00000000000000000000000000000000 1 0 4096 4076
+4097 octets, padded | 01001000 | 4097 | 00000000000000000000000000000000 1 0 4096 4076
+a Length of 4097 | 01001001 | 4100 | BadLength
+65507 octets, padded | 04ff1000 | 65507 | 00000000000000000000000000000000 4 255 4096 4076
+65507 octets, a Length of 65507 | 0400ffe3 | 65507 | BadLength
+",
+    )
+}
+
+/// The Access-Request of RFC 2865 section 7.1.
+const REQUEST: &str = "010000380f403f9473978057bd83d5cb98f4227a01066e656d6f\
+    02120dbe708d93d413ce3196e43f782a0aee0406c0a80110050600000003";
+
+/// Lengths of the first octets of the request, the first and the last: what `read` says of them
+/// all.
+struct Prefixes;
+
+impl Subject for Prefixes {
+    fn found(&self, alloc: Global, fields: &[&str]) -> Result<String, Fail> {
+        let [first, last] = fields else {
+            return Err("two lengths")?;
+        };
+        let request = octets_of(alloc, REQUEST)?;
+        said_of_prefixes(alloc, &request, first.parse()?, last.parse()?)
+    }
+}
+
+/// What `read` says of prefixes, once where it says the same of one after another.
+fn said_of_prefixes(
+    alloc: Global,
+    octets: &[u8],
+    first: usize,
+    last: usize,
+) -> Result<String, Fail> {
+    let mut text = String::new(alloc);
+    for len in first..=last {
+        push_other(&mut text, said(alloc, front(octets, len))?)?;
+    }
+    Ok(text)
+}
+
+/// Adds a text that the whole does not end with.
+fn push_other(whole: &mut String, text: String) -> Result<(), Fail> {
+    if !whole.ends_with(text.as_str()) {
+        whole.push_str(text.as_str())?;
     }
     Ok(())
 }
 
 #[test]
 fn prefixes_of_the_request_are_no_packets(rt: HostRuntime) -> Result<(), Fail> {
-    let request = octets(&rt, REQUEST)?;
-    for len in 0..=56 {
-        let expected = match len {
-            0..=19 => Some(WireFault::Short),
-            20..=55 => Some(WireFault::BadLength),
-            _ => None,
-        };
-        assert_eq!(rt; read(front(&request, len)).err(), expected, "{len} octets");
-    }
-    Ok(())
+    check_rows(
+        &rt,
+        &Prefixes,
+        "
+up to 19 octets | 0 | 19 | Short
+up to 55 octets | 20 | 55 | BadLength
+all | 56 | 56 | 0f403f9473978057bd83d5cb98f4227a 1 0 56 36
+",
+    )
 }
 
-/// The attributes of a list as `TYPE:VALUE`, or where the first bad one is.
-fn listed<R: AllocGlobal>(rt: &R, list: &str) -> Result<String, Fail> {
-    let datagram = with_header(rt, list)?;
-    let mut text = String::new(rt.alloc());
-    match read(&datagram)?.attributes() {
-        Ok(attributes) => {
-            for (kind, value) in attributes {
-                let value = hex_of(rt, value)?;
-                let shown = format!(in rt.alloc(); "{kind}:{value} ")?;
-                text.push_str(shown.as_str())?;
-            }
+/// A packet with the list of attributes.
+fn with_header(alloc: Global, list: &str) -> Result<Vec<u8>, Fail> {
+    let list = octets_of(alloc, list)?;
+    let [.., high, low] = (20 + list.len()).to_be_bytes();
+    let mut datagram = Vec::from_array(alloc, [1, 0, high, low])?;
+    datagram.resize(20, 0)?;
+    datagram.extend_from_slice(&list)?;
+    Ok(datagram)
+}
+
+/// A list of attributes: each as `TYPE:VALUE`, or where the first bad one is.
+struct Listed;
+
+impl Subject for Listed {
+    fn found(&self, alloc: Global, fields: &[&str]) -> Result<String, Fail> {
+        let [list] = fields else {
+            return Err("a list")?;
+        };
+        let datagram = with_header(alloc, list)?;
+        match read(&datagram)?.attributes() {
+            Ok(attributes) => words_of(alloc, attributes),
+            Err(bad) => Ok(format!(in alloc; "{bad:?}")?),
         }
-        Err(bad) => text = format!(in rt.alloc(); "{bad:?}")?,
+    }
+}
+
+/// The attributes, each as `TYPE:VALUE`.
+fn words_of(alloc: Global, attributes: Attrs<'_>) -> Result<String, Fail> {
+    let mut text = String::new(alloc);
+    for (kind, value) in attributes {
+        push_attribute(&mut text, alloc, kind, value)?;
     }
     Ok(text)
 }
 
-/// A packet with the list of attributes.
-fn with_header<R: AllocGlobal>(rt: &R, list: &str) -> Result<Vec<u8>, Fail> {
-    let list = octets(rt, list)?;
-    let [.., high, low] = (20 + list.len()).to_be_bytes();
-    let mut datagram = Vec::from_array(rt.alloc(), [1, 0, high, low])?;
-    datagram.extend_from_slice(&AUTHENTICATOR)?;
-    datagram.extend_from_slice(&list)?;
-    Ok(datagram)
+fn push_attribute(text: &mut String, alloc: Global, kind: u8, value: &[u8]) -> Result<(), Fail> {
+    if !text.is_empty() {
+        text.push(' ')?;
+    }
+    let value = hex::encode(alloc, value)?;
+    write!(text, "{kind}:{value}")?;
+    Ok(())
 }
 
 #[test]
 fn lists_are_cut_into_attributes_or_have_the_offset_of_the_first_bad_one(
     rt: HostRuntime,
 ) -> Result<(), Fail> {
-    for (name, list, expected) in [
-        ("none", "", ""),
-        ("no value", "0102", "1: "),
-        ("Types 0 and 255", "000361ff046263", "0:61 255:6263 "),
-        (
-            "one octet at the end",
-            "210362010221036100",
-            "BadAttribute { at: 8 }",
-        ),
-        ("three", "2103620102210361", "33:62 1: 33:61 "),
-        ("no Length", "01", "BadAttribute { at: 0 }"),
-        ("no Length after one", "01036e02", "BadAttribute { at: 3 }"),
-        ("Length 0", "0100", "BadAttribute { at: 0 }"),
-        ("Length 1", "0101", "BadAttribute { at: 0 }"),
-        (
-            "Length 0 before another",
-            "01000202",
-            "BadAttribute { at: 0 }",
-        ),
-        ("Length 0 after one", "01036e0200", "BadAttribute { at: 3 }"),
-        (
-            "Length 1 between two",
-            "01036e02010502",
-            "BadAttribute { at: 3 }",
-        ),
-        ("no value of one octet", "0103", "BadAttribute { at: 0 }"),
-        ("Length 255", "01ff", "BadAttribute { at: 0 }"),
-        ("one octet too few", "01066e656d", "BadAttribute { at: 0 }"),
-        (
-            "a number at the end",
-            "01020202050600000000",
-            "1: 2: 5:00000000 ",
-        ),
-        (
-            "one octet too few at the end",
-            "010202020506000000",
-            "BadAttribute { at: 4 }",
-        ),
-        (
-            "Length 255 after one",
-            "01066e656d6f02ff00",
-            "BadAttribute { at: 6 }",
-        ),
-    ] {
-        assert_eq!(rt; listed(&rt, list)?.as_str(), expected, "{name}");
+    check_rows(
+        &rt,
+        &Listed,
+        "
+none | |
+no value | 0102 | 1:
+Types 0 and 255 | 000361 ff046263 | 0:61 255:6263
+one octet at the end | 21036201 02210361 00 | BadAttribute { at: 8 }
+three | 210362 0102 210361 | 33:62 1: 33:61
+no Length | 01 | BadAttribute { at: 0 }
+no Length after one | 01036e 02 | BadAttribute { at: 3 }
+Length 0 | 0100 | BadAttribute { at: 0 }
+Length 1 | 0101 | BadAttribute { at: 0 }
+Length 0 before another | 0100 0202 | BadAttribute { at: 0 }
+Length 0 after one | 01036e 0200 | BadAttribute { at: 3 }
+Length 1 between two | 01036e 0201 0502 | BadAttribute { at: 3 }
+no value of one octet | 0103 | BadAttribute { at: 0 }
+Length 255 | 01ff | BadAttribute { at: 0 }
+one octet too few | 01066e656d | BadAttribute { at: 0 }
+a number at the end | 0102 0202 050600000000 | 1: 2: 5:00000000
+one octet too few at the end | 0102 0202 0506000000 | BadAttribute { at: 4 }
+Length 255 after one | 01066e656d6f 02ff00 | BadAttribute { at: 6 }
+",
+    )
+}
+
+/// A list of attributes, how many are taken off, and a Type: how many of it are left, and the first
+/// one's value, as octets and as a number.
+struct Counted;
+
+impl Subject for Counted {
+    fn found(&self, alloc: Global, fields: &[&str]) -> Result<String, Fail> {
+        let [list, taken, kind] = fields else {
+            return Err("a list, a number and a Type")?;
+        };
+        let datagram = with_header(alloc, list)?;
+        match read(&datagram)?.attributes() {
+            Ok(mut attributes) => {
+                take(&mut attributes, taken.parse()?);
+                counts(alloc, &attributes, kind.parse()?)
+            }
+            Err(_) => Ok(String::from_str(alloc, "malformed")?),
+        }
     }
-    Ok(())
+}
+
+/// Takes the first ones off.
+fn take(attributes: &mut Attrs<'_>, times: usize) {
+    for _ in 0..times {
+        let _ = attributes.next();
+    }
+}
+
+fn counts(alloc: Global, attributes: &Attrs<'_>, kind: u8) -> Result<String, Fail> {
+    let mut text = format!(in alloc; "{}", attributes.count(kind))?;
+    write!(
+        text,
+        " {:?} {:?}",
+        attributes.first(kind),
+        attributes.number(kind)
+    )?;
+    Ok(text)
 }
 
 #[test]
 fn a_type_is_counted_and_its_first_value_found(rt: HostRuntime) -> Result<(), Fail> {
-    // User-Name has four octets there, `nemo`; User-Password has sixteen.
-    for (name, list, kind, expected) in [
-        (
-            "User-Name",
-            ATTRIBUTES,
-            1,
-            "1 Some([110, 101, 109, 111]) Some(1852140911)",
-        ),
-        (
-            "NAS-IP-Address",
-            ATTRIBUTES,
-            4,
-            "1 Some([192, 168, 1, 16]) Some(3232235792)",
-        ),
-        ("NAS-Port", ATTRIBUTES, 5, "1 Some([0, 0, 0, 3]) Some(3)"),
-        ("no CHAP-Password", ATTRIBUTES, 3, "0 None None"),
-        (
-            "a malformed list",
-            "21036205060000010221036105022103",
-            33,
-            "malformed",
-        ),
-        (
-            "the first of two",
-            "210362050600000102210361",
-            33,
-            "2 Some([98]) None",
-        ),
-        (
-            "a number before none",
-            "0506000001020502",
-            5,
-            "2 Some([0, 0, 1, 2]) Some(258)",
-        ),
-        (
-            "five octets are no number",
-            "05070000000003",
-            5,
-            "1 Some([0, 0, 0, 0, 3]) None",
-        ),
-        ("no octets are no number", "0502", 5, "1 Some([]) None"),
-    ] {
-        let datagram = with_header(&rt, list)?;
-        let found = match read(&datagram)?.attributes() {
-            Ok(attributes) => {
-                let attributes = &attributes;
-                let (count, number) = (attributes.count(kind), attributes.number(kind));
-                format!(in rt.alloc(); "{count} {:?} {number:?}", attributes.first(kind))?
-            }
-            Err(_) => String::from_str(rt.alloc(), "malformed")?,
-        };
-        assert_eq!(rt; found.as_str(), expected, "{name}");
-    }
-    Ok(())
+    check_rows(
+        &rt,
+        &Counted,
+        "
+# The attributes of the RFC's request; User-Name is `nemo` there.
+User-Name | 01066e656d6f 02120dbe708d93d413ce3196e43f782a0aee 0406c0a80110 050600000003 | 0 | 1 \
+    | 1 Some([110, 101, 109, 111]) Some(1852140911)
+NAS-IP-Address | 01066e656d6f 02120dbe708d93d413ce3196e43f782a0aee 0406c0a80110 050600000003 \
+    | 0 | 4 | 1 Some([192, 168, 1, 16]) Some(3232235792)
+NAS-Port | 01066e656d6f 02120dbe708d93d413ce3196e43f782a0aee 0406c0a80110 050600000003 | 0 | 5 \
+    | 1 Some([0, 0, 0, 3]) Some(3)
+no CHAP-Password | 01066e656d6f 02120dbe708d93d413ce3196e43f782a0aee 0406c0a80110 050600000003 \
+    | 0 | 3 | 0 None None
+a malformed list | 210362 050600000102 210361 050221 03 | 0 | 33 | malformed
+the first of two | 210362 050600000102 210361 | 0 | 33 | 2 Some([98]) None
+the second, where the first was taken | 210362 050600000102 210361 | 1 | 33 | 1 Some([97]) None
+the second, where two were taken | 210362 050600000102 210361 | 2 | 33 | 1 Some([97]) None
+none that is left | 210362 050600000102 210361 | 3 | 33 | 0 None None
+a number before none | 050600000102 0502 | 0 | 5 | 2 Some([0, 0, 1, 2]) Some(258)
+five octets are no number | 05070000000003 | 0 | 5 | 1 Some([0, 0, 0, 0, 3]) None
+no octets are no number | 0502 | 0 | 5 | 1 Some([]) None
+",
+    )
 }
 
-#[test]
-fn what_was_taken_is_no_longer_among_the_attributes(rt: HostRuntime) -> Result<(), Fail> {
-    let datagram = with_header(&rt, "210362050600000102210361")?;
-    let mut attributes = read(&datagram)?.attributes()?;
-    assert_eq!(rt; attributes.next(), Some((33, b"b".as_slice())));
-    assert_eq!(rt; attributes.first(33), Some(b"a".as_slice()));
-    assert_eq!(rt; (&attributes).count(33), 1);
-    Ok(())
+/// A way, and a packet: what that way makes of the packet's parts.
+struct Built;
+
+impl Subject for Built {
+    fn found(&self, alloc: Global, fields: &[&str]) -> Result<String, Fail> {
+        let [way, request] = fields else {
+            return Err("a way and a request")?;
+        };
+        let request = octets_of(alloc, request)?;
+        let packet = read(&request)?;
+        let octets = match *way {
+            "built" => packet_built(alloc, &packet)?,
+            "drafted" => drafted(alloc, &packet)?,
+            _ => return Err("an unknown way")?,
+        };
+        Ok(hex::encode(alloc, &octets)?)
+    }
+}
+
+/// What `build` makes of a packet's parts.
+fn packet_built(alloc: Global, packet: &Packet<'_>) -> Result<Vec<u8>, Fail> {
+    let attributes: Vec<Attr<'_>> = packet
+        .attributes()?
+        .map(|(kind, value)| Attr { kind, value })
+        .collect(alloc)?;
+    Ok(build(
+        alloc,
+        packet.code,
+        packet.id,
+        &packet.authenticator,
+        &attributes,
+    )?)
+}
+
+/// What a `Draft` makes of a packet's parts, where values that are too long are pushed too.
+fn drafted(alloc: Global, packet: &Packet<'_>) -> Result<Vec<u8>, Fail> {
+    let mut draft = Draft::new(alloc, packet.id)?;
+    for (kind, value) in packet.attributes()? {
+        if draft.push(33, &[0; 254]).is_ok() {
+            return Err("a value of 254 octets")?;
+        }
+        draft.push(kind, value)?;
+    }
+    Ok(draft.finish(packet.code, &packet.authenticator))
 }
 
 #[test]
 fn the_request_is_built_and_drafted(rt: HostRuntime) -> Result<(), Fail> {
-    let attributes = [
-        (1, b"nemo".as_slice()),
-        (2, &HIDDEN),
-        (4, &[192, 168, 1, 16]),
-        (5, &[0, 0, 0, 3]),
-    ]
-    .map(|(kind, value)| Attr { kind, value });
-    let built = build(rt.alloc(), 1, 0, &AUTHENTICATOR, &attributes)?;
-    assert_eq!(rt; hex_of(&rt, &built)?.as_str(), REQUEST);
-    let mut draft = Draft::new(rt.alloc(), 0)?;
-    for attribute in attributes {
-        assert_eq!(rt; draft.push(33, &[0; 254]), Err(TooLong));
-        draft.push(attribute.kind, attribute.value)?;
-    }
-    let drafted = draft.finish(1, &AUTHENTICATOR);
-    assert_eq!(rt; hex_of(&rt, &drafted)?.as_str(), REQUEST);
-    Ok(())
+    check_rows(
+        &rt,
+        &Built,
+        "
+by build | built | 010000380f403f9473978057bd83d5cb98f4227a \
+    01066e656d6f 02120dbe708d93d413ce3196e43f782a0aee 0406c0a80110 050600000003 \
+    | 010000380f403f9473978057bd83d5cb98f4227a01066e656d6f\
+    02120dbe708d93d413ce3196e43f782a0aee0406c0a80110050600000003
+by a Draft | drafted | 010000380f403f9473978057bd83d5cb98f4227a \
+    01066e656d6f 02120dbe708d93d413ce3196e43f782a0aee 0406c0a80110 050600000003 \
+    | 010000380f403f9473978057bd83d5cb98f4227a01066e656d6f\
+    02120dbe708d93d413ce3196e43f782a0aee0406c0a80110050600000003
+",
+    )
 }
 
+/// The lengths of a first and of a last value, with fourteen values of 253 octets between them: how
+/// many octets `build` makes, and whether a `Draft` of all but the last takes the last.
+struct Filled;
+
+impl Subject for Filled {
+    fn found(&self, alloc: Global, fields: &[&str]) -> Result<String, Fail> {
+        let [first, last] = fields else {
+            return Err("two lengths")?;
+        };
+        let (first, last) = (first.parse()?, last.parse()?);
+        let mut text = built_of_zeros(alloc, first, last)?;
+        let pushed = drafted_of_zeros(alloc, first, last)?;
+        write!(text, " {pushed:?}")?;
+        Ok(text)
+    }
+}
+
+fn built_of_zeros(alloc: Global, first: usize, last: usize) -> Result<String, Fail> {
+    let zeros = [0; 254];
+    let mut attributes = [Attr {
+        kind: 33,
+        value: &zeros[..253],
+    }; 16];
+    attributes[0].value = front(&zeros, first);
+    attributes[15].value = front(&zeros, last);
+    match build(alloc, 1, 0, &[0; 16], &attributes) {
+        Ok(octets) => Ok(format!(in alloc; "{}", octets.len())?),
+        Err(fault) => Ok(format!(in alloc; "{fault:?}")?),
+    }
+}
+
+fn drafted_of_zeros(alloc: Global, first: usize, last: usize) -> Result<Result<(), TooLong>, Fail> {
+    let zeros = [0; 254];
+    let mut draft = Draft::new(alloc, 7)?;
+    let _ = draft.push(33, front(&zeros, first));
+    for _ in 0..14 {
+        draft.push(33, &zeros[..253])?;
+    }
+    Ok(draft.push(33, front(&zeros, last)))
+}
+
+// With headers, fifteen values of 253 octets and one of 249 are the 4,076 octets after a header.
 #[test]
 fn packets_have_at_most_4096_octets(rt: HostRuntime) -> Result<(), Fail> {
-    let zeros = [0u8; 254];
-    // With headers, fifteen values of 253 octets and one of 249 are the 4,076 octets after a header.
-    for (name, first, last, expected, pushed) in [
-        ("the longest", 253, 249, "Ok(4096)", "Ok(())"),
-        ("one octet more", 253, 250, "Err(TooLong)", "Err(TooLong)"),
-        ("a value of 254 octets", 254, 0, "Err(TooLong)", "Ok(())"),
-    ] {
-        let mut attributes = [Attr {
-            kind: 33,
-            value: &zeros[..253],
-        }; 16];
-        attributes[0].value = front(&zeros, first);
-        attributes[15].value = front(&zeros, last);
-        let built = build(rt.alloc(), 1, 0, &AUTHENTICATOR, &attributes).map(|octets| octets.len());
-        assert_eq!(rt;
-            format!(in rt.alloc(); "{built:?}")?.as_str(),
-            expected,
-            "{name}"
-        );
-        let mut draft = Draft::new(rt.alloc(), 7)?;
-        for attribute in &attributes[..15] {
-            let _ = draft.push(attribute.kind, attribute.value);
-        }
-        let found = draft.push(33, attributes[15].value);
-        assert_eq!(rt;
-            format!(in rt.alloc(); "{found:?}")?.as_str(),
-            pushed,
-            "{name}"
-        );
+    check_rows(
+        &rt,
+        &Filled,
+        "
+the longest | 253 | 249 | 4096 Ok(())
+one octet more | 253 | 250 | TooLong Err(TooLong)
+a value of 254 octets | 254 | 0 | TooLong Ok(())
+",
+    )
+}
+
+/// Two octet strings: whether they are equal, as copies that gave their octets back.
+struct Same;
+
+impl Subject for Same {
+    fn found(&self, alloc: Global, fields: &[&str]) -> Result<String, Fail> {
+        let [one, other] = fields else {
+            return Err("two octet strings")?;
+        };
+        let copy = Octets::from(octets_of(alloc, one)?).try_copy(alloc)?;
+        let mut text = format!(in alloc; "{} {}", copy.len(), copy.is_empty())?;
+        let back = Octets::from(copy.into_vec());
+        let is_same = back == Octets::from(octets_of(alloc, other)?);
+        write!(text, " {is_same}")?;
+        Ok(text)
     }
-    Ok(())
 }
 
 #[test]
 fn octets_are_equal_octet_by_octet(rt: HostRuntime) -> Result<(), Fail> {
-    let long = vec![in rt.alloc(); b'n'; 65_535]?;
-    for (name, one, other, equal) in [
-        ("equal", b"nemo".as_slice(), b"nemo".as_slice(), true),
-        ("another octet", b"nemo", b"nema", false),
-        ("a prefix", b"nemo", b"nem", false),
-        ("a NUL more", b"nemo", b"nemo\0", false),
-        ("none", b"", b"", true),
-        ("65535 octets", &long, &long, true),
-        ("65535 and 65534 octets", &long, front(&long, 65_534), false),
-    ] {
-        let copy = Octets::from_slice(rt.alloc(), one)?.try_copy(rt.alloc())?;
-        let empty = copy.is_empty();
-        assert_eq!(rt; (copy.len(), empty), (one.len(), one.is_empty()), "{name}");
-        let back = Octets::from(copy.into_vec());
-        assert_eq!(rt;
-            back == Octets::from_slice(rt.alloc(), other)?,
-            equal,
-            "{name}"
-        );
-    }
-    Ok(())
+    check_rows(
+        &rt,
+        &Same,
+        "
+# How many octets the first has, whether it has none, and whether the second is equal.
+equal | 6e656d6f | 6e656d6f | 4 false true
+another octet | 6e656d6f | 6e656d61 | 4 false false
+a prefix | 6e656d6f | 6e656d | 4 false false
+a NUL more | 6e656d6f | 6e656d6f 00 | 4 false false
+none | | | 0 true true
+65535 octets | 6e*65535 | 6e*65535 | 65535 false true
+65535 and 65534 octets | 6e*65535 | 6e*65534 | 65535 false false
+",
+    )
 }
 
-/// What a fault prints.
-fn shown<R: AllocGlobal, E: Display>(rt: &R, fault: &E) -> Result<String, Fail> {
-    Ok(format!(in rt.alloc(); "{fault}")?)
+/// The name of a fault: what it prints.
+struct Printed;
+
+impl Subject for Printed {
+    fn found(&self, alloc: Global, fields: &[&str]) -> Result<String, Fail> {
+        match fields {
+            ["Short"] => printed_of(alloc, &WireFault::Short),
+            ["BadLength"] => printed_of(alloc, &WireFault::BadLength),
+            ["TooLong"] => printed_of(alloc, &TooLong),
+            ["BuildFault::TooLong"] => printed_of(alloc, &BuildFault::TooLong),
+            ["BuildFault::NoMemory"] => printed_of(alloc, &BuildFault::NoMemory),
+            ["NoMemory"] => printed_of(alloc, &NoMemory),
+            ["BadAttribute of", list] => bad_attribute(alloc, list),
+            _ => Err("an unknown fault")?,
+        }
+    }
+}
+
+fn printed_of<E: Display>(alloc: Global, fault: &E) -> Result<String, Fail> {
+    Ok(format!(in alloc; "{fault}")?)
+}
+
+/// What the fault of a list of attributes prints.
+fn bad_attribute(alloc: Global, list: &str) -> Result<String, Fail> {
+    let datagram = with_header(alloc, list)?;
+    match read(&datagram)?.attributes() {
+        Ok(_) => Err("no bad attribute")?,
+        Err(bad) => printed_of(alloc, &bad),
+    }
 }
 
 #[test]
 fn faults_are_printed(rt: HostRuntime) -> Result<(), Fail> {
-    let bad = read(&with_header(&rt, "01036e02")?)?.attributes().err();
-    for (found, expected) in [
-        (shown(&rt, &WireFault::Short)?, "fewer than 20 octets"),
-        (
-            shown(&rt, &WireFault::BadLength)?,
-            "a Length under 20, over 4096 or over the datagram",
-        ),
-        (shown(&rt, &TooLong)?, "too long for a packet"),
-        (shown(&rt, &BuildFault::TooLong)?, "too long for a packet"),
-        (shown(&rt, &BuildFault::NoMemory)?, "no memory"),
-        (shown(&rt, &NoMemory)?, "no memory"),
-    ] {
-        assert_eq!(rt; found.as_str(), expected);
-    }
-    if let Some(bad) = bad {
-        assert_eq!(rt;
-            shown(&rt, &bad)?.as_str(),
-            "no attribute begins at octet 3 of the attributes"
-        );
-    }
-    Ok(())
+    check_rows(
+        &rt,
+        &Printed,
+        "
+few octets | Short | fewer than 20 octets
+a Length | BadLength | a Length under 20, over 4096 or over the datagram
+too long | TooLong | too long for a packet
+too long to build | BuildFault::TooLong | too long for a packet
+no memory to build | BuildFault::NoMemory | no memory
+no memory | NoMemory | no memory
+a bad attribute | BadAttribute of | 01036e02 | no attribute begins at octet 3 of the attributes
+",
+    )
 }
