@@ -12,6 +12,7 @@ use Rattle.rsl_event.specs.declared.event.Decision.TheVariants.{Done}
 use Rattle.rsl_session.specs.Book.{Book, new_book}
 use Rattle.rsl_session.specs.BookStep.{book_after, step}
 use Rattle.rsl_shard.specs.Moves.{IsTaken, own_in}
+use Rattle.rsl_shard.specs.Setup.{setup_of}
 use Rattle.rsl_shard.specs.declared.line.Line.{Line}
 use Rattle.rsl_shard.specs.declared.moved.Move.{Move}
 use Rattle.rsl_shard.specs.declared.moved.Move.TheVariants.{Own}
@@ -35,5 +36,5 @@ decision_in config opening before _ = Done
 
 -- the journal of a shard: each line's move is one that the shard takes, and its decision is the books' at that point
 pub record IsJournal (config : Configuration) (shard : ℕ) (opening : Opening) (lines : List Line) : Type 0 where
-  pub taken : All (λ line. IsTaken config shard line.moved) lines
+  pub taken : All (λ line. IsTaken (setup_of config shard) line.moved) lines
   pub decided : (n : ℕ) (line : Line) → slice_get lines n ≡ Some line → line.decision ≡ decision_in config opening (take n lines) line.moved

@@ -1,23 +1,27 @@
 -- What the moves of a shard are to its accounts.
-use Rattle.std.specs.Prelude.{◌≡◌, ℕ, ◌<◌, ◌==◌, ◌%◌, List, length, filter_map, Option, Some, None, if◌then◌else◌}
-use Rattle.rsl_accounts.specs.Configuration.{Configuration}
+use Rattle.std.specs.Prelude.{◌≡◌, ℕ, ◌<◌, ◌==◌, ◌%◌, List, filter_map, Option, Some, None, if◌then◌else◌}
 use Rattle.rsl_event.specs.Prepared.{IsOfOneAccount}
 use Rattle.rsl_event.specs.declared.event.Act.TheVariants as acts
 use Rattle.rsl_event.specs.declared.event.Event.{Event}
+use Rattle.rsl_shard.specs.Setup.{Setup}
 use Rattle.rsl_shard.specs.declared.line.Line.{Line}
 use Rattle.rsl_shard.specs.declared.moved.Move.{Move}
 use Rattle.rsl_shard.specs.declared.moved.Move.TheVariants.{Own, Sweep, Tick, Stray}
 
+-- an account of a shard: accounts go to the shards in turn
+pub record IsOfShard (setup : Setup) (account : ℕ) : Type 0 where
+  pub there : account < setup.accounts
+  pub of_shard : account % setup.shards ≡ setup.shard
+
 -- an account of a shard, and an event of one account
-pub record IsOwn (config : Configuration) (shard account : ℕ) (event : Event) : Type 0 where
-  pub there : account < length config.accounts
-  pub of_shard : account % config.settings.shards ≡ shard
+pub record IsOwn (setup : Setup) (account : ℕ) (event : Event) : Type 0 where
+  pub own_account : IsOfShard setup account
   pub act : IsOfOneAccount event.act
 
 -- a move that a shard takes: what is one account's own is an ask, an alive or a stop of an account of the shard
-abbrev pub IsTaken : Configuration → (shard : ℕ) → Move → Type 0
-IsTaken config shard (Own account event) = IsOwn config shard account event
-IsTaken config shard _ = Unit {0}
+abbrev pub IsTaken : Setup → Move → Type 0
+IsTaken setup (Own account event) = IsOwn setup account event
+IsTaken setup _ = Unit {0}
 
 -- what a move is to an account of the shard: its own event, a sweep or a tick
 abbrev pub event_to : (account : ℕ) → Move → Option Event

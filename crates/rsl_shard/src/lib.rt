@@ -1,14 +1,20 @@
 //! Shards: the books of some accounts, with the journal of what was done to them.
 //!
-//! What a journal means is defined in `specs/`: `Moves.antt` says which lines concern an account, and
-//! `Journal.antt` what its lines make of the books and decide. So far this crate has the moves and the lines
-//! of a journal, and the row of a report.
+//! What a journal means is defined in `specs/`: `Moves.antt` says which lines concern an account, `Replay.antt`
+//! what moves make of the books of a shard, `ShardJournal.antt` what the lines of a journal are, and `Seen.antt`
+//! what is kept of every shard.
 #![tactic(auto)]
 
+mod books;
 mod line;
 mod moved;
 mod row;
+mod segment;
+mod shard;
 
+pub use books::Books;
 pub use line::Line;
 pub use moved::Move;
 pub use row::Row;
+pub use segment::Segment;
+pub use shard::Shard;

@@ -1,0 +1,4 @@
+pub mod Beginning
+pub mod Journaling
+pub mod Moving
+pub mod Numbers

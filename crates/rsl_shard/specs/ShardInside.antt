@@ -1,0 +1,17 @@
+-- How the inside of a shard is seen.
+use Rattle.std.specs.Prelude.{◌≡◌}
+use Rattle.rsl_shard.specs.Seen.{IsKept, ShardSeen, books_of}
+use Rattle.rsl_shard.specs.declared.shard.Shard.TheInside.{Inside}
+
+abbrev pub shard_seen : Inside → ShardSeen
+shard_seen inside = record {
+  setup = inside.books.setup;
+  first = inside.first;
+  opening = inside.opening.items;
+  lines = inside.lines.items;
+}
+
+-- the books are what the journal makes of the opening
+pub record HasJournal (inside : Inside) : Type 0 where
+  pub replayed : inside.books.books ≡ books_of (shard_seen inside)
+  pub kept : IsKept (shard_seen inside)

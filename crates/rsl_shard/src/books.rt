@@ -1,0 +1,270 @@
+ghost use Rattle.std.specs.Prelude.{◌≡◌, ◌+◌, ◌*◌, ◌<◌, ◌↔◌, All, IfOk, IfSome, IfNone, IsSome, IsTrue, OnErr, Some, None, length, map, set, slice_get};
+ghost use Rattle.rsl_book.specs.RuledBook.{IsWithinLimit};
+ghost use Rattle.rsl_event.specs.Prepared.{IsOfOneAccount};
+ghost use Rattle.rsl_event.specs.declared.event.Act.TheVariants.{Sweep, Tick};
+ghost use Rattle.rsl_session.specs.BookStep.{step};
+ghost use Rattle.rsl_shard.specs.Moves.{IsOfShard, IsOwn, IsTaken};
+ghost use Rattle.rsl_shard.specs.Replay.{AreBooks, book_at, books_after, decision_by, new_books, new_books_seen, stepped};
+ghost use Rattle.rsl_shard.specs.Rows.{rows_of};
+ghost use Rattle.rsl_shard.specs.declared.moved.Move.TheVariants as moves;
+
+use crate::moved::Move;
+use rsl_accounts::Config;
+use rsl_book::Book;
+use rsl_event::{Act, Decision, Event, Nas};
+use rsl_wire::NoMemory;
+use std::alloc::Global;
+use std::marker::Model;
+
+/// The books of the accounts of one shard, in the order of the accounts' numbers, without a journal.
+///
+/// A contract sees the shard's number, how many shards and accounts there are, and each book with its
+/// account's rules.
+#[derive(Drop)]
+pub struct Books {
+    shard: u32,
+    shards: u32,
+    accounts: u32,
+    list: Vec<Book>,
+}
+
+impl Model for Books {
+    ghost use Rattle.rsl_shard.specs.Replay.{BooksSeen};
+
+    ghost Value = { BooksSeen };
+
+    ghost use Rattle.rsl_shard.specs.BooksInside.{books_seen, HasBooks};
+
+    ghost view = { books_seen };
+
+    ghost invariant = { HasBooks };
+}
+
+/// Whether an act is one of one account: an ask, an alive or a stop.
+fn is_of_one_account(act: &Act) -> bool
+    ensures { IsTrue result ↔ IsOfOneAccount act.now }
+{
+    match act {
+        Act::Ask { .. } | Act::Alive { .. } | Act::Stop { .. } => true,
+        Act::Sweep { .. } | Act::Tick => false,
+    }
+}
+
+/// Steps the book at a place by an event.
+fn step_at(books: &mut [Book], place: usize, event: Event) -> Decision
+    requires place { place < length books.old }
+    requires limit { All IsWithinLimit books.old }
+    ensures books { IfSome (slice_get books.old place) (λ book.
+        books.new ≡ set books.old place (stepped (Some event) book)) }
+    ensures decision { IfSome (slice_get books.old place) (λ book.
+        result ≡ (step book.rules book.book event).1) }
+    ensures limit { All IsWithinLimit books.new }
+    ensures len { length books.new ≡ length books.old }
+{
+    books[place].apply(event)
+}
+
+/// Sweeps each book.
+#[tactic(auto, using(crate::proofs::Moving::each_steps))]
+fn sweep_each(books: &mut [Book], moment: u64, nas: &Nas)
+    requires { All IsWithinLimit books.old }
+    ensures books { books.new ≡ map (stepped (Some (record { moment = moment; act = Sweep nas.now }))) books.old }
+    ensures limit { All IsWithinLimit books.new }
+    ensures len { length books.new ≡ length books.old }
+{
+    for place in 0..books.len() {
+        books[place].sweep(moment, nas);
+    }
+}
+
+/// Ticks each book.
+#[tactic(auto, using(crate::proofs::Moving::each_steps))]
+fn tick_each(books: &mut [Book], moment: u64)
+    requires { All IsWithinLimit books.old }
+    ensures books { books.new ≡ map (stepped (Some (record { moment = moment; act = Tick }))) books.old }
+    ensures limit { All IsWithinLimit books.new }
+    ensures len { length books.new ≡ length books.old }
+{
+    for place in 0..books.len() {
+        books[place].tick(moment);
+    }
+}
+
+/// Whether these are the same books, one by one.
+#[tactic(auto, using(crate::proofs::Moving::same_steps))]
+fn are_same(books: &[Book], others: &[Book]) -> bool
+    ensures { IsTrue result ↔ (books.now ≡ others.now) }
+{
+    if books.len() != others.len() {
+        return false;
+    }
+    for place in 0..books.len() {
+        if !books[place].same(&others[place]) {
+            return false;
+        }
+    }
+    true
+}
+
+/// Equal books, one by one.
+#[tactic(auto, using(crate::proofs::Moving::copy_steps))]
+fn copies_of(alloc: Global, books: &[Book]) -> Result<Vec<Book>, NoMemory>
+    ensures { IfOk result (λ copies. copies.items ≡ books.now) }
+{
+    let mut copies = Vec::with_capacity(alloc, books.len())?;
+    for book in books {
+        copies.push(book.try_copy(alloc)?)?;
+    }
+    Ok(copies)
+}
+
+/// The new books of the accounts of a shard.
+fn new_list(alloc: Global, config: &Config, shard: u32) -> Result<Vec<Book>, NoMemory>
+    ensures books { IfOk result (λ books. books.items ≡ new_books config.now shard) }
+    ensures limit { IfOk result (λ books. All IsWithinLimit books.items) }
+{
+    let mut books = Vec::new(alloc);
+    for account in 0..config.accounts() {
+        if config.shard_of(account) == shard {
+            books.push(Book::new(alloc, config.entry(account).rules)?)?;
+        }
+    }
+    Ok(books)
+}
+
+impl Books {
+    /// The books of the accounts of a shard, none of which has had an event. It fails only where memory is
+    /// refused.
+    pub fn new(alloc: Global, config: &Config, shard: u32) -> Result<Books, NoMemory>
+        requires { shard < config.now.settings.shards }
+        ensures books { IfOk result (λ books. books ≡ new_books_seen config.now shard) }
+        ensures sound { IfOk result (λ books. AreBooks books.setup books.books) }
+    {
+        Ok(Books {
+            shard,
+            shards: config.shards(),
+            accounts: config.accounts(),
+            list: new_list(alloc, config, shard)?,
+        })
+    }
+
+    /// Whether an account is one of the shard.
+    fn has(&self, account: u32) -> bool
+        ensures { IsTrue result ↔ IsOfShard self.now.setup account }
+    {
+        account < self.accounts && account % self.shards == self.shard
+    }
+
+    /// The place of the book of an account of the shard.
+    fn place_of(&self, account: u32) -> usize
+        requires { IsOfShard self.now.setup account }
+        ensures place { account ≡ self.now.setup.shard + result * self.now.setup.shards }
+        ensures within { result < length self.now.books }
+    {
+        (account / self.shards) as usize
+    }
+
+    /// Whether a move can be made: what is one account's own is an ask, an alive or a stop of an account of
+    /// the shard.
+    pub fn takes(&self, moved: &Move) -> bool
+        ensures { IsTrue result ↔ IsTaken self.now.setup moved.now }
+    {
+        match moved {
+            Move::Own { account, event } => { self.has(*account) && is_of_one_account(&event.act) }
+            Move::Sweep { .. } | Move::Tick { .. } | Move::Stray { .. } => true,
+        }
+    }
+
+    /// The book of an account, if the account is one of the shard.
+    pub fn book(&self, account: u32) -> Option<&Book>
+        ensures some { IfSome result (λ book. book_at self.now.setup self.now.books account ≡ Some book.now) }
+        ensures none { IfNone result (book_at self.now.setup self.now.books account ≡ None) }
+        ensures there { IsSome result ↔ IsOfShard self.now.setup account }
+    {
+        if self.has(account) {
+            Some(&self.list[self.place_of(account)])
+        } else {
+            None
+        }
+    }
+
+    /// Steps the books by a move, which is as it was: what is one account's own steps its book and no other, a
+    /// sweep or a tick each book, a stray none. The decision is that of the account's book, and `Done` on every
+    /// other move. Where memory is refused nothing has changed.
+    pub fn step(&mut self, alloc: Global, moved: &Move) -> Result<Decision, NoMemory>
+        requires { IsTaken self.old.setup moved.now }
+        ensures setup { self.new.setup ≡ self.old.setup }
+        ensures books { IfOk result (λ _. self.new.books ≡ books_after self.old.setup self.old.books moved.now) }
+        ensures decision { IfOk result (λ decision. decision ≡ decision_by self.old.setup self.old.books moved.now) }
+        ensures err { OnErr result (self.new ≡ self.old) }
+    {
+        match moved {
+            Move::Own { account, event } => self.own(alloc, *account, event),
+            Move::Sweep { moment, nas } => Ok(self.sweep(*moment, nas)),
+            Move::Tick { moment } => Ok(self.tick(*moment)),
+            Move::Stray { .. } => Ok(Decision::Done),
+        }
+    }
+
+    /// Steps the book of an account by an event of its own.
+    fn own(&mut self, alloc: Global, account: u32, event: &Event) -> Result<Decision, NoMemory>
+        requires { IsOwn self.old.setup account event.now }
+        ensures setup { self.new.setup ≡ self.old.setup }
+        ensures books { IfOk result (λ _. self.new.books ≡ books_after self.old.setup self.old.books (moves.Own account event.now)) }
+        ensures decision { IfOk result (λ decision. decision ≡ decision_by self.old.setup self.old.books (moves.Own account event.now)) }
+        ensures err { OnErr result (self.new ≡ self.old) }
+    {
+        let event = event.try_copy(alloc)?;
+        let place = self.place_of(account);
+        Ok(step_at(&mut self.list, place, event))
+    }
+
+    /// Sweeps each book.
+    fn sweep(&mut self, moment: u64, nas: &Nas) -> Decision
+        ensures setup { self.new.setup ≡ self.old.setup }
+        ensures books { self.new.books ≡ books_after self.old.setup self.old.books (moves.Sweep moment nas.now) }
+        ensures decision { result ≡ Decision.Done }
+    {
+        sweep_each(&mut self.list, moment, nas);
+        Decision::Done
+    }
+
+    /// Ticks each book.
+    fn tick(&mut self, moment: u64) -> Decision
+        ensures setup { self.new.setup ≡ self.old.setup }
+        ensures books { self.new.books ≡ books_after self.old.setup self.old.books (moves.Tick moment) }
+        ensures decision { result ≡ Decision.Done }
+    {
+        tick_each(&mut self.list, moment);
+        Decision::Done
+    }
+
+    /// What the books of a shard have always: there is one for each of its accounts, and none holds more than
+    /// its limit.
+    pub(crate) fn are_sound(&self)
+        ensures { AreBooks self.now.setup self.now.books }
+    {
+        let _ = &self.list;
+    }
+
+    /// Whether these are the same books, one by one.
+    pub fn same(&self, books: &[Book]) -> bool
+        ensures { IsTrue result ↔ (self.now.books ≡ books.now) }
+    {
+        are_same(&self.list, books)
+    }
+
+    /// Equal books, one by one. It fails only where memory is refused.
+    pub(crate) fn copies(&self, alloc: Global) -> Result<Vec<Book>, NoMemory>
+        ensures { IfOk result (λ copies. copies.items ≡ self.now.books) }
+    {
+        copies_of(alloc, &self.list)
+    }
+
+    /// The number of the shard.
+    pub fn shard(&self) -> u32
+        ensures { result ≡ self.now.setup.shard }
+    {
+        self.shard
+    }
+}

@@ -1,0 +1,141 @@
+ghost use Rattle.std.specs.Prelude.{◌≡◌, ◌-◌, ◌^◌, ◌<◌, ◌↔◌, IfNone, IfOk, IfSome, IsSome, IsTrue, OnErr, Some, None, length};
+ghost use Rattle.rsl_shard.specs.Moves.{IsOfShard, IsTaken};
+ghost use Rattle.rsl_shard.specs.Replay.{book_at, decision_by};
+ghost use Rattle.rsl_shard.specs.Seen.{IsKept, books_of, cut_off, new_shard, total_of, with_line};
+
+use crate::books::Books;
+use crate::line::Line;
+use crate::moved::Move;
+use crate::segment::Segment;
+use rsl_accounts::Config;
+use rsl_book::Book;
+use rsl_event::Decision;
+use rsl_wire::NoMemory;
+use std::alloc::Global;
+use std::marker::Model;
+use std::mem::replace;
+
+/// The books of the accounts of one shard, with the journal of what was done to them.
+///
+/// A contract sees what the shard knows of the configuration, how many lines were handed out, the books that the
+/// journal begins with, and its lines. The books are what the lines make of those: its type keeps it, and that
+/// each line's move is one that the shard takes, with the decision of the books at that point.
+#[derive(Drop)]
+pub struct Shard {
+    books: Books,
+    opening: Vec<Book>,
+    lines: Vec<Line>,
+    first: u64,
+}
+
+impl Model for Shard {
+    ghost use Rattle.rsl_shard.specs.Seen.{ShardSeen};
+
+    ghost Value = { ShardSeen };
+
+    ghost use Rattle.rsl_shard.specs.ShardInside.{shard_seen, HasJournal};
+
+    ghost view = { shard_seen };
+
+    ghost invariant = { HasJournal };
+}
+
+impl Shard {
+    /// A shard of new books, with no lines. It fails only where memory is refused.
+    pub fn new(alloc: Global, config: &Config, number: u32) -> Result<Shard, NoMemory>
+        requires { number < config.now.settings.shards }
+        ensures { IfOk result (λ shard. shard ≡ new_shard config.now number) }
+    {
+        let books = Books::new(alloc, config, number)?;
+        let opening = books.copies(alloc)?;
+        Ok(Shard {
+            books,
+            opening,
+            lines: Vec::new(alloc),
+            first: 0,
+        })
+    }
+
+    /// Whether a move can be made: what is one account's own is an ask, an alive or a stop of an account of
+    /// this shard.
+    pub fn takes(&self, moved: &Move) -> bool
+        ensures { IsTrue result ↔ IsTaken self.now.setup moved.now }
+    {
+        self.books.takes(moved)
+    }
+
+    /// Makes a move, and notes it with its decision as the last line of the journal. What is one account's own
+    /// steps its book and no other, a sweep or a tick each book, a stray none. All memory is taken before the
+    /// first book changes: where it is refused, nothing has changed.
+    pub fn step(&mut self, alloc: Global, moved: Move) -> Result<Decision, NoMemory>
+        requires takes { IsTaken self.old.setup moved }
+        requires room { total_of self.old < 2 ^ 64 - 1 }
+        ensures line { IfOk result (λ decision. self.new ≡ with_line self.old moved decision) }
+        ensures decision { IfOk result (λ decision. decision ≡ decision_by self.old.setup (books_of self.old) moved) }
+        ensures err { OnErr result (self.new ≡ self.old) }
+        ensures kept { IsKept self.new }
+    {
+        self.lines.reserve(1)?;
+        let decision = self.books.step(alloc, &moved)?;
+        self.books.are_sound();
+        self.lines.push_reserved(Line { moved, decision });
+        self.is_kept();
+        Ok(decision)
+    }
+
+    /// The book of an account, if the account is one of this shard.
+    pub fn book(&self, account: u32) -> Option<&Book>
+        ensures some { IfSome result (λ book. book_at self.now.setup (books_of self.now) account ≡ Some book.now) }
+        ensures none { IfNone result (book_at self.now.setup (books_of self.now) account ≡ None) }
+        ensures there { IsSome result ↔ IsOfShard self.now.setup account }
+    {
+        self.books.book(account)
+    }
+
+    /// The number of lines of the present journal.
+    pub fn moves(&self) -> usize
+        ensures { result ≡ length self.now.lines }
+    {
+        self.lines.len()
+    }
+
+    /// The number of lines of all segments so far: those that were handed out, and those of the present journal.
+    pub fn total(&self) -> u64
+        ensures total { result ≡ total_of self.now }
+        ensures kept { IsKept self.now }
+    {
+        self.first + self.lines.len() as u64
+    }
+
+    /// What is kept of a shard, whatever it has come to.
+    fn is_kept(&self)
+        ensures { IsKept self.now }
+    {
+        let _ = &self.lines;
+    }
+
+    /// Hands out the journal with the books that it began with, and goes on from equal books, with no lines.
+    /// Where memory is refused nothing has changed.
+    pub fn cut(&mut self, alloc: Global) -> Result<Segment, NoMemory>
+        ensures shard { IfOk result (λ segment. segment.shard ≡ self.old.setup.shard) }
+        ensures first { IfOk result (λ segment. segment.first ≡ self.old.first) }
+        ensures opening { IfOk result (λ segment. segment.opening.items ≡ self.old.opening) }
+        ensures lines { IfOk result (λ segment. segment.lines.items ≡ self.old.lines) }
+        ensures cut { IfOk result (λ _. self.new ≡ cut_off self.old) }
+        ensures err { OnErr result (self.new ≡ self.old) }
+        ensures kept { IsKept self.new }
+    {
+        let copies = self.books.copies(alloc)?;
+        let first = self.first;
+        let more = self.lines.len() as u64;
+        let segment = Segment {
+            shard: self.books.shard(),
+            first,
+            opening: replace(&mut self.opening, copies),
+            lines: replace(&mut self.lines, Vec::new(alloc)),
+        };
+        self.first = first + more;
+        self.is_kept();
+        Ok(segment)
+    }
+}
