@@ -1,1 +1,3 @@
+pub mod AuditLaws
 pub mod TableLaws
+pub mod Walking

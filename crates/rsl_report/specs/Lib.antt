@@ -1,1 +1,4 @@
+pub mod Audit
+pub mod Replayed
 pub mod Table
+pub mod Walk

@@ -1,0 +1,129 @@
+-- An audit steps books, in place of a look back over all lines before each: what the books decide is what the
+-- rule finds.
+use Rattle.std.proofs.Common.{◌≡◌, List, [], ◌∷◌, ◌++◌, Option, Some, None, refl, sym, ap, subst, ◌∙◌, append_assoc, ℕ, zero, suc, ◌+◌, ◌*◌, ◌/◌, ◌%◌, ◌<◌, ◌==◌, Bool, true, false, cond, length, take, get_or, arith, length-append}
+use Rattle.std.specs.Prelude.{IfSome, slice_get}
+use Rattle.std.specs.List.{cons_option, flat_map}
+use Rattle.std.specs.Option.{option_map, option_map_or}
+use Rattle.std.proofs.lemmas.Bool.{eqb-true}
+use Rattle.std.proofs.lemmas.List.{append-nil, flat_map_more, take_more}
+use Rattle.rsl_accounts.specs.Configuration.{Configuration}
+use Rattle.rsl_accounts.specs.declared.entry.Entry.{Entry}
+use Rattle.rsl_accounts.specs.declared.rules.Rules.{Rules}
+use Rattle.rsl_book.specs.RuledBook.{RuledBook}
+use Rattle.rsl_event.specs.declared.event.Decision.{Decision}
+use Rattle.rsl_event.specs.declared.event.Decision.TheVariants.{Done}
+use Rattle.rsl_event.specs.declared.event.Event.{Event}
+use Rattle.rsl_session.specs.Book.{Book, new_book}
+use Rattle.rsl_session.specs.BookStep.{book_after, step}
+use Rattle.rsl_session.specs.Rule.{decision_of, outcome_of, past_of}
+use Rattle.rsl_session.proofs.Callers.{IsRuled-past_of, books_are, joins}
+use Rattle.rsl_shard.specs.Moves.{IsOwn, IsTaken, event_to, own_in}
+use Rattle.rsl_shard.specs.Replay.{book_at, book_from, book_of_entry, books_after, decision_by, moved_from, new_books, replay, stepped}
+use Rattle.rsl_shard.specs.Setup.{Setup, setup_of}
+use Rattle.rsl_shard.specs.declared.line.Line.{Line}
+use Rattle.rsl_shard.specs.declared.moved.Move.{Move}
+use Rattle.rsl_shard.specs.declared.moved.Move.TheVariants.{Own, Sweep, Tick, Stray}
+use Rattle.rsl_shard.proofs.Beginning.{new_book_at}
+use Rattle.rsl_shard.proofs.Moving.{book_placed}
+use Rattle.rsl_shard.proofs.Numbers.{account_is}
+use Rattle.rsl_report.specs.Replayed.{replayed, ruled}
+
+-- ---- the books
+
+-- the decision of an account's book on an event is the rule's
+stepped_decision : (rules : Rules) (events : List Event) (event : Event)
+    → (step rules (book_after rules new_book events) event).1 ≡ decision_of (outcome_of rules (past_of rules events) event)
+stepped_decision rules events event =
+    ap (λ (book : Book). (step rules book event).1) (books_are rules events)
+    ∙ ap (λ (next : Book × Decision). next.1) (joins rules (past_of rules events) event (IsRuled-past_of rules events))
+
+replay-append : (setup : Setup) (opening : List RuledBook) (xs ys : List Line) → replay setup opening (xs ++ ys) ≡ replay setup (replay setup opening xs) ys
+unfolding replay
+replay-append setup opening [] ys = refl
+replay-append setup opening (x ∷ xs) ys = replay-append setup (books_after setup opening x.moved) xs ys
+
+-- the books after one line more
+pub replayed-more : (config : Configuration) (shard : ℕ) (before : List Line) (line : Line)
+    → replayed config shard (before ++ line ∷ []) ≡ books_after (setup_of config shard) (replayed config shard before) line.moved
+unfolding replayed replay
+replayed-more config shard before line = replay-append (setup_of config shard) (new_books config shard) before (line ∷ [])
+
+-- the book of an account after a move
+book_from-moved : (first shards account : ℕ) (moved : Move) (books : List RuledBook)
+    → book_from first shards (moved_from first shards moved books) account ≡ option_map (stepped (event_to account moved)) (book_from first shards books account)
+unfolding book_from moved_from
+book_from-moved first shards account moved [] = refl
+book_from-moved first shards account moved (ruled ∷ books) = by (first == account) refl (book_from-moved (first + shards) shards account moved books)
+  where
+    Rest : Type 0
+    Rest = book_from (first + shards) shards (moved_from (first + shards) shards moved books) account
+        ≡ option_map (stepped (event_to account moved)) (book_from (first + shards) shards books account)
+
+    by : (t : Bool) → (first == account) ≡ t → Rest
+        → cond t (Some (stepped (event_to first moved) ruled)) (book_from (first + shards) shards (moved_from (first + shards) shards moved books) account)
+        ≡ option_map (stepped (event_to account moved)) (cond t (Some ruled) (book_from (first + shards) shards books account))
+    by true is rest = ap (λ (n : ℕ). Some (stepped (event_to n moved) ruled)) (eqb-true first account is)
+    by false is rest = rest
+
+-- a book of an account after its own events among lines
+book_past : (account : ℕ) → List Line → RuledBook → RuledBook
+book_past account lines ruled = record { rules = ruled.rules; book = book_after ruled.rules ruled.book (own_in account lines) }
+
+book_past-first : (account : ℕ) (line : Line) (lines : List Line) (ruled : RuledBook)
+    → book_past account lines (stepped (event_to account line.moved) ruled) ≡ book_past account (line ∷ lines) ruled
+unfolding book_past book_after own_in
+book_past-first account line lines ruled = by (event_to account line.moved)
+  where
+    by : (o : Option Event)
+        → book_past account lines (stepped o ruled)
+        ≡ (let it : RuledBook = record { rules = ruled.rules; book = book_after ruled.rules ruled.book (cons_option o (own_in account lines)) } in it)
+    by None = refl
+    by (Some event) = refl
+
+book_past-none : (account : ℕ) (o : Option RuledBook) → o ≡ option_map (book_past account []) o
+unfolding book_past book_after own_in
+book_past-none account None = refl
+book_past-none account (Some ruled) = refl
+
+book_past-more : (account : ℕ) (line : Line) (lines : List Line) (o : Option RuledBook)
+    → option_map (book_past account lines) (option_map (stepped (event_to account line.moved)) o) ≡ option_map (book_past account (line ∷ lines)) o
+book_past-more account line lines None = refl
+book_past-more account line lines (Some ruled) = ap (λ (book : RuledBook). Some book) (book_past-first account line lines ruled)
+
+book_at-replay : (setup : Setup) (opening : List RuledBook) (lines : List Line) (account : ℕ)
+    → book_at setup (replay setup opening lines) account ≡ option_map (book_past account lines) (book_at setup opening account)
+unfolding replay
+book_at-replay setup opening [] account = book_past-none account (book_at setup opening account)
+book_at-replay setup opening (line ∷ lines) account =
+    book_at-replay setup (books_after setup opening line.moved) lines account
+    ∙ ap (option_map (book_past account lines)) (book_from-moved setup.shard setup.shards account line.moved opening)
+    ∙ book_past-more account line lines (book_at setup opening account)
+
+-- the new book of an account of a shard
+book_at-new : (config : Configuration) (shard account : ℕ) → shard < config.settings.shards → account % config.settings.shards ≡ shard
+    → book_at (setup_of config shard) (new_books config shard) account ≡ option_map book_of_entry (slice_get config.accounts account)
+book_at-new config shard account less is =
+    let place : ℕ = account / config.settings.shards in
+    let at : account ≡ shard + account / config.settings.shards * config.settings.shards = account_is config.settings.shards shard account is in
+    book_placed shard config.settings.shards account (account / config.settings.shards) (new_books config shard) (omega (arith, less)) at
+    ∙ new_book_at config shard (account / config.settings.shards) less
+    ∙ ap (λ (n : ℕ). option_map book_of_entry (slice_get config.accounts n)) (sym at)
+
+-- what the books decide on a move that the shard takes is what the rule decides
+pub decided_as_ruled : (config : Configuration) (shard : ℕ) (before : List Line) (moved : Move) → shard < config.settings.shards → IsTaken (setup_of config shard) moved
+    → decision_by (setup_of config shard) (replayed config shard before) moved ≡ ruled config before moved
+unfolding replayed book_past
+decided_as_ruled config shard before (Own account event) less own =
+    ap (λ (o : Option RuledBook). option_map_or (λ (ruled : RuledBook). (step ruled.rules ruled.book event).1) o Done)
+    (book_at-replay (setup_of config shard) (new_books config shard) before account
+    ∙ ap (option_map (book_past account before)) (book_at-new config shard account less own.own_account.of_shard))
+    ∙ by (slice_get config.accounts account)
+  where
+    by : (o : Option Entry)
+        → option_map_or (λ (ruled : RuledBook). (step ruled.rules ruled.book event).1) (option_map (book_past account before) (option_map book_of_entry o)) Done
+        ≡ option_map_or (λ (entry : Entry). decision_of (outcome_of entry.rules (past_of entry.rules (own_in account before)) event)) o Done
+    by None = refl
+    by (Some entry) = stepped_decision entry.rules (own_in account before) event
+decided_as_ruled config shard before (Sweep moment nas) less taken = refl
+decided_as_ruled config shard before (Tick moment) less taken = refl
+decided_as_ruled config shard before (Stray moment note) less taken = refl

@@ -1,0 +1,28 @@
+-- What the books of a shard are after lines, and what the session rule decides after them.
+--
+-- The rule looks back over the own events of an account in all lines before; no book is used for that.
+use Rattle.std.specs.Prelude.{List, slice_get}
+use Rattle.std.specs.Option.{option_map_or}
+use Rattle.rsl_accounts.specs.Configuration.{Configuration}
+use Rattle.rsl_book.specs.RuledBook.{RuledBook}
+use Rattle.rsl_event.specs.declared.event.Decision.{Decision}
+use Rattle.rsl_event.specs.declared.event.Decision.TheVariants.{Done}
+use Rattle.rsl_session.specs.Rule.{decision_of, outcome_of, past_of}
+use Rattle.rsl_shard.specs.Moves.{own_in}
+use Rattle.rsl_shard.specs.Replay.{new_books, replay}
+use Rattle.rsl_shard.specs.Setup.{setup_of}
+use Rattle.rsl_shard.specs.declared.line.Line.{Line}
+use Rattle.rsl_shard.specs.declared.moved.Move.{Move}
+use Rattle.rsl_shard.specs.declared.moved.Move.TheVariants.{Own}
+use Rattle.std.specs.Prelude.{ℕ}
+
+-- the books of a shard after lines, which began new
+unfoldable pub replayed : Configuration → (shard : ℕ) → List Line → List RuledBook
+replayed config shard lines = replay (setup_of config shard) (new_books config shard) lines
+
+-- the decision of the rule on a move after some lines; what is no account's own is done
+abbrev pub ruled : Configuration → (before : List Line) → Move → Decision
+ruled config before (Own account event) =
+    option_map_or (λ entry. decision_of (outcome_of entry.rules (past_of entry.rules (own_in account before)) event))
+    (slice_get config.accounts account) Done
+ruled config before _ = Done
