@@ -6,7 +6,11 @@ pub mod Naming
 pub mod Found
 pub mod Touching
 pub mod Slices
-pub mod Oldest
 pub mod Insides
 pub mod Stepping
 pub mod OneByOne
+pub mod Before
+pub mod Orders
+pub mod OfLinks
+pub mod Standing
+pub mod Yielding

@@ -4,7 +4,7 @@ use Rattle.std.specs.Prelude.{Some, None, filter, find, count_by}
 use Rattle.std.proofs.lemmas.List.{take_more, drop_more, take_all, drop_all, take-map, drop-map, take-append-le, take-take, drop_at, map-append, length-take-le, get_or-take, get_or_append_left, get_or-map, length-map}
 use Rattle.std.proofs.lemmas.List.Sums.{sum_by-cons}
 use Rattle.std.proofs.lemmas.Bool.{or_parts}
-use Rattle.std.specs.List.{list_any, list_all}
+use Rattle.std.specs.List.{list_any}
 use Rattle.rsl_book.specs.First.{IsFirst}
 
 -- the first of the rest of a list
@@ -93,32 +93,13 @@ module _ {A B : Type 0} where
   pub any_end : (p : B → Bool) (f : A → B) (xs : List A) (i : ℕ) → length xs ≤ i → list_any p (map f (drop i xs)) ≡ false
   any_end p f xs i all = ap (λ ys. list_any p (map f ys)) (drop_all i xs all)
 
-  -- whether all of the rest that pass one test pass another
-  pub all_out : (q t : B → Bool) (f : A → B) (xs : List A) (i : ℕ) (x : A) → i < length xs → x ≡ get_or xs i x → t (f x) ≡ false
-      → list_all q (filter t (map f (drop i xs))) ≡ list_all q (filter t (map f (drop (i + 1) xs)))
-  all_out q t f xs i x within is out =
-      ap (λ ys. list_all q (filter t (map f ys))) (drop_more xs i x within ∙ ap (λ y. y ∷ drop (i + 1) xs) (sym is)) ∙ rw out refl
-
-  pub all_in : (q t : B → Bool) (f : A → B) (xs : List A) (i : ℕ) (x : A) → i < length xs → x ≡ get_or xs i x → t (f x) ≡ true → q (f x) ≡ true
-      → list_all q (filter t (map f (drop i xs))) ≡ list_all q (filter t (map f (drop (i + 1) xs)))
-  all_in q t f xs i x within is inside passes =
-      ap (λ ys. list_all q (filter t (map f ys))) (drop_more xs i x within ∙ ap (λ y. y ∷ drop (i + 1) xs) (sym is)) ∙ rw (inside, passes) refl
-
-  pub all_no : (q t : B → Bool) (f : A → B) (xs : List A) (i : ℕ) (x : A) → i < length xs → x ≡ get_or xs i x → t (f x) ≡ true → q (f x) ≡ false
-      → list_all q (filter t (map f (drop i xs))) ≡ false
-  all_no q t f xs i x within is inside misses =
-      ap (λ ys. list_all q (filter t (map f ys))) (drop_more xs i x within ∙ ap (λ y. y ∷ drop (i + 1) xs) (sym is)) ∙ rw (inside, misses) refl
-
-  pub all_end : (q t : B → Bool) (f : A → B) (xs : List A) (i : ℕ) → length xs ≤ i → list_all q (filter t (map f (drop i xs))) ≡ true
-  all_end q t f xs i all = ap (λ ys. list_all q (filter t (map f ys))) (drop_all i xs all)
-
 any-push : {B : Type 0} (p : B → Bool) (xs : List B) (y : B) → list_any p xs ≡ false → p y ≡ false → list_any p (xs ++ y ∷ []) ≡ false
 any-push p [] y none misses = rw misses refl
 any-push p (x ∷ xs) y none misses =
     let parts = or_parts (p x) (list_any p xs) none in
     rw parts.0 (any-push p xs y parts.1 misses)
 
-find_none : {B : Type 0} (p : B → Bool) (xs : List B) → list_any p xs ≡ false → find p xs ≡ None
+pub find_none : {B : Type 0} (p : B → Bool) (xs : List B) → list_any p xs ≡ false → find p xs ≡ None
 find_none p [] none = refl
 find_none p (x ∷ xs) none =
     let parts = or_parts (p x) (list_any p xs) none in
@@ -147,8 +128,6 @@ module _ {A B : Type 0} where
 pub ruleset find_steps = (find_yes, find_no, find_end)
 
 pub ruleset any_steps = (any_yes, any_no, any_end)
-
-pub ruleset all_steps = (all_out, all_in, all_no, all_end)
 
 pub ruleset first_steps = (none_more, first_at, none_found)
 

@@ -4,5 +4,7 @@ pub mod Seen
 pub mod Changed
 pub mod Counted
 pub mod Named
+pub mod Order
+pub mod LinkList
 pub mod Steps
 pub mod Sound

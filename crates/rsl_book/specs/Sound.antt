@@ -1,6 +1,6 @@
 -- How the inside of a book is seen, and what holds of it: the numbers agree with the links, the places are
 -- within the limit, and there is room for every link that may still open and for whatever names an access server.
-use Rattle.std.specs.Prelude.{◌≡◌, ◌+◌, ◌*◌, ◌<◌, ◌≤◌, length, vec_capacity}
+use Rattle.std.specs.Prelude.{◌≡◌, ◌+◌, ◌*◌, ◌<◌, ◌≤◌, length}
 use Rattle.rsl_accounts.specs.Limits.{RulesFit}
 use Rattle.rsl_session.specs.Book.{Book}
 use Rattle.rsl_book.specs.declared.book.Book.TheInside.{Inside}
@@ -27,7 +27,7 @@ pub record IsSound (book : Inside) : Type 0 where
   pub ports : book.links.ports ≡ book.rules.ports
   pub counted : AreCounted book.servers book.links
   pub limit : book.links.places ≤ book.rules.places
-  pub room : book.rules.places * book.rules.ports ≤ vec_capacity book.links.list
+  pub room : book.rules.places * book.rules.ports ≤ book.links.list.room
   pub table : book.rules.places * book.rules.ports + 24 < length book.servers
   pub asks : book.asks.capacity ≡ 8
   pub stops : book.stops.capacity ≡ 16

@@ -149,9 +149,9 @@ impl Book {
             && self.accepts == other.accepts
             && self.over == other.over
             && has_same_links(
-                &self.links.list,
+                self.links.list.as_slice(),
                 &self.servers,
-                &other.links.list,
+                other.links.list.as_slice(),
                 &other.servers,
             )
             && has_same_asks(&self.asks, &self.servers, &other.asks, &other.servers)
@@ -302,7 +302,7 @@ impl Book {
     {
         let nas = place_for(
             &mut self.servers,
-            &self.links.list,
+            self.links.list.as_slice(),
             &self.asks,
             &self.stops,
             nas,
@@ -326,7 +326,7 @@ impl Book {
     {
         let nas = place_for(
             &mut self.servers,
-            &self.links.list,
+            self.links.list.as_slice(),
             &self.asks,
             &self.stops,
             nas,
@@ -491,7 +491,7 @@ impl Book {
     {
         let nas = place_for(
             &mut self.servers,
-            &self.links.list,
+            self.links.list.as_slice(),
             &self.asks,
             &self.stops,
             nas,
@@ -543,7 +543,7 @@ impl Book {
         self.links.stop(&self.servers, &nas, &id);
         let nas = place_for(
             &mut self.servers,
-            &self.links.list,
+            self.links.list.as_slice(),
             &self.asks,
             &self.stops,
             nas,

@@ -12,6 +12,8 @@ mod book;
 mod kept;
 mod link;
 mod links;
+mod list;
+mod order;
 mod same;
 mod servers;
 mod table;

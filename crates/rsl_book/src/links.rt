@@ -12,6 +12,7 @@ ghost use Rattle.rsl_book.specs.Changed.{touched_link, bound_link};
 ghost use Rattle.rsl_book.specs.Counted.{AreCounted};
 
 use crate::link::Link;
+use crate::list::LinkList;
 use crate::servers::Servers;
 use rsl_accounts::Rules;
 use rsl_event::Nas;
@@ -24,7 +25,7 @@ pub(crate) struct Links {
     /// The links of a bundle that share a place.
     pub ports: u64,
     /// The links, in the order in which they opened.
-    pub list: Vec<Link>,
+    pub list: LinkList,
     /// The places that they take.
     pub places: u64,
 }
@@ -35,20 +36,6 @@ fn takes_a_place(ports: u64, others: usize) -> bool
     ensures { div_ceil (others + 1) ports ≡ div_ceil others ports + (if result then 1 else 0) }
 {
     others as u64 % ports == 0
-}
-
-/// Equal links, with room for so many. It fails only where memory is refused.
-#[tactic(auto, using(crate::proofs::Lists::copy_steps))]
-fn copy_of_links(alloc: Global, links: &[Link], room: usize) -> Result<Vec<Link>, NoMemory>
-    requires { length links.now ≤ room }
-    ensures items { IfOk result (λ copy. copy.items ≡ links.now) }
-    ensures room { IfOk result (λ copy. vec_capacity copy ≡ room) }
-{
-    let mut copy = Vec::with_capacity(alloc, room)?;
-    for link in links {
-        copy.push_reserved(link.try_copy(alloc)?);
-    }
-    Ok(copy)
 }
 
 /// One place where the answer is yes, and none otherwise.
@@ -64,11 +51,11 @@ impl Links {
         ensures empty { IfOk result (λ links. links.list.items ≡ []) }
         ensures ports { IfOk result (λ links. links.ports ≡ ports) }
         ensures places { IfOk result (λ links. links.places ≡ 0) }
-        ensures room { IfOk result (λ links. vec_capacity links.list ≡ room) }
+        ensures room { IfOk result (λ links. links.list.room ≡ room) }
     {
         Ok(Links {
             ports,
-            list: Vec::with_capacity(alloc, room)?,
+            list: LinkList::new(alloc, room)?,
             places: 0,
         })
     }
@@ -78,8 +65,9 @@ impl Links {
     fn members(&self, servers: &Servers, nas: &Nas, id: &Octets) -> usize
         ensures { result ≡ count_by (is_bundle (record { nas = nas.now; id = id.now })) (bundles_in (links_seen servers.now self.now.list.items)) }
     {
+        let links = self.list.as_slice();
         let mut members = 0;
-        for link in &self.list {
+        for link in links {
             if link.is_in(servers, nas, id) {
                 members += 1;
             }
@@ -109,7 +97,7 @@ impl Links {
         requires within { at < length self.now.list.items }
         ensures { places_of self.now.ports (bundles_in (links_seen servers.now self.now.list.items)) ≡ places_of self.now.ports (bundles_in (links_seen servers.now (take at self.now.list.items ++ drop (at + 1) self.now.list.items))) + (if result then 1 else 0) }
     {
-        let link = &self.list[at];
+        let link = self.list.index(at);
         match &link.bundle {
             None => true,
             Some(id) => takes_a_place(
@@ -125,7 +113,7 @@ impl Links {
         requires within { at < length self.now.list.items }
         ensures { (now : ℕ) → places_of self.now.ports (bundles_in (links_seen servers.now (change_at at (touched_link now bundle.now) self.now.list.items))) + (if result then 1 else 0) ≡ places_of self.now.ports (bundles_in (links_seen servers.now self.now.list.items)) }
     {
-        let link = &self.list[at];
+        let link = self.list.index(at);
         match &link.bundle {
             Some(_) => false,
             None => !self.adds_a_place(servers, link.nas, bundle),
@@ -140,26 +128,26 @@ impl Links {
         ensures links { self.new.list.items ≡ take at self.old.list.items ++ drop (at + 1) self.old.list.items }
         ensures fewer { self.new.places ≤ self.old.places }
         ensures ports { self.new.ports ≡ self.old.ports }
-        ensures room { vec_capacity self.new.list ≡ vec_capacity self.old.list }
+        ensures room { self.new.list.room ≡ self.old.list.room }
     {
         if self.frees_a_place(servers, at) {
             self.places -= 1;
         }
-        let _ = self.list.remove(at);
+        self.list.remove(at);
     }
 
     /// Opens a link, for which there is room.
     pub(crate) fn open(&mut self, servers: &Servers, link: Link)
-        requires room { length self.old.list.items < vec_capacity self.old.list }
+        requires room { length self.old.list.items < self.old.list.room }
         requires counted { AreCounted servers.now self.old }
         requires few { self.old.places ≤ 64 }
         ensures counted { AreCounted servers.now self.new }
         ensures links { self.new.list.items ≡ self.old.list.items ++ link ∷ [] }
         ensures ports { self.new.ports ≡ self.old.ports }
-        ensures room { vec_capacity self.new.list ≡ vec_capacity self.old.list }
+        ensures room { self.new.list.room ≡ self.old.list.room }
     {
         self.places += one_if(self.adds_a_place(servers, link.nas, &link.bundle));
-        self.list.push_reserved(link);
+        self.list.push(link);
     }
 
     /// Touches a link, by an alive that may carry a bundle.
@@ -176,10 +164,10 @@ impl Links {
         ensures links { self.new.list.items ≡ change_at at (touched_link now bundle) self.old.list.items }
         ensures fewer { self.new.places ≤ self.old.places }
         ensures ports { self.new.ports ≡ self.old.ports }
-        ensures room { vec_capacity self.new.list ≡ vec_capacity self.old.list }
+        ensures room { self.new.list.room ≡ self.old.list.room }
     {
         self.places -= one_if(self.joins_a_place(servers, at, &bundle));
-        self.list[at].touch(now, bundle);
+        self.list.touch(at, now, bundle);
     }
 
     /// Binds a link to the session of this id.
@@ -190,9 +178,9 @@ impl Links {
         ensures links { self.new.list.items ≡ change_at at (bound_link id) self.old.list.items }
         ensures fewer { self.new.places ≡ self.old.places }
         ensures ports { self.new.ports ≡ self.old.ports }
-        ensures room { vec_capacity self.new.list ≡ vec_capacity self.old.list }
+        ensures room { self.new.list.room ≡ self.old.list.room }
     {
-        self.list[at].bind(id);
+        self.list.bind(at, id);
     }
 
     /// Ends each link that lapses at this clock.
@@ -203,14 +191,10 @@ impl Links {
         ensures links { links_seen servers.now self.new.list.items ≡ filter (λ (link : BookLink). not (lapses_at rules.now now link)) (links_seen servers.now self.old.list.items) }
         ensures fewer { self.new.places ≤ self.old.places }
         ensures ports { self.new.ports ≡ self.old.ports }
-        ensures room { vec_capacity self.new.list ≡ vec_capacity self.old.list }
+        ensures room { self.new.list.room ≡ self.old.list.room }
     {
-        let mut at = self.list.len();
-        while at > 0 {
-            at -= 1;
-            if self.list[at].lapses(servers, rules, now) {
-                self.end_at(servers, at);
-            }
+        while let Some(at) = self.list.lapsed(servers, rules, now) {
+            self.end_at(servers, at);
         }
     }
 
@@ -221,12 +205,12 @@ impl Links {
         ensures links { links_seen servers.now self.new.list.items ≡ filter (λ (link : BookLink). not (is_link_of (record { nas = nas.now; id = id.now }) link)) (links_seen servers.now self.old.list.items) }
         ensures fewer { self.new.places ≤ self.old.places }
         ensures ports { self.new.ports ≡ self.old.ports }
-        ensures room { vec_capacity self.new.list ≡ vec_capacity self.old.list }
+        ensures room { self.new.list.room ≡ self.old.list.room }
     {
         let mut at = self.list.len();
         while at > 0 {
             at -= 1;
-            if self.list[at].is_of(servers, nas, id) {
+            if self.list.index(at).is_of(servers, nas, id) {
                 self.end_at(servers, at);
             }
         }
@@ -239,12 +223,12 @@ impl Links {
         ensures links { links_seen servers.now self.new.list.items ≡ filter (λ (link : BookLink). not (same_nas link.nas nas.now)) (links_seen servers.now self.old.list.items) }
         ensures fewer { self.new.places ≤ self.old.places }
         ensures ports { self.new.ports ≡ self.old.ports }
-        ensures room { vec_capacity self.new.list ≡ vec_capacity self.old.list }
+        ensures room { self.new.list.room ≡ self.old.list.room }
     {
         let mut at = self.list.len();
         while at > 0 {
             at -= 1;
-            if self.list[at].is_at(servers, nas) {
+            if self.list.index(at).is_at(servers, nas) {
                 self.end_at(servers, at);
             }
         }
@@ -257,7 +241,7 @@ impl Links {
         ensures missed { IfNone result (find (is_link_of (record { nas = nas.now; id = id.now })) (links_seen servers.now self.now.list.items) ≡ None) }
     {
         for at in 0..self.list.len() {
-            if self.list[at].is_of(servers, nas, id) {
+            if self.list.index(at).is_of(servers, nas, id) {
                 return Some(at);
             }
         }
@@ -276,46 +260,28 @@ impl Links {
         ensures missed { IfNone result (find (can_be_taken nas.now class) (links_seen servers.now self.now.list.items) ≡ None) }
     {
         for at in 0..self.list.len() {
-            if self.list[at].can_be_taken(servers, nas, class) {
+            if self.list.index(at).can_be_taken(servers, nas, class) {
                 return Some(at);
             }
         }
         None
     }
 
-    /// Whether no stale link was touched before this clock.
-    #[tactic(auto, using(crate::proofs::Lists::all_steps), unfolding(crate::specs::Seen::links_seen))]
-    fn none_before(&self, servers: &Servers, rules: &Rules, now: u64, touched: u64) -> bool
-        ensures { result ≡ list_all (λ (other : BookLink). nat_le touched other.touched) (filter (is_stale_at rules.now now) (links_seen servers.now self.now.list.items)) }
-    {
-        for link in &self.list {
-            if link.is_stale(servers, rules, now) && link.touched < touched {
-                return false;
-            }
-        }
-        true
-    }
-
-    /// Whether a link can yield at this clock.
-    #[tactic(auto, unfolding(crate::specs::Seen::link_seen, rsl_session::specs::BookLinks::can_yield))]
-    fn can_yield(&self, servers: &Servers, rules: &Rules, now: u64, link: &Link) -> bool
-        ensures { result ≡ can_yield rules.now now (links_seen servers.now self.now.list.items) (link_seen servers.now link.now) }
-    {
-        link.is_stale(servers, rules, now) && self.none_before(servers, rules, now, link.touched)
-    }
-
-    /// The link that can yield at this clock.
-    #[tactic(auto, using(crate::proofs::Lists::first_steps), unfolding(crate::specs::Seen::links_seen))]
+    /// The link that can yield at this clock: the bound link touched longest ago, if it is stale.
     pub(crate) fn yielding(&self, servers: &Servers, rules: &Rules, now: u64) -> Option<usize>
         ensures found { IfSome result (λ at. IsFirst (can_yield rules.now now (links_seen servers.now self.now.list.items)) (links_seen servers.now self.now.list.items) at) }
         ensures missed { IfNone result (find (can_yield rules.now now (links_seen servers.now self.now.list.items)) (links_seen servers.now self.now.list.items) ≡ None) }
     {
-        for at in 0..self.list.len() {
-            if self.can_yield(servers, rules, now, &self.list[at]) {
-                return Some(at);
+        match self.list.oldest() {
+            None => None,
+            Some(at) => {
+                if self.list.index(at).is_stale(servers, rules, now) {
+                    Some(at)
+                } else {
+                    None
+                }
             }
         }
-        None
     }
 
     /// Equal links, with room for so many. It fails only where memory is refused.
@@ -324,11 +290,11 @@ impl Links {
         ensures links { IfOk result (λ copy. copy.list.items ≡ self.now.list.items) }
         ensures ports { IfOk result (λ copy. copy.ports ≡ self.now.ports) }
         ensures places { IfOk result (λ copy. copy.places ≡ self.now.places) }
-        ensures room { IfOk result (λ copy. vec_capacity copy.list ≡ room) }
+        ensures room { IfOk result (λ copy. copy.list.room ≡ room) }
     {
         Ok(Links {
             ports: self.ports,
-            list: copy_of_links(alloc, &self.list, room)?,
+            list: self.list.try_copy(alloc, room)?,
             places: self.places,
         })
     }
@@ -338,8 +304,9 @@ impl Links {
     pub(crate) fn reserved(&self, servers: &Servers) -> usize
         ensures { result ≡ count_by (λ (link : BookLink). is_reservation link.holder) (links_seen servers.now self.now.list.items) }
     {
+        let links = self.list.as_slice();
         let mut reserved = 0;
-        for link in &self.list {
+        for link in links {
             if link.is_reserved(servers) {
                 reserved += 1;
             }
@@ -352,8 +319,9 @@ impl Links {
     pub(crate) fn live(&self, servers: &Servers, rules: &Rules, now: u64) -> usize
         ensures { result ≡ count_by (is_live_at rules.now now) (links_seen servers.now self.now.list.items) }
     {
+        let links = self.list.as_slice();
         let mut live = 0;
-        for link in &self.list {
+        for link in links {
             if link.is_live(servers, rules, now) {
                 live += 1;
             }
@@ -366,8 +334,9 @@ impl Links {
     pub(crate) fn stale(&self, servers: &Servers, rules: &Rules, now: u64) -> usize
         ensures { result ≡ count_by (is_stale_at rules.now now) (links_seen servers.now self.now.list.items) }
     {
+        let links = self.list.as_slice();
         let mut stale = 0;
-        for link in &self.list {
+        for link in links {
             if link.is_stale(servers, rules, now) {
                 stale += 1;
             }

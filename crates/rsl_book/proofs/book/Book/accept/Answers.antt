@@ -16,7 +16,7 @@ use Rattle.rsl_book.proofs.book.Book.accept.Goals as goal
 pub place_for-nas-requires : goal.place_for-nas-requires
 place_for-nas-requires c =
     let room = room_in_table c.self.inside c.self.invariant in
-    let same = ap length c.deref.ensures.value in
+    let same = ap length c.as_slice.ensures in
     omega arith
 
 pub open-requires-clause-room : goal.open-requires-clause-room
@@ -35,7 +35,7 @@ invariant_of-self c =
     let sound = c.self.invariant in
     let place = c.place_for-nas in
     let links : links_seen place.new.servers inside.links.list.items ≡ links_seen inside.servers inside.links.list.items =
-    subst (λ links. links_seen place.new.servers links ≡ links_seen inside.servers links) c.deref.ensures.value place.ensures.links in
+    subst (λ links. links_seen place.new.servers links ≡ links_seen inside.servers links) c.as_slice.ensures place.ensures.links in
     let free : places_in inside.rules (running inside) + 1 ≤ inside.rules.places =
     subst (λ (value : RuledBook). places_in value.rules value.book + 1 ≤ value.rules.places) (sym c.self.view_is) c.requires.place in
     let held = held_places inside sound in
@@ -58,7 +58,7 @@ returns-clause-step c =
     let inside = c.self.inside in
     let place = c.place_for-nas in
     let links : links_seen place.new.servers inside.links.list.items ≡ links_seen inside.servers inside.links.list.items =
-    subst (λ links. links_seen place.new.servers links ≡ links_seen inside.servers links) c.deref.ensures.value place.ensures.links in
+    subst (λ links. links_seen place.new.servers links ≡ links_seen inside.servers links) c.as_slice.ensures place.ensures.links in
     rw (← c.self.view_is)
     (ap (λ (book : Book). (book, Accept inside.accepts))
     (same_book inside.clock (inside.accepts + 1) inside.over

@@ -10,7 +10,7 @@ use Rattle.rsl_book.proofs.book.Book.open_link.Goals as goal
 pub place_for-nas-requires : goal.place_for-nas-requires
 place_for-nas-requires c =
     let room = room_in_table c.self.inside c.self.invariant in
-    let same = ap length c.deref.ensures.value in
+    let same = ap length c.as_slice.ensures in
     omega arith
 
 pub open-requires-clause-room : goal.open-requires-clause-room
@@ -19,7 +19,7 @@ open-requires-clause-room c =
     let sound = c.self.invariant in
     let place = c.place_for-nas in
     let links : links_seen place.new.servers inside.links.list.items ≡ links_seen inside.servers inside.links.list.items =
-    subst (λ links. links_seen place.new.servers links ≡ links_seen inside.servers links) c.deref.ensures.value place.ensures.links in
+    subst (λ links. links_seen place.new.servers links ≡ links_seen inside.servers links) c.as_slice.ensures place.ensures.links in
     let fits = c.if-self-more.true in
     room_for_one place.new.servers inside.links inside.rules.places inside.rules.ports (cond c.adds_a_place.result 1 0) _ (bundle_with (nas_at place.new.servers place.result) c.args.bundle)
     (counted_again inside.servers place.new.servers inside.links links sound.counted) c.adds_a_place.ensures (let same = c.one_if-more.ensures in omega arith) sound.ports sound.room
@@ -30,7 +30,7 @@ invariant_of-self c =
     let sound = c.self.invariant in
     let place = c.place_for-nas in
     let links : links_seen place.new.servers inside.links.list.items ≡ links_seen inside.servers inside.links.list.items =
-    subst (λ links. links_seen place.new.servers links ≡ links_seen inside.servers links) c.deref.ensures.value place.ensures.links in
+    subst (λ links. links_seen place.new.servers links ≡ links_seen inside.servers links) c.as_slice.ensures place.ensures.links in
     let fits = c.if-self-more.true in
     record {
       fit = sound.fit;
@@ -51,7 +51,7 @@ returns-then-self-more c =
     let sound = c.self.invariant in
     let place = c.place_for-nas in
     let links : links_seen place.new.servers inside.links.list.items ≡ links_seen inside.servers inside.links.list.items =
-    subst (λ links. links_seen place.new.servers links ≡ links_seen inside.servers links) c.deref.ensures.value place.ensures.links in
+    subst (λ links. links_seen place.new.servers links ≡ links_seen inside.servers links) c.as_slice.ensures place.ensures.links in
     let sum = open_sum inside.servers place.new.servers inside.links inside.rules.ports place.result (cond c.adds_a_place.result 1 0) c.args.nas c.args.bundle links place.ensures.stands sound.ports sound.counted c.adds_a_place.ensures in
     let fits = c.if-self-more.true in
     let same = c.one_if-more.ensures in
@@ -69,7 +69,7 @@ returns-else-self-more c =
     let sound = c.self.invariant in
     let place = c.place_for-nas in
     let links : links_seen place.new.servers inside.links.list.items ≡ links_seen inside.servers inside.links.list.items =
-    subst (λ links. links_seen place.new.servers links ≡ links_seen inside.servers links) c.deref.ensures.value place.ensures.links in
+    subst (λ links. links_seen place.new.servers links ≡ links_seen inside.servers links) c.as_slice.ensures place.ensures.links in
     let sum = open_sum inside.servers place.new.servers inside.links inside.rules.ports place.result (cond c.adds_a_place.result 1 0) c.args.nas c.args.bundle links place.ensures.stands sound.ports sound.counted c.adds_a_place.ensures in
     let full = c.if-self-more.false in
     let same = c.one_if-more.ensures in

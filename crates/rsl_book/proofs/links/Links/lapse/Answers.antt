@@ -1,49 +1,20 @@
-use Rattle.std.proofs.Common.{◌≡◌, ◌∙◌, arith, rules, refl, length}
-use Rattle.rsl_session.specs.BookLinks.{lapses_at}
-use Rattle.rsl_book.specs.Seen.{links_seen}
-use Rattle.rsl_book.proofs.Ending.{seen_pass, seen_gone, seen_start, seen_within, long_enough}
+use Rattle.std.proofs.Common.{sym, ◌∙◌, arith}
+use Rattle.rsl_book.proofs.Yielding.{lapse_step, lapse_end}
 use Rattle.rsl_book.proofs.links.Links.lapse.Goals as goal
-
-pub loop-at-init : goal.loop-at-init
-loop-at-init c =
-    let all : c.len-at.result ≡ length c.args.self.now.list.items = search rules in
-    record {
-      within = seen_within c.args.servers.now c.args.self.now.list.items c.len-at.result all;
-      inside = omega arith;
-      left = seen_start c.args.servers.now (lapses_at c.args.rules.now c.args.now) c.args.self.now.list.items c.len-at.result all;
-      counted = c.requires.counted;
-      fewer = omega arith;
-      ports = refl;
-      room = refl;
-    }
-
-pub loop-at-preserved-then-lapses : goal.loop-at-preserved-then-lapses
-loop-at-preserved-then-lapses c =
-    let before = c.loop-at.invariant in
-    let gone = c.end_at.ensures in
-    record {
-      within = omega arith;
-      inside = long_enough c.loop-at.self.list.items c.end_at.new.self.list.items c.loop-at.at c.loop-at-test.true before.inside gone.links;
-      left = seen_gone c.args.servers.now (lapses_at c.args.rules.now c.args.now) c.loop-at.self.list.items c.end_at.new.self.list.items
-          (links_seen c.args.servers.now c.args.self.now.list.items) c.loop-at.at c.index.result.now c.lapses.result
-          c.loop-at-test.true before.within before.inside c.index.ensures c.lapses.ensures c.if-lapses.true gone.links before.left;
-      counted = gone.counted;
-      fewer = omega (arith, gone.fewer, before.fewer);
-      ports = gone.ports ∙ before.ports;
-      room = gone.room ∙ before.room;
-    }
 
 pub loop-at-preserved : goal.loop-at-preserved
 loop-at-preserved c =
-    let before = c.loop-at.invariant in
+    let so_far = c.loop-at.invariant in
+    let gone = c.end_at.ensures in
     record {
-      within = omega arith;
-      inside = omega arith;
-      left = seen_pass c.args.servers.now (lapses_at c.args.rules.now c.args.now) c.loop-at.self.list.items
-          (links_seen c.args.servers.now c.args.self.now.list.items) c.loop-at.at c.index.result.now c.lapses.result
-          c.loop-at-test.true before.within before.inside c.index.ensures c.lapses.ensures c.if-lapses.false before.left;
-      counted = before.counted;
-      fewer = before.fewer;
-      ports = before.ports;
-      room = before.room;
+      left = lapse_step c.args.servers.now c.args.rules.now c.args.now c.loop-at.self.list.items c.end_at.new.self.list.items c.in-Some.at c.in-Some.ensures.within c.in-Some.ensures.found gone.links ∙ so_far.left;
+      counted = gone.counted;
+      fewer = omega (arith, gone.fewer, so_far.fewer);
+      ports = gone.ports ∙ so_far.ports;
+      room = gone.room ∙ so_far.room;
     }
+
+pub returns-clause-links : goal.returns-clause-links
+returns-clause-links c =
+    let so_far = c.loop-at.invariant in
+    sym (lapse_end c.args.servers.now c.args.rules.now c.args.now c.loop-at.self.list.items c.in_default.ensures.missed) ∙ so_far.left

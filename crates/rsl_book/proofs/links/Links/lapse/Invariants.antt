@@ -1,5 +1,5 @@
-use Rattle.std.proofs.Common.{◌≡◌, ◌≤◌, ◌++◌, take, drop, length, not}
-use Rattle.std.specs.Prelude.{filter, vec_capacity}
+use Rattle.std.proofs.Common.{◌≡◌, ◌≤◌, length, not}
+use Rattle.std.specs.Prelude.{filter}
 use Rattle.rsl_session.specs.Book.{BookLink}
 use Rattle.rsl_session.specs.BookLinks.{lapses_at}
 use Rattle.rsl_book.specs.Seen.{links_seen}
@@ -9,16 +9,13 @@ use Rattle.rsl_book.proofs.links.Links.lapse.Given as goal
 abbrev pub invariant-loop-at : goal.invariant-loop-at
 invariant-loop-at l =
     record {
-      within : l.at ≤ length (links_seen l.servers l.initial.self.list.items);
-      inside : l.at ≤ length l.self.list.items;
-      left : links_seen l.servers l.self.list.items
-          ≡ take l.at (links_seen l.servers l.initial.self.list.items)
-          ++ filter (λ (link : BookLink). not (lapses_at l.rules l.now link)) (drop l.at (links_seen l.servers l.initial.self.list.items));
+      left : filter (λ (link : BookLink). not (lapses_at l.rules l.now link)) (links_seen l.servers l.self.list.items)
+          ≡ filter (λ (link : BookLink). not (lapses_at l.rules l.now link)) (links_seen l.servers l.initial.self.list.items);
       counted : AreCounted l.servers l.self;
       fewer : l.self.places ≤ l.initial.self.places;
       ports : l.self.ports ≡ l.initial.self.ports;
-      room : vec_capacity l.self.list ≡ vec_capacity l.initial.self.list;
+      room : l.self.list.room ≡ l.initial.self.list.room;
     }
 
 abbrev pub decreases-loop-at : goal.decreases-loop-at
-decreases-loop-at l = l.at
+decreases-loop-at l = length l.self.list.items

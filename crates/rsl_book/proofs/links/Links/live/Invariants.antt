@@ -6,5 +6,5 @@ use Rattle.rsl_book.proofs.links.Links.live.Given as goal
 
 abbrev pub invariant-loop-link : goal.invariant-loop-link
 invariant-loop-link l =
-    l.live + count_by (is_live_at l.rules l.now) (links_seen l.servers (drop l.link-index l.link-items))
-    ≡ count_by (is_live_at l.rules l.now) (links_seen l.servers l.link-items)
+    l.live + count_by (is_live_at l.rules l.now) (links_seen l.servers (drop l.link-index l.links))
+    ≡ count_by (is_live_at l.rules l.now) (links_seen l.servers l.links)

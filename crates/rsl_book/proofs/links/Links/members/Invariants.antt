@@ -7,5 +7,5 @@ use Rattle.rsl_book.proofs.links.Links.members.Given as goal
 
 abbrev pub invariant-loop-link : goal.invariant-loop-link
 invariant-loop-link l =
-    l.members + count_by (is_bundle (record { nas = l.nas; id = l.id })) (bundles_in (links_seen l.servers (drop l.link-index l.link-items)))
-    ≡ count_by (is_bundle (record { nas = l.nas; id = l.id })) (bundles_in (links_seen l.servers l.link-items))
+    l.members + count_by (is_bundle (record { nas = l.nas; id = l.id })) (bundles_in (links_seen l.servers (drop l.link-index l.links)))
+    ≡ count_by (is_bundle (record { nas = l.nas; id = l.id })) (bundles_in (links_seen l.servers l.links))

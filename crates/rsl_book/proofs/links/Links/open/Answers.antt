@@ -7,5 +7,5 @@ returns-clause-counted c =
     record {
       a_port = c.requires.counted.a_port;
       places = counted_open c.args.servers.now c.args.self.now.ports c.args.self.now.places _ (cond c.adds_a_place.result 1 0) c.args.link c.args.self.now.list.items
-          c.push_reserved.new.self.items c.push_reserved.ensures.items c.requires.counted.places c.adds_a_place.ensures (ap (λ n. c.args.self.now.places + n) c.one_if.ensures);
+          c.push.new.self.items c.push.ensures.items c.requires.counted.places c.adds_a_place.ensures (ap (λ n. c.args.self.now.places + n) c.one_if.ensures);
     }

@@ -6,5 +6,5 @@ use Rattle.rsl_book.proofs.links.Links.reserved.Given as goal
 
 abbrev pub invariant-loop-link : goal.invariant-loop-link
 invariant-loop-link l =
-    l.reserved + count_by (λ (link : BookLink). is_reservation link.holder) (links_seen l.servers (drop l.link-index l.link-items))
-    ≡ count_by (λ (link : BookLink). is_reservation link.holder) (links_seen l.servers l.link-items)
+    l.reserved + count_by (λ (link : BookLink). is_reservation link.holder) (links_seen l.servers (drop l.link-index l.links))
+    ≡ count_by (λ (link : BookLink). is_reservation link.holder) (links_seen l.servers l.links)

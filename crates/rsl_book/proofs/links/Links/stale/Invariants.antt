@@ -6,5 +6,5 @@ use Rattle.rsl_book.proofs.links.Links.stale.Given as goal
 
 abbrev pub invariant-loop-link : goal.invariant-loop-link
 invariant-loop-link l =
-    l.stale + count_by (is_stale_at l.rules l.now) (links_seen l.servers (drop l.link-index l.link-items))
-    ≡ count_by (is_stale_at l.rules l.now) (links_seen l.servers l.link-items)
+    l.stale + count_by (is_stale_at l.rules l.now) (links_seen l.servers (drop l.link-index l.links))
+    ≡ count_by (is_stale_at l.rules l.now) (links_seen l.servers l.links)

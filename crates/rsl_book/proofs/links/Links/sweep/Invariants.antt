@@ -1,5 +1,5 @@
 use Rattle.std.proofs.Common.{◌≡◌, ◌≤◌, ◌++◌, take, drop, length, not}
-use Rattle.std.specs.Prelude.{filter, vec_capacity}
+use Rattle.std.specs.Prelude.{filter}
 use Rattle.rsl_session.specs.Book.{BookLink}
 use Rattle.rsl_session.specs.Same.{same_nas}
 use Rattle.rsl_book.specs.Seen.{links_seen}
@@ -17,7 +17,7 @@ invariant-loop-at l =
       counted : AreCounted l.servers l.self;
       fewer : l.self.places ≤ l.initial.self.places;
       ports : l.self.ports ≡ l.initial.self.ports;
-      room : vec_capacity l.self.list ≡ vec_capacity l.initial.self.list;
+      room : l.self.list.room ≡ l.initial.self.list.room;
     }
 
 abbrev pub decreases-loop-at : goal.decreases-loop-at

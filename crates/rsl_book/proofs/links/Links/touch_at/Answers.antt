@@ -2,8 +2,6 @@ use Rattle.std.proofs.Common.{◌-◌, sym, ◌∙◌, ap, arith}
 use Rattle.rsl_session.specs.Places.{places_of}
 use Rattle.rsl_session.specs.Book.{bundles_in}
 use Rattle.rsl_book.specs.Seen.{links_seen}
-use Rattle.rsl_book.specs.Changed.{touched_link}
-use Rattle.rsl_book.proofs.Found.{set_is_change}
 use Rattle.rsl_book.proofs.Touching.{joined_less, joined_within}
 use Rattle.rsl_book.proofs.links.Links.touch_at.Goals as goal
 
@@ -12,15 +10,11 @@ overflow_sub-self c =
     let within = joined_within c.joins_a_place.result c.args.self.now.places _ _ c.requires.counted.places (c.joins_a_place.ensures c.args.now) in
     omega (arith, within, c.one_if.ensures)
 
-pub returns-clause-links : goal.returns-clause-links
-returns-clause-links c =
-    set_is_change (touched_link c.args.now c.args.bundle) c.args.self.now.list.items c.args.at c.index_mut.result.now c.touch.new.self c.requires.within c.index_mut.ensures.value c.touch.ensures
-
 pub returns-clause-counted : goal.returns-clause-counted
 returns-clause-counted c =
     record {
       a_port = c.requires.counted.a_port;
       places = ap (λ n. c.args.self.now.places - n) c.one_if.ensures
           ∙ joined_less c.joins_a_place.result c.args.self.now.places _ _ c.requires.counted.places (c.joins_a_place.ensures c.args.now)
-          ∙ ap (λ links. places_of c.args.self.now.ports (bundles_in (links_seen c.args.servers.now links))) (sym (returns-clause-links c));
+          ∙ ap (λ links. places_of c.args.self.now.ports (bundles_in (links_seen c.args.servers.now links))) (sym c.touch.ensures.items);
     }

@@ -1,0 +1,219 @@
+-- Orders of a book's links: one link less, more, changed, or gone from among them.
+use Rattle.std.proofs.Common.{◌≡◌, ◌≢◌, ℕ, zero, suc, ◌+◌, ◌-◌, ◌<◌, List, [], ◌∷◌, ◌++◌, get_or, length, length-append, map, set, Bool, true, false, refl, ap, sym, ◌∙◌, subst, arith, inl, inr}
+use Rattle.std.specs.List.{insert, remove}
+use Rattle.std.proofs.lemmas.Bool.{false≢true, cases_lt, cases_eq, lt-ltb, le-ltb}
+use Rattle.std.proofs.lemmas.List.{get_or_default, get_or_append_left, get_or-set_other, length-set}
+use Rattle.std.proofs.lemmas.List.Edits.{get_or-remove_below, get_or-remove_above, length-remove}
+use Rattle.rsl_book.specs.declared.link.Link.{Link}
+use Rattle.rsl_book.specs.declared.order.Kind.{Kind}
+use Rattle.rsl_book.specs.declared.order.Kind.TheVariants.{Reserved, Bound}
+use Rattle.rsl_book.specs.declared.list.Orders.{Orders}
+use Rattle.rsl_book.specs.LinkList.{AreOrders, AreOrdersBut}
+use Rattle.rsl_book.specs.Order.{Entry, entry_at, is_before, is_of, number_of, octets_of, link_at, no_link, moved_up, IsSearchable, IsSplit, IsListed, IsOrderBut, IsOrderOf}
+use Rattle.rsl_book.proofs.Before.{neither, moved_before}
+use Rattle.rsl_book.proofs.Orders.{apart, stands_at, removed, inserted, same_order, mapped, few, Came}
+
+pub link_here : (links : List Link) (at : ℕ) (link : Link) → at < length links → link ≡ get_or links at link → link ≡ link_at links at
+link_here links at link within is = is ∙ get_or_default links at link no_link within
+
+pub entry_here : (kind : Kind) (links : List Link) (at : ℕ) (link : Link) → at < length links → link ≡ get_or links at link
+    → (number_of kind link ∷ octets_of kind link, at) ≡ entry_at kind links at
+entry_here kind links at link within is = ap (λ (one : Link). (number_of kind one ∷ octets_of kind one, at)) (link_here links at link within is)
+
+pub searchable : (kind : Kind) (links : List Link) (but : ℕ) (order : List ℕ) → IsOrderBut kind links but order → IsSearchable kind links order
+searchable kind links but order o = record { within = λ k inside. (o.each k inside).within; rises = o.rises }
+
+pub few_others : (kind : Kind) (links : List Link) (at : ℕ) (order : List ℕ) → at < length links → IsOrderBut kind links at order → length order < length links
+few_others kind links at order within o =
+    let most = few (length links) (at ∷ order) below distinct in
+    omega (arith, most)
+  where
+    below : (k : ℕ) → k < length (at ∷ order) → get_or (at ∷ order) k 0 < length links
+    below zero inside = within
+    below (suc k) inside = (o.each k (omega (arith, inside))).within
+
+    distinct : (j k : ℕ) → j < k → k < length (at ∷ order) → get_or (at ∷ order) j 0 ≢ get_or (at ∷ order) k 0
+    distinct j zero past inside = absurd (omega (arith, past))
+    distinct zero (suc k) past inside = λ e. (o.each k (omega (arith, inside))).other (sym e)
+    distinct (suc j) (suc k) past inside = apart order o j k (omega (arith, past)) (omega (arith, inside))
+
+-- a link is taken out, or did not stand there
+pub withdrawn : (kind : Kind) (links : List Link) (order : List ℕ) (at place : ℕ) → IsOrderOf kind links order → place < length order → get_or order place 0 ≡ at
+    → IsOrderBut kind links at (remove order place)
+withdrawn kind links order at place o within is =
+    removed order o (IsListed kind links at) place at within is
+    (λ y l other. record { within = l.within; other = other; of_kind = l.of_kind })
+    (λ y l. record { within = l.within; other = (let w = l.within in omega (arith, w)); of_kind = l.of_kind })
+    (λ y l. l.other)
+
+pub not_there : (kind : Kind) (links : List Link) (order : List ℕ) (at place : ℕ) → IsOrderOf kind links order → IsSplit (entry_at kind links) order (entry_at kind links at) place
+    → (((place < length order) × (get_or order place 0 ≡ at)) → false ≡ true) → IsOrderBut kind links at order
+not_there kind links order at place o split none =
+    same_order order o
+    (λ x l. record { within = l.within; other = (λ e. false≢true (none (stands_at order o at place split (o.all at (subst (IsListed kind links (length links)) e l))))); of_kind = l.of_kind })
+    (λ x l. record { within = l.within; other = (let w = l.within in omega (arith, w)); of_kind = l.of_kind })
+    (λ x l. refl)
+
+-- a link is put in, or is of another kind
+pub entered : (kind : Kind) (links : List Link) (order : List ℕ) (at place : ℕ) → at < length links → IsOrderBut kind links at order → is_of kind (link_at links at) ≡ true
+    → IsSplit (entry_at kind links) order (entry_at kind links at) place → IsOrderOf kind links (insert order place at)
+entered kind links order at place within o here split =
+    inserted order o (IsListed kind links (length links)) place at split
+    (record { within = within; other = omega (arith, within); of_kind = here })
+    (λ y l. record { within = l.within; other = (let w = l.within in omega (arith, w)); of_kind = l.of_kind })
+    (λ y l not_before. after y l not_before)
+    (λ y l. elim (cases_eq y at) [
+      | inl same ↦ inl same
+      | inr other ↦ inr (record { within = l.within; other = other; of_kind = l.of_kind })
+    ])
+  where
+    after : (y : ℕ) → IsListed kind links at y → is_before (entry_at kind links y) (entry_at kind links at) ≡ false → is_before (entry_at kind links at) (entry_at kind links y) ≡ true
+    after y l not_before = by_cases (is_before (entry_at kind links at) (entry_at kind links y)) refl where
+      by_cases : (b : Bool) → is_before (entry_at kind links at) (entry_at kind links y) ≡ b → is_before (entry_at kind links at) (entry_at kind links y) ≡ true
+      by_cases true e = e
+      by_cases false e = absurd (l.other (neither (entry_at kind links y) (entry_at kind links at) not_before e).1)
+
+pub not_entered : (kind : Kind) (links : List Link) (order : List ℕ) (at : ℕ) → IsOrderBut kind links at order → is_of kind (link_at links at) ≡ false → IsOrderOf kind links order
+not_entered kind links order at o other_kind =
+    same_order order o
+    (λ x l. record { within = l.within; other = (let w = l.within in omega (arith, w)); of_kind = l.of_kind })
+    (λ x l. record { within = l.within; other = (λ e. false≢true (sym other_kind ∙ subst (λ n. is_of kind (link_at links n) ≡ true) e l.of_kind)); of_kind = l.of_kind })
+    (λ x l. refl)
+
+-- the link that an order leaves out is changed
+pub changed_but : (kind : Kind) (links others : List Link) (at : ℕ) (order : List ℕ) → length others ≡ length links → ((x : ℕ) → x ≢ at → link_at others x ≡ link_at links x)
+    → IsOrderBut kind links at order → IsOrderBut kind others at order
+changed_but kind links others at order long same o =
+    same_order order o
+    (λ x l. record { within = (let w = l.within in omega (arith, w, long)); other = l.other; of_kind = ap (λ (one : Link). is_of kind one) (same x l.other) ∙ l.of_kind })
+    (λ x l. record { within = (let w = l.within in omega (arith, w, long)); other = l.other; of_kind = sym (ap (λ (one : Link). is_of kind one) (same x l.other)) ∙ l.of_kind })
+    (λ x l. ap (λ (one : Link). (number_of kind one ∷ octets_of kind one, x)) (same x l.other))
+
+-- one link more, which the order leaves out
+pub grown : (kind : Kind) (links : List Link) (link : Link) (order : List ℕ) → IsOrderOf kind links order → IsOrderBut kind (links ++ link ∷ []) (length links) order
+grown kind links link order o =
+    let long : length (links ++ link ∷ []) ≡ length links + 1 = length-append links (link ∷ []) in
+    let same : (x : ℕ) → x < length links → link_at (links ++ link ∷ []) x ≡ link_at links x = λ x within. get_or_append_left links (link ∷ []) no_link x within in
+    same_order order o
+    (λ x l. record { within = (let w = l.within in omega (arith, w, long)); other = l.other; of_kind = ap (λ (one : Link). is_of kind one) (same x l.within) ∙ l.of_kind })
+    (λ x l.
+    let w = l.within in
+    let ne = l.other in
+    let within : x < length links = omega (arith, w, long, ne) in
+    record { within = within; other = l.other; of_kind = sym (ap (λ (one : Link). is_of kind one) (same x within)) ∙ l.of_kind })
+    (λ x l. ap (λ (one : Link). (number_of kind one ∷ octets_of kind one, x)) (same x l.within))
+
+-- the link that an order leaves out is gone from among the others
+up_below : (gone x : ℕ) → x < gone → moved_up gone x ≡ x
+up_below gone x low = rw (le-ltb gone x (omega arith)) refl
+
+up_above : (gone x : ℕ) → gone < x → moved_up gone x ≡ x - 1
+up_above gone x high = rw (lt-ltb gone x high) refl
+
+pub closed : (kind : Kind) (links : List Link) (at : ℕ) (order : List ℕ) → at < length links → IsOrderBut kind links at order → IsOrderOf kind (remove links at) (map (moved_up at) order)
+closed kind links at order within o =
+    mapped order (moved_up at) o
+    (λ x l. record { within = inside x l; other = (let w = inside x l in omega (arith, w)); of_kind = ap (λ (one : Link). is_of kind one) (same x l) ∙ l.of_kind })
+    (λ x y one two before.
+    subst (λ (e : Entry). is_before e (entry_at kind (remove links at) (moved_up at y)) ≡ true) (sym (entry x one))
+    (subst (λ (e : Entry). is_before (number_of kind (link_at links x) ∷ octets_of kind (link_at links x), moved_up at x) e ≡ true) (sym (entry y two))
+    (moved_before _ _ x y (moved_up at x) (moved_up at y) (λ less. order_kept x y one.other two.other less) before)))
+    (λ y l. came y l)
+  where
+    long : length (remove links at) + 1 ≡ length links
+    long = length-remove links at within
+
+    inside : (x : ℕ) → IsListed kind links at x → moved_up at x < length (remove links at)
+    inside x l =
+        let w = l.within in
+        elim (cases_lt x at) [
+          | inl low ↦ (let up = up_below at x low in omega (arith, up, long, low, within))
+          | inr high ↦ (let ne = l.other in let up = up_above at x (omega (arith, high, ne)) in omega (arith, up, long, high, ne, w))
+        ]
+
+    same : (x : ℕ) → IsListed kind links at x → link_at (remove links at) (moved_up at x) ≡ link_at links x
+    same x l =
+        elim (cases_lt x at) [
+          | inl low ↦ ap (λ n. link_at (remove links at) n) (up_below at x low) ∙ get_or-remove_below links at no_link x low within
+          | inr high ↦ (
+              let ne = l.other in
+              let past : at < x = omega (arith, high, ne) in
+              let back : x - 1 + 1 ≡ x = omega (arith, past) in
+              ap (λ n. link_at (remove links at) n) (up_above at x past) ∙ get_or-remove_above links at no_link (x - 1) (omega (arith, past)) within ∙ ap (λ n. link_at links n) back
+              )
+        ]
+
+    entry : (x : ℕ) → IsListed kind links at x → entry_at kind (remove links at) (moved_up at x) ≡ (number_of kind (link_at links x) ∷ octets_of kind (link_at links x), moved_up at x)
+    entry x l = ap (λ (one : Link). (number_of kind one ∷ octets_of kind one, moved_up at x)) (same x l)
+
+    order_kept : (x y : ℕ) → x ≢ at → y ≢ at → x < y → moved_up at x < moved_up at y
+    order_kept x y one two less =
+        elim (cases_lt x at) [
+          | inl low ↦ elim (cases_lt y at) [
+            | inl other ↦ (let a = up_below at x low in let b = up_below at y other in omega (arith, a, b, less))
+            | inr other ↦ (let a = up_below at x low in let b = up_above at y (omega (arith, other, two)) in omega (arith, a, b, less, low, other, two))
+          ]
+          | inr high ↦ (let a = up_above at x (omega (arith, high, one)) in let b = up_above at y (omega (arith, high, less)) in omega (arith, a, b, less, high, one))
+        ]
+
+    came : (y : ℕ) → IsListed kind (remove links at) (length (remove links at)) y → Came (IsListed kind links at) (moved_up at) y
+    came y l =
+        let w = l.within in
+        elim (cases_lt y at) [
+          | inl low ↦ record {
+            from = y;
+            listed_there = record { within = omega (arith, w, long); other = omega (arith, low); of_kind = sym (ap (λ (one : Link). is_of kind one) (get_or-remove_below links at no_link y low within)) ∙ l.of_kind };
+            is = up_below at y low;
+          }
+          | inr high ↦ record {
+            from = y + 1;
+            listed_there = record { within = omega (arith, w, long); other = omega (arith, high); of_kind = sym (ap (λ (one : Link). is_of kind one) (get_or-remove_above links at no_link y high within)) ∙ l.of_kind };
+            is = (let up = up_above at (y + 1) (omega (arith, high)) in omega (arith, up));
+          }
+        ]
+
+-- where an order is split before a link of its own
+pub split_own : (kind : Kind) (links : List Link) (order view : List ℕ) (at : ℕ) (link : Link) (number : ℕ) (octets : List ℕ) (place : ℕ) → at < length links → link ≡ get_or links at link
+    → view ≡ order → number ≡ number_of kind link → octets ≡ octets_of kind link
+    → IsSplit (entry_at kind links) view (number ∷ octets, at) place → IsSplit (entry_at kind links) order (entry_at kind links at) place
+split_own kind links order view at link number octets place within is same one two split =
+    let e : (number ∷ octets, at) ≡ entry_at kind links at = rw (one, two) (entry_here kind links at link within is) in
+    subst (λ (xs : List ℕ). IsSplit (entry_at kind links) xs (entry_at kind links at) place) same
+    (subst (λ (target : Entry). IsSplit (entry_at kind links) view target place) e split)
+
+pub no_order : (kind : Kind) (links : List Link) (order : List ℕ) → links ≡ [] → order ≡ [] → IsOrderOf kind links order
+no_order kind links order none empty =
+    record {
+      each = λ k inside. absurd (let zero_long = ap length empty in omega (arith, inside, zero_long));
+      rises = λ j k past inside. absurd (let zero_long = ap length empty in omega (arith, inside, zero_long));
+      all = λ x l. absurd (let w = l.within in let zero_long = ap length none in omega (arith, w, zero_long));
+    }
+
+-- the same of both orders
+pub orders_grown : (links : List Link) (link : Link) (orders : Orders) → AreOrders links orders → AreOrdersBut (links ++ link ∷ []) (length links) orders
+orders_grown links link orders are =
+    record { reserved = grown Reserved links link orders.reserved.items are.reserved; bound = grown Bound links link orders.bound.items are.bound }
+
+pub orders_changed : (links : List Link) (at : ℕ) (link : Link) (orders : Orders) → AreOrdersBut links at orders → AreOrdersBut (set links at link) at orders
+orders_changed links at link orders are =
+    let long : length (set links at link) ≡ length links = length-set links at link in
+    let same : (x : ℕ) → x ≢ at → link_at (set links at link) x ≡ link_at links x = λ x other. get_or-set_other links at x link _ other in
+    record {
+      reserved = changed_but Reserved links (set links at link) at orders.reserved.items long same are.reserved;
+      bound = changed_but Bound links (set links at link) at orders.bound.items long same are.bound;
+    }
+
+pub orders_closed : (links : List Link) (at : ℕ) (old new : Orders) → at < length links → AreOrdersBut links at old
+    → new.reserved.items ≡ map (moved_up at) old.reserved.items → new.bound.items ≡ map (moved_up at) old.bound.items → AreOrders (remove links at) new
+orders_closed links at old new within are one two =
+    record {
+      reserved = subst (IsOrderOf Reserved (remove links at)) (sym one) (closed Reserved links at old.reserved.items within are.reserved);
+      bound = subst (IsOrderOf Bound (remove links at)) (sym two) (closed Bound links at old.bound.items within are.bound);
+    }
+
+pub no_orders : (links : List Link) (orders : Orders) → links ≡ [] → orders.reserved.items ≡ [] → orders.bound.items ≡ [] → AreOrders links orders
+no_orders links orders none one two =
+    record { reserved = no_order Reserved links orders.reserved.items none one; bound = no_order Bound links orders.bound.items none two }
+
+pub orders_of : (links others : List Link) (at : ℕ) (orders : Orders) → links ≡ others → AreOrdersBut links at orders → AreOrdersBut others at orders
+orders_of links others at orders same are = subst (λ (xs : List Link). AreOrdersBut xs at orders) same are

@@ -1,0 +1,15 @@
+use Rattle.std.proofs.Common.{◌≡◌, ℕ, ◌-◌, ◌<◌, ◌≤◌, ◌∷◌, get_or, length, true, false}
+use Rattle.rsl_book.specs.Order.{entry_at, is_before}
+use Rattle.rsl_book.proofs.order.Kind.count_before.Given as goal
+
+abbrev pub invariant-loop-low : goal.invariant-loop-low
+invariant-loop-low l =
+    record {
+      within : l.low ≤ l.high;
+      inside : l.high ≤ length l.order;
+      before : (k : ℕ) → k < l.low → is_before (entry_at l.self l.links (get_or l.order k 0)) (l.number ∷ l.octets, l.at) ≡ true;
+      after : (k : ℕ) → l.high ≤ k → k < length l.order → is_before (entry_at l.self l.links (get_or l.order k 0)) (l.number ∷ l.octets, l.at) ≡ false;
+    }
+
+abbrev pub decreases-loop-low : goal.decreases-loop-low
+decreases-loop-low l = l.high - l.low
