@@ -1,46 +1,77 @@
--- The lines of a journal, over the books that they step.
-use Rattle.std.proofs.Common.{◌≡◌, ℕ, List, Option, ap, ◌∙◌}
-use Rattle.std.specs.Prelude.{take}
-use Rattle.std.specs.Option.{option_map_or}
+-- The lines of a journal whose books began new, over the books that they step.
+use Rattle.std.proofs.Common.{◌≡◌, ℕ, ◌%◌, ◌/◌, ◌<◌, List, Option, Some, None, refl, ap, sym, ◌∙◌, arith}
+use Rattle.std.specs.Prelude.{slice_get, take}
+use Rattle.std.specs.Option.{option_map, option_map_or}
+use Rattle.rsl_accounts.specs.Configuration.{Configuration}
 use Rattle.rsl_accounts.specs.declared.entry.Entry.{Entry as Account}
 use Rattle.rsl_accounts.specs.declared.rules.Rules.{Rules}
+use Rattle.rsl_book.specs.RuledBook.{RuledBook}
 use Rattle.rsl_event.specs.declared.event.Decision.{Decision}
 use Rattle.rsl_event.specs.declared.event.Decision.TheVariants.{Done}
 use Rattle.rsl_event.specs.declared.event.Event.{Event}
-use Rattle.rsl_session.proofs.Callers.{books_are, books_hold, joins, IsRuled-past_of}
-use Rattle.rsl_session.specs.Book.{Book, places_in}
+use Rattle.rsl_session.specs.Book.{Book, new_book, places_in}
+use Rattle.rsl_session.specs.BookLaws.{BooksAreThoseOfThePast, BooksHoldThePlacesOfTheRule, DecisionLaw}
 use Rattle.rsl_session.specs.BookOf.{book_of}
-use Rattle.rsl_session.specs.BookStep.{step}
+use Rattle.rsl_session.specs.BookStep.{book_after, step}
 use Rattle.rsl_session.specs.Rule.{past_of, places_after}
-use Rattle.rsl_shard.specs.Journal.{book_in, decision_in, new_books}
+use Rattle.rsl_shard.proofs.Beginning.{new_book_at}
+use Rattle.rsl_shard.proofs.Moving.{book_placed}
+use Rattle.rsl_shard.proofs.Numbers.{account_is}
+use Rattle.rsl_shard.specs.Journal.{book_in, decision_in, new_books as books_new}
 use Rattle.rsl_shard.specs.Moves.{own_in}
+use Rattle.rsl_shard.specs.Replay.{book_at, book_of_entry, decision_by, new_books, replay}
+use Rattle.rsl_shard.specs.Setup.{setup_of}
 use Rattle.rsl_shard.specs.declared.line.Line.{Line}
+use Rattle.rsl_shard.specs.declared.moved.Move.TheVariants as moves
 use Rattle.rsl_steps.specs.Laws.{JournalsObeyTheRule}
 use Rattle.rsl_steps.specs.Run.{decision_after}
+use Rattle.rsl_steps.proofs.BookAnswers.{book_decides}
+use Rattle.rsl_steps.proofs.Replayed.{after, replayed}
 
--- a book that began new is that of the past
-book_is : (rules : Rules) (account : ℕ) (lines : List Line) → book_in rules new_books account lines ≡ book_of rules (past_of rules (own_in account lines))
-unfolding book_in
-book_is rules account lines = books_are rules (own_in account lines)
+-- the new book of an account
+new_book_of : (config : Configuration) (shard account : ℕ) (entry : Account) → shard < config.settings.shards → slice_get config.accounts account ≡ Some entry
+    → account % config.settings.shards ≡ shard → book_at (setup_of config shard) (new_books config shard) account ≡ Some (book_of_entry entry)
+new_book_of config shard account entry less there of_shard =
+    let placed = account_is config.settings.shards shard account of_shard in
+    book_placed shard config.settings.shards account (account / config.settings.shards) (new_books config shard) (omega (arith, less)) placed
+    ∙ new_book_at config shard (account / config.settings.shards) less
+    ∙ ap (λ (number : ℕ). option_map book_of_entry (slice_get config.accounts number)) (sym placed)
+    ∙ ap (option_map book_of_entry) there
 
-places_are : (rules : Rules) (account : ℕ) (lines : List Line) → places_in rules (book_in rules new_books account lines) ≡ places_after rules (own_in account lines)
-unfolding book_in
-places_are rules account lines = books_hold rules (own_in account lines)
+after_entry : (entry : Account) (events : List Event) → (let ruled : RuledBook = record { rules = entry.rules; book = book_after entry.rules new_book events } in after events (book_of_entry entry) ≡ ruled)
+unfolding after
+after_entry entry events = refl
 
--- and so it decides as the rule does
-step_decides : (rules : Rules) (account : ℕ) (lines : List Line) (event : Event) → (step rules (book_in rules new_books account lines) event).1 ≡ decision_after rules (own_in account lines) event
-unfolding decision_after
-step_decides rules account lines event =
-    ap (λ (book : Book). (step rules book event).1) (book_is rules account lines)
-    ∙ ap (λ (next : Book × Decision). next.1) (joins rules (past_of rules (own_in account lines)) event (IsRuled-past_of rules (own_in account lines)))
+-- the book of an account after lines, where the books began new
+pub book_after_lines : (config : Configuration) (shard account : ℕ) (entry : Account) (lines : List Line) → shard < config.settings.shards
+    → slice_get config.accounts account ≡ Some entry → account % config.settings.shards ≡ shard
+    → book_at (setup_of config shard) (replay (setup_of config shard) (new_books config shard) lines) account
+    ≡ Some (record { rules = entry.rules; book = book_after entry.rules new_book (own_in account lines) })
+book_after_lines config shard account entry lines less there of_shard =
+    replayed (setup_of config shard) (new_books config shard) lines account
+    ∙ ap (option_map (after (own_in account lines))) (new_book_of config shard account entry less there of_shard)
+    ∙ ap Some (after_entry entry (own_in account lines))
 
-pub journals_obey : JournalsObeyTheRule
-journals_obey config shard account entry lines is there = record {
-  decided = λ n line event at own.
-      is.decided n line at
-      ∙ ap (decision_in config new_books (take n lines)) own
-      ∙ ap (λ (o : Option Account). option_map_or (λ (found : Account). (step found.rules (book_in found.rules new_books account (take n lines)) event).1) o Done) there
-      ∙ step_decides entry.rules account (take n lines) event;
-  book = book_is entry.rules account lines;
-  places = places_are entry.rules account lines;
-}
+module _ (decides : DecisionLaw) (are_of : BooksAreThoseOfThePast) (hold : BooksHoldThePlacesOfTheRule) where
+  book_is : (rules : Rules) (account : ℕ) (lines : List Line) → book_in rules books_new account lines ≡ book_of rules (past_of rules (own_in account lines))
+  unfolding book_in
+  book_is rules account lines = are_of rules (own_in account lines)
+
+  places_are : (rules : Rules) (account : ℕ) (lines : List Line) → places_in rules (book_in rules books_new account lines) ≡ places_after rules (own_in account lines)
+  unfolding book_in
+  places_are rules account lines = hold rules (own_in account lines)
+
+  step_decides : (rules : Rules) (account : ℕ) (lines : List Line) (event : Event) → (step rules (book_in rules books_new account lines) event).1 ≡ decision_after rules (own_in account lines) event
+  unfolding book_in
+  step_decides rules account lines event = book_decides decides are_of rules (own_in account lines) event
+
+  pub journals_obey : JournalsObeyTheRule
+  journals_obey config shard account entry lines is there = record {
+    decided = λ n line event at own.
+        is.decided n line at
+        ∙ ap (decision_in config books_new (take n lines)) own
+        ∙ ap (λ (o : Option Account). option_map_or (λ (found : Account). (step found.rules (book_in found.rules books_new account (take n lines)) event).1) o Done) there
+        ∙ step_decides entry.rules account (take n lines) event;
+    book = book_is entry.rules account lines;
+    places = places_are entry.rules account lines;
+  }

@@ -1,10 +1,14 @@
+pub mod BookAnswers
 pub mod Commuting
 pub mod EarlyTicks
+pub mod Headline
 pub mod Journals
-pub mod Keeping
 pub mod Limits
-pub mod OwnEvents
+pub mod OneMore
+pub mod OwnMoves
 pub mod OwnSteps
+pub mod Replayed
 pub mod Sharding
+pub mod Shards
 pub mod Snoc
 pub mod Words

@@ -1,39 +1,51 @@
 -- One step more at the end of a run.
-use Rattle.std.proofs.Common.{ℕ, List, [], ◌∷◌, ◌++◌}
+use Rattle.std.proofs.Common.{ℕ, ◌+◌, ◌≤◌, List, [], ◌∷◌, ◌++◌, length, arith}
 use Rattle.rsl_accounts.specs.Configuration.{Configuration}
-use Rattle.rsl_steps.specs.Run.{AreAnswers, taken}
-use Rattle.rsl_steps.specs.Taking.{AreKept, Takes}
-use Rattle.rsl_steps.specs.declared.kept.Kept.{Kept}
+use Rattle.rsl_shard.specs.Seen.{ShardSeen}
+use Rattle.rsl_steps.specs.Books.{AreAnswersByBooks}
+use Rattle.rsl_steps.specs.Ran.{AreShards}
+use Rattle.rsl_steps.specs.Run.{taken}
+use Rattle.rsl_steps.specs.Taking.{Takes}
 use Rattle.rsl_steps.specs.declared.step.Answer.{Answer}
 use Rattle.rsl_steps.specs.declared.step.Answer.TheVariants as answers
 use Rattle.rsl_steps.specs.declared.step.Step.{Step}
 
-pub record IsRun (config : Configuration) (boot : ℕ) (before : List Step) (steps : List Step) (given : List Answer) (all : List Kept) : Type 0 where
-  pub answers : AreAnswers config boot before steps given
-  pub kept : AreKept config boot (taken before steps given) all
+pub record IsRun (config : Configuration) (boot : ℕ) (before : List Step) (steps : List Step) (given : List Answer) (all : List ShardSeen) : Type 0 where
+  pub answers : AreAnswersByBooks config boot before steps given
+  pub shards : AreShards config boot (taken before steps given) all
 
-pub run_start : (config : Configuration) (boot : ℕ) (all : List Kept) → AreKept config boot [] all → IsRun config boot [] [] [] all
-unfolding AreAnswers taken
-run_start config boot all are = record { answers = tt; kept = are }
+pub run_start : (config : Configuration) (boot : ℕ) (all : List ShardSeen) → AreShards config boot [] all → IsRun config boot [] [] [] all
+unfolding AreAnswersByBooks taken
+run_start config boot all are = record { answers = tt; shards = are }
 
-pub run_more : (config : Configuration) (boot : ℕ) (before steps : List Step) (given : List Answer) (step : Step) (answer : Answer) (old new : List Kept)
+pub run_more : (config : Configuration) (boot : ℕ) (before steps : List Step) (given : List Answer) (step : Step) (answer : Answer) (old new : List ShardSeen)
     → IsRun config boot before steps given old → Takes config boot (taken before steps given) step answer old new → IsRun config boot before (steps ++ step ∷ []) (given ++ answer ∷ []) new
-unfolding AreAnswers taken
-run_more config boot before [] [] step (answers.Reply word octets) old new run takes = record { answers = (takes.answered, tt); kept = takes.kept }
-run_more config boot before [] [] step (answers.Dropped dropped) old new run takes = record { answers = (takes.answered, tt); kept = takes.kept }
-run_more config boot before [] [] step answers.Quiet old new run takes = record { answers = (takes.answered, tt); kept = takes.kept }
-run_more config boot before [] [] step answers.Refused old new run takes = record { answers = tt; kept = rw takes run.kept }
+unfolding AreAnswersByBooks taken
+run_more config boot before [] [] step (answers.Reply word octets) old new run takes = record { answers = (takes.answered, tt); shards = takes.moved }
+run_more config boot before [] [] step (answers.Dropped dropped) old new run takes = record { answers = (takes.answered, tt); shards = takes.moved }
+run_more config boot before [] [] step answers.Quiet old new run takes = record { answers = (takes.answered, tt); shards = takes.moved }
+run_more config boot before [] [] step answers.Refused old new run takes = record { answers = tt; shards = rw takes run.shards }
 run_more config boot before [] (a ∷ given) step answer old new run takes = absurd run.answers
 run_more config boot before (s ∷ steps) [] step answer old new run takes = absurd run.answers
 run_more config boot before (s ∷ steps) (answers.Reply word octets ∷ given) step answer old new run takes =
-    let more = run_more config boot (s ∷ before) steps given step answer old new (record { answers = run.answers.1; kept = run.kept }) takes in
-    record { answers = (run.answers.0, more.answers); kept = more.kept }
+    let more = run_more config boot (s ∷ before) steps given step answer old new (record { answers = run.answers.1; shards = run.shards }) takes in
+    record { answers = (run.answers.0, more.answers); shards = more.shards }
 run_more config boot before (s ∷ steps) (answers.Dropped dropped ∷ given) step answer old new run takes =
-    let more = run_more config boot (s ∷ before) steps given step answer old new (record { answers = run.answers.1; kept = run.kept }) takes in
-    record { answers = (run.answers.0, more.answers); kept = more.kept }
+    let more = run_more config boot (s ∷ before) steps given step answer old new (record { answers = run.answers.1; shards = run.shards }) takes in
+    record { answers = (run.answers.0, more.answers); shards = more.shards }
 run_more config boot before (s ∷ steps) (answers.Quiet ∷ given) step answer old new run takes =
-    let more = run_more config boot (s ∷ before) steps given step answer old new (record { answers = run.answers.1; kept = run.kept }) takes in
-    record { answers = (run.answers.0, more.answers); kept = more.kept }
+    let more = run_more config boot (s ∷ before) steps given step answer old new (record { answers = run.answers.1; shards = run.shards }) takes in
+    record { answers = (run.answers.0, more.answers); shards = more.shards }
 run_more config boot before (s ∷ steps) (answers.Refused ∷ given) step answer old new run takes =
-    let more = run_more config boot before steps given step answer old new (record { answers = run.answers; kept = run.kept }) takes in
-    record { answers = more.answers; kept = more.kept }
+    let more = run_more config boot before steps given step answer old new (record { answers = run.answers; shards = run.shards }) takes in
+    record { answers = more.answers; shards = more.shards }
+
+-- at most all steps are taken
+pub taken-few : (before steps : List Step) (given : List Answer) → length (taken before steps given) ≤ length before + length steps
+unfolding taken
+taken-few before [] given = omega arith
+taken-few before (step ∷ steps) [] = omega arith
+taken-few before (step ∷ steps) (answers.Refused ∷ given) = let rest = taken-few before steps given in omega (arith, rest)
+taken-few before (step ∷ steps) (answers.Reply word octets ∷ given) = let rest = taken-few (step ∷ before) steps given in omega (arith, rest)
+taken-few before (step ∷ steps) (answers.Dropped dropped ∷ given) = let rest = taken-few (step ∷ before) steps given in omega (arith, rest)
+taken-few before (step ∷ steps) (answers.Quiet ∷ given) = let rest = taken-few (step ∷ before) steps given in omega (arith, rest)

@@ -33,7 +33,7 @@ use Rattle.rsl_session.specs.Rule.{decision_of, entry_of, outcome_of, past_from,
 use Rattle.rsl_steps.specs.Laws.{EqualOwnEventsAreAnsweredAlike, Served, events_of, is_own_packet, words_of, words_to}
 use Rattle.rsl_steps.specs.Own.{event_in, event_of, is_of_shard, own, own_events}
 use Rattle.rsl_steps.specs.Run.{AreAnswers, answer_after, answer_by, decision_after, decision_on, taken}
-use Rattle.rsl_steps.proofs.Keeping.{own-cons}
+use Rattle.rsl_steps.proofs.OneMore.{own-cons}
 use Rattle.rsl_steps.specs.declared.step.Answer.{Answer}
 use Rattle.rsl_steps.specs.declared.step.Answer.TheVariants as answers
 use Rattle.rsl_steps.specs.declared.step.Step.{Step}

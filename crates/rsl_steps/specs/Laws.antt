@@ -1,7 +1,8 @@
 -- Laws of runs, each the contract of a function of `laws`.
-use Rattle.std.specs.Prelude.{◌≡◌, ◌≢◌, ℕ, ◌<◌, ◌≤◌, IsTrue, Bool, false, List, [], ◌∷◌, ◌++◌, map, take, All, slice_get, Some, is_some, if◌then◌else◌}
+use Rattle.std.specs.Prelude.{◌≡◌, ◌≢◌, ℕ, ◌%◌, ◌<◌, ◌≤◌, IsTrue, Bool, false, List, [], ◌∷◌, ◌++◌, map, take, All, slice_get, Some, is_some, if◌then◌else◌}
 use Rattle.std.specs.List.{flat_map, range_with_len}
 use Rattle.rsl_accounts.specs.Configuration.{Configuration}
+use Rattle.rsl_accounts.specs.Limits.{IsConfiguration}
 use Rattle.rsl_accounts.specs.declared.entry.Entry.{Entry}
 use Rattle.rsl_accounts.specs.declared.rules.Rules.{Rules}
 use Rattle.rsl_event.specs.Meaning.{meaning}
@@ -15,10 +16,14 @@ use Rattle.rsl_session.specs.BookOf.{book_of}
 use Rattle.rsl_session.specs.Rule.{past_of, places_after}
 use Rattle.rsl_shard.specs.Journal.{IsJournal, book_in, new_books}
 use Rattle.rsl_shard.specs.Moves.{own_in}
+use Rattle.rsl_shard.specs.Seen.{ShardSeen}
 use Rattle.rsl_shard.specs.declared.line.Line.{Line}
 use Rattle.rsl_shard.specs.declared.moved.Move.{Move}
+use Rattle.rsl_steps.specs.Books.{answer_by_book}
+use Rattle.rsl_steps.specs.Moves.{moves_of}
 use Rattle.rsl_steps.specs.Own.{event_in, own, own_events}
-use Rattle.rsl_steps.specs.Run.{AreAnswers, decision_after, taken}
+use Rattle.rsl_steps.specs.Ran.{AreShards, HasBookOf}
+use Rattle.rsl_steps.specs.Run.{AreAnswers, answer_after, decision_after, taken}
 use Rattle.rsl_steps.specs.declared.step.Answer.{Answer}
 use Rattle.rsl_steps.specs.declared.step.Answer.TheVariants.{Reply}
 use Rattle.rsl_steps.specs.declared.step.Step.{Step}
@@ -133,3 +138,23 @@ pub record ObeysTheRule (rules : Rules) (account : ℕ) (lines : List Line) : Ty
 abbrev pub JournalsObeyTheRule : Type 0
 JournalsObeyTheRule = (config : Configuration) (shard account : ℕ) (entry : Entry) (lines : List Line)
     → IsJournal config shard new_books lines → slice_get config.accounts account ≡ Some entry → ObeysTheRule entry.rules account lines
+
+-- ---- shards
+
+-- an account's own events among the moves of its shard are those among the steps
+abbrev pub JournalsHaveOwnEvents : Type 0
+JournalsHaveOwnEvents = (config : Configuration) (boot account : ℕ) (before : List Step) (lines : List Line)
+    → map (λ (line : Line). line.moved) lines ≡ moves_of config boot (account % config.settings.shards) before
+    → own_in account lines ≡ own config boot account before
+
+-- books that began new answer each step as looking back does
+abbrev pub BooksAnswerAsLookingBack : Type 0
+BooksAnswerAsLookingBack = (config : Configuration) (boot : ℕ) (before : List Step) (step : Step)
+    → answer_by_book config boot before step ≡ answer_after config boot before step
+
+-- where the journals of shards that began new have the moves of some steps, each account's book is that of its own
+-- events among them, and holds the places that the session rule finds by looking back over them
+abbrev pub ShardsObeyTheRule : Type 0
+ShardsObeyTheRule = (config : Configuration) (boot account : ℕ) (entry : Entry) (before : List Step) (shards : List ShardSeen)
+    → IsConfiguration config → AreShards config boot before shards → slice_get config.accounts account ≡ Some entry
+    → HasBookOf config account entry.rules (own config boot account before) shards

@@ -1,121 +1,96 @@
-ghost use Rattle.std.specs.Prelude.{◌≡◌, ◌<◌, ◌++◌, [], ◌∷◌, length, map, None, Some, slice_get, IfOk, OnErr, MatchOption};
-ghost use Rattle.rsl_accounts.specs.declared.entry.Entry.{Entry as Account};
-ghost use Rattle.rsl_event.specs.Prepared.{HasAccount};
-ghost use Rattle.rsl_steps.specs.Taking.{IsDecided, IsDecidedOwn, entry_kept, passed, past_kept};
+ghost use Rattle.std.specs.Prelude.{◌≡◌, ◌-◌, ◌^◌, ◌<◌, ◌%◌, Some, length, slice_get, IfOk, OnErr};
+ghost use Rattle.rsl_event.specs.Prepared.{HasAccount, HasOwnAct, IsOfOneAccount};
+ghost use Rattle.rsl_shard.specs.Moves.{IsTaken};
+ghost use Rattle.rsl_shard.specs.Seen.{ShardSeen, total_of};
+ghost use Rattle.rsl_shard.specs.declared.moved.Move.TheVariants as moves;
+ghost use Rattle.rsl_steps.specs.Taking.{AreReady, IsDecided, IsMovedAt};
 
-use crate::kept::Kept;
 use rsl_accounts::Config;
-use rsl_event::{Decision, Event, Meaning};
-use rsl_rule::{decision, outcome};
-use rsl_session::{Outcome, PastEvent};
+use rsl_event::{Act, Decision, Event, Meaning, Note};
+use rsl_shard::{Move, Shard};
 use rsl_wire::NoMemory;
 use std::alloc::Global;
 
-/// Decides on what came at a moment, and keeps it where it is an account's own. Where memory is refused
-/// nothing is kept.
+/// Decides on what came at a moment: what is an account's own moves the account's shard, a stray
+/// shard 0, and everything else is done. Where memory is refused nothing has changed.
 pub(crate) fn decide_meaning(
     alloc: Global,
     config: &Config,
-    kept: &mut Vec<Kept>,
+    shards: &mut [Shard],
     moment: u64,
     meaning: &Meaning,
 ) -> Result<Decision, NoMemory>
-    requires { HasAccount config.now meaning.now }
-    ensures ok { IfOk result (λ decision. IsDecided config.now moment meaning.now decision kept.old.items kept.new.items) }
-    ensures err { OnErr result (kept.new.items ≡ kept.old.items) }
+    requires ready { AreReady config.now shards.old }
+    requires account { HasAccount config.now meaning.now }
+    requires act { HasOwnAct meaning.now }
+    ensures decided { IfOk result (λ decision.
+        IsDecided config.now moment meaning.now decision shards.old shards.new) }
+    ensures err { OnErr result (shards.new ≡ shards.old) }
 {
     match meaning {
-        Meaning::Own { account, act } => {
-            let act = act.try_copy(alloc)?;
-            decide_own(alloc, config, kept, *account, Event { moment, act })
-        }
-        Meaning::Bare | Meaning::Reject | Meaning::Restart { .. } | Meaning::Stray(_) => {
-            Ok(Decision::Done)
-        }
+        Meaning::Own { account, act } => decide_own(alloc, config, shards, moment, *account, act),
+        Meaning::Stray(note) => note_stray(alloc, config, shards, moment, note),
+        Meaning::Bare | Meaning::Reject | Meaning::Restart { .. } => Ok(Decision::Done),
     }
 }
 
-/// Decides on an event of an account by what it does after the account's past, and keeps it.
+/// Decides on an act of one account.
 fn decide_own(
     alloc: Global,
     config: &Config,
-    kept: &mut Vec<Kept>,
+    shards: &mut [Shard],
+    moment: u64,
     account: u32,
-    event: Event,
+    act: &Act,
 ) -> Result<Decision, NoMemory>
-    requires { account < length config.now.accounts }
-    ensures decided { IfOk result (λ decision. IsDecidedOwn config.now account event decision kept.old.items kept.new.items) }
-    ensures err { OnErr result (kept.new.items ≡ kept.old.items) }
+    requires ready { AreReady config.now shards.old }
+    requires account { account < length config.now.accounts }
+    requires act { IsOfOneAccount act.now }
+    ensures decided { IfOk result (λ decision. IsMovedAt (account % config.now.settings.shards)
+        (moves.Own account (record { moment = moment; act = act.now }))
+        decision shards.old shards.new) }
+    ensures err { OnErr result (shards.new ≡ shards.old) }
 {
-    let past = past_of(alloc, config, account, kept.as_slice())?;
-    let rules = &config.entry(account).rules;
-    let outcome = outcome(alloc, rules, past.as_slice(), &event)?;
-    let entry = PastEvent { event, outcome };
-    kept.push(Kept::Own { account, entry })?;
-    Ok(decision(outcome))
+    let act = act.try_copy(alloc)?;
+    let event = Event { moment, act };
+    let number = config.shard_of(account);
+    move_at(alloc, shards, number, Move::Own { account, event })
 }
 
-/// The past of an account, oldest first, among what is kept.
-#[tactic(auto, using(crate::proofs::Keeping::past_steps))]
-pub(crate) fn past_of(
+/// Notes what is no account's, in shard 0.
+fn note_stray(
     alloc: Global,
     config: &Config,
-    account: u32,
-    kept: &[Kept],
-) -> Result<Vec<PastEvent>, NoMemory>
-    ensures { IfOk result (λ past. past.items ≡ past_kept config.now account kept.now) }
+    shards: &mut [Shard],
+    moment: u64,
+    note: &Note,
+) -> Result<Decision, NoMemory>
+    requires ready { AreReady config.now shards.old }
+    ensures decided { IfOk result (λ decision.
+        IsMovedAt 0 (moves.Stray moment note.now) decision shards.old shards.new) }
+    ensures err { OnErr result (shards.new ≡ shards.old) }
 {
-    let mut past = Vec::new(alloc);
-    for one in kept {
-        if let Some(entry) = entry_of(alloc, config, account, one)? {
-            past.push(entry)?;
-        }
-    }
-    Ok(past)
+    let _shards = config.shards();
+    let note = note.try_copy(alloc)?;
+    move_at(alloc, shards, 0, Move::Stray { moment, note })
 }
 
-/// What something kept is in the past of an account.
-fn entry_of(
+/// Makes a move in one shard. Where memory is refused nothing has changed.
+pub(crate) fn move_at(
     alloc: Global,
-    config: &Config,
-    account: u32,
-    kept: &Kept,
-) -> Result<Option<PastEvent>, NoMemory>
-    ensures { IfOk result (λ entry. entry ≡ entry_kept config.now account kept.now) }
+    shards: &mut [Shard],
+    number: u32,
+    moved: Move,
+) -> Result<Decision, NoMemory>
+    requires there { number < length shards.old }
+    requires takes { (seen : ShardSeen) → slice_get shards.old number ≡ Some seen →
+        IsTaken seen.setup moved }
+    requires room { (seen : ShardSeen) → slice_get shards.old number ≡ Some seen →
+        total_of seen < 2 ^ 64 - 1 }
+    ensures moved { IfOk result (λ decision.
+        IsMovedAt number moved decision shards.old shards.new) }
+    ensures err { OnErr result (shards.new ≡ shards.old) }
 {
-    match kept {
-        Kept::Own {
-            account: other,
-            entry,
-        } if *other == account => Ok(Some(PastEvent {
-            event: copy_of(alloc, &entry.event)?,
-            outcome: entry.outcome,
-        })),
-        Kept::Shard { shard, event } if config.shard_of(account) == *shard => Ok(Some(PastEvent {
-            event: copy_of(alloc, event)?,
-            outcome: Outcome::Passed,
-        })),
-        _ => Ok(None),
-    }
-}
-
-/// The events of a past.
-#[tactic(auto, using(std::proofs::lemmas::List::map_more, std::proofs::lemmas::List::take_all))]
-pub(crate) fn events_of(alloc: Global, past: &[PastEvent]) -> Result<Vec<Event>, NoMemory>
-    ensures { IfOk result (λ events. events.items ≡ map (λ entry. entry.event) past.now) }
-{
-    let mut events = Vec::new(alloc);
-    for entry in past {
-        events.push(copy_of(alloc, &entry.event)?)?;
-    }
-    Ok(events)
-}
-
-fn copy_of(alloc: Global, event: &Event) -> Result<Event, NoMemory>
-    ensures { IfOk result (λ copy. copy ≡ event.now) }
-{
-    Ok(Event {
-        moment: event.moment,
-        act: event.act.try_copy(alloc)?,
-    })
+    let place = number as usize;
+    shards[place].step(alloc, moved)
 }

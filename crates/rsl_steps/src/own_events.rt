@@ -8,9 +8,9 @@ use rsl_event::{Act, Dropped, Event, Meaning, Port, Source, prepare};
 use rsl_wire::NoMemory;
 use std::alloc::Global;
 
-/// An account's own events among steps, in their order: the account's own packets, and the sweeps and the
-/// ticks of its shard. A restart's datagram and a stray are in no account's. It fails only where memory is
-/// refused.
+/// An account's own events among steps, in their order: the account's own packets, and the sweeps
+/// and the ticks of its shard. A restart's datagram and a stray are in no account's. It fails only
+/// where memory is refused.
 #[tactic(auto, using(crate::proofs::OwnSteps::own_steps))]
 pub fn own(
     alloc: Global,

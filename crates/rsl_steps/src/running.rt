@@ -1,65 +1,78 @@
-ghost use Rattle.std.specs.Prelude.{◌≡◌, ℕ, ◌<◌, ◌≤◌, List, [], length, map, Some, slice_get, IfOk};
+ghost use Rattle.std.specs.Prelude.{◌≡◌, ℕ, ◌<◌, ◌≤◌, List, [], length, Some, slice_get, IfOk};
 ghost use Rattle.rsl_accounts.specs.declared.entry.Entry.{Entry};
-ghost use Rattle.rsl_session.specs.Rule.{places_after};
+ghost use Rattle.rsl_shard.specs.Moves.{IsTaken};
+ghost use Rattle.rsl_shard.specs.Setup.{Setup};
+ghost use Rattle.rsl_shard.specs.declared.moved.Move.TheVariants as moves;
+ghost use Rattle.rsl_steps.specs.Books.{AreAnswersByBooks};
 ghost use Rattle.rsl_steps.specs.Own.{own};
+ghost use Rattle.rsl_steps.specs.Ran.{AreShards, HasBookOf};
 ghost use Rattle.rsl_steps.specs.Run.{AreAnswers, taken};
-ghost use Rattle.rsl_steps.specs.Taking.{AreKept, IsQuiet, Takes, answer_to_drop, past_kept};
+ghost use Rattle.rsl_steps.specs.Taking.{AreReady, AreRoomy, IsQuietAt, Takes, answer_to_drop};
 ghost use Rattle.rsl_steps.specs.declared.step.Step.{Step};
 
-use crate::deciding::{decide_meaning, events_of, past_of};
-use crate::kept::Kept;
+use crate::deciding::{decide_meaning, move_at};
+use crate::laws::{books_answer_as_looking_back, shards_obey_the_rule};
 use crate::step::{Answer, Ran, Step};
 use rsl_accounts::Config;
-use rsl_event::{Act, Dropped, Event, Nas, Port, Source, prepare, reply, room, said};
-use rsl_rule::places;
+use rsl_event::{Dropped, Nas, Port, Source, prepare, reply, room, said};
+use rsl_shard::{Move, Shard};
 use rsl_wire::{NoMemory, Octets};
 use std::alloc::Global;
 
-/// Answers steps in order. It fails only where memory for the list of answers is refused, before any
-/// step.
+/// Answers steps in order, by shards that begin new: the time that a step takes does not grow with
+/// the steps before it. It fails only where memory for the shards or for the list of answers is
+/// refused, before any step.
 pub fn run(alloc: Global, config: &Config, boot: u64, steps: &[Step]) -> Result<Ran, NoMemory>
-    // Each step that is taken is answered as the session rule says of its own account's events before
-    // it alone; what is no account's is answered from itself alone.
-    ensures answers { IfOk result (λ ran. AreAnswers config.now boot [] steps.now ran.answers.items) }
+    // Each step that is taken is answered as the session rule says of its own account's events
+    // before it alone; what is no account's is answered from itself alone.
+    ensures answers { IfOk result (λ ran.
+        AreAnswers config.now boot [] steps.now ran.answers.items) }
     ensures count { IfOk result (λ ran. length ran.answers.items ≡ length steps.now) }
-    // What is kept is each account's past: its own events, each with what the session rule says that it did.
-    ensures kept { IfOk result (λ ran. AreKept config.now boot (taken [] steps.now ran.answers.items) ran.kept.items) }
-    // No account holds more places than it has.
-    ensures limit { IfOk result (λ ran. (account : ℕ) (entry : Entry) → slice_get config.now.accounts account ≡ Some entry →
-        places_after entry.rules (own config.now boot account (taken [] steps.now ran.answers.items)) ≤ entry.rules.places) }
+    // Books that began new give the same answers.
+    ensures by_books { IfOk result (λ ran.
+        AreAnswersByBooks config.now boot [] steps.now ran.answers.items) }
+    // There is a shard for each number, whose journal has the moves of the steps that were taken:
+    // an account's own events in its shard, a stray in shard 0, a sweep or a tick in the shard that
+    // it names.
+    ensures shards { IfOk result (λ ran. AreShards config.now boot
+        (taken [] steps.now ran.answers.items) ran.shards.items) }
+    // Each account's book is there, and is that of its own events: it holds the places that the
+    // session rule finds by looking back over them, and at most the account's.
+    ensures books { IfOk result (λ ran. (account : ℕ) (entry : Entry) →
+        slice_get config.now.accounts account ≡ Some entry →
+        HasBookOf config.now account entry.rules
+        (own config.now boot account (taken [] steps.now ran.answers.items)) ran.shards.items) }
 {
-    // Every configuration is within its limits, which its calls tell.
+    // What books answer and hold is what looking back finds, and every configuration is within its
+    // limits.
+    books_answer_as_looking_back();
+    shards_obey_the_rule();
     let _accounts = config.accounts();
-    let mut kept = Vec::new(alloc);
+    let mut shards = new_shards(alloc, config)?;
     let mut answers = Vec::with_capacity(alloc, steps.len())?;
     for step in steps {
-        let answer = take_step(alloc, config, boot, &mut kept, step);
+        let answer = take_step(alloc, config, boot, shards.as_mut_slice(), step);
         answers.push_reserved(answer);
     }
-    Ok(Ran { answers, kept })
+    Ok(Ran { answers, shards })
 }
 
-impl Ran {
-    /// The places that an account holds after the run. It fails only where memory is refused.
-    pub fn held(&self, alloc: Global, config: &Config, account: u32) -> Result<u32, NoMemory>
-        requires { account < length config.now.accounts }
-        ensures held { IfOk result (λ held. (entry : Entry) → slice_get config.now.accounts account ≡ Some entry →
-            held ≡ places_after entry.rules (map (λ own. own.event) (past_kept config.now account self.now.kept.items))) }
-        // They are those that the session rule finds on the account's own events among the steps of which this was kept.
-        ensures own { IfOk result (λ held. (boot : ℕ) (before : List Step) (entry : Entry) → AreKept config.now boot before self.now.kept.items →
-            slice_get config.now.accounts account ≡ Some entry → held ≡ places_after entry.rules (own config.now boot account before)) }
-        ensures limit { IfOk result (λ held. (entry : Entry) → slice_get config.now.accounts account ≡ Some entry → held ≤ entry.rules.places) }
-    {
-        let past = past_of(alloc, config, account, self.kept.as_slice())?;
-        let events = events_of(alloc, past.as_slice())?;
-        places(alloc, &config.entry(account).rules, events.as_slice())
+/// The shards of a configuration, none of which has made a move.
+fn new_shards(alloc: Global, config: &Config) -> Result<Vec<Shard>, NoMemory>
+    ensures { IfOk result (λ shards. (boot : ℕ) → AreShards config.now boot [] shards.items) }
+{
+    let mut shards = Vec::new(alloc);
+    for number in 0..config.shards() {
+        shards.push(Shard::new(alloc, config, number)?)?;
     }
+    Ok(shards)
 }
 
 /// Answers one step.
-fn take_step(alloc: Global, config: &Config, boot: u64, kept: &mut Vec<Kept>, step: &Step) -> Answer
-    ensures { (before : List Step) → AreKept config.now boot before kept.old.items →
-        Takes config.now boot before step.now result kept.old.items kept.new.items }
+fn take_step(alloc: Global, config: &Config, boot: u64, shards: &mut [Shard], step: &Step) -> Answer
+    requires { AreReady config.now shards.old }
+    ensures { (before : List Step) → AreShards config.now boot before shards.old →
+        Takes config.now boot before step.now result shards.old shards.new }
 {
     match step {
         Step::Datagram {
@@ -71,14 +84,14 @@ fn take_step(alloc: Global, config: &Config, boot: u64, kept: &mut Vec<Kept>, st
             alloc,
             config,
             boot,
-            kept,
+            shards,
             *moment,
             *port,
             *source,
             octets.as_slice(),
         ),
-        Step::Sweep { shard, moment, nas } => take_sweep(alloc, kept, *shard, *moment, nas),
-        Step::Tick { shard, moment } => take_tick(kept, *shard, *moment),
+        Step::Sweep { shard, moment, nas } => take_sweep(alloc, shards, *shard, *moment, nas),
+        Step::Tick { shard, moment } => take_tick(alloc, shards, *shard, *moment),
     }
 }
 
@@ -87,14 +100,16 @@ fn take_datagram(
     alloc: Global,
     config: &Config,
     boot: u64,
-    kept: &mut Vec<Kept>,
+    shards: &mut [Shard],
     moment: u64,
     port: Port,
     source: Source,
     octets: &[u8],
 ) -> Answer
-    ensures { (before : List Step) → AreKept config.now boot before kept.old.items →
-        Takes config.now boot before (Step.Datagram moment port source octets.now) result kept.old.items kept.new.items }
+    requires { AreReady config.now shards.old }
+    ensures { (before : List Step) → AreShards config.now boot before shards.old →
+        Takes config.now boot before (Step.Datagram moment port source octets.now)
+        result shards.old shards.new }
 {
     let prepared = match prepare(alloc, config, boot, port, source, octets) {
         Ok(prepared) => prepared,
@@ -103,38 +118,43 @@ fn take_datagram(
     let Ok(draft) = room(alloc, &prepared) else {
         return Answer::Refused;
     };
-    let Ok(decision) = decide_meaning(alloc, config, kept, moment, &prepared.meaning) else {
+    let Ok(decision) = decide_meaning(alloc, config, shards, moment, &prepared.meaning) else {
         return Answer::Refused;
     };
     let octets = reply(&prepared, config, boot, decision, draft);
     Answer::Reply(said(&prepared.meaning, decision), Octets::from(octets))
 }
 
-/// Keeps one sweep.
-fn take_sweep(alloc: Global, kept: &mut Vec<Kept>, shard: u32, moment: u64, nas: &Nas) -> Answer
-    ensures { IsQuiet result kept.old.items kept.new.items (Kept.Shard shard (record { moment = moment; act = Act.Sweep nas.now })) }
+/// Sweeps a shard, if it is there.
+fn take_sweep(alloc: Global, shards: &mut [Shard], shard: u32, moment: u64, nas: &Nas) -> Answer
+    requires { AreRoomy shards.old }
+    ensures { IsQuietAt result shard (moves.Sweep moment nas.now) shards.old shards.new }
 {
     let Ok(nas) = nas.try_copy(alloc) else {
         return Answer::Refused;
     };
-    let act = Act::Sweep { nas };
-    keep_of_shard(kept, shard, Event { moment, act })
+    move_if_there(alloc, shards, shard, Move::Sweep { moment, nas })
 }
 
-/// Keeps one tick.
-fn take_tick(kept: &mut Vec<Kept>, shard: u32, moment: u64) -> Answer
-    ensures { IsQuiet result kept.old.items kept.new.items (Kept.Shard shard (record { moment = moment; act = Act.Tick })) }
+/// Ticks a shard, if it is there.
+fn take_tick(alloc: Global, shards: &mut [Shard], shard: u32, moment: u64) -> Answer
+    requires { AreRoomy shards.old }
+    ensures { IsQuietAt result shard (moves.Tick moment) shards.old shards.new }
 {
-    let act = Act::Tick;
-    keep_of_shard(kept, shard, Event { moment, act })
+    move_if_there(alloc, shards, shard, Move::Tick { moment })
 }
 
-/// Keeps an event of every account of a shard.
-fn keep_of_shard(kept: &mut Vec<Kept>, shard: u32, event: Event) -> Answer
-    ensures { IsQuiet result kept.old.items kept.new.items (Kept.Shard shard event) }
+/// Makes a move in a shard, if it is there, that every shard takes.
+fn move_if_there(alloc: Global, shards: &mut [Shard], shard: u32, moved: Move) -> Answer
+    requires room { AreRoomy shards.old }
+    requires each { (setup : Setup) → IsTaken setup moved }
+    ensures { IsQuietAt result shard moved shards.old shards.new }
 {
-    match kept.push(Kept::Shard { shard, event }) {
-        Ok(()) => Answer::Quiet,
+    if shard as usize >= shards.len() {
+        return Answer::Quiet;
+    }
+    match move_at(alloc, shards, shard, moved) {
+        Ok(_) => Answer::Quiet,
         Err(_) => Answer::Refused,
     }
 }

@@ -1,5 +1,5 @@
-use crate::kept::Kept;
 use rsl_event::{Dropped, Nas, Port, Said, Source};
+use rsl_shard::Shard;
 use rsl_wire::Octets;
 
 /// What reaches the server.
@@ -47,11 +47,11 @@ pub enum Answer {
     Refused,
 }
 
-/// What a run has answered, and what it has kept.
-#[derive(Debug, Drop)]
+/// What a run has answered, and what has become of the shards.
+#[derive(Drop)]
 pub struct Ran {
     /// One answer for each step, in order.
     pub answers: Vec<Answer>,
-    /// The events of the steps that were taken, in order.
-    pub kept: Vec<Kept>,
+    /// The shards after the steps that were taken, in the order of their numbers.
+    pub shards: Vec<Shard>,
 }

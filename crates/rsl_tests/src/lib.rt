@@ -29,6 +29,8 @@ mod rule;
 #[cfg(test)]
 mod script;
 #[cfg(test)]
+mod shards_of_a_run;
+#[cfg(test)]
 mod steps;
 #[cfg(test)]
 mod support;

@@ -18,7 +18,7 @@ use std::alloc::Global;
 use std::test::Fail;
 
 /// The boot number of the server.
-const BOOT: u64 = 1;
+pub(crate) const BOOT: u64 = 1;
 
 /// A head and steps: the answers, a word each.
 struct Answered;
@@ -86,19 +86,22 @@ impl Subject for Held {
 fn places_after(alloc: Global, config: &Config, steps: &[Step]) -> Result<String, Fail> {
     let ran = run(alloc, config, BOOT, steps)?;
     let mut text = String::new(alloc);
-    write!(text, "{} ", held_by(alloc, &ran, config, 0)?)?;
+    write!(text, "{} ", held_by(&ran, config, 0)?)?;
     write!(text, "{}, ", counted_for(alloc, config, steps, 0)?)?;
-    write!(text, "{} ", held_by(alloc, &ran, config, 1)?)?;
+    write!(text, "{} ", held_by(&ran, config, 1)?)?;
     write!(text, "{}", counted_for(alloc, config, steps, 1)?)?;
     Ok(text)
 }
 
-/// The places that an account holds after a run.
-fn held_by(alloc: Global, ran: &Ran, config: &Config, account: u32) -> Result<u32, Fail> {
-    if config.accounts() <= account {
-        return Err("there is no such account")?;
+/// The places that the book of an account holds after a run.
+fn held_by(ran: &Ran, config: &Config, account: u32) -> Result<u64, Fail> {
+    let Some(shard) = ran.shards.get(config.shard_of(account) as usize) else {
+        return Err("there is no such shard")?;
+    };
+    match shard.book(account) {
+        Some(book) => Ok(book.held()),
+        None => Err("there is no such account")?,
     }
-    Ok(ran.held(alloc, config, account)?)
 }
 
 /// The places that the rule counts on an account's own events.
@@ -243,7 +246,11 @@ the reject of a malformed attribute list | client C xyzzy5461/account nemo arcta
 }
 
 /// The configuration of a script's head, and the steps of lines.
-fn config_and_steps(alloc: Global, head: &str, lines: &str) -> Result<(Config, Vec<Step>), Fail> {
+pub(crate) fn config_and_steps(
+    alloc: Global,
+    head: &str,
+    lines: &str,
+) -> Result<(Config, Vec<Step>), Fail> {
     let head = head.replace(alloc, "C", "192.168.1.16")?;
     let config = config_of(alloc, script_of(alloc, head.as_str())?)?;
     let lines = lines.replace(alloc, "C", "192.168.1.16")?;

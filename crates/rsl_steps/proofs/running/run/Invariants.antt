@@ -7,5 +7,5 @@ abbrev pub invariant-loop-step : goal.invariant-loop-step
 invariant-loop-step l = record {
   room : length l.steps ≤ vec_capacity l.answers;
   len : vec_len l.answers ≡ l.step-index;
-  so_far : IsRun l.config l.boot [] (take l.step-index l.steps) l.answers.items l.kept.items;
+  so_far : IsRun l.config l.boot [] (take l.step-index l.steps) l.answers.items l.shards.items;
 }

@@ -1,0 +1,58 @@
+-- The book of an account after the lines of a journal is stepped by the account's own events among them.
+use Rattle.std.proofs.Common.{◌≡◌, ℕ, ◌+◌, ◌==◌, Bool, true, false, cond, List, [], ◌∷◌, Option, Some, None, refl, sym, ap, ◌∙◌}
+use Rattle.std.specs.List.{cons_option}
+use Rattle.std.specs.Option.{option_map}
+use Rattle.std.proofs.lemmas.Bool.{eqb-true}
+use Rattle.rsl_accounts.specs.declared.rules.Rules.{Rules}
+use Rattle.rsl_book.specs.RuledBook.{RuledBook}
+use Rattle.rsl_event.specs.declared.event.Event.{Event}
+use Rattle.rsl_session.specs.Book.{Book}
+use Rattle.rsl_session.specs.BookStep.{book_after, step}
+use Rattle.rsl_shard.specs.Moves.{event_to, own_in}
+use Rattle.rsl_shard.specs.Replay.{book_at, book_from, books_after, moved_from, replay, stepped}
+use Rattle.rsl_shard.specs.Setup.{Setup}
+use Rattle.rsl_shard.specs.declared.line.Line.{Line}
+use Rattle.rsl_shard.specs.declared.moved.Move.{Move}
+
+-- a book after some events
+unfoldable pub after : List Event → RuledBook → RuledBook
+after events ruled = record { rules = ruled.rules; book = book_after ruled.rules ruled.book events }
+
+moved_first : (first shards account : ℕ) (moved : Move) (ruled : RuledBook) (books : List RuledBook) (b : Bool) → (first == account) ≡ b
+    → book_from (first + shards) shards (moved_from (first + shards) shards moved books) account ≡ option_map (stepped (event_to account moved)) (book_from (first + shards) shards books account)
+    → cond b (Some (stepped (event_to first moved) ruled)) (book_from (first + shards) shards (moved_from (first + shards) shards moved books) account)
+    ≡ option_map (stepped (event_to account moved)) (cond b (Some ruled) (book_from (first + shards) shards books account))
+moved_first first shards account moved ruled books true is rest = ap (λ (number : ℕ). Some (stepped (event_to number moved) ruled)) (eqb-true first account is)
+moved_first first shards account moved ruled books false is rest = rest
+
+-- a move steps the book of an account by what it is to the account
+moved_book : (first shards account : ℕ) (moved : Move) (books : List RuledBook)
+    → book_from first shards (moved_from first shards moved books) account ≡ option_map (stepped (event_to account moved)) (book_from first shards books account)
+unfolding book_from moved_from
+moved_book first shards account moved [] = refl
+moved_book first shards account moved (ruled ∷ books) =
+    moved_first first shards account moved ruled books (first == account) refl (moved_book (first + shards) shards account moved books)
+
+step_more : (o : Option Event) (events : List Event) (ruled : RuledBook) → after events (stepped o ruled) ≡ after (cons_option o events) ruled
+unfolding after book_after
+step_more None events ruled = refl
+step_more (Some event) events ruled = refl
+
+steps_more : (account : ℕ) (moved : Move) (events : List Event) (o : Option RuledBook)
+    → option_map (after events) (option_map (stepped (event_to account moved)) o) ≡ option_map (after (cons_option (event_to account moved) events)) o
+steps_more account moved events None = refl
+steps_more account moved events (Some ruled) = ap Some (step_more (event_to account moved) events ruled)
+
+after_none : (o : Option RuledBook) → o ≡ option_map (after []) o
+unfolding after book_after
+after_none None = refl
+after_none (Some ruled) = refl
+
+pub replayed : (setup : Setup) (books : List RuledBook) (lines : List Line) (account : ℕ)
+    → book_at setup (replay setup books lines) account ≡ option_map (after (own_in account lines)) (book_at setup books account)
+unfolding replay own_in
+replayed setup books [] account = after_none (book_at setup books account)
+replayed setup books (line ∷ lines) account =
+    replayed setup (books_after setup books line.moved) lines account
+    ∙ ap (option_map (after (own_in account lines))) (moved_book setup.shard setup.shards account line.moved books)
+    ∙ steps_more account line.moved (own_in account lines) (book_at setup books account)
