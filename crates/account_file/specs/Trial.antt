@@ -10,12 +10,14 @@ use Rattle.account_file.specs.declared.trial.Problem.TheVariants.{NoMemory}
 
 -- what is in a configuration
 abbrev pub counts_in : Result Configuration ConfigFault → Result Counts ConfigFault
-counts_in (Ok config) = Ok (record { clients = length config.clients; accounts = length config.accounts })
+counts_in (Ok config) =
+    Ok (record { clients = length config.clients; accounts = length config.accounts })
 counts_in (Err fault) = Err fault
 
 -- what is said of a file that is right
 abbrev pub counts_text : Counts → List ℕ
-counts_text counts = codes "clients " ++ decimal counts.clients ++ codes " accounts " ++ decimal counts.accounts
+counts_text counts =
+    codes "clients " ++ decimal counts.clients ++ codes " accounts " ++ decimal counts.accounts
 
 -- what is in the text of an account file, or what is wrong with it
 unfoldable pub counts_of_text : (text : List ℕ) → Result Counts ConfigFault

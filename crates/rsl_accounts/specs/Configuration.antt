@@ -1,4 +1,5 @@
--- The configuration of some settings, clients and accounts: the checks that they have to pass, and what is looked up in it.
+-- The configuration of some settings, clients and accounts: the checks that they have to pass, and
+-- what is looked up in it.
 use Rattle.std.specs.Prelude.{◌≡◌, ℕ, Bool, false, ◌||◌, if◌then◌else◌, nat_lt, nat_eq, List, [], ◌∷◌, ◌++◌, map, length, position, Option, None, Some, Result, Ok, Err}
 use Rattle.std.specs.Cmp.Lexicographic.{pointwise}
 use Rattle.std.specs.List.{list_any}
@@ -55,26 +56,31 @@ checks_of settings clients accounts =
 -- the checks before memory is taken for the names pass
 abbrev pub PassesBeforeNames : Settings → List Client → List Entry → Type 0
 PassesBeforeNames settings clients accounts =
-    (first_fault (walk_over settings clients accounts) ≡ None) × (comes_twice (addresses clients) ≡ false)
+    (first_fault (walk_over settings clients accounts) ≡ None)
+    × (comes_twice (addresses clients) ≡ false)
 
 -- the account, with its times
 abbrev pub with_times : Settings → Entry → Entry
 with_times settings entry = record entry { rules = rules_of settings entry }
 
 -- the fault, if there is one
-abbrev pub fault_or : {T : Type 0} → Option ConfigFault → Result T ConfigFault → Result T ConfigFault
+abbrev pub fault_or : {T : Type 0} → Option ConfigFault → Result T ConfigFault
+    → Result T ConfigFault
 fault_or None result = result
 fault_or (Some fault) result = Err fault
 
 -- the first fault, or the configuration
-unfoldable pub configuration_of : Settings → List Client → List Entry → Result Configuration ConfigFault
+unfoldable pub configuration_of : Settings → List Client → List Entry
+    → Result Configuration ConfigFault
 configuration_of settings clients accounts =
     fault_or (first_fault (checks_of settings clients accounts))
-    (Ok (record { settings = settings; clients = clients; accounts = map (with_times settings) accounts }))
+    (Ok (record
+    { settings = settings; clients = clients; accounts = map (with_times settings) accounts }))
 
 -- the number of the client with the address
 abbrev pub client_number : Configuration → List ℕ → Option ℕ
-client_number config address = position (λ client. same_octets address client.address) config.clients
+client_number config address =
+    position (λ client. same_octets address client.address) config.clients
 
 -- the number of the account with the name
 abbrev pub account_number : Configuration → List ℕ → Option ℕ

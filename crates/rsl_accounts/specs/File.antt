@@ -1,4 +1,5 @@
--- The configuration of an account file: what it gives for each field, and what its parts hold once the walk has passed.
+-- The configuration of an account file: what it gives for each field, and what its parts hold once
+-- the walk has passed.
 use Rattle.std.specs.Prelude.{ℕ, ℤ, pos, negsuc, Bool, false, nat_lt, if◌then◌else◌, List, [], ◌∷◌, map, length, Option, None, Some, option_map, option_and_then, unwrap_or, Result, Err, is_some}
 use Rattle.std.specs.List.{list_all}
 use Rattle.std.specs.Str.{is_utf8}
@@ -40,7 +41,8 @@ list_of (item value rest) = value ∷ list_of rest
 abbrev pub are_tables : List Data → Bool
 are_tables items = list_all (λ value. is_some (as_table value)) items
 
--- what a value is for a field: a number, a text, and an array of tables each have their limits; true and false have none
+-- what a value is for a field: a number, a text, and an array of tables each have their limits;
+-- true and false have none
 abbrev pub given_natural : Field → Option ℕ → Given
 given_natural field None = Wrong
 given_natural field (Some number) = given_number field number
@@ -64,7 +66,8 @@ given_in value field = given_member field (member_in value field)
 
 -- the number, the text, the truth and the tables of a field
 abbrev pub file_number : Data → Field → Option ℕ
-file_number value field = option_and_then natural (option_and_then as_integer (member_in value field))
+file_number value field =
+    option_and_then natural (option_and_then as_integer (member_in value field))
 
 abbrev pub below_32_bits : ℕ → Option ℕ
 below_32_bits number = if nat_lt number 4294967296 then Some number else None
@@ -79,9 +82,11 @@ abbrev pub boolean_in : Data → Field → Bool
 boolean_in value field = unwrap_or (option_and_then as_bool (member_in value field)) false
 
 abbrev pub tables_in : Data → Field → List Data
-tables_in value field = unwrap_or (option_map list_of (option_and_then as_array (member_in value field))) []
+tables_in value field =
+    unwrap_or (option_map list_of (option_and_then as_array (member_in value field))) []
 
--- the parts of a file. What a field should be and is not has a fault in the walk, so what stands for it here is never used
+-- the parts of a file. What a field should be and is not has a fault in the walk, so what stands
+-- for it here is never used
 abbrev pub version_in : Data → ℕ
 version_in value = unwrap_or (file_number value field.Version) 0
 
@@ -97,7 +102,8 @@ settings_in value = record {
 }
 
 abbrev pub address_in : Data → List ℕ
-address_in value = unwrap_or (option_and_then address_of (text_in value field.Address)) (0 ∷ 0 ∷ 0 ∷ 0 ∷ [])
+address_in value =
+    unwrap_or (option_and_then address_of (text_in value field.Address)) (0 ∷ 0 ∷ 0 ∷ 0 ∷ [])
 
 unfoldable pub client_in : Data → Client
 client_in value = record {
@@ -141,7 +147,8 @@ configuration_of_file file =
     let version = version_in file in
     let clients = tables_in file field.Client in
     let accounts = tables_in file field.Account in
-    fault_or (first_fault (walk version (given_in file) (map given_in clients) (map given_in accounts)))
+    fault_or (first_fault
+    (walk version (given_in file) (map given_in clients) (map given_in accounts)))
     (configuration_of (settings_in file) (map client_in clients) (map (entry_in version) accounts))
 
 abbrev pub configuration_of_parsed : Option Data → Result Configuration ConfigFault

@@ -11,7 +11,8 @@ configuration_in inside = record {
   accounts = inside.accounts.items;
 }
 
--- the configuration is within its limits, and the index has the names of the accounts in their order
+-- the configuration is within its limits, and the index has the names of the accounts in their
+-- order
 pub record IsKept (inside : Inside) : Type 0 where
   pub limits : IsConfiguration (configuration_in inside)
   pub index : map (λ name. name.items) inside.names.keys ≡ names inside.accounts.items

@@ -59,7 +59,8 @@ pub record IsAccount (settings : Settings) (entry : Entry) : Type 0 where
   pub session_timeout : IfSome entry.session_timeout (λ number. 1 ≤ number)
   pub idle_timeout : IfSome entry.idle_timeout (λ number. 1 ≤ number)
 
--- all of the configuration is within its limits, no address is that of two clients, and no name that of two accounts
+-- all of the configuration is within its limits, no address is that of two clients, and no name
+-- that of two accounts
 pub record IsConfiguration (config : Configuration) : Type 0 where
   pub settings : SettingsFit config.settings
   pub a_client : 1 ≤ length_of config.clients

@@ -1,5 +1,5 @@
--- What is given for the fields at the head of a file, by the settings and the numbers of clients and accounts; and
--- the times that the settings give an account.
+-- What is given for the fields at the head of a file, by the settings and the numbers of clients
+-- and accounts; and the times that the settings give an account.
 use Rattle.std.specs.Prelude.{ℕ, if◌then◌else◌, Option, unwrap_or}
 use Rattle.rsl_accounts.specs.declared.entry.Entry.{Entry}
 use Rattle.rsl_accounts.specs.declared.field.Field.{Field}

@@ -12,7 +12,9 @@ use Rattle.rsl_accounts.specs.Version.{knows_own_times}
 
 -- the fields at the head of a file, in the order of the walk
 unfoldable pub file_fields : List Field
-file_fields = Version ∷ Shards ∷ ReserveSecs ∷ LiveSecs ∷ GraceSecs ∷ ClosedSecs ∷ KeepSecs ∷ Client ∷ Account ∷ []
+file_fields =
+    Version ∷ Shards ∷ ReserveSecs ∷ LiveSecs ∷ GraceSecs ∷ ClosedSecs ∷ KeepSecs ∷ Client ∷ Account
+    ∷ []
 
 -- the fields of a client
 unfoldable pub client_fields : List Field
@@ -20,7 +22,9 @@ client_fields = Address ∷ Secret ∷ Signed ∷ []
 
 -- the fields of an account in every version
 unfoldable pub common_fields : List Field
-common_fields = Name ∷ Password ∷ Places ∷ Ports ∷ ServiceType ∷ FramedProtocol ∷ SessionTimeout ∷ IdleTimeout ∷ []
+common_fields =
+    Name ∷ Password ∷ Places ∷ Ports ∷ ServiceType ∷ FramedProtocol ∷ SessionTimeout ∷ IdleTimeout
+    ∷ []
 
 -- times of an account's own, which version 1 does not know
 unfoldable pub own_times : List Field
@@ -28,7 +32,8 @@ own_times = OwnLive ∷ OwnGrace ∷ []
 
 -- the fields of an account
 abbrev pub account_fields : (version : ℕ) → List Field
-account_fields version = if knows_own_times version then common_fields ++ own_times else common_fields
+account_fields version =
+    if knows_own_times version then common_fields ++ own_times else common_fields
 
 -- what a value is for its field
 abbrev pub given_if : (is_right : Bool) → Given
@@ -57,7 +62,8 @@ abbrev pub checks : List Field → (Field → Given) → List (Option ConfigFaul
 checks fields given = map (λ field. fault_of field (given field)) fields
 
 -- the checks of the whole walk: the head of the file, then each client, then each account
-unfoldable pub walk : (version : ℕ) → (Field → Given) → List (Field → Given) → List (Field → Given) → List (Option ConfigFault)
+unfoldable pub walk : (version : ℕ) → (Field → Given) → List (Field → Given) → List (Field → Given)
+    → List (Option ConfigFault)
 walk version head clients accounts =
     checks file_fields head
     ++ flat_map (checks client_fields) clients

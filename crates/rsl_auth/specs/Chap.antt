@@ -10,4 +10,5 @@ chap_response ident password challenge = md5 (ident ∷ password ++ challenge)
 -- whether a value answers the challenge with this password
 unfoldable pub matches_chap : (value challenge password : List ℕ) → Bool
 matches_chap value challenge password =
-    length value == 17 && bytes_eq (drop 1 value) (chap_response (slice_index value 0) password challenge)
+    length value == 17
+    && bytes_eq (drop 1 value) (chap_response (slice_index value 0) password challenge)

@@ -1,5 +1,5 @@
--- HMAC-MD5 (RFC 2104 section 2): MD5(K xor opad, MD5(K xor ipad, message)), where K is the key with zeros after it to
--- the 64 octets of a block of MD5. A key of more than 64 octets is hashed first.
+-- HMAC-MD5 (RFC 2104 section 2): MD5(K xor opad, MD5(K xor ipad, message)), where K is the key with
+-- zeros after it to the 64 octets of a block of MD5. A key of more than 64 octets is hashed first.
 use Rattle.std.specs.Prelude.{ℕ, ◌-◌, nat_le, if◌then◌else◌, List, ◌++◌, length, map, replicate, bit_xor}
 use Rattle.md5.specs.Md5.{md5}
 

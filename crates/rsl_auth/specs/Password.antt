@@ -1,10 +1,12 @@
--- User-Password (RFC 2865 section 5.2). The password p1, p2, .. of 16 octets each is hidden as c(1), c(2), .. with
--- c(1) = p1 xor MD5(S, RA) and c(i) = pi xor MD5(S, c(i-1)), where S is the secret and RA the Request Authenticator.
+-- User-Password (RFC 2865 section 5.2). The password p1, p2, .. of 16 octets each is hidden as
+-- c(1), c(2), .. with c(1) = p1 xor MD5(S, RA) and c(i) = pi xor MD5(S, c(i-1)), where S is the
+-- secret and RA the Request Authenticator.
 use Rattle.std.specs.Prelude.{◌≡◌, ℕ, zero, suc, ◌-◌, ◌/◌, ◌%◌, ◌≤◌, ◌==◌, nat_eq, nat_le, Bool, ◌&&◌, List, [], ◌∷◌, ◌++◌, length, take, drop, replicate, bit_xor, if◌then◌else◌}
 use Rattle.std.specs.List.{starts_with, list_all}
 use Rattle.md5.specs.Md5.{md5}
 
--- how many NULs come after a password: as few as make a multiple of 16 octets, and 16 after the empty one
+-- how many NULs come after a password: as few as make a multiple of 16 octets, and 16 after the
+-- empty one
 abbrev pub nuls_after : (length : ℕ) → ℕ
 nuls_after n = if n == 0 then 16 else (16 - n % 16) % 16
 
@@ -33,11 +35,14 @@ hidden_blocks (suc blocks) octets secret before =
 unfoldable pub revealed_blocks : (blocks : ℕ) (value secret before : List ℕ) → List ℕ
 revealed_blocks zero value secret before = []
 revealed_blocks (suc blocks) value secret before =
-    masked (take 16 value) secret before ++ revealed_blocks blocks (drop 16 value) secret (take 16 value)
+    masked (take 16 value) secret before
+    ++ revealed_blocks blocks (drop 16 value) secret (take 16 value)
 
 -- the value that hides a password
 unfoldable pub hidden : (password secret request_auth : List ℕ) → List ℕ
-hidden password secret request_auth = hidden_blocks (length (padded_password password) / 16) (padded_password password) secret request_auth
+hidden password secret request_auth =
+    hidden_blocks (length (padded_password password) / 16) (padded_password password) secret
+    request_auth
 
 -- the octets that a value hides
 unfoldable pub revealed : (value secret request_auth : List ℕ) → List ℕ
@@ -61,7 +66,8 @@ IsPadded octets password = (zeros : ℕ) × (octets ≡ password ++ replicate ze
 
 -- the same as a test
 abbrev pub is_padded : (octets password : List ℕ) → Bool
-is_padded octets password = starts_with nat_eq octets password && are_nuls (drop (length password) octets)
+is_padded octets password =
+    starts_with nat_eq octets password && are_nuls (drop (length password) octets)
 
 -- whether a value hides this password
 unfoldable pub matches_password : (value secret request_auth password : List ℕ) → Bool

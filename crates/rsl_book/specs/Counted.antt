@@ -8,4 +8,5 @@ use Rattle.rsl_book.specs.Seen.{links_seen}
 
 pub record AreCounted (servers : List Nas) (links : Links) : Type 0 where
   pub a_port : 1 ≤ links.ports
-  pub places : links.places ≡ places_of links.ports (bundles_in (links_seen servers links.list.items))
+  pub places : links.places ≡ places_of links.ports
+      (bundles_in (links_seen servers links.list.items))

@@ -1,5 +1,6 @@
--- What a contract sees of a list of links: the links in the order in which they opened, and the room for them.
--- Inside, its orders list the positions of the reserved links and of those that are bound, by their last touch.
+-- What a contract sees of a list of links: the links in the order in which they opened, and the
+-- room for them. Inside, its orders list the positions of the reserved links and of those that are
+-- bound, by their last touch.
 use Rattle.std.specs.Prelude.{◌≡◌, ℕ, ◌<◌, ◌≤◌, List, true, vec_capacity, length}
 use Rattle.rsl_book.specs.declared.link.Link.{Link}
 use Rattle.rsl_book.specs.declared.list.LinkList.TheInside.{Inside}
@@ -31,5 +32,7 @@ pub record IsRanked (list : Inside) : Type 0 where
 pub record IsOldest (links : List Link) (at : ℕ) : Type 0 where
   pub within : at < length links
   pub bound : is_session (link_at links at).hold ≡ true
-  pub oldest : (x : ℕ) → x < length links → is_session (link_at links x).hold ≡ true → (link_at links at).touched ≤ (link_at links x).touched
-  pub first : (x : ℕ) → x < at → is_session (link_at links x).hold ≡ true → (link_at links at).touched < (link_at links x).touched
+  pub oldest : (x : ℕ) → x < length links → is_session (link_at links x).hold ≡ true
+      → (link_at links at).touched ≤ (link_at links x).touched
+  pub first : (x : ℕ) → x < at → is_session (link_at links x).hold ≡ true
+      → (link_at links at).touched < (link_at links x).touched

@@ -15,4 +15,5 @@ unfoldable pub named_by_stops : List StoredStop → ℕ → Bool
 named_by_stops stops at = list_any (λ (stop : StoredStop). stop.nas == at) stops
 
 unfoldable pub is_named : List Link → List StoredAsk → List StoredStop → ℕ → Bool
-is_named links asks stops at = named_by_links links at || named_by_asks asks at || named_by_stops stops at
+is_named links asks stops at =
+    named_by_links links at || named_by_asks asks at || named_by_stops stops at

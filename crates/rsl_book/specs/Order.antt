@@ -1,5 +1,6 @@
--- An order lists the positions of some links of a book: those that are reserved or those that are bound, by their
--- last touch, or those that are bound, by their sessions. Links that are alike in this stand as they opened.
+-- An order lists the positions of some links of a book: those that are reserved or those that are
+-- bound, by their last touch, or those that are bound, by their sessions. Links that are alike in
+-- this stand as they opened.
 use Rattle.std.specs.Prelude.{◌≡◌, ◌≢◌, ℕ, ◌<◌, ◌≤◌, ◌-◌, List, [], ◌∷◌, get_or, length, nat_lt, if◌then◌else◌, Bool, true, false, None}
 use Rattle.std.specs.Ordering.{ordering_then, nat_cmp, is_lt}
 use Rattle.std.specs.declared.cmp.Ordering.{Ordering}
@@ -24,7 +25,8 @@ is_before one other = is_lt (entry_cmp one other)
 pub record IsSplit (entry : ℕ → Entry) (order : List ℕ) (target : Entry) (at : ℕ) : Type 0 where
   pub within : at ≤ length order
   pub before : (k : ℕ) → k < at → is_before (entry (get_or order k 0)) target ≡ true
-  pub after : (k : ℕ) → at ≤ k → k < length order → is_before (entry (get_or order k 0)) target ≡ false
+  pub after : (k : ℕ) → at ≤ k → k < length order
+      → is_before (entry (get_or order k 0)) target ≡ false
 
 -- where a number stands in a list
 pub record Stands (order : List ℕ) (x : ℕ) : Type 0 where
@@ -35,7 +37,8 @@ pub record Stands (order : List ℕ) (x : ℕ) : Type 0 where
 -- a list has exactly the numbers that are listed, each before those that come after it
 pub record IsOrder (listed : ℕ → Type 0) (entry : ℕ → Entry) (order : List ℕ) : Type 0 where
   pub each : (k : ℕ) → k < length order → listed (get_or order k 0)
-  pub rises : (j k : ℕ) → j < k → k < length order → is_before (entry (get_or order j 0)) (entry (get_or order k 0)) ≡ true
+  pub rises : (j k : ℕ) → j < k → k < length order
+      → is_before (entry (get_or order j 0)) (entry (get_or order k 0)) ≡ true
   pub all : (x : ℕ) → listed x → Stands order x
 
 -- the link at a position, and past the end one that is never looked at
@@ -79,7 +82,9 @@ entry_at kind links at = (number_of kind (link_at links at) ∷ octets_of kind (
 -- positions of links, each before those that come after it
 pub record IsSearchable (kind : Kind) (links : List Link) (order : List ℕ) : Type 0 where
   pub within : (k : ℕ) → k < length order → get_or order k 0 < length links
-  pub rises : (j k : ℕ) → j < k → k < length order → is_before (entry_at kind links (get_or order j 0)) (entry_at kind links (get_or order k 0)) ≡ true
+  pub rises : (j k : ℕ) → j < k → k < length order
+      → is_before (entry_at kind links (get_or order j 0)) (entry_at kind links (get_or order k 0))
+      ≡ true
 
 -- the positions of the links of a kind, but for one
 pub record IsListed (kind : Kind) (links : List Link) (but at : ℕ) : Type 0 where

@@ -1,4 +1,5 @@
--- What a book's links, asks and stops stand for: each names its access server by a place in a table.
+-- What a book's links, asks and stops stand for: each names its access server by a place in a
+-- table.
 use Rattle.std.specs.Prelude.{ℕ, List, map, get_or, Option}
 use Rattle.std.specs.Option.{option_map}
 use Rattle.rsl_event.specs.declared.nas.Nas.{Nas}
@@ -43,14 +44,24 @@ links_seen servers links = map (link_seen servers) links
 
 unfoldable pub ask_seen : List Nas → StoredAsk → KeptAsk
 ask_seen servers ask =
-    record { key = ask.key; nas = nas_at servers ask.nas; decision = ask.decision; at = ask.at; swept = ask.swept }
+    record {
+      key = ask.key;
+      nas = nas_at servers ask.nas;
+      decision = ask.decision;
+      at = ask.at;
+      swept = ask.swept;
+    }
 
 unfoldable pub asks_seen : List Nas → List StoredAsk → List KeptAsk
 asks_seen servers asks = map (ask_seen servers) asks
 
 unfoldable pub stop_seen : List Nas → StoredStop → KeptStop
 stop_seen servers stop =
-    record { session = record { nas = nas_at servers stop.nas; id = stop.id }; at = stop.at; swept = stop.swept }
+    record {
+      session = record { nas = nas_at servers stop.nas; id = stop.id };
+      at = stop.at;
+      swept = stop.swept;
+    }
 
 unfoldable pub stops_seen : List Nas → List StoredStop → List KeptStop
 stops_seen servers stops = map (stop_seen servers) stops

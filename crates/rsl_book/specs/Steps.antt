@@ -16,7 +16,8 @@ touch_here now bundle link = touch now (bundle_with (nas_of link.nas link.holder
 
 unfoldable pub take_here : ℕ → List ℕ → Option (List ℕ) → BookLink → BookLink
 take_here now id bundle link =
-    take_for (record { nas = nas_of link.nas link.holder; id = id }) now (bundle_with (nas_of link.nas link.holder) bundle) link
+    take_for (record { nas = nas_of link.nas link.holder; id = id }) now
+    (bundle_with (nas_of link.nas link.holder) bundle) link
 
 -- the links but the one at a place
 unfoldable pub without_at : {A : Type 0} → ℕ → List A → List A

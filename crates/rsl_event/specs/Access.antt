@@ -22,37 +22,52 @@ asks_once attributes =
     && attribute_count USER_PASSWORD attributes + attribute_count CHAP_PASSWORD attributes == 1
     && nat_le (attribute_count CHAP_CHALLENGE attributes) 1
 
--- the CHAP challenge: the CHAP-Challenge where there is one, else the Request Authenticator (RFC 2865 section 5.3)
+-- the CHAP challenge: the CHAP-Challenge where there is one, else the Request Authenticator (RFC
+-- 2865 section 5.3)
 abbrev pub challenge_of : List ℕ → List Attribute → List ℕ
 challenge_of authenticator attributes = unwrap_or (first_of CHAP_CHALLENGE attributes) authenticator
 
 -- a User-Password or a CHAP-Password shows that the password is known
-abbrev pub shows : (secret authenticator challenge password : List ℕ) (pap chap : Option (List ℕ)) → Bool
-shows secret authenticator challenge password (Some value) chap = matches_password value secret authenticator password
-shows secret authenticator challenge password None (Some value) = matches_chap value challenge password
+abbrev pub shows : (secret authenticator challenge password : List ℕ) (pap chap : Option (List ℕ))
+    → Bool
+shows secret authenticator challenge password (Some value) chap =
+    matches_password value secret authenticator password
+shows secret authenticator challenge password None (Some value) =
+    matches_chap value challenge password
 shows secret authenticator challenge password None None = false
 
 -- the attributes show that the password is known
-abbrev pub shows_password : (secret authenticator : List ℕ) → List Attribute → (password : List ℕ) → Bool
+abbrev pub shows_password : (secret authenticator : List ℕ) → List Attribute → (password : List ℕ)
+    → Bool
 shows_password secret authenticator attributes password =
-    shows secret authenticator (challenge_of authenticator attributes) password (first_of USER_PASSWORD attributes) (first_of CHAP_PASSWORD attributes)
+    shows secret authenticator (challenge_of authenticator attributes) password
+    (first_of USER_PASSWORD attributes) (first_of CHAP_PASSWORD attributes)
 
 -- the account, if its password is shown
-abbrev pub if_shown : Configuration → (secret authenticator : List ℕ) → List Attribute → (account : ℕ) → Option ℕ
+abbrev pub if_shown : Configuration → (secret authenticator : List ℕ) → List Attribute
+    → (account : ℕ) → Option ℕ
 if_shown config secret authenticator attributes account =
-    if shows_password secret authenticator attributes (account_password config account) then Some account else None
+    if shows_password secret authenticator attributes (account_password config account)
+    then Some account
+    else None
 
 -- the account that the request asks for, with its password
-unfoldable pub asker : Configuration → (client : ℕ) → (authenticator : List ℕ) → List Attribute → Option ℕ
+unfoldable pub asker : Configuration → (client : ℕ) → (authenticator : List ℕ) → List Attribute
+    → Option ℕ
 asker config client authenticator attributes =
-    if asks_once attributes then option_and_then (if_shown config (secret_of config client) authenticator attributes) (named_account config attributes)
+    if asks_once attributes
+    then option_and_then (if_shown config (secret_of config client) authenticator attributes)
+    (named_account config attributes)
     else None
 
 -- an ask of that account, or a reject
-abbrev pub ask_or_reject : Source → (client : ℕ) → Fields → List Attribute → (account : Option ℕ) → Meaning
+abbrev pub ask_or_reject : Source → (client : ℕ) → Fields → List Attribute → (account : Option ℕ)
+    → Meaning
 ask_or_reject source client fields attributes None = Reject
 ask_or_reject source client fields attributes (Some account) =
-    Own account (Ask (record { source = source; id = fields.id; authenticator = fields.authenticator }) (access_server_of client attributes))
+    Own account
+    (Ask (record { source = source; id = fields.id; authenticator = fields.authenticator })
+    (access_server_of client attributes))
 
 -- by the cause to drop the request, if there is one
 abbrev pub unless_dropped : Option Dropped → Result Meaning Dropped → Result Meaning Dropped
@@ -60,18 +75,26 @@ unless_dropped None meaning = meaning
 unless_dropped (Some dropped) meaning = Err dropped
 
 -- a request that is signed, or does not have to be
-abbrev pub request_meaning : Configuration → Source → (client : ℕ) → Fields → List Attribute → Result Meaning Dropped
+abbrev pub request_meaning : Configuration → Source → (client : ℕ) → Fields → List Attribute
+    → Result Meaning Dropped
 request_meaning config source client fields attributes =
     if nat_lt MAX_PROXY_STATE_LEN (proxy_len attributes) then Err ProxyTooLong
-    else Ok (ask_or_reject source client fields attributes (asker config client fields.authenticator attributes))
+    else Ok (ask_or_reject source client fields attributes
+    (asker config client fields.authenticator attributes))
 
 -- by the attributes, or the fault in their list: a malformed list has no Message-Authenticator
-abbrev pub access_by : Configuration → Source → (client : ℕ) → Fields → Result (List Attribute) ℕ → Result Meaning Dropped
-access_by config source client fields (Err at) = if must_sign config client then Err Unsigned else Ok Bare
+abbrev pub access_by : Configuration → Source → (client : ℕ) → Fields → Result (List Attribute) ℕ
+    → Result Meaning Dropped
+access_by config source client fields (Err at) =
+    if must_sign config client then Err Unsigned else Ok Bare
 access_by config source client fields (Ok attributes) =
-    unless_dropped (signature_drop config client fields attributes) (request_meaning config source client fields attributes)
+    unless_dropped (signature_drop config client fields attributes)
+    (request_meaning config source client fields attributes)
 
 -- what a packet on the authentication port means
-unfoldable pub access_meaning : Configuration → Source → (client : ℕ) → Fields → Result Meaning Dropped
+unfoldable pub access_meaning : Configuration → Source → (client : ℕ) → Fields
+    → Result Meaning Dropped
 access_meaning config source client fields =
-    if fields.code == ACCESS_REQUEST then access_by config source client fields (attribute_list fields.attributes) else Err WrongCode
+    if fields.code == ACCESS_REQUEST
+    then access_by config source client fields (attribute_list fields.attributes)
+    else Err WrongCode

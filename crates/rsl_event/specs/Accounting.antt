@@ -15,18 +15,23 @@ use Rattle.rsl_event.specs.declared.meaning.Meaning.TheVariants.{Own, Restart, S
 use Rattle.rsl_event.specs.declared.meaning.Dropped.{Dropped}
 use Rattle.rsl_event.specs.declared.meaning.Dropped.TheVariants.{WrongCode, BadAuthenticator, Malformed, ProxyTooLong, NoStatus, NoSession}
 use Rattle.rsl_event.specs.declared.codes.TheConstants as codes
-use Rattle.rsl_event.specs.declared.codes.TheConstants.{ACCOUNTING_REQUEST, USER_NAME, CLASS, ACCT_STATUS_TYPE, ACCT_SESSION_ID, ACCT_MULTI_SESSION_ID, MAX_PROXY_STATE_LEN}
+use Rattle.rsl_event.specs.declared.codes.TheConstants.{ACCOUNTING_REQUEST, USER_NAME, CLASS, CLASS_LEN, ACCT_STATUS_TYPE, ACCT_SESSION_ID, ACCT_MULTI_SESSION_ID, MAX_PROXY_STATE_LEN}
 
--- the accept number in a Class value of this server: 8 octets of its boot number, and 8 of the number
+-- the accept number in a Class value of this server: 8 octets of its boot number, and 8 of the
+-- number
 abbrev pub class_number : (boot : ℕ) → List ℕ → Option ℕ
 class_number boot value =
-    if length value == 16 && from_be_bytes w64 (take 8 value) == boot then Some (from_be_bytes w64 (drop 8 value)) else None
+    if length value == CLASS_LEN && from_be_bytes w64 (take 8 value) == boot
+    then Some (from_be_bytes w64 (drop 8 value))
+    else None
 
 -- the accept number of the first Class that is this server's; others are passed over
 abbrev pub class_in : (boot : ℕ) → List Attribute → Option ℕ
 class_in boot [] = None
 class_in boot (attribute ∷ attributes) =
-    if attribute.kind == CLASS then option_or (class_number boot attribute.value) (class_in boot attributes) else class_in boot attributes
+    if attribute.kind == CLASS
+    then option_or (class_number boot attribute.value) (class_in boot attributes)
+    else class_in boot attributes
 
 -- a bundle's id; an empty one is none
 abbrev pub unless_empty : Option (List ℕ) → Option (List ℕ)
@@ -58,16 +63,21 @@ note_of client status attributes = record {
 -- the session of a packet has ended, or goes on
 abbrev pub session_act : (boot client status : ℕ) → List Attribute → Act
 session_act boot client status attributes =
-    if is_stop status then Stop (access_server_of client attributes) (text_of ACCT_SESSION_ID attributes)
-    else Alive (access_server_of client attributes) (text_of ACCT_SESSION_ID attributes) (unless_empty (first_of ACCT_MULTI_SESSION_ID attributes)) (class_in boot attributes)
+    if is_stop status
+    then Stop (access_server_of client attributes) (text_of ACCT_SESSION_ID attributes)
+    else Alive (access_server_of client attributes) (text_of ACCT_SESSION_ID attributes)
+    (unless_empty (first_of ACCT_MULTI_SESSION_ID attributes)) (class_in boot attributes)
 
 -- that is the act of the account that the packet names, if there is one
-abbrev pub session_meaning : (boot client status : ℕ) → List Attribute → (account : Option ℕ) → Meaning
+abbrev pub session_meaning : (boot client status : ℕ) → List Attribute → (account : Option ℕ)
+    → Meaning
 session_meaning boot client status attributes None = Stray (note_of client status attributes)
-session_meaning boot client status attributes (Some account) = Own account (session_act boot client status attributes)
+session_meaning boot client status attributes (Some account) =
+    Own account (session_act boot client status attributes)
 
 -- by the status; a session's packet names the session
-unfoldable pub status_meaning : Configuration → (boot client status : ℕ) → List Attribute → Result Meaning Dropped
+unfoldable pub status_meaning : Configuration → (boot client status : ℕ) → List Attribute
+    → Result Meaning Dropped
 status_meaning config boot client status attributes =
     if is_on_or_off status then Ok (Restart (access_server_of client attributes))
     else if is_alive status || is_stop status then
@@ -76,21 +86,26 @@ status_meaning config boot client status attributes =
     else Ok (Stray (note_of client status attributes))
 
 -- by the Acct-Status-Type, if there is one
-abbrev pub if_status : Configuration → (boot client : ℕ) → List Attribute → Option ℕ → Result Meaning Dropped
+abbrev pub if_status : Configuration → (boot client : ℕ) → List Attribute → Option ℕ
+    → Result Meaning Dropped
 if_status config boot client attributes None = Err NoStatus
-if_status config boot client attributes (Some status) = status_meaning config boot client status attributes
+if_status config boot client attributes (Some status) =
+    status_meaning config boot client status attributes
 
 -- by the attributes, or the fault in their list
-abbrev pub accounting_by : Configuration → (boot client : ℕ) → Result (List Attribute) ℕ → Result Meaning Dropped
+abbrev pub accounting_by : Configuration → (boot client : ℕ) → Result (List Attribute) ℕ
+    → Result Meaning Dropped
 accounting_by config boot client (Err at) = Err Malformed
 accounting_by config boot client (Ok attributes) =
     if nat_lt MAX_PROXY_STATE_LEN (proxy_len attributes) then Err ProxyTooLong
     else if_status config boot client attributes (number_in (first_of ACCT_STATUS_TYPE attributes))
 
 -- what a packet on the accounting port means
-unfoldable pub accounting_meaning : Configuration → (boot client : ℕ) → Fields → Result Meaning Dropped
+unfoldable pub accounting_meaning : Configuration → (boot client : ℕ) → Fields
+    → Result Meaning Dropped
 accounting_meaning config boot client fields =
-    if fields.code == ACCOUNTING_REQUEST then
-    (if is_accounting_authentic (packet_octets fields) (secret_of config client) then accounting_by config boot client (attribute_list fields.attributes)
+    if fields.code == ACCOUNTING_REQUEST
+    then (if is_accounting_authentic (packet_octets fields) (secret_of config client)
+    then accounting_by config boot client (attribute_list fields.attributes)
     else Err BadAuthenticator)
     else Err WrongCode

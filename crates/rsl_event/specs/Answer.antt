@@ -1,4 +1,5 @@
--- What is answered: the octets of a reply (RFC 2865 sections 4.2 and 4.3, RFC 2866 section 4.2), and its word.
+-- What is answered: the octets of a reply (RFC 2865 sections 4.2 and 4.3, RFC 2866 section 4.2),
+-- and its word.
 use Rattle.std.specs.Prelude.{ℕ, Bool, List, [], ◌∷◌, ◌++◌, replicate, codes, slice_get, if◌then◌else◌, Option, Some, None}
 use Rattle.std.specs.Option.{option_map_or}
 use Rattle.std.specs.Int.{w32, w64, to_be_bytes}
@@ -55,7 +56,8 @@ abbrev pub optional_attribute : (kind : ℕ) → Option ℕ → List Attribute
 optional_attribute kind None = []
 optional_attribute kind (Some number) = number_attribute kind number ∷ []
 
--- the value of Class: the boot number and the accept number, eight octets each, the high octet first
+-- the value of Class: the boot number and the accept number, eight octets each, the high octet
+-- first
 abbrev pub class_octets : (boot number : ℕ) → List ℕ
 class_octets boot number = to_be_bytes w64 boot ++ to_be_bytes w64 number
 
@@ -79,18 +81,21 @@ limit_attributes = attribute_of REPLY_MESSAGE (codes "Session limit reached") �
 
 -- what a decision on an ask says
 abbrev pub decided_attributes : Configuration → (boot account : ℕ) → Decision → List Attribute
-decided_attributes config boot account (decisions.Accept number) = option_map_or (accept_attributes boot number) (slice_get config.accounts account) []
+decided_attributes config boot account (decisions.Accept number) =
+    option_map_or (accept_attributes boot number) (slice_get config.accounts account) []
 decided_attributes config boot account decisions.LimitReject = limit_attributes
 decided_attributes config boot account decisions.Done = limit_attributes
 
 -- what is said to an act of an account
 abbrev pub own_attributes : Configuration → (boot account : ℕ) → Act → Decision → List Attribute
-own_attributes config boot account (Ask key nas) decision = decided_attributes config boot account decision
+own_attributes config boot account (Ask key nas) decision =
+    decided_attributes config boot account decision
 own_attributes config boot account _ decision = []
 
 -- what the server says in a reply
 abbrev pub said_attributes : Configuration → (boot : ℕ) → Meaning → Decision → List Attribute
-said_attributes config boot (Own account act) decision = own_attributes config boot account act decision
+said_attributes config boot (Own account act) decision =
+    own_attributes config boot account act decision
 said_attributes config boot _ decision = []
 
 -- what a reply repeats of the request's attributes
@@ -98,8 +103,10 @@ abbrev pub repeated_attributes : List Attribute → Meaning → List Attribute
 repeated_attributes attributes Bare = []
 repeated_attributes attributes _ = proxy_states attributes
 
--- the attributes of a reply, its Message-Authenticator not yet signed: this stands first, and Proxy-States last, as they came
-abbrev pub reply_attributes : Configuration → (boot : ℕ) → List Attribute → Meaning → Decision → List Attribute
+-- the attributes of a reply, its Message-Authenticator not yet signed: this stands first, and
+-- Proxy-States last, as they came
+abbrev pub reply_attributes : Configuration → (boot : ℕ) → List Attribute → Meaning → Decision
+    → List Attribute
 reply_attributes config boot attributes meaning decision =
     signature_if (is_reply_signed (said meaning decision) attributes)
     ++ said_attributes config boot meaning decision
@@ -111,15 +118,18 @@ unsigned_reply config boot fields meaning decision = packet_octets (record {
   code = code_of (said meaning decision);
   id = fields.id;
   authenticator = replicate 16 0;
-  attributes = list_octets (reply_attributes config boot (attributes_in fields.attributes) meaning decision);
+  attributes =
+      list_octets (reply_attributes config boot (attributes_in fields.attributes) meaning decision);
 })
 
--- a packet, signed if it is to be: the value of its Message-Authenticator stands at octet 22, and the Request Authenticator
--- counts as its Authenticator (RFC 3579 section 3.2)
+-- a packet, signed if it is to be: the value of its Message-Authenticator stands at octet 22, and
+-- the Request Authenticator counts as its Authenticator (RFC 3579 section 3.2)
 abbrev pub signed_if : Bool → (packet request_auth secret : List ℕ) → List ℕ
-signed_if is_signed packet request_auth secret = if is_signed then signed packet 22 request_auth secret else packet
+signed_if is_signed packet request_auth secret =
+    if is_signed then signed packet 22 request_auth secret else packet
 
--- the octets of the reply to a packet of a client: signed if the request was, and then sealed, with the client's secret
+-- the octets of the reply to a packet of a client: signed if the request was, and then sealed, with
+-- the client's secret
 unfoldable pub answer : Configuration → (boot client : ℕ) → Fields → Meaning → Decision → List ℕ
 answer config boot client fields meaning decision =
     sealed

@@ -1,4 +1,5 @@
--- What a datagram means: its meaning, or why it is dropped, the first cause in the order of the checks.
+-- What a datagram means: its meaning, or why it is dropped, the first cause in the order of the
+-- checks.
 use Rattle.std.specs.Prelude.{◌≡◌, ℕ, List, Option, Some, None, Result, Ok, Err}
 use Rattle.rsl_accounts.specs.Configuration.{Configuration, client_number}
 use Rattle.rsl_wire.specs.Packet.{Fields, packet_of}
@@ -15,26 +16,33 @@ use Rattle.rsl_event.specs.declared.meaning.Dropped.{Dropped}
 use Rattle.rsl_event.specs.declared.meaning.Dropped.TheVariants as drops
 
 -- what a packet of a client means
-abbrev pub packet_meaning : Configuration → (boot : ℕ) → Port → Source → Fields → (client : ℕ) → Result Meaning Dropped
+abbrev pub packet_meaning : Configuration → (boot : ℕ) → Port → Source → Fields → (client : ℕ)
+    → Result Meaning Dropped
 packet_meaning config boot Auth source fields client = access_meaning config source client fields
 packet_meaning config boot Acct source fields client = accounting_meaning config boot client fields
 
 -- by the client that has the source's address
-abbrev pub if_client : Configuration → (boot : ℕ) → Port → Source → Fields → (client : Option ℕ) → Result Meaning Dropped
+abbrev pub if_client : Configuration → (boot : ℕ) → Port → Source → Fields → (client : Option ℕ)
+    → Result Meaning Dropped
 if_client config boot port source fields None = Err drops.UnknownClient
-if_client config boot port source fields (Some client) = packet_meaning config boot port source fields client
+if_client config boot port source fields (Some client) =
+    packet_meaning config boot port source fields client
 
 -- by the packet in the datagram
-abbrev pub if_packet : Configuration → (boot : ℕ) → Port → Source → Result Fields WireFault → Result Meaning Dropped
+abbrev pub if_packet : Configuration → (boot : ℕ) → Port → Source → Result Fields WireFault
+    → Result Meaning Dropped
 if_packet config boot port source (Err wire.Short) = Err drops.Short
 if_packet config boot port source (Err wire.BadLength) = Err drops.BadLength
-if_packet config boot port source (Ok fields) = if_client config boot port source fields (client_number config source.address)
+if_packet config boot port source (Ok fields) =
+    if_client config boot port source fields (client_number config source.address)
 
 -- what a datagram means that comes from a source to a port
-unfoldable pub meaning : Configuration → (boot : ℕ) → Port → Source → (datagram : List ℕ) → Result Meaning Dropped
+unfoldable pub meaning : Configuration → (boot : ℕ) → Port → Source → (datagram : List ℕ)
+    → Result Meaning Dropped
 meaning config boot port source datagram = if_packet config boot port source (packet_of datagram)
 
--- A drop was answered as it is defined. Memory is refused only where there is a meaning with octets of its own.
+-- A drop was answered as it is defined. Memory is refused only where there is a meaning with octets
+-- of its own.
 abbrev pub Fails : Dropped → Result Meaning Dropped → Type 0
 Fails drops.NoMemory defined = TakesMemory defined
 Fails dropped defined = defined ≡ Err dropped

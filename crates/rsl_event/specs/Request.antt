@@ -24,11 +24,17 @@ nas_name_of None None = Unnamed
 
 -- the access server of a packet of this client
 abbrev pub access_server_of : ℕ → List Attribute → Nas
-access_server_of client attributes = record { client = client; name = nas_name_of (first_of NAS_IDENTIFIER attributes) (first_of NAS_IP_ADDRESS attributes) }
+access_server_of client attributes =
+    record {
+      client = client;
+      name = nas_name_of (first_of NAS_IDENTIFIER attributes)
+          (first_of NAS_IP_ADDRESS attributes);
+    }
 
 -- the account that has the first User-Name
 abbrev pub named_account : Configuration → List Attribute → Option ℕ
-named_account config attributes = option_and_then (λ name. account_number config name) (first_of USER_NAME attributes)
+named_account config attributes =
+    option_and_then (λ name. account_number config name) (first_of USER_NAME attributes)
 
 -- the Proxy-State attributes, in order
 abbrev pub proxy_states : List Attribute → List Attribute
@@ -36,7 +42,8 @@ proxy_states attributes = filter (is_kind PROXY_STATE) attributes
 
 -- how many octets they have, with their headers
 abbrev pub proxy_len : List Attribute → ℕ
-proxy_len attributes = sum_by (λ attribute. length (attribute_octets attribute)) (proxy_states attributes)
+proxy_len attributes =
+    sum_by (λ attribute. length (attribute_octets attribute)) (proxy_states attributes)
 
 -- the secret that is shared with a client
 abbrev pub secret_of : Configuration → ℕ → List ℕ
@@ -44,4 +51,5 @@ secret_of config client = option_map_or (λ found. found.secret) (slice_get conf
 
 -- the password of an account
 abbrev pub account_password : Configuration → ℕ → List ℕ
-account_password config account = option_map_or (λ found. found.password) (slice_get config.accounts account) []
+account_password config account =
+    option_map_or (λ found. found.password) (slice_get config.accounts account) []

@@ -1,4 +1,5 @@
--- Message-Authenticators (RFC 3579 section 3.2): what an Access-Request has to have, and which replies get one.
+-- Message-Authenticators (RFC 3579 section 3.2): what an Access-Request has to have, and which
+-- replies get one.
 use Rattle.std.specs.Prelude.{ℕ, ◌+◌, ◌==◌, ◌&&◌, nat_lt, Bool, true, false, List, [], ◌∷◌, length, replicate, slice_get, if◌then◌else◌, Option, Some, None}
 use Rattle.std.specs.List.{before_first}
 use Rattle.std.specs.Option.{option_map_or}
@@ -15,7 +16,8 @@ use Rattle.rsl_event.specs.declared.codes.TheConstants.{MESSAGE_AUTHENTICATOR}
 
 -- whether a client has to sign its requests
 abbrev pub must_sign : Configuration → (client : ℕ) → Bool
-must_sign config client = option_map_or (λ found. found.signed) (slice_get config.clients client) false
+must_sign config client =
+    option_map_or (λ found. found.signed) (slice_get config.clients client) false
 
 -- whether there is a Message-Authenticator among the attributes
 abbrev pub has_signature : List Attribute → Bool
@@ -25,7 +27,8 @@ has_signature attributes = nat_lt 0 (attribute_count MESSAGE_AUTHENTICATOR attri
 unfoldable pub before_signature : List Attribute → List Attribute
 before_signature attributes = before_first (is_kind MESSAGE_AUTHENTICATOR) attributes
 
--- where its value stands in the packet: after the header of 20 octets, those attributes, its Type and its Length
+-- where its value stands in the packet: after the header of 20 octets, those attributes, its Type
+-- and its Length
 abbrev pub signature_place : List Attribute → ℕ
 signature_place attributes = 22 + length (list_octets (before_signature attributes))
 
@@ -39,7 +42,9 @@ has_right_signature fields attributes secret =
 -- why a request with these attributes is dropped, if it is for its Message-Authenticator
 abbrev pub signature_drop : Configuration → (client : ℕ) → Fields → List Attribute → Option Dropped
 signature_drop config client fields attributes =
-    if has_signature attributes then (if has_right_signature fields attributes (secret_of config client) then None else Some BadSignature)
+    if has_signature attributes
+    then (if has_right_signature fields attributes (secret_of config client) then None
+    else Some BadSignature)
     else (if must_sign config client then Some Unsigned else None)
 
 -- an Access-Accept or an Access-Reject may be signed, and an Accounting-Response never is

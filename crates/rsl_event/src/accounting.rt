@@ -15,7 +15,7 @@ ghost use Rattle.rsl_event.specs.Meaning.{Gives};
 
 use crate::codes::{
     ACCOUNTING_OFF, ACCOUNTING_ON, ACCOUNTING_REQUEST, ACCT_MULTI_SESSION_ID, ACCT_SESSION_ID,
-    ACCT_STATUS_TYPE, CLASS, INTERIM_UPDATE, START, STOP, USER_NAME,
+    ACCT_STATUS_TYPE, CLASS, CLASS_LEN, INTERIM_UPDATE, START, STOP, USER_NAME,
 };
 use crate::event::Act;
 use crate::meaning::{Dropped, Meaning, Note};
@@ -142,7 +142,7 @@ fn class_in(boot: u64, attributes: &Attrs<'_>) -> Option<u64>
 fn class_number(boot: u64, value: &[u8]) -> Option<u64>
     ensures { result ≡ class_number boot value.now }
 {
-    if value.len() != 16 {
+    if value.len() != CLASS_LEN {
         return None;
     }
     let (theirs, number) = value.split_at(8);

@@ -59,6 +59,8 @@ pub const ACCOUNTING_ON: u32 = 7;
 /// Acct-Status-Type Accounting-Off: the access server is about to stop.
 pub const ACCOUNTING_OFF: u32 = 8;
 
+/// The octets of a Class that this server gives: 8 of its boot number, and 8 of the accept number.
+pub const CLASS_LEN: usize = 16;
 /// The most octets of Proxy-State attributes, with their headers, that a request may have: so a
 /// reply has room for them.
 pub const MAX_PROXY_STATE_LEN: usize = 3900;
@@ -99,3 +101,5 @@ const _: () = prove!(
 );
 // The longest reply, 20 + 18 + 48 + 3,900 octets, is within the 4,096 of a packet.
 const _: () = prove!(MAX_PROXY_STATE_LEN == 3900);
+
+const _: () = prove!(CLASS_LEN == 16);

@@ -1,6 +1,6 @@
--- The Access-Request that a line stands for (RFC 2865 section 4.1). Its Request Authenticator is the digest of the line
--- without its moment. That of a client whose requests must be signed has a Message-Authenticator as its first attribute
--- (RFC 3579 section 3.2).
+-- The Access-Request that a line stands for (RFC 2865 section 4.1). Its Request Authenticator is
+-- the digest of the line without its moment. That of a client whose requests must be signed has a
+-- Message-Authenticator as its first attribute (RFC 3579 section 3.2).
 use Rattle.std.specs.Prelude.{ℕ, Bool, List, ◌∷◌, ◌++◌}
 use Rattle.md5.specs.Md5.{md5}
 use Rattle.rsl_auth.specs.Chap.{chap_response}
@@ -15,14 +15,16 @@ use Rattle.rsl_script.specs.declared.request.AccessRequest.{AccessRequest}
 use Rattle.rsl_script.specs.declared.request.Method.{Method}
 use Rattle.rsl_script.specs.declared.request.Method.TheVariants.{Pap, Chap}
 
--- the attribute that shows that the password is known: the challenge of a CHAP-Password is the Request Authenticator
+-- the attribute that shows that the password is known: the challenge of a CHAP-Password is the
+-- Request Authenticator
 abbrev pub password_kind : Method → ℕ
 password_kind Pap = USER_PASSWORD
 password_kind Chap = CHAP_PASSWORD
 
 abbrev pub password_value : Method → AccessRequest → (secret : List ℕ) → List ℕ
 password_value Pap request secret = hidden request.password secret (md5 request.text)
-password_value Chap request secret = request.id ∷ chap_response request.id request.password (md5 request.text)
+password_value Chap request secret =
+    request.id ∷ chap_response request.id request.password (md5 request.text)
 
 -- what the line says, with this value for its password
 unfoldable pub request_attributes : AccessRequest → (password : List ℕ) → List Attribute
@@ -39,6 +41,8 @@ access_octets request is_signed secret =
       code = ACCESS_REQUEST;
       id = request.id;
       authenticator = md5 request.text;
-      attributes = list_octets (signature_if is_signed ++ request_attributes request (password_value request.method request secret));
+      attributes =
+          list_octets (signature_if is_signed
+          ++ request_attributes request (password_value request.method request secret));
     }))
     (md5 request.text) secret

@@ -34,8 +34,8 @@ accounting_attributes boot request =
     ++ text_attribute ACCT_MULTI_SESSION_ID request.bundle
     ++ class_attributes boot request.class
 
--- the octets of the request to a server that shares this secret: the Request Authenticator is made over sixteen zero
--- octets in its place
+-- the octets of the request to a server that shares this secret: the Request Authenticator is made
+-- over sixteen zero octets in its place
 unfoldable pub accounting_octets : (boot : ℕ) → AccountingRequest → (secret : List ℕ) → List ℕ
 accounting_octets boot request secret =
     sealed

@@ -17,7 +17,8 @@ abbrev pub fault_of_config : ConfigFault → ReplayFault
 fault_of_config config_no_memory = NoMemory
 fault_of_config fault = Config fault
 
--- the status of a process that ends so: 1 where the script is at fault, 2 for input and output, 3 for memory
+-- the status of a process that ends so: 1 where the script is at fault, 2 for input and output, 3
+-- for memory
 abbrev pub status_of : ReplayFault → ℕ
 status_of (Line number) = 1
 status_of TooLong = 1

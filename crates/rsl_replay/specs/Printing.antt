@@ -1,4 +1,5 @@
--- What is printed of a script: for each event line a line, with its number counted from 1 and its word.
+-- What is printed of a script: for each event line a line, with its number counted from 1 and its
+-- word.
 use Rattle.std.specs.Prelude.{ℕ, ◌+◌, ◌-◌, Bool, true, false, List, [], ◌∷◌, ◌++◌, length, take, drop, codes, slice_get, Option, Some, if◌then◌else◌}
 use Rattle.std.specs.Fmt.{decimal}
 use Rattle.std.specs.List.{list_any}
@@ -55,7 +56,8 @@ word_of happening answers =
 abbrev pub line_text : (number : ℕ) → Word → List ℕ
 line_text number word = decimal number ++ 32 ∷ word_text word ++ 10 ∷ []
 
--- the lines of event lines that are numbered from this number: the first answers are those of the first line's steps
+-- the lines of event lines that are numbered from this number: the first answers are those of the
+-- first line's steps
 unfoldable pub printed_from : Configuration → (number : ℕ) → List EventLine → List Answer → List ℕ
 printed_from config number [] answers = []
 printed_from config number (line ∷ lines) answers =

@@ -19,8 +19,8 @@ most_octets = 1048576
 abbrev pub replay_boot : ℕ
 replay_boot = 1
 
--- The text is a right script of a right configuration, and not too long; each step of its event lines has its answer, and what is
--- written tells for each event line what it was answered.
+-- The text is a right script of a right configuration, and not too long; each step of its event
+-- lines has its answer, and what is written tells for each event line what it was answered.
 pub record IsReplayed (text written : List ℕ) : Type 0 where
   pub script : Contents
   pub config : Configuration
@@ -28,7 +28,8 @@ pub record IsReplayed (text written : List ℕ) : Type 0 where
   pub short : length text ≤ most_octets
   pub read : script_of text ≡ Ok script
   pub made : configuration_of script.settings script.clients script.accounts ≡ Ok config
-  pub answered : AreAnswers config replay_boot [] (steps_of_lines config replay_boot script.events) answers
+  pub answered : AreAnswers config replay_boot [] (steps_of_lines config replay_boot script.events)
+      answers
   pub printed_lines : written ≡ printed config script.events answers
 
 -- a right script whose configuration has the fault
@@ -37,11 +38,12 @@ pub record IsRefused (text : List ℕ) (fault : ConfigFault) : Type 0 where
   pub read : script_of text ≡ Ok script
   pub refused : configuration_of script.settings script.clients script.accounts ≡ Err fault
 
--- A fault of a text is there: too long comes first, then the first wrong line, then the configuration's fault.
--- Reads, writes and growths may fail at any time.
+-- A fault of a text is there: too long comes first, then the first wrong line, then the
+-- configuration's fault. Reads, writes and growths may fail at any time.
 abbrev pub IsFaultOf : (text : List ℕ) → ReplayFault → Type 0
 IsFaultOf text TooLong = most_octets < length text
-IsFaultOf text (Line number) = (length text ≤ most_octets) × (script_of text ≡ Err (wrong_line number))
+IsFaultOf text (Line number) =
+    (length text ≤ most_octets) × (script_of text ≡ Err (wrong_line number))
 IsFaultOf text (Config fault) = (length text ≤ most_octets) × IsRefused text fault
 IsFaultOf text InputOutput = ⊤
 IsFaultOf text NoMemory = ⊤

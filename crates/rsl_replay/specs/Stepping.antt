@@ -20,7 +20,8 @@ use Rattle.rsl_steps.specs.declared.step.Step.{Step}
 use Rattle.rsl_steps.specs.declared.step.Step.TheVariants as steps
 use Rattle.rsl_steps.specs.declared.step.Step.TheVariants.{Datagram}
 
--- the secret that a packet from an address is made with: its client's, or `none` where no client has the address
+-- the secret that a packet from an address is made with: its client's, or `none` where no client
+-- has the address
 abbrev pub secret_by : Configuration → (client : Option ℕ) → List ℕ
 secret_by config None = codes "none"
 secret_by config (Some client) = secret_of config client
@@ -38,7 +39,8 @@ is_signed_at config address = is_signed_by config (client_number config address)
 
 -- a datagram from port 1024 of an address
 abbrev pub datagram : (moment : ℕ) → Port → (address octets : List ℕ) → Step
-datagram moment port address octets = Datagram moment port (record { address = address; port = 1024 }) octets
+datagram moment port address octets =
+    Datagram moment port (record { address = address; port = 1024 }) octets
 
 -- a step for each shard, in the order of their numbers
 abbrev pub for_each_shard : Configuration → (step : ℕ → Step) → List Step
@@ -61,18 +63,23 @@ says_restart Off = true
 says_restart _ = false
 
 -- the sweeps before an Accounting-Request from an address: there are none where no client has it
-abbrev pub sweeps_by : Configuration → (moment : ℕ) → (name : Option (List ℕ)) → (client : Option ℕ) → List Step
+abbrev pub sweeps_by : Configuration → (moment : ℕ) → (name : Option (List ℕ)) → (client : Option ℕ)
+    → List Step
 sweeps_by config moment name None = []
 sweeps_by config moment name (Some client) = sweeps config moment (nas_named client name)
 
-abbrev pub sweeps_before : Configuration → (moment : ℕ) → (address : List ℕ) → AccountingRequest → List Step
+abbrev pub sweeps_before : Configuration → (moment : ℕ) → (address : List ℕ) → AccountingRequest
+    → List Step
 sweeps_before config moment address request =
-    if says_restart request.status then sweeps_by config moment request.nas (client_number config address) else []
+    if says_restart request.status
+    then sweeps_by config moment request.nas (client_number config address)
+    else []
 
 -- what happens at a moment
 abbrev pub steps_at : Configuration → (boot moment : ℕ) → Happening → List Step
 steps_at config boot moment (Access address request) =
-    datagram moment Auth address (access_octets request (is_signed_at config address) (secret_at config address)) ∷ []
+    datagram moment Auth address
+    (access_octets request (is_signed_at config address) (secret_at config address)) ∷ []
 steps_at config boot moment (Accounting address request) =
     sweeps_before config moment address request
     ++ datagram moment Acct address (accounting_octets boot request (secret_at config address)) ∷ []
@@ -93,7 +100,8 @@ sweep_count config status (Some client) = if says_restart status then config.set
 
 abbrev pub step_count_of : Configuration → Happening → ℕ
 step_count_of config (Access address request) = 1
-step_count_of config (Accounting address request) = sweep_count config request.status (client_number config address) + 1
+step_count_of config (Accounting address request) =
+    sweep_count config request.status (client_number config address) + 1
 step_count_of config (Raw address port octets) = 1
 step_count_of config happenings.Tick = config.settings.shards
 

@@ -1,6 +1,7 @@
 -- What the books of a shard are after lines, and what the session rule decides after them.
 --
--- The rule looks back over the own events of an account in all lines before; no book is used for that.
+-- The rule looks back over the own events of an account in all lines before; no book is used for
+-- that.
 use Rattle.std.specs.Prelude.{List, slice_get}
 use Rattle.std.specs.Option.{option_map_or}
 use Rattle.rsl_accounts.specs.Configuration.{Configuration}
@@ -23,6 +24,8 @@ replayed config shard lines = replay (setup_of config shard) (new_books config s
 -- the decision of the rule on a move after some lines; what is no account's own is done
 abbrev pub ruled : Configuration → (before : List Line) → Move → Decision
 ruled config before (Own account event) =
-    option_map_or (λ entry. decision_of (outcome_of entry.rules (past_of entry.rules (own_in account before)) event))
+    option_map_or
+    (λ entry. decision_of
+    (outcome_of entry.rules (past_of entry.rules (own_in account before)) event))
     (slice_get config.accounts account) Done
 ruled config before _ = Done

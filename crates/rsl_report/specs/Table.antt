@@ -25,7 +25,8 @@ line first others = left first ++ flat_map column others ++ 10 ∷ []
 abbrev pub header : List ℕ
 header =
     line (codes "name")
-    (codes "places" ∷ codes "held" ∷ codes "reserved" ∷ codes "live" ∷ codes "stale" ∷ codes "over" ∷ [])
+    (codes "places" ∷ codes "held" ∷ codes "reserved" ∷ codes "live" ∷ codes "stale" ∷ codes "over"
+    ∷ [])
 
 -- the name of the account with a number
 abbrev pub name_of : Configuration → (account : ℕ) → List ℕ

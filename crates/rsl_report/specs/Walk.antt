@@ -11,7 +11,8 @@ use Rattle.rsl_shard.specs.Setup.{setup_of}
 use Rattle.rsl_shard.specs.declared.line.Line.{Line}
 
 -- the replay of a shard's lines
-pub record IsReplay (config : Configuration) (shard : ℕ) (before : List Line) (replay : Replay) : Type 0 where
+pub record IsReplay (config : Configuration) (shard : ℕ) (before : List Line) (replay : Replay)
+    : Type 0 where
   pub within : shard < config.settings.shards
   pub of_shard : replay.shard ≡ shard
   pub setup : replay.books.setup ≡ setup_of config shard
@@ -25,8 +26,10 @@ IsFaultOfBeginning config first NoMemory = ⊤
 IsFaultOfBeginning config first _ = ⊥
 
 -- a fault of a line after others
-abbrev pub IsFaultOfLine : Configuration → (shard : ℕ) → (before : List Line) → Line → AuditFault → Type 0
+abbrev pub IsFaultOfLine : Configuration → (shard : ℕ) → (before : List Line) → Line → AuditFault
+    → Type 0
 IsFaultOfLine config shard before line (WrongDecision account position) =
-    (IsRight config shard before line → ⊥) × (account ≡ account_of line.moved) × (position ≡ length before)
+    (IsRight config shard before line
+    → ⊥) × (account ≡ account_of line.moved) × (position ≡ length before)
 IsFaultOfLine config shard before line NoMemory = ⊤
 IsFaultOfLine config shard before line _ = ⊥

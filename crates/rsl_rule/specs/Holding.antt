@@ -18,7 +18,8 @@ standings past links = map (λ link. record { link = link; standing = standing_o
 -- the held links that an event leaves
 abbrev pub lasting : Rules → PastEvent → Past → List ℕ
 lasting rules entry past =
-    filter (λ link. not (ends rules past entry.event link || yields link entry.outcome)) (held_links rules past)
+    filter (λ link. not (ends rules past entry.event link
+    || yields link entry.outcome)) (held_links rules past)
 
 -- the number of the link that an event took, 0 where it took none
 unfoldable pub taken_by : Outcome → ℕ

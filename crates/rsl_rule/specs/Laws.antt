@@ -26,34 +26,42 @@ abbrev pub PlacesStayWithinTheLimit : Type 0
 PlacesStayWithinTheLimit = (rules : Rules) (events : List Event) (n : ℕ) → RulesFit rules
     → places_after rules (take n events) ≤ rules.places
 
--- the past of a list of events has its events, newest first, and each did what the rule says by what came before it
+-- the past of a list of events has its events, newest first, and each did what the rule says by
+-- what came before it
 abbrev pub PastsFollowTheRule : Type 0
 PastsFollowTheRule = (rules : Rules) (events : List Event)
-    → IsRuled rules (past_of rules events) × (map (λ (entry : PastEvent). entry.event) (past_of rules events) ≡ reverse events)
+    → IsRuled rules (past_of rules events)
+    × (map (λ (entry : PastEvent). entry.event) (past_of rules events) ≡ reverse events)
 
 -- two pasts of the same events that follow the rule are equal
 abbrev pub OnePastFollowsTheRule : Type 0
 OnePastFollowsTheRule = (rules : Rules) (one other : Past) → IsRuled rules one → IsRuled rules other
-    → map (λ (entry : PastEvent). entry.event) one ≡ map (λ (entry : PastEvent). entry.event) other → one ≡ other
+    → map (λ (entry : PastEvent). entry.event) one ≡ map (λ (entry : PastEvent). entry.event) other
+    → one ≡ other
 
--- an alive with no class takes the reservation at its access server that has the lowest number: no class
--- names a lower one
+-- an alive with no class takes the reservation at its access server that has the lowest number: no
+-- class names a lower one
 abbrev pub LowestReservationIsTaken : Type 0
-LowestReservationIsTaken = (rules : Rules) (events : List Event) (event : Event) (nas : Nas) (link other a b : ℕ)
-    → reservation_of rules (past_of rules events) event nas None ≡ Some link → number_at link (past_of rules events) ≡ Some a
+LowestReservationIsTaken =
+    (rules : Rules) (events : List Event) (event : Event) (nas : Nas) (link other a b : ℕ)
+    → reservation_of rules (past_of rules events) event nas None ≡ Some link
+    → number_at link (past_of rules events) ≡ Some a
     → reservation_of rules (past_of rules events) event nas (Some b) ≡ Some other → a ≤ b
 
--- a link that yields to an event was stale then, no stale link was touched before it, and the places after
--- the event are at most the account's
+-- a link that yields to an event was stale then, no stale link was touched before it, and the
+-- places after the event are at most the account's
 abbrev pub StaleLinksYield : Type 0
-StaleLinksYield = (rules : Rules) (events : List Event) (event : Event) (number link : ℕ) → RulesFit rules
+StaleLinksYield =
+    (rules : Rules) (events : List Event) (event : Event) (number link : ℕ) → RulesFit rules
     → outcome_of rules (past_of rules events) event ≡ AcceptedInPlace number link
-    → HasYielded rules (past_of rules events) event link × (places_after rules (events ++ event ∷ []) ≤ rules.places)
+    → HasYielded rules (past_of rules events) event link
+    × (places_after rules (events ++ event ∷ []) ≤ rules.places)
 
 -- a closed session has no held link, so of an alive's first two cases at most one applies
 abbrev pub ClosedSessionsHoldNoLink : Type 0
 ClosedSessionsHoldNoLink = (rules : Rules) (events : List Event) (event : Event) (session : Session)
-    → is_closed rules (past_of rules events) event session ≡ true → link_of rules (past_of rules events) event session ≡ None
+    → is_closed rules (past_of rules events) event session ≡ true
+    → link_of rules (past_of rules events) event session ≡ None
 
 -- the accept numbers of the fresh asks that were accepted, in the order in which they were given
 unfoldable pub accept_numbers : Past → List ℕ
@@ -63,7 +71,8 @@ accept_numbers (entry ∷ past) = accept_numbers past ++ option_to_list (number_
 -- they count up from 0 without a gap
 abbrev pub AcceptNumbersCountUp : Type 0
 AcceptNumbersCountUp = (rules : Rules) (events : List Event)
-    → EachIndex (accept_numbers (past_of rules events)) (λ k. slice_index (accept_numbers (past_of rules events)) k ≡ k)
+    → EachIndex (accept_numbers (past_of rules events))
+    (λ k. slice_index (accept_numbers (past_of rules events)) k ≡ k)
 
 -- the key of an ask
 abbrev pub key_of : Act → Option Key
@@ -71,22 +80,26 @@ key_of (Ask key nas) = Some key
 key_of _ = None
 
 -- a fresh ask of a key was decided so
-pub record IsFreshDecision (key : Option Key) (decision : Decision) (entry : PastEvent) : Type 0 where
+pub record IsFreshDecision (key : Option Key) (decision : Decision) (entry : PastEvent)
+    : Type 0 where
   pub same_key : key_of entry.event.act ≡ key
   pub decided : fresh_decision entry.outcome ≡ Some decision
 
 -- what a repeat is answered was decided on a fresh ask of its key before it
 abbrev pub RepeatsAreDecidedAsAFreshAsk : Type 0
-RepeatsAreDecidedAsAFreshAsk = (rules : Rules) (events : List Event) (event : Event) (decision : Decision)
+RepeatsAreDecidedAsAFreshAsk =
+    (rules : Rules) (events : List Event) (event : Event) (decision : Decision)
     → outcome_of rules (past_of rules events) event ≡ Repeated decision
     → Any (IsFreshDecision (key_of event.act) decision) (past_of rules events)
 
 -- a tick that is put into a list where no event after it has a lower moment leaves every decision
 -- as it was, and the places after each event after it
 abbrev pub EarlyTicksChangeNoDecision : Type 0
-EarlyTicksChangeNoDecision = (rules : Rules) (events : List Event) (n moment : ℕ) → n ≤ length events
+EarlyTicksChangeNoDecision =
+    (rules : Rules) (events : List Event) (n moment : ℕ) → n ≤ length events
     → All (λ (event : Event). moment ≤ event.moment) (drop n events)
-    → (decisions rules (insert events n (record { moment = moment; act = Tick })) ≡ insert (decisions rules events) n Done)
+    → (decisions rules (insert events n (record { moment = moment; act = Tick })) ≡ insert
+    (decisions rules events) n Done)
     × ((k : ℕ) → n < k → k ≤ length events
     → places_after rules (take (suc k) (insert events n (record { moment = moment; act = Tick })))
     ≡ places_after rules (take k events))

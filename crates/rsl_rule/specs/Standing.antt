@@ -16,7 +16,8 @@ use Rattle.rsl_rule.specs.declared.standing.Standing.{Standing}
 use Rattle.rsl_rule.specs.declared.holding.HeldLink.{HeldLink}
 
 unfoldable pub standing_of : ℕ → Past → Standing
-standing_of link past = record { clock = clock past; touched = touched_at link past; session = session_at link past }
+standing_of link past =
+    record { clock = clock past; touched = touched_at link past; session = session_at link past }
 
 -- the number of the first of some held links that passes a test
 abbrev pub link_where : (HeldLink → Bool) → List HeldLink → Option ℕ
@@ -25,12 +26,14 @@ link_where test held = option_map (λ (one : HeldLink). one.link) (find test hel
 -- whether a link that stands so is idle when an event comes
 abbrev pub is_idle_so : Rules → Event → Standing → Bool
 is_idle_so rules event standing =
-    is_some standing.session && nat_le rules.live (max standing.clock event.moment - standing.touched)
+    is_some standing.session
+    && nat_le rules.live (max standing.clock event.moment - standing.touched)
 
 -- whether none of the idle links among some was touched before a moment
 abbrev pub is_first_so : Rules → Event → List HeldLink → ℕ → Bool
 is_first_so rules event held touched =
-    list_all (λ (other : HeldLink). not (is_idle_so rules event other.standing) || nat_le touched other.standing.touched) held
+    list_all (λ (other : HeldLink). not (is_idle_so rules event other.standing)
+    || nat_le touched other.standing.touched) held
 
 -- whether a link of some can yield
 abbrev pub is_yielding_so : Rules → Event → List HeldLink → HeldLink → Bool
@@ -40,4 +43,5 @@ is_yielding_so rules event held one =
 -- whether a held link is a reservation that an alive can take
 abbrev pub is_taken_so : Past → Nas → Option ℕ → HeldLink → Bool
 is_taken_so past nas class held =
-    is_none held.standing.session && is_at past nas held.link && is_number class (number_at held.link past)
+    is_none held.standing.session && is_at past nas held.link
+    && is_number class (number_at held.link past)

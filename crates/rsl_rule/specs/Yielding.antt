@@ -25,6 +25,7 @@ pub record HasYielded (rules : Rules) (past : Past) (event : Event) (link : ℕ)
   pub did_not_fit : has_a_place rules past event ≡ false
   -- the link was held and idle, and no idle link was touched before it
   pub was_idle : Any (λ idle. idle ≡ link) (idle_links rules past event)
-  pub touched_first : All (λ idle. touched_at link past ≤ touched_at idle past) (idle_links rules past event)
+  pub touched_first : All (λ idle. touched_at link past ≤ touched_at idle past)
+      (idle_links rules past event)
   -- and it has ended
   pub has_ended : is_freed rules link (entry_of rules past event ∷ past) ≡ true

@@ -1,4 +1,5 @@
--- The Access-Request of a line `ask` or `chap`: its words after the moment are CLIENT NAS NAME PASSWORD ID.
+-- The Access-Request of a line `ask` or `chap`: its words after the moment are CLIENT NAS NAME
+-- PASSWORD ID.
 use Rattle.std.specs.Prelude.{ℕ, List, [], ◌∷◌, codes, Option, None, Some}
 use Rattle.std.specs.List.{join_with_byte}
 use Rattle.rsl_accounts.specs.Address.{address_of}
@@ -20,13 +21,15 @@ unfoldable pub text_without_moment : Method → (words : List (List ℕ)) → Li
 text_without_moment method words = join_with_byte 32 (method_word method ∷ words)
 
 -- the request that NAS NAME PASSWORD ID say, on a line with this text
-unfoldable pub access_request : Method → (text : List ℕ) → (words : List (List ℕ)) → Option AccessRequest
+unfoldable pub access_request : Method → (text : List ℕ) → (words : List (List ℕ))
+    → Option AccessRequest
 access_request method text (nas ∷ name ∷ password ∷ id ∷ []) = do
   nas ← read_nas nas
   name ← read_name name
   password ← read_password password
   id ← read_id id
-  Some (record { method = method; text = text; nas = nas; name = name; password = password; id = id })
+  Some (record
+      { method = method; text = text; nas = nas; name = name; password = password; id = id })
 access_request method text _ = None
 
 -- what the words after the moment say

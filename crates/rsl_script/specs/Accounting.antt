@@ -1,5 +1,6 @@
--- The Accounting-Request of a line `start`, `interim`, `stop`, `on` or `off`: its words after the moment are CLIENT NAS,
--- then for `start`, `interim` and `stop` NAME SESSION, and then for `start` and `interim` multi=M and class=N, where they stand.
+-- The Accounting-Request of a line `start`, `interim`, `stop`, `on` or `off`: its words after the
+-- moment are CLIENT NAS, then for `start`, `interim` and `stop` NAME SESSION, and then for `start`
+-- and `interim` multi=M and class=N, where they stand.
 use Rattle.std.specs.Prelude.{ℕ, List, [], ◌∷◌, Option, None, Some}
 use Rattle.rsl_accounts.specs.Address.{address_of}
 use Rattle.rsl_script.specs.declared.accounting.Ties.{Ties}
@@ -33,7 +34,8 @@ ties_at Stop (word ∷ rest) = None
 ties_at status words = ties_of words
 
 -- the report on a session: NAME SESSION, and then multi=M and class=N
-unfoldable pub session_report : Status → (nas : Option (List ℕ)) → (words : List (List ℕ)) → Option AccountingRequest
+unfoldable pub session_report : Status → (nas : Option (List ℕ)) → (words : List (List ℕ))
+    → Option AccountingRequest
 session_report status nas (name ∷ session ∷ rest) = do
   name ← read_name name
   session ← read_name session
@@ -49,12 +51,15 @@ session_report status nas (name ∷ session ∷ rest) = do
 session_report status nas _ = None
 
 -- the report on an access server, after which stands nothing
-unfoldable pub server_report : Status → (nas : Option (List ℕ)) → (words : List (List ℕ)) → Option AccountingRequest
+unfoldable pub server_report : Status → (nas : Option (List ℕ)) → (words : List (List ℕ))
+    → Option AccountingRequest
 server_report status nas [] =
-    Some (record { status = status; nas = nas; name = None; session = None; bundle = None; class = None })
+    Some (record
+    { status = status; nas = nas; name = None; session = None; bundle = None; class = None })
 server_report status nas _ = None
 
-unfoldable pub report_of : Status → (nas : Option (List ℕ)) → (words : List (List ℕ)) → Option AccountingRequest
+unfoldable pub report_of : Status → (nas : Option (List ℕ)) → (words : List (List ℕ))
+    → Option AccountingRequest
 report_of Start nas words = session_report Start nas words
 report_of Interim nas words = session_report Interim nas words
 report_of Stop nas words = session_report Stop nas words

@@ -1,4 +1,5 @@
--- What a line says that happens: its words after the first are its moment, and then those of its kind.
+-- What a line says that happens: its words after the first are its moment, and then those of its
+-- kind.
 use Rattle.std.specs.Prelude.{ℕ, List, [], ◌∷◌, Option, None, Some}
 use Rattle.rsl_accounts.specs.Address.{address_of}
 use Rattle.rsl_event.specs.declared.meaning.Port.{Port}

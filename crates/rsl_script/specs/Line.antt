@@ -41,15 +41,26 @@ read_options words =
     let ports = leading_number (codes "") words in
     let live = leading_number (codes "live=") ports.1 in
     let grace = leading_number (codes "grace=") live.1 in
-    if length grace.1 == 0 then Some (record { ports = ports.0; live = live.0; grace = grace.0 }) else None
+    if length grace.1 == 0
+    then Some (record { ports = ports.0; live = live.0; grace = grace.0 })
+    else None
 
--- an account of one port, if no ports are given, whose other times are those of the settings, and whose accepts have no
--- more attributes
+-- an account of one port, if no ports are given, whose other times are those of the settings, and
+-- whose accepts have no more attributes
 abbrev pub account_with : (name password : List ℕ) → (places : ℕ) → Options → Entry
 account_with name password places options = record {
   name = name;
   password = password;
-  rules = record { places = places; ports = unwrap_or options.ports 1; reserve = 0; live = 0; grace = 0; closed = 0; keep = 0 };
+  rules =
+      record {
+        places = places;
+        ports = unwrap_or options.ports 1;
+        reserve = 0;
+        live = 0;
+        grace = 0;
+        closed = 0;
+        keep = 0;
+      };
   service_type = None;
   framed_protocol = None;
   session_timeout = None;

@@ -10,7 +10,8 @@ infixl 10 ◌>>=◌
 abbrev pub ◌>>=◌ : {A B : Type 0} → Option A → (A → Option B) → Option B
 part >>= next = option_and_then next part
 
--- what is said is read, and nothing is wrong but where nothing is said. Memory may be refused at any time
+-- what is said is read, and nothing is wrong but where nothing is said. Memory may be refused at
+-- any time
 abbrev pub Reads : {T : Type 0} → Option T → Result T LineFault → Type 0
 Reads said (Ok value) = said ≡ Some value
 Reads said (Err Wrong) = said ≡ None

@@ -92,7 +92,8 @@ abbrev pub is_event : Option Line → Bool
 is_event (Some (lines.Event event)) = true
 is_event _ = false
 
--- whether a line after these is wrong: it says nothing right, or is one of the configuration after an event line
+-- whether a line after these is wrong: it says nothing right, or is one of the configuration after
+-- an event line
 abbrev pub is_wrong : (before : List (Option Line)) → Option Line → Bool
 is_wrong before None = true
 is_wrong before (Some line) = is_configuration line && list_any is_event before
@@ -100,7 +101,10 @@ is_wrong before (Some line) = is_configuration line && list_any is_event before
 -- the number of the first wrong line, of lines after these. Lines are numbered from 1
 unfoldable pub first_wrong : (before : List (Option Line)) → List (Option Line) → Option ℕ
 first_wrong before [] = None
-first_wrong before (line ∷ rest) = if is_wrong before line then Some (length before + 1) else first_wrong (before ++ line ∷ []) rest
+first_wrong before (line ∷ rest) =
+    if is_wrong before line
+    then Some (length before + 1)
+    else first_wrong (before ++ line ∷ []) rest
 
 abbrev pub unless_wrong : Option ℕ → Contents → Result Contents ScriptFault
 unless_wrong None said = Ok said
@@ -109,4 +113,5 @@ unless_wrong (Some number) said = Err (faults.Line number)
 -- the script that a text writes
 unfoldable pub script_of : (text : List ℕ) → Result Contents ScriptFault
 script_of text =
-    unless_wrong (first_wrong [] (map line_of (lines_of text))) (contents_of (filter_map line_of (lines_of text)))
+    unless_wrong (first_wrong [] (map line_of (lines_of text)))
+    (contents_of (filter_map line_of (lines_of text)))

@@ -26,7 +26,10 @@ with_line held line = record {
 
 -- a line of the configuration after an event line is not taken
 abbrev pub with_next_line : Contents → Line → Option Contents
-with_next_line held line = if is_configuration line && nat_lt 0 (length held.events) then None else Some (with_line held line)
+with_next_line held line =
+    if is_configuration line && nat_lt 0 (length held.events)
+    then None
+    else Some (with_line held line)
 
 -- nor is a line that says nothing right
 unfoldable pub with_said : Contents → Option Line → Option Contents

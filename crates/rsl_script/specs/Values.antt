@@ -1,4 +1,5 @@
--- The values that a word may write. (The octets of an IPv4 address are `address_of`, of the accounts.)
+-- The values that a word may write. (The octets of an IPv4 address are `address_of`, of the
+-- accounts.)
 use Rattle.std.specs.Prelude.{ℕ, ◌≤◌, ◌^◌, ◌&&◌, nat_lt, nat_le, Bool, if◌then◌else◌, List, [], ◌∷◌, length, take, drop, codes, bytes_eq, Option, None, Some, option_map, option_and_then}
 use Rattle.std.specs.Result.{result_ok}
 use Rattle.std.specs.Str.{all_ascii_digits}
@@ -11,7 +12,10 @@ is_numeral word = nat_lt 0 (length word) && all_ascii_digits word
 
 -- a number under 2^64 in decimal digits, leading zeros allowed
 unfoldable pub read_number : List ℕ → Option ℕ
-read_number word = if is_numeral word && nat_lt (digits_value 10 word) (2 ^ 64) then Some (digits_value 10 word) else None
+read_number word =
+    if is_numeral word && nat_lt (digits_value 10 word) (2 ^ 64)
+    then Some (digits_value 10 word)
+    else None
 
 abbrev pub octet_of : ℕ → Option ℕ
 octet_of number = if nat_lt number 256 then Some number else None
@@ -48,7 +52,10 @@ read_octets word = result_ok (decode_of word)
 
 -- what stands after this beginning of a word
 unfoldable pub rest_after : (beginning : List ℕ) → List ℕ → Option (List ℕ)
-rest_after beginning word = if bytes_eq (take (length beginning) word) beginning then Some (drop (length beginning) word) else None
+rest_after beginning word =
+    if bytes_eq (take (length beginning) word) beginning
+    then Some (drop (length beginning) word)
+    else None
 
 -- the bundle of a word `multi=M`, M a text that fits an attribute
 unfoldable pub read_bundle : List ℕ → Option (List ℕ)
@@ -68,6 +75,7 @@ leading words None = (None, words)
 leading [] (Some number) = (None, [])
 leading (word ∷ rest) (Some number) = (Some number, rest)
 
-unfoldable pub leading_number : (beginning : List ℕ) → (words : List (List ℕ)) → Option ℕ × List (List ℕ)
+unfoldable pub leading_number : (beginning : List ℕ) → (words : List (List ℕ))
+    → Option ℕ × List (List ℕ)
 leading_number beginning [] = (None, [])
 leading_number beginning (word ∷ rest) = leading (word ∷ rest) (number_after beginning word)

@@ -1,7 +1,7 @@
--- What an alive of a session does is the first of these that applies. It renews the link that is bound to
--- the session. It is ignored if the session is closed. It takes a reserved link at its access server: with
--- a class, the link of that accept number; with none, the link of the lowest. It opens a new link, if the
--- places then are within the limit. Otherwise it is over.
+-- What an alive of a session does is the first of these that applies. It renews the link that is
+-- bound to the session. It is ignored if the session is closed. It takes a reserved link at its
+-- access server: with a class, the link of that accept number; with none, the link of the lowest.
+-- It opens a new link, if the places then are within the limit. Otherwise it is over.
 use Rattle.std.specs.Prelude.{ℕ, ◌-◌, ◌^◌, min, [], ◌∷◌, ◌++◌, Bool, true, false, ◌&&◌, ◌==◌, nat_le, find, count_by, if◌then◌else◌, Option, Some, None}
 use Rattle.rsl_accounts.specs.declared.rules.Rules.{Rules}
 use Rattle.rsl_event.specs.declared.event.Event.{Event}
@@ -28,18 +28,23 @@ is_number (Some wanted) (Some number) = number == wanted
 
 -- whether a link is a reservation that an alive can take
 unfoldable pub is_chosen : Past → Nas → Option ℕ → ℕ → Bool
-is_chosen past nas class link = is_reserved past link && is_at past nas link && is_number class (number_at link past)
+is_chosen past nas class link =
+    is_reserved past link && is_at past nas link && is_number class (number_at link past)
 
--- the reservation that an alive takes: the first in the order in which they opened, which has the lowest number
+-- the reservation that an alive takes: the first in the order in which they opened, which has the
+-- lowest number
 unfoldable pub reservation_of : Rules → Past → Event → Nas → Option ℕ → Option ℕ
-reservation_of rules past event nas class = find (is_chosen past nas class) (held_before rules past event)
+reservation_of rules past event nas class =
+    find (is_chosen past nas class) (held_before rules past event)
 
 -- whether one more link with the event's bundle can open
 unfoldable pub has_room : Rules → Past → Event → Bool
 has_room rules past event =
-    nat_le (places_of rules.ports (bundles past (held_before rules past event) ++ bundle_of event.act ∷ [])) rules.places
+    nat_le (places_of rules.ports (bundles past (held_before rules past event)
+    ++ bundle_of event.act ∷ [])) rules.places
 
--- what an alive does once it renews no link and its session is not closed, by the reservation that it takes
+-- what an alive does once it renews no link and its session is not closed, by the reservation that
+-- it takes
 abbrev pub unbound_outcome : Rules → Past → Event → Option ℕ → Outcome
 unbound_outcome rules past event (Some link) = Took link
 unbound_outcome rules past event None = if has_room rules past event then Opened else Over

@@ -1,7 +1,8 @@
--- An ask is a repeat if one of the last 8 fresh asks has its key, is less than the keep time old, and had
--- no sweep of its access server since. It gets the decision of the latest such ask. Every other ask is
--- fresh: it is accepted, and opens a reserved link, where one more place is free. Where none is, the idle
--- link touched longest ago yields, if the places without it leave room for one more; no other link is tried.
+-- An ask is a repeat if one of the last 8 fresh asks has its key, is less than the keep time old,
+-- and had no sweep of its access server since. It gets the decision of the latest such ask. Every
+-- other ask is fresh: it is accepted, and opens a reserved link, where one more place is free.
+-- Where none is, the idle link touched longest ago yields, if the places without it leave room for
+-- one more; no other link is tried.
 use Rattle.std.specs.Prelude.{ℕ, ◌+◌, ◌-◌, ◌^◌, List, [], ◌∷◌, filter, Bool, ◌&&◌, ◌==◌, not, nat_lt, nat_le, find, count_by, take, if◌then◌else◌, is_some, Option, Some, None}
 use Rattle.std.specs.List.{list_all, cons_option}
 use Rattle.rsl_accounts.specs.declared.rules.Rules.{Rules}
@@ -36,26 +37,31 @@ fresh_decision (AcceptedInPlace number yielded) = Some (Accept number)
 fresh_decision Refused = Some LimitReject
 fresh_decision _ = None
 
--- a fresh ask as it is kept, with the clock at it and whether its access server is among those swept since
+-- a fresh ask as it is kept, with the clock at it and whether its access server is among those
+-- swept since
 abbrev pub kept_ask : ℕ → List PastEvent → Act → Option Decision → Option KeptAsk
 kept_ask now since (Ask key nas) (Some decision) =
-    Some (record { key = key; nas = nas; decision = decision; at = now; swept = swept_in since nas })
+    Some (record
+    { key = key; nas = nas; decision = decision; at = now; swept = swept_in since nas })
 kept_ask now since act decision = None
 
 -- the fresh asks of a past, newest first, where these entries came since
 unfoldable pub fresh_asks : List PastEvent → Past → List KeptAsk
 fresh_asks since [] = []
 fresh_asks since (entry ∷ past) =
-    cons_option (kept_ask (clock (entry ∷ past)) since entry.event.act (fresh_decision entry.outcome))
+    cons_option (kept_ask (clock (entry
+    ∷ past)) since entry.event.act (fresh_decision entry.outcome))
     (fresh_asks (entry ∷ since) past)
 
 -- whether an ask of this key, at this clock, repeats a fresh ask
 unfoldable pub repeats : Rules → Key → ℕ → KeptAsk → Bool
-repeats rules key now ask = same_key ask.key key && nat_lt (now - ask.at) rules.keep && not ask.swept
+repeats rules key now ask =
+    same_key ask.key key && nat_lt (now - ask.at) rules.keep && not ask.swept
 
 -- the latest fresh ask that an ask of this key repeats
 unfoldable pub repeated_ask : Rules → Past → Event → Key → Option KeptAsk
-repeated_ask rules past event key = find (repeats rules key (clock_at past event)) (take KEPT_ASKS (fresh_asks [] past))
+repeated_ask rules past event key =
+    find (repeats rules key (clock_at past event)) (take KEPT_ASKS (fresh_asks [] past))
 
 -- how many fresh asks were accepted
 unfoldable pub accepts : Past → ℕ
@@ -63,7 +69,8 @@ accepts past = count_by (λ entry. is_some (number_of entry.outcome)) past
 
 -- whether one more link without a bundle can open beside some links
 unfoldable pub has_place_beside : Rules → Past → List ℕ → Bool
-has_place_beside rules past links = nat_le (places_of rules.ports (bundles past links) + 1) rules.places
+has_place_beside rules past links =
+    nat_le (places_of rules.ports (bundles past links) + 1) rules.places
 
 -- whether one more link without a bundle can open
 unfoldable pub has_a_place : Rules → Past → Event → Bool
@@ -75,26 +82,32 @@ idle_links rules past event = filter (is_idle rules past event) (held_before rul
 
 -- whether none of some links was touched before this one
 unfoldable pub is_touched_first : Past → List ℕ → ℕ → Bool
-is_touched_first past links link = list_all (λ other. nat_le (touched_at link past) (touched_at other past)) links
+is_touched_first past links link =
+    list_all (λ other. nat_le (touched_at link past) (touched_at other past)) links
 
--- the link that can yield: of the idle links the one touched longest ago, and of these the first that opened
+-- the link that can yield: of the idle links the one touched longest ago, and of these the first
+-- that opened
 unfoldable pub yielding_link : Rules → Past → Event → Option ℕ
 yielding_link rules past event =
     find (is_touched_first past (idle_links rules past event)) (idle_links rules past event)
 
 -- the held links but one
 unfoldable pub held_without : Rules → Past → Event → ℕ → List ℕ
-held_without rules past event link = filter (λ other. not (other == link)) (held_before rules past event)
+held_without rules past event link =
+    filter (λ other. not (other == link)) (held_before rules past event)
 
 -- whether one more link without a bundle can open in the place of one
 unfoldable pub has_a_place_without : Rules → Past → Event → ℕ → Bool
-has_a_place_without rules past event link = has_place_beside rules past (held_without rules past event link)
+has_a_place_without rules past event link =
+    has_place_beside rules past (held_without rules past event link)
 
 -- what a fresh ask does where no place is free, by the link that can yield
 abbrev pub unfitting_outcome : Rules → Past → Event → Option ℕ → Outcome
 unfitting_outcome rules past event None = Refused
 unfitting_outcome rules past event (Some link) =
-    if has_a_place_without rules past event link then AcceptedInPlace (accepts past) link else Refused
+    if has_a_place_without rules past event link
+    then AcceptedInPlace (accepts past) link
+    else Refused
 
 -- what a fresh ask does, while there is an accept number for it
 unfoldable pub fresh_outcome : Rules → Past → Event → Outcome

@@ -1,5 +1,5 @@
--- A link is bound to the session of the alive that opened or took it, and reserved until then. Its bundle
--- is that of the first alive that opened, took or renewed it and carried one.
+-- A link is bound to the session of the alive that opened or took it, and reserved until then. Its
+-- bundle is that of the first alive that opened, took or renewed it and carried one.
 use Rattle.std.specs.Prelude.{ℕ, suc, [], ◌∷◌, length, Bool, false, ◌==◌, if◌then◌else◌, Option, Some, None, is_none}
 use Rattle.std.specs.Option.{option_or, option_map}
 use Rattle.rsl_event.specs.declared.event.Act.{Act}
@@ -37,22 +37,27 @@ unfoldable pub bundle_of : Act → Option Bundle
 bundle_of (Alive nas session bundle class) = option_map (λ id. record { nas = nas; id = id }) bundle
 bundle_of _ = None
 
--- the session for which the entry at a place opened or took a link, and the bundle with which it touched it
+-- the session for which the entry at a place opened or took a link, and the bundle with which it
+-- touched it
 unfoldable pub bound_by : ℕ → ℕ → PastEvent → Option Session
-bound_by link place entry = if binds link place entry.outcome then session_of entry.event.act else None
+bound_by link place entry =
+    if binds link place entry.outcome then session_of entry.event.act else None
 
 unfoldable pub bundled_by : ℕ → ℕ → PastEvent → Option Bundle
-bundled_by link place entry = if touches link place entry.outcome then bundle_of entry.event.act else None
+bundled_by link place entry =
+    if touches link place entry.outcome then bundle_of entry.event.act else None
 
 -- the session that a link is bound to, by the first that bound it
 unfoldable pub session_at : ℕ → Past → Option Session
 session_at link [] = None
-session_at link (entry ∷ past) = option_or (session_at link past) (bound_by link (suc (length past)) entry)
+session_at link (entry ∷ past) =
+    option_or (session_at link past) (bound_by link (suc (length past)) entry)
 
 -- the bundle of a link, by the first that touched it and carried one
 unfoldable pub bundle_at : ℕ → Past → Option Bundle
 bundle_at link [] = None
-bundle_at link (entry ∷ past) = option_or (bundle_at link past) (bundled_by link (suc (length past)) entry)
+bundle_at link (entry ∷ past) =
+    option_or (bundle_at link past) (bundled_by link (suc (length past)) entry)
 
 -- whether a session is this one
 abbrev pub is_session : Option Session → Session → Bool

@@ -1,7 +1,8 @@
--- The running book of an account: what it holds now, so that its next event is decided without a look back.
+-- The running book of an account: what it holds now, so that its next event is decided without a
+-- look back.
 --
--- A link of a book is at its access server. It is reserved by an accept number or bound to a session, may
--- have a bundle, and has the clock at its last touch.
+-- A link of a book is at its access server. It is reserved by an accept number or bound to a
+-- session, may have a bundle, and has the clock at its last touch.
 use Rattle.std.specs.Prelude.{ℕ, ◌-◌, List, [], map, Bool, true, false, ◌&&◌, nat_le, nat_lt, count_by, Option}
 use Rattle.rsl_accounts.specs.declared.rules.Rules.{Rules}
 use Rattle.rsl_event.specs.declared.nas.Nas.{Nas}
@@ -22,8 +23,8 @@ pub record BookLink : Type 0 where
   pub bundle : Option Bundle
   pub touched : ℕ
 
--- the links in the order in which they opened, the next accept number, and the last fresh asks and the last
--- stops, newest first
+-- the links in the order in which they opened, the next accept number, and the last fresh asks and
+-- the last stops, newest first
 pub record Book : Type 0 where
   pub clock : ℕ
   pub links : List BookLink

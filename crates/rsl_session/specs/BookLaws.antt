@@ -1,6 +1,6 @@
--- The laws that join the running book with the rule by looking back, each the contract of a function of
--- `laws`. For every past that follows the rule and every event, the step of the past's book is the book of the
--- past with the event, field by field, and its decision is the rule's.
+-- The laws that join the running book with the rule by looking back, each the contract of a
+-- function of `laws`. For every past that follows the rule and every event, the step of the past's
+-- book is the book of the past with the event, field by field, and its decision is the rule's.
 use Rattle.std.specs.Prelude.{◌≡◌, ℕ, ◌*◌, ◌≤◌, List, ◌∷◌, length, take, count_by}
 use Rattle.rsl_accounts.specs.Limits.{RulesFit}
 use Rattle.rsl_accounts.specs.declared.rules.Rules.{Rules}
@@ -52,12 +52,17 @@ abbrev pub DecisionLaw : Type 0
 DecisionLaw = (rules : Rules) (past : Past) (event : Event) → IsRuled rules past
     → (step rules (book_of rules past) event).1 ≡ decision_of (outcome_of rules past event)
 
--- over whole lists of events: a book that began new decides as the rule does, and holds the rule's places
+-- over whole lists of events: a book that began new decides as the rule does, and holds the rule's
+-- places
 abbrev pub BooksDecideAsTheRule : Type 0
-BooksDecideAsTheRule = (rules : Rules) (events : List Event) → decided_by rules new_book events ≡ decisions rules events
+BooksDecideAsTheRule =
+    (rules : Rules) (events : List Event)
+    → decided_by rules new_book events ≡ decisions rules events
 
 abbrev pub BooksAreThoseOfThePast : Type 0
-BooksAreThoseOfThePast = (rules : Rules) (events : List Event) → book_after rules new_book events ≡ book_of rules (past_of rules events)
+BooksAreThoseOfThePast =
+    (rules : Rules) (events : List Event)
+    → book_after rules new_book events ≡ book_of rules (past_of rules events)
 
 abbrev pub BooksHoldThePlacesOfTheRule : Type 0
 BooksHoldThePlacesOfTheRule = (rules : Rules) (events : List Event)
@@ -69,18 +74,25 @@ BooksStayWithinTheLimit = (rules : Rules) (events : List Event) (n : ℕ) → Ru
 
 -- a step of any book within its limit leaves it within its limit
 abbrev pub StepsStayWithinTheLimit : Type 0
-StepsStayWithinTheLimit = (rules : Rules) (book : Book) (event : Event) → RulesFit rules → places_in rules book ≤ rules.places
+StepsStayWithinTheLimit =
+    (rules : Rules) (book : Book) (event : Event) → RulesFit rules
+    → places_in rules book ≤ rules.places
     → places_in rules (step rules book event).0 ≤ rules.places
 
--- a book within its limit has at most as many links as its places have ports, and at most as many places as links
+-- a book within its limit has at most as many links as its places have ports, and at most as many
+-- places as links
 abbrev pub LinksAreBounded : Type 0
-LinksAreBounded = (rules : Rules) (book : Book) → RulesFit rules → places_in rules book ≤ rules.places
+LinksAreBounded =
+    (rules : Rules) (book : Book) → RulesFit rules → places_in rules book ≤ rules.places
     → (length book.links ≤ rules.places * rules.ports) × (places_in rules book ≤ length book.links)
 
 -- and one that keeps at most 8 asks and 16 stops goes on to
 abbrev pub KeptIsBounded : Type 0
-KeptIsBounded = (rules : Rules) (book : Book) (event : Event) → length book.asks ≤ KEPT_ASKS → length book.stops ≤ KEPT_STOPS
-    → (length (step rules book event).0.asks ≤ KEPT_ASKS) × (length (step rules book event).0.stops ≤ KEPT_STOPS)
+KeptIsBounded =
+    (rules : Rules) (book : Book) (event : Event) → length book.asks ≤ KEPT_ASKS
+    → length book.stops ≤ KEPT_STOPS
+    → (length (step rules book event).0.asks ≤ KEPT_ASKS)
+    × (length (step rules book event).0.stops ≤ KEPT_STOPS)
 
 -- what the book of a past shows of itself is what the rule counts among the links that are held
 abbrev pub BooksShowTheRule : Type 0

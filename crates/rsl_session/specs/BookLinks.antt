@@ -13,7 +13,8 @@ use Rattle.rsl_session.specs.Book.{BookLink, Holder, Reserved, Bound, bundles_in
 -- the first element that passes is changed, or taken out
 unfoldable pub change_first : {A : Type 0} → (A → Bool) → (A → A) → List A → List A
 change_first passes change [] = []
-change_first passes change (x ∷ xs) = if passes x then change x ∷ xs else x ∷ change_first passes change xs
+change_first passes change (x ∷ xs) =
+    if passes x then change x ∷ xs else x ∷ change_first passes change xs
 
 unfoldable pub without_first : {A : Type 0} → (A → Bool) → List A → List A
 without_first passes [] = []
@@ -36,8 +37,8 @@ is_holder session (Bound other) = same_session other session
 unfoldable pub is_link_of : Session → BookLink → Bool
 is_link_of session link = is_holder session link.holder
 
--- whether a link is a reservation that an alive at an access server can take: of the number that its class
--- names, if it has one
+-- whether a link is a reservation that an alive at an access server can take: of the number that
+-- its class names, if it has one
 abbrev pub is_wanted : Option ℕ → Holder → Bool
 is_wanted class (Bound session) = false
 is_wanted None (Reserved number) = true
@@ -46,11 +47,13 @@ is_wanted (Some wanted) (Reserved number) = number == wanted
 unfoldable pub can_be_taken : Nas → Option ℕ → BookLink → Bool
 can_be_taken nas class link = is_wanted class link.holder && same_nas link.nas nas
 
--- whether a link can yield at this clock: it is stale, and none of the stale links was touched before it
+-- whether a link can yield at this clock: it is stale, and none of the stale links was touched
+-- before it
 unfoldable pub can_yield : Rules → ℕ → List BookLink → BookLink → Bool
 can_yield rules now links link =
     is_stale_at rules now link
-    && list_all (λ (other : BookLink). nat_le link.touched other.touched) (filter (is_stale_at rules now) links)
+    && list_all (λ (other : BookLink). nat_le link.touched other.touched)
+    (filter (is_stale_at rules now) links)
 
 -- whether one more link without a bundle, beside some links, leaves the places within the limit
 unfoldable pub fits_beside : Rules → List BookLink → Bool
@@ -63,4 +66,10 @@ touch now bundle link = record link { bundle = option_or link.bundle bundle; tou
 -- a reserved link that a session takes
 unfoldable pub take_for : Session → ℕ → Option Bundle → BookLink → BookLink
 take_for session now bundle link =
-    record { nas = link.nas; holder = Bound session; bundle = option_or link.bundle bundle; touched = now }
+    record {
+      nas = link.nas;
+      holder = Bound session;
+      bundle = option_or link.bundle bundle;
+      touched
+          = now;
+    }

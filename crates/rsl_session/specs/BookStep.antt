@@ -1,7 +1,7 @@
 -- The step of a book: what one event makes of it, and the decision on the event.
 --
--- The book first comes to the event: its clock moves, and the links that lapse then are gone. Then the event
--- acts on what is left.
+-- The book first comes to the event: its clock moves, and the links that lapse then are gone. Then
+-- the event acts on what is left.
 use Rattle.std.specs.Prelude.{ℕ, ◌+◌, ◌-◌, ◌^◌, min, max, List, [], ◌∷◌, ◌++◌, map, filter, take, false, ◌||◌, not, nat_le, nat_lt, find, if◌then◌else◌, Option, Some, None}
 use Rattle.std.specs.List.{list_any}
 use Rattle.rsl_accounts.specs.declared.rules.Rules.{Rules}
@@ -36,7 +36,9 @@ come_to rules book moment =
 unfoldable pub keep_ask : Book → Key → Nas → Decision → Book
 keep_ask book key nas decision =
     record book {
-      asks = take KEPT_ASKS (record { key = key; nas = nas; decision = decision; at = book.clock; swept = false } ∷ book.asks);
+      asks = take KEPT_ASKS
+          (record { key = key; nas = nas; decision = decision; at = book.clock; swept = false }
+          ∷ book.asks);
     }
 
 -- a fresh ask is refused, or accepted beside some links: it opens a reserved link after them
@@ -46,18 +48,22 @@ refuse book key nas = (keep_ask book key nas LimitReject, LimitReject)
 unfoldable pub accept_beside : List BookLink → Book → Key → Nas → Book × Decision
 accept_beside links book key nas = (
   record (keep_ask book key nas (Accept book.accepts)) {
-    links = links ++ record { nas = nas; holder = Reserved book.accepts; bundle = None; touched = book.clock } ∷ [];
+    links = links
+        ++ record { nas = nas; holder = Reserved book.accepts; bundle = None; touched = book.clock }
+        ∷ [];
     accepts = book.accepts + 1;
   },
   Accept book.accepts,
 )
 
--- a fresh ask for which no place is free: the link that can yield does, if there is one and that makes room
+-- a fresh ask for which no place is free: the link that can yield does, if there is one and that
+-- makes room
 abbrev pub ask_for_place : Rules → Book → Key → Nas → Option BookLink → Book × Decision
 ask_for_place rules book key nas None = refuse book key nas
 ask_for_place rules book key nas (Some link) =
     if fits_beside rules (without_first (can_yield rules book.clock book.links) book.links)
-    then accept_beside (without_first (can_yield rules book.clock book.links) book.links) book key nas
+    then accept_beside
+    (without_first (can_yield rules book.clock book.links) book.links) book key nas
     else refuse book key nas
 
 -- a fresh ask for which there is an accept number
@@ -78,14 +84,21 @@ unfoldable pub open_link : Rules → Book → Session → Option Bundle → Book
 open_link rules book session bundle =
     if nat_le (places_of rules.ports (bundles_in book.links ++ bundle ∷ [])) rules.places
     then record book {
-      links = book.links ++ record { nas = session.nas; holder = Bound session; bundle = bundle; touched = book.clock } ∷ [];
+      links = book.links
+          ++ record
+          { nas = session.nas; holder = Bound session; bundle = bundle; touched = book.clock }
+          ∷ [];
     }
     else record book { over = min (book.over + 1) (2 ^ 64 - 1) }
 
--- an alive that renews no link, and whose session is not closed, by the reservation that it takes: the first
+-- an alive that renews no link, and whose session is not closed, by the reservation that it takes:
+-- the first
 abbrev pub bind : Rules → Book → Session → Option Bundle → Option ℕ → Option BookLink → Book
 bind rules book session bundle class (Some link) =
-    record book { links = change_first (can_be_taken session.nas class) (take_for session book.clock bundle) book.links }
+    record book {
+      links = change_first (can_be_taken session.nas class) (take_for session book.clock bundle)
+          book.links;
+    }
 bind rules book session bundle class None = open_link rules book session bundle
 
 -- an alive, by the link that its session is bound to
@@ -102,7 +115,8 @@ unfoldable pub stop : Book → Session → Book
 stop book session =
     record book {
       links = filter (λ link. not (is_link_of session link)) book.links;
-      stops = take KEPT_STOPS (record { session = session; at = book.clock; swept = false } ∷ book.stops);
+      stops = take KEPT_STOPS
+          (record { session = session; at = book.clock; swept = false } ∷ book.stops);
     }
 
 -- a kept ask or stop after a sweep of an access server
@@ -123,7 +137,8 @@ sweep book nas =
 
 -- what an act does to a book that has come to its moment
 abbrev pub act_on : Rules → Book → Act → Book × Decision
-act_on rules book (Ask key nas) = ask rules book key nas (find (repeats rules key book.clock) book.asks)
+act_on rules book (Ask key nas) =
+    ask rules book key nas (find (repeats rules key book.clock) book.asks)
 act_on rules book (Alive nas id bundle class) = (
   alive rules book (record { nas = nas; id = id }) (bundle_of (Alive nas id bundle class)) class
       (find (is_link_of (record { nas = nas; id = id })) book.links),
@@ -143,4 +158,5 @@ book_after rules book (event ∷ events) = book_after rules (step rules book eve
 
 unfoldable pub decided_by : Rules → Book → List Event → List Decision
 decided_by rules book [] = []
-decided_by rules book (event ∷ events) = (step rules book event).1 ∷ decided_by rules (step rules book event).0 events
+decided_by rules book (event ∷ events) =
+    (step rules book event).1 ∷ decided_by rules (step rules book event).0 events

@@ -1,5 +1,5 @@
--- A session is closed if one of the last 16 stops is of it, is less than the closed time old, and had no
--- sweep of the session's access server since.
+-- A session is closed if one of the last 16 stops is of it, is less than the closed time old, and
+-- had no sweep of the session's access server since.
 use Rattle.std.specs.Prelude.{ℕ, ◌-◌, List, [], ◌∷◌, Bool, ◌&&◌, not, nat_lt, take, Option, Some, None}
 use Rattle.std.specs.List.{list_any, cons_option}
 use Rattle.rsl_accounts.specs.declared.rules.Rules.{Rules}
@@ -18,21 +18,26 @@ use Rattle.rsl_session.specs.Sweep.{swept_in}
 abbrev pub KEPT_STOPS : ℕ
 KEPT_STOPS = 16
 
--- a stop as it is kept, with the clock at it and whether its access server is among those swept since
+-- a stop as it is kept, with the clock at it and whether its access server is among those swept
+-- since
 abbrev pub kept_stop : ℕ → List PastEvent → Act → Option KeptStop
 kept_stop now since (Stop nas session) =
-    Some (record { session = record { nas = nas; id = session }; at = now; swept = swept_in since nas })
+    Some (record
+    { session = record { nas = nas; id = session }; at = now; swept = swept_in since nas })
 kept_stop now since act = None
 
 -- the stops of a past, newest first, where these entries came since
 unfoldable pub stops : List PastEvent → Past → List KeptStop
 stops since [] = []
 stops since (entry ∷ past) =
-    cons_option (kept_stop (clock (entry ∷ past)) since entry.event.act) (stops (entry ∷ since) past)
+    cons_option (kept_stop (clock (entry ∷ past)) since entry.event.act) (stops (entry
+    ∷ since) past)
 
 -- whether a stop closes a session at this clock
 unfoldable pub closes : Rules → Session → ℕ → KeptStop → Bool
-closes rules session now stop = same_session stop.session session && nat_lt (now - stop.at) rules.closed && not stop.swept
+closes rules session now stop =
+    same_session stop.session session && nat_lt (now - stop.at) rules.closed && not stop.swept
 
 unfoldable pub is_closed : Rules → Past → Event → Session → Bool
-is_closed rules past event session = list_any (closes rules session (clock_at past event)) (take KEPT_STOPS (stops [] past))
+is_closed rules past event session =
+    list_any (closes rules session (clock_at past event)) (take KEPT_STOPS (stops [] past))

@@ -1,5 +1,6 @@
--- A link is held until an event after the one that opened it ends it: the link lapses as the event comes,
--- or the event is a stop of its session, a sweep of its access server, or an ask to which the link yields.
+-- A link is held until an event after the one that opened it ends it: the link lapses as the event
+-- comes, or the event is a stop of its session, a sweep of its access server, or an ask to which
+-- the link yields.
 use Rattle.std.specs.Prelude.{ℕ, List, [], ◌∷◌, length, filter, Bool, false, ◌&&◌, ◌||◌, ◌==◌, not, nat_le, Option, Some, None}
 use Rattle.rsl_accounts.specs.declared.rules.Rules.{Rules}
 use Rattle.rsl_event.specs.declared.event.Act.{Act}
@@ -43,7 +44,8 @@ unfoldable pub is_freed : Rules → ℕ → Past → Bool
 is_freed rules link [] = false
 is_freed rules link (entry ∷ past) =
     is_freed rules link past
-    || (nat_le link (length past) && (ends rules past entry.event link || yields link entry.outcome))
+    || (nat_le link (length past) &&
+    (ends rules past entry.event link || yields link entry.outcome))
 
 -- the links that are held, in the order in which they opened
 unfoldable pub held_links : Rules → Past → List ℕ
@@ -51,4 +53,5 @@ held_links rules past = filter (λ link. not (is_freed rules link past)) (links 
 
 -- the links that are still held when an event comes: those that do not lapse then
 unfoldable pub held_before : Rules → Past → Event → List ℕ
-held_before rules past event = filter (λ link. not (lapses rules past event link)) (held_links rules past)
+held_before rules past event =
+    filter (λ link. not (lapses rules past event link)) (held_links rules past)

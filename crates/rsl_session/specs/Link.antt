@@ -1,5 +1,6 @@
--- A link is a place in the count that an accepted ask reserves, or that an alive opens. It is at the
--- access server of the event that opened it, and one that an ask opened has that ask's accept number.
+-- A link is a place in the count that an accepted ask reserves, or that an alive opens. It is at
+-- the access server of the event that opened it, and one that an ask opened has that ask's accept
+-- number.
 use Rattle.std.specs.Prelude.{ℕ, suc, List, [], ◌∷◌, ◌++◌, length, Bool, true, false, if◌then◌else◌, Option, Some, None}
 use Rattle.std.specs.Option.{option_and_then}
 use Rattle.rsl_event.specs.declared.event.Act.{Act}
@@ -19,7 +20,8 @@ opens _ = false
 -- the links of a past, in the order in which they opened
 unfoldable pub links : Past → List ℕ
 links [] = []
-links (entry ∷ past) = if opens entry.outcome then links past ++ suc (length past) ∷ [] else links past
+links (entry ∷ past) =
+    if opens entry.outcome then links past ++ suc (length past) ∷ [] else links past
 
 -- the access server of an act
 unfoldable pub nas_of : Act → Option Nas

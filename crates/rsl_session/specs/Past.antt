@@ -1,7 +1,8 @@
 -- The past of an account: its events, each with what it did, newest first.
 --
--- The place of an event is its number among the account's events, from 1 on: the entry at the head of
--- `entry ∷ past` has the place `suc (length past)`. A link is named by the place of the event that opened it.
+-- The place of an event is its number among the account's events, from 1 on: the entry at the head
+-- of `entry ∷ past` has the place `suc (length past)`. A link is named by the place of the event
+-- that opened it.
 use Rattle.std.specs.Prelude.{ℕ, suc, List, [], ◌∷◌, reverse, length, ◌==◌, if◌then◌else◌, Option, Some, None}
 use Rattle.rsl_session.specs.declared.past_event.PastEvent.{PastEvent}
 
@@ -15,4 +16,5 @@ looking_back entries = reverse entries
 -- the entry at a place
 unfoldable pub entry_at : ℕ → Past → Option PastEvent
 entry_at place [] = None
-entry_at place (entry ∷ past) = if place == suc (length past) then Some entry else entry_at place past
+entry_at place (entry ∷ past) =
+    if place == suc (length past) then Some entry else entry_at place past

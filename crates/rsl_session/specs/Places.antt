@@ -1,5 +1,5 @@
--- Each link without a bundle takes one place. A bundle of k links takes k places divided by the ports,
--- rounded up.
+-- Each link without a bundle takes one place. A bundle of k links takes k places divided by the
+-- ports, rounded up.
 use Rattle.std.specs.Prelude.{ℕ, ◌+◌, List, [], ◌∷◌, map, Bool, false, if◌then◌else◌, is_none, count_by, sum_by, Option, Some, None}
 use Rattle.std.specs.Int.{div_ceil}
 use Rattle.std.specs.List.{list_any}
@@ -20,7 +20,9 @@ unfoldable pub each_bundle : List (Option Bundle) → List Bundle
 each_bundle [] = []
 each_bundle (None ∷ bundles) = each_bundle bundles
 each_bundle (Some bundle ∷ bundles) =
-    if list_any (is_bundle bundle) bundles then each_bundle bundles else bundle ∷ each_bundle bundles
+    if list_any (is_bundle bundle) bundles
+    then each_bundle bundles
+    else bundle ∷ each_bundle bundles
 
 -- the places of some links, told by the bundle of each
 unfoldable pub places_of : ℕ → List (Option Bundle) → ℕ

@@ -16,7 +16,8 @@ use Rattle.rsl_session.specs.Alive.{alive_outcome, link_of}
 
 -- what an event does, by its act
 abbrev pub outcome_by : Rules → Past → Event → Act → Outcome
-outcome_by rules past event (Ask key nas) = ask_outcome rules past event (repeated_ask rules past event key)
+outcome_by rules past event (Ask key nas) =
+    ask_outcome rules past event (repeated_ask rules past event key)
 outcome_by rules past event (Alive nas id bundle class) =
     alive_outcome rules past event (record { nas = nas; id = id }) class
     (link_of rules past event (record { nas = nas; id = id }))
@@ -40,7 +41,8 @@ entry_of rules past event = record { event = event; outcome = outcome_of rules p
 -- each event of a past did what the rule says, by what came before it
 unfoldable pub IsRuled : Rules → Past → Type 0
 IsRuled rules [] = ⊤
-IsRuled rules (entry ∷ past) = (entry.outcome ≡ outcome_of rules past entry.event) × IsRuled rules past
+IsRuled rules (entry ∷ past) =
+    (entry.outcome ≡ outcome_of rules past entry.event) × IsRuled rules past
 
 -- a past and then some events, oldest first: the past after them, and the decision on each of them
 unfoldable pub past_from : Rules → Past → List Event → Past
@@ -50,7 +52,8 @@ past_from rules past (event ∷ events) = past_from rules (entry_of rules past e
 unfoldable pub decisions_from : Rules → Past → List Event → List Decision
 decisions_from rules past [] = []
 decisions_from rules past (event ∷ events) =
-    decision_of (outcome_of rules past event) ∷ decisions_from rules (entry_of rules past event ∷ past) events
+    decision_of (outcome_of rules past event)
+    ∷ decisions_from rules (entry_of rules past event ∷ past) events
 
 -- the past of an account with these events, oldest first
 unfoldable pub past_of : Rules → List Event → Past

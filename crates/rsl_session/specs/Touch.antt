@@ -7,4 +7,6 @@ use Rattle.rsl_session.specs.Binding.{touches}
 unfoldable pub touched_at : ℕ → Past → ℕ
 touched_at link [] = 0
 touched_at link (entry ∷ past) =
-    if touches link (suc (length past)) entry.outcome then clock (entry ∷ past) else touched_at link past
+    if touches link (suc (length past)) entry.outcome
+    then clock (entry ∷ past)
+    else touched_at link past

@@ -18,7 +18,8 @@ pub record IsOwn (setup : Setup) (account : ℕ) (event : Event) : Type 0 where
   pub own_account : IsOfShard setup account
   pub act : IsOfOneAccount event.act
 
--- a move that a shard takes: what is one account's own is an ask, an alive or a stop of an account of the shard
+-- a move that a shard takes: what is one account's own is an ask, an alive or a stop of an account
+-- of the shard
 abbrev pub IsTaken : Setup → Move → Type 0
 IsTaken setup (Own account event) = IsOwn setup account event
 IsTaken setup _ = Unit {0}

@@ -1,8 +1,9 @@
 -- The books of a shard, and what moves make of them.
 --
--- The books stand in the order of their accounts: the first is that of the account with the shard's number, and
--- each next account's number is higher by the number of shards. A move steps each book by what it is to the
--- book's account: an own move that of its account alone, a sweep or a tick every one, a stray none.
+-- The books stand in the order of their accounts: the first is that of the account with the shard's
+-- number, and each next account's number is higher by the number of shards. A move steps each book
+-- by what it is to the book's account: an own move that of its account alone, a sweep or a tick
+-- every one, a stray none.
 use Rattle.std.specs.Prelude.{ℕ, ◌+◌, ◌*◌, ◌<◌, ◌==◌, ◌%◌, List, [], ◌∷◌, length, All, Option, Some, None, if◌then◌else◌}
 use Rattle.std.specs.Option.{option_map_or}
 use Rattle.rsl_accounts.specs.Configuration.{Configuration}
@@ -22,17 +23,20 @@ use Rattle.rsl_shard.specs.declared.moved.Move.TheVariants.{Own}
 -- a book after an event, if there is one
 abbrev pub stepped : Option Event → RuledBook → RuledBook
 stepped None ruled = ruled
-stepped (Some event) ruled = record { rules = ruled.rules; book = (step ruled.rules ruled.book event).0 }
+stepped (Some event) ruled =
+    record { rules = ruled.rules; book = (step ruled.rules ruled.book event).0 }
 
 -- the books of the account `first` and of those that follow it in its shard, after a move
 unfoldable pub moved_from : (first shards : ℕ) → Move → List RuledBook → List RuledBook
 moved_from first shards moved [] = []
-moved_from first shards moved (ruled ∷ books) = stepped (event_to first moved) ruled ∷ moved_from (first + shards) shards moved books
+moved_from first shards moved (ruled ∷ books) =
+    stepped (event_to first moved) ruled ∷ moved_from (first + shards) shards moved books
 
 -- the book of an account among those of `first` and of the accounts that follow it in its shard
 unfoldable pub book_from : (first shards : ℕ) → List RuledBook → (account : ℕ) → Option RuledBook
 book_from first shards [] account = None
-book_from first shards (ruled ∷ books) account = if first == account then Some ruled else book_from (first + shards) shards books account
+book_from first shards (ruled ∷ books) account =
+    if first == account then Some ruled else book_from (first + shards) shards books account
 
 -- the book of an account of a shard
 abbrev pub book_at : Setup → List RuledBook → (account : ℕ) → Option RuledBook
@@ -50,14 +54,16 @@ replay setup opening (line ∷ lines) = replay setup (books_after setup opening 
 -- the decision on a move: what is one account's own is decided by its book, by a step of it
 abbrev pub decision_by : Setup → List RuledBook → Move → Decision
 decision_by setup books (Own account event) =
-    option_map_or (λ ruled. (step ruled.rules ruled.book event).1) (book_at setup books account) Done
+    option_map_or (λ ruled. (step ruled.rules ruled.book event).1) (book_at setup books account)
+    Done
 decision_by setup books _ = Done
 
 -- the book of an account that has had no event
 abbrev pub book_of_entry : Entry → RuledBook
 book_of_entry entry = record { rules = entry.rules; book = new_book }
 
--- the new books of a shard among those of entries, the first of which has the account number `number`
+-- the new books of a shard among those of entries, the first of which has the account number
+-- `number`
 unfoldable pub new_books_from : (shards shard number : ℕ) → List Entry → List RuledBook
 new_books_from shards shard number [] = []
 new_books_from shards shard number (entry ∷ entries) =
@@ -69,11 +75,14 @@ new_books_from shards shard number (entry ∷ entries) =
 abbrev pub new_books : Configuration → (shard : ℕ) → List RuledBook
 new_books config shard = new_books_from config.settings.shards shard 0 config.accounts
 
--- What holds of the books of a shard: there is one for each of its accounts, and none holds more than its limit.
+-- What holds of the books of a shard: there is one for each of its accounts, and none holds more
+-- than its limit.
 pub record AreBooks (setup : Setup) (books : List RuledBook) : Type 0 where
   pub within : IsSetup setup
-  pub each : (place : ℕ) → setup.shard + place * setup.shards < setup.accounts → place < length books
-  pub no_more : (place : ℕ) → place < length books → setup.shard + place * setup.shards < setup.accounts
+  pub each : (place : ℕ) → setup.shard + place * setup.shards < setup.accounts
+      → place < length books
+  pub no_more : (place : ℕ) → place < length books
+      → setup.shard + place * setup.shards < setup.accounts
   pub limit : All IsWithinLimit books
 
 -- what a contract sees of the books of a shard
@@ -82,4 +91,5 @@ pub record BooksSeen : Type 0 where
   pub books : List RuledBook
 
 abbrev pub new_books_seen : Configuration → (shard : ℕ) → BooksSeen
-new_books_seen config shard = record { setup = setup_of config shard; books = new_books config shard }
+new_books_seen config shard =
+    record { setup = setup_of config shard; books = new_books config shard }

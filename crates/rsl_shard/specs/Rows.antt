@@ -20,7 +20,8 @@ row_of account ruled = record {
 -- the rows of the account `first` and of those that follow it in its shard
 unfoldable pub rows_from : (first shards : ℕ) → List RuledBook → List Row
 rows_from first shards [] = []
-rows_from first shards (ruled ∷ books) = row_of first ruled ∷ rows_from (first + shards) shards books
+rows_from first shards (ruled ∷ books) =
+    row_of first ruled ∷ rows_from (first + shards) shards books
 
 -- the rows of a shard
 abbrev pub rows_of : Setup → List RuledBook → List Row

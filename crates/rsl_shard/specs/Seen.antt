@@ -1,5 +1,6 @@
--- What a contract sees of a shard: what it knows of the configuration, how many lines were handed out, the books
--- that its journal begins with, and the lines of its journal. Its books are what the lines make of those.
+-- What a contract sees of a shard: what it knows of the configuration, how many lines were handed
+-- out, the books that its journal begins with, and the lines of its journal. Its books are what the
+-- lines make of those.
 use Rattle.std.specs.Prelude.{ℕ, ◌+◌, ◌^◌, ◌<◌, List, [], ◌∷◌, ◌++◌, length}
 use Rattle.rsl_accounts.specs.Configuration.{Configuration}
 use Rattle.rsl_book.specs.RuledBook.{RuledBook}
@@ -26,7 +27,13 @@ total_of shard = shard.first + length shard.lines
 
 -- a shard of new books, with no lines
 abbrev pub new_shard : Configuration → (shard : ℕ) → ShardSeen
-new_shard config shard = record { setup = setup_of config shard; first = 0; opening = new_books config shard; lines = [] }
+new_shard config shard =
+    record {
+      setup = setup_of config shard;
+      first = 0;
+      opening = new_books config shard;
+      lines = [];
+    }
 
 -- a shard with one line more
 abbrev pub with_line : ShardSeen → Move → Decision → ShardSeen
@@ -39,10 +46,11 @@ with_line shard moved decision = record {
 
 -- a shard whose journal was handed out: it goes on from its books
 abbrev pub cut_off : ShardSeen → ShardSeen
-cut_off shard = record { setup = shard.setup; first = total_of shard; opening = books_of shard; lines = [] }
+cut_off shard =
+    record { setup = shard.setup; first = total_of shard; opening = books_of shard; lines = [] }
 
--- What is kept of every shard: its journal is one, its books are those of its accounts and none holds more than
--- its limit, and its lines number less than 2^64.
+-- What is kept of every shard: its journal is one, its books are those of its accounts and none
+-- holds more than its limit, and its lines number less than 2^64.
 pub record IsKept (shard : ShardSeen) : Type 0 where
   pub journal : IsJournal shard.setup shard.opening shard.lines
   pub books : AreBooks shard.setup (books_of shard)

@@ -1,4 +1,5 @@
--- What a shard knows of the configuration: its own number, and how many shards and accounts there are.
+-- What a shard knows of the configuration: its own number, and how many shards and accounts there
+-- are.
 use Rattle.std.specs.Prelude.{ℕ, ◌<◌, ◌≤◌, List, length}
 use Rattle.rsl_accounts.specs.Configuration.{Configuration}
 
@@ -8,7 +9,8 @@ pub record Setup : Type 0 where
   pub accounts : ℕ
 
 abbrev pub setup_of : Configuration → (shard : ℕ) → Setup
-setup_of config shard = record { shard = shard; shards = config.settings.shards; accounts = length config.accounts }
+setup_of config shard =
+    record { shard = shard; shards = config.settings.shards; accounts = length config.accounts }
 
 -- the shard is one of at most 4, and there are at most 16,384 accounts
 pub record IsSetup (setup : Setup) : Type 0 where

@@ -1,5 +1,5 @@
--- What a run answers, told by books that began new: each step is answered as one step of its own account's book
--- decides, behind the account's own events before it.
+-- What a run answers, told by books that began new: each step is answered as one step of its own
+-- account's book decides, behind the account's own events before it.
 use Rattle.std.specs.Prelude.{◌≡◌, ℕ, List, [], ◌∷◌, slice_get, Result, Ok, Err}
 use Rattle.std.specs.Option.{option_map_or}
 use Rattle.rsl_accounts.specs.Configuration.{Configuration, client_number}
@@ -26,32 +26,44 @@ use Rattle.rsl_steps.specs.declared.step.Step.TheVariants.{Datagram}
 
 -- the book of an account with these rules, which began new, after its own events among the steps
 abbrev pub book_at : Configuration → (boot account : ℕ) → (before : List Step) → Rules → Book
-book_at config boot account before rules = book_after rules new_book (own config boot account before)
+book_at config boot account before rules =
+    book_after rules new_book (own config boot account before)
 
 -- the decision on a meaning: that of a step of the account's book
-abbrev pub decision_by_book : Configuration → (boot : ℕ) → (before : List Step) → (moment : ℕ) → Meaning → Decision
+abbrev pub decision_by_book : Configuration → (boot : ℕ) → (before : List Step) → (moment : ℕ)
+    → Meaning → Decision
 decision_by_book config boot before moment (Own account act) =
-    option_map_or (λ entry. (step entry.rules (book_at config boot account before entry.rules) (record { moment = moment; act = act })).1)
+    option_map_or
+    (λ entry. (step entry.rules (book_at config boot account before entry.rules)
+    (record { moment = moment; act = act })).1)
     (slice_get config.accounts account) Done
 decision_by_book config boot before moment _ = Done
 
-abbrev pub answer_with_book : Configuration → (boot : ℕ) → (before : List Step) → (moment : ℕ) → Source → (datagram : List ℕ) → Result Meaning Dropped → Answer
+abbrev pub answer_with_book : Configuration → (boot : ℕ) → (before : List Step) → (moment : ℕ)
+    → Source → (datagram : List ℕ) → Result Meaning Dropped → Answer
 answer_with_book config boot before moment source datagram (Err dropped) = answers.Dropped dropped
 answer_with_book config boot before moment source datagram (Ok meaning) =
     let decision = decision_by_book config boot before moment meaning in
-    answers.Reply (said meaning decision) (octets_by config boot meaning decision (packet_of datagram) (client_number config source.address))
+    answers.Reply (said meaning decision)
+    (octets_by config boot meaning decision (packet_of datagram)
+    (client_number config source.address))
 
 -- the answer to a step that comes after others
 abbrev pub answer_by_book : Configuration → (boot : ℕ) → (before : List Step) → Step → Answer
-answer_by_book config boot before (Datagram moment port source octets) = answer_with_book config boot before moment source octets (meaning config boot port source octets)
+answer_by_book config boot before (Datagram moment port source octets) =
+    answer_with_book config boot before moment source octets
+    (meaning config boot port source octets)
 answer_by_book config boot before (steps.Sweep shard moment nas) = answers.Quiet
 answer_by_book config boot before (steps.Tick shard moment) = answers.Quiet
 
 -- Each step has its answer. A refused one is as if it had not come.
-unfoldable pub AreAnswersByBooks : Configuration → (boot : ℕ) → (before : List Step) → List Step → List Answer → Type 0
+unfoldable pub AreAnswersByBooks : Configuration → (boot : ℕ) → (before : List Step) → List Step
+    → List Answer → Type 0
 AreAnswersByBooks config boot before [] [] = Unit {0}
-AreAnswersByBooks config boot before (step ∷ steps) (answers.Refused ∷ rest) = AreAnswersByBooks config boot before steps rest
+AreAnswersByBooks config boot before (step ∷ steps) (answers.Refused ∷ rest) =
+    AreAnswersByBooks config boot before steps rest
 AreAnswersByBooks config boot before (step ∷ steps) (answer ∷ rest) =
-    (answer ≡ answer_by_book config boot before step) × AreAnswersByBooks config boot (step ∷ before) steps rest
+    (answer ≡ answer_by_book config boot before step)
+    × AreAnswersByBooks config boot (step ∷ before) steps rest
 AreAnswersByBooks config boot before [] (answer ∷ rest) = ⊥
 AreAnswersByBooks config boot before (step ∷ steps) [] = ⊥

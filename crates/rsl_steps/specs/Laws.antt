@@ -34,7 +34,8 @@ use Rattle.rsl_steps.specs.declared.step.Step.TheVariants.{Datagram}
 
 -- whether a step is an account's own packet
 abbrev pub is_own_packet : Configuration → (boot account : ℕ) → Step → Bool
-is_own_packet config boot account (Datagram moment port source octets) = is_some (event_in account moment (meaning config boot port source octets))
+is_own_packet config boot account (Datagram moment port source octets) =
+    is_some (event_in account moment (meaning config boot port source octets))
 is_own_packet config boot account _ = false
 
 -- the words of the replies to an account's own packets, in order
@@ -42,7 +43,8 @@ unfoldable pub words_to : Configuration → (boot account : ℕ) → List Step �
 words_to config boot account (step ∷ steps) (Reply said octets ∷ answers) =
     if is_own_packet config boot account step then said ∷ words_to config boot account steps answers
     else words_to config boot account steps answers
-words_to config boot account (step ∷ steps) (answer ∷ answers) = words_to config boot account steps answers
+words_to config boot account (step ∷ steps) (answer ∷ answers) =
+    words_to config boot account steps answers
 words_to config boot account _ _ = []
 
 -- an account of a server, and steps that the server has answered
@@ -62,29 +64,37 @@ words_of served = words_to served.config served.boot served.account served.steps
 
 -- its own events, among the steps that were taken
 abbrev pub events_of : Served → List Event
-events_of served = own served.config served.boot served.account (taken [] served.steps served.answers)
+events_of served =
+    own served.config served.boot served.account (taken [] served.steps served.answers)
 
 -- the places that it holds
 abbrev pub places_of : Served → ℕ
 places_of served = places_after served.entry.rules (events_of served)
 
--- Two accounts with the same rules and equal own events are told the same, and hold as many places, whatever
--- else is in their servers' configurations and steps.
+-- Two accounts with the same rules and equal own events are told the same, and hold as many places,
+-- whatever else is in their servers' configurations and steps.
 abbrev pub EqualOwnEventsAreAnsweredAlike : Type 0
-EqualOwnEventsAreAnsweredAlike = (one other : Served) → one.entry.rules ≡ other.entry.rules → events_of one ≡ events_of other
+EqualOwnEventsAreAnsweredAlike =
+    (one other : Served) → one.entry.rules ≡ other.entry.rules → events_of one ≡ events_of other
     → (words_of one ≡ words_of other) × (places_of one ≡ places_of other)
 
 -- ---- packets of two accounts
 
--- where neighbouring packets of two accounts are exchanged, every account's own events stay as they were
+-- where neighbouring packets of two accounts are exchanged, every account's own events stay as they
+-- were
 abbrev pub PacketsOfTwoAccountsCommute : Type 0
-PacketsOfTwoAccountsCommute = (config : Configuration) (boot account one other : ℕ) (before after : List Step) (first second : Step)
-    → one ≢ other → IsTrue (is_own_packet config boot one first) → IsTrue (is_own_packet config boot other second)
-    → own_events config boot account (before ++ first ∷ second ∷ after) ≡ own_events config boot account (before ++ second ∷ first ∷ after)
+PacketsOfTwoAccountsCommute =
+    (config : Configuration) (boot account one other : ℕ) (before after : List Step)
+    (first second : Step)
+    → one ≢ other → IsTrue (is_own_packet config boot one first)
+    → IsTrue (is_own_packet config boot other second)
+    → own_events config boot account (before ++ first ∷ second
+    ∷ after) ≡ own_events config boot account (before ++ second ∷ first ∷ after)
 
 -- ---- the number of shards
 
--- what comes to a server with any number of shards: a datagram, or a restart or a time to every shard together
+-- what comes to a server with any number of shards: a datagram, or a restart or a time to every
+-- shard together
 pub data Coming : Type 0 where
   Packet : (moment : ℕ) → Port → Source → (octets : List ℕ) → Coming
   Restart : (moment : ℕ) → Nas → Coming
@@ -93,18 +103,21 @@ pub data Coming : Type 0 where
 -- its steps, for this many shard numbers
 abbrev pub steps_to : (shards : ℕ) → Coming → List Step
 steps_to shards (Packet moment port source octets) = Datagram moment port source octets ∷ []
-steps_to shards (Restart moment nas) = map (λ shard. steps.Sweep shard moment nas) (range_with_len 0 shards)
+steps_to shards (Restart moment nas) =
+    map (λ shard. steps.Sweep shard moment nas) (range_with_len 0 shards)
 steps_to shards (Time moment) = map (λ shard. steps.Tick shard moment) (range_with_len 0 shards)
 
 abbrev pub with_shards : Configuration → (shards : ℕ) → Configuration
 with_shards config shards = record config { settings = record config.settings { shards = shards } }
 
--- for configurations that differ in the number of shards alone, and steps whose sweeps and ticks each go
--- together to every shard number of both, each account's own events are equal
+-- for configurations that differ in the number of shards alone, and steps whose sweeps and ticks
+-- each go together to every shard number of both, each account's own events are equal
 abbrev pub TheNumberOfShardsDoesNotMatter : Type 0
-TheNumberOfShardsDoesNotMatter = (config : Configuration) (boot account shards numbers : ℕ) (comings : List Coming)
+TheNumberOfShardsDoesNotMatter =
+    (config : Configuration) (boot account shards numbers : ℕ) (comings : List Coming)
     → 0 < config.settings.shards → 0 < shards → config.settings.shards ≤ numbers → shards ≤ numbers
-    → own_events config boot account (flat_map (steps_to numbers) comings) ≡ own_events (with_shards config shards) boot account (flat_map (steps_to numbers) comings)
+    → own_events config boot account (flat_map (steps_to numbers) comings) ≡ own_events
+    (with_shards config shards) boot account (flat_map (steps_to numbers) comings)
 
 -- ---- an early tick
 
@@ -113,38 +126,52 @@ moment_of (Datagram moment port source octets) = moment
 moment_of (steps.Sweep shard moment nas) = moment
 moment_of (steps.Tick shard moment) = moment
 
--- A tick that comes before steps none of which has a lower moment: they are answered as without it, octet for
--- octet, and after its next own event each account holds as many places.
+-- A tick that comes before steps none of which has a lower moment: they are answered as without it,
+-- octet for octet, and after its next own event each account holds as many places.
 abbrev pub EarlyTicksChangeNothing : Type 0
-EarlyTicksChangeNothing = (config : Configuration) (boot shard moment : ℕ) (before after : List Step) (answers : List Answer)
+EarlyTicksChangeNothing =
+    (config : Configuration) (boot shard moment : ℕ) (before after : List Step)
+    (answers : List Answer)
     → All (λ step. moment ≤ moment_of step) after → AreAnswers config boot before after answers
     → AreAnswers config boot (steps.Tick shard moment ∷ before) after answers
-    × ((account : ℕ) (entry : Entry) → slice_get config.accounts account ≡ Some entry → own config boot account (taken [] after answers) ≢ []
-    → places_after entry.rules (own config boot account (taken (steps.Tick shard moment ∷ before) after answers)) ≡ places_after entry.rules (own config boot account (taken before after answers)))
+    × ((account : ℕ) (entry : Entry) → slice_get config.accounts account ≡ Some entry
+    → own config boot account (taken [] after answers) ≢ []
+    → places_after entry.rules (own config boot account (taken (steps.Tick shard moment
+    ∷ before) after answers)) ≡ places_after entry.rules
+    (own config boot account (taken before after answers)))
 
 -- ---- a journal
 
 -- what a journal whose books began new says of an account
 pub record ObeysTheRule (rules : Rules) (account : ℕ) (lines : List Line) : Type 0 where
   -- each line of the account's own has the decision that the rule finds by looking back
-  pub decided : (n : ℕ) (line : Line) (event : Event) → slice_get lines n ≡ Some line → line.moved ≡ Move.Own account event
+  pub decided : (n : ℕ) (line : Line) (event : Event) → slice_get lines n ≡ Some line
+      → line.moved ≡ Move.Own account event
       → line.decision ≡ decision_after rules (own_in account (take n lines)) event
-  -- its book has the clock, the links, the accept number, the kept asks and stops and the over count of its past
-  pub book : book_in rules new_books account lines ≡ book_of rules (past_of rules (own_in account lines))
+  -- its book has the clock, the links, the accept number, the kept asks and stops and the over
+  -- count of its past
+  pub book : book_in rules new_books account lines ≡ book_of rules
+      (past_of rules (own_in account lines))
   -- and so its places are the rule's
-  pub places : places_in rules (book_in rules new_books account lines) ≡ places_after rules (own_in account lines)
+  pub places : places_in rules (book_in rules new_books account lines) ≡ places_after rules
+      (own_in account lines)
 
--- a journal obeys the rule: so do each account's decisions, its book and its places, over its own events among the lines
+-- a journal obeys the rule: so do each account's decisions, its book and its places, over its own
+-- events among the lines
 abbrev pub JournalsObeyTheRule : Type 0
-JournalsObeyTheRule = (config : Configuration) (shard account : ℕ) (entry : Entry) (lines : List Line)
-    → IsJournal config shard new_books lines → slice_get config.accounts account ≡ Some entry → ObeysTheRule entry.rules account lines
+JournalsObeyTheRule =
+    (config : Configuration) (shard account : ℕ) (entry : Entry) (lines : List Line)
+    → IsJournal config shard new_books lines → slice_get config.accounts account ≡ Some entry
+    → ObeysTheRule entry.rules account lines
 
 -- ---- shards
 
 -- an account's own events among the moves of its shard are those among the steps
 abbrev pub JournalsHaveOwnEvents : Type 0
-JournalsHaveOwnEvents = (config : Configuration) (boot account : ℕ) (before : List Step) (lines : List Line)
-    → map (λ (line : Line). line.moved) lines ≡ moves_of config boot (account % config.settings.shards) before
+JournalsHaveOwnEvents =
+    (config : Configuration) (boot account : ℕ) (before : List Step) (lines : List Line)
+    → map (λ (line : Line). line.moved) lines ≡ moves_of config boot
+    (account % config.settings.shards) before
     → own_in account lines ≡ own config boot account before
 
 -- books that began new answer each step as looking back does
@@ -152,9 +179,13 @@ abbrev pub BooksAnswerAsLookingBack : Type 0
 BooksAnswerAsLookingBack = (config : Configuration) (boot : ℕ) (before : List Step) (step : Step)
     → answer_by_book config boot before step ≡ answer_after config boot before step
 
--- where the journals of shards that began new have the moves of some steps, each account's book is that of its own
--- events among them, and holds the places that the session rule finds by looking back over them
+-- where the journals of shards that began new have the moves of some steps, each account's book is
+-- that of its own events among them, and holds the places that the session rule finds by looking
+-- back over them
 abbrev pub ShardsObeyTheRule : Type 0
-ShardsObeyTheRule = (config : Configuration) (boot account : ℕ) (entry : Entry) (before : List Step) (shards : List ShardSeen)
-    → IsConfiguration config → AreShards config boot before shards → slice_get config.accounts account ≡ Some entry
+ShardsObeyTheRule =
+    (config : Configuration) (boot account : ℕ) (entry : Entry) (before : List Step)
+    (shards : List ShardSeen)
+    → IsConfiguration config → AreShards config boot before shards
+    → slice_get config.accounts account ≡ Some entry
     → HasBookOf config account entry.rules (own config boot account before) shards

@@ -13,7 +13,8 @@ use Rattle.rsl_event.specs.declared.event.Act.TheVariants as acts
 
 -- a meaning is an account's own event, or none of its
 abbrev pub event_in : (account moment : ℕ) → Result Meaning Dropped → Option Event
-event_in account moment (Ok (Own other act)) = if other == account then Some (record { moment = moment; act = act }) else None
+event_in account moment (Ok (Own other act)) =
+    if other == account then Some (record { moment = moment; act = act }) else None
 event_in account moment _ = None
 
 -- whether the account is of the shard
@@ -22,9 +23,16 @@ is_of_shard config account shard = account % config.settings.shards == shard
 
 -- what a step is to an account: its own packet, or a sweep or a tick of its shard
 abbrev pub event_of : Configuration → (boot account : ℕ) → Step → Option Event
-event_of config boot account (Datagram moment port source octets) = event_in account moment (meaning config boot port source octets)
-event_of config boot account (steps.Sweep shard moment nas) = if is_of_shard config account shard then Some (record { moment = moment; act = acts.Sweep nas }) else None
-event_of config boot account (steps.Tick shard moment) = if is_of_shard config account shard then Some (record { moment = moment; act = acts.Tick }) else None
+event_of config boot account (Datagram moment port source octets) =
+    event_in account moment (meaning config boot port source octets)
+event_of config boot account (steps.Sweep shard moment nas) =
+    if is_of_shard config account shard
+    then Some (record { moment = moment; act = acts.Sweep nas })
+    else None
+event_of config boot account (steps.Tick shard moment) =
+    if is_of_shard config account shard
+    then Some (record { moment = moment; act = acts.Tick })
+    else None
 
 -- an account's own events among steps, in their order
 unfoldable pub own_events : Configuration → (boot account : ℕ) → List Step → List Event

@@ -1,5 +1,5 @@
--- What the shards of a run are after some steps: the journal of each has the moves that the steps are to it, and
--- so each account's book is the one that its own events make of a new book.
+-- What the shards of a run are after some steps: the journal of each has the moves that the steps
+-- are to it, and so each account's book is the one that its own events make of a new book.
 use Rattle.std.specs.Prelude.{◌≡◌, ℕ, ◌%◌, ◌≤◌, List, length, map, slice_get, Option, Some, None}
 use Rattle.rsl_accounts.specs.Configuration.{Configuration}
 use Rattle.rsl_accounts.specs.declared.rules.Rules.{Rules}
@@ -16,17 +16,21 @@ use Rattle.rsl_shard.specs.declared.line.Line.{Line}
 use Rattle.rsl_steps.specs.Moves.{moves_of}
 use Rattle.rsl_steps.specs.declared.step.Step.{Step}
 
--- a shard whose books began new, nothing of whose journal was cut off, and whose lines are the moves of the steps
-pub record HasMoved (config : Configuration) (boot : ℕ) (before : List Step) (shard : ℕ) (seen : ShardSeen) : Type 0 where
+-- a shard whose books began new, nothing of whose journal was cut off, and whose lines are the
+-- moves of the steps
+pub record HasMoved (config : Configuration) (boot : ℕ) (before : List Step) (shard : ℕ)
+    (seen : ShardSeen) : Type 0 where
   pub setup : seen.setup ≡ setup_of config shard
   pub opening : seen.opening ≡ new_books config shard
   pub first : seen.first ≡ 0
   pub moves : map (λ (line : Line). line.moved) seen.lines ≡ moves_of config boot shard before
 
 -- there is such a shard for each number
-pub record AreShards (config : Configuration) (boot : ℕ) (before : List Step) (shards : List ShardSeen) : Type 0 where
+pub record AreShards (config : Configuration) (boot : ℕ) (before : List Step)
+    (shards : List ShardSeen) : Type 0 where
   pub count : length shards ≡ config.settings.shards
-  pub each : (number : ℕ) (seen : ShardSeen) → slice_get shards number ≡ Some seen → HasMoved config boot before number seen
+  pub each : (number : ℕ) (seen : ShardSeen) → slice_get shards number ≡ Some seen
+      → HasMoved config boot before number seen
 
 -- the book of an account, which is in its own shard
 abbrev pub book_in_shard : Option ShardSeen → (account : ℕ) → Option RuledBook
@@ -34,7 +38,8 @@ book_in_shard None account = None
 book_in_shard (Some seen) account = book_at seen.setup (books_of seen) account
 
 abbrev pub book_among : Configuration → List ShardSeen → (account : ℕ) → Option RuledBook
-book_among config shards account = book_in_shard (slice_get shards (account % config.settings.shards)) account
+book_among config shards account =
+    book_in_shard (slice_get shards (account % config.settings.shards)) account
 
 -- the book of an account with these rules and own events
 pub record IsBookOf (rules : Rules) (events : List Event) (ruled : RuledBook) : Type 0 where
@@ -47,7 +52,8 @@ pub record IsBookOf (rules : Rules) (events : List Event) (ruled : RuledBook) : 
   pub limit : places_in ruled.rules ruled.book ≤ rules.places
 
 -- the account has such a book among the shards
-pub record HasBookOf (config : Configuration) (account : ℕ) (rules : Rules) (events : List Event) (shards : List ShardSeen) : Type 0 where
+pub record HasBookOf (config : Configuration) (account : ℕ) (rules : Rules) (events : List Event)
+    (shards : List ShardSeen) : Type 0 where
   pub ruled : RuledBook
   pub there : book_among config shards account ≡ Some ruled
   pub book : IsBookOf rules events ruled

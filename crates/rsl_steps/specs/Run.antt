@@ -1,5 +1,5 @@
--- What a run answers, from datagram to reply: each step is answered from its own account's past alone.
--- The steps before one are a list, the newest first.
+-- What a run answers, from datagram to reply: each step is answered from its own account's past
+-- alone. The steps before one are a list, the newest first.
 use Rattle.std.specs.Prelude.{◌≡◌, ℕ, List, [], ◌∷◌, slice_get, Option, Some, Result, Ok, Err}
 use Rattle.std.specs.Option.{option_map_or}
 use Rattle.rsl_accounts.specs.Configuration.{Configuration, client_number}
@@ -27,34 +27,49 @@ use Rattle.rsl_steps.specs.declared.step.Step.TheVariants.{Datagram}
 unfoldable pub decision_after : Rules → List Event → Event → Decision
 decision_after rules events event = decision_of (outcome_of rules (past_of rules events) event)
 
--- the decision on a meaning: that of the session rule on the account's own events before it, and on nothing else
-abbrev pub decision_on : Configuration → (boot : ℕ) → (before : List Step) → (moment : ℕ) → Meaning → Decision
+-- the decision on a meaning: that of the session rule on the account's own events before it, and on
+-- nothing else
+abbrev pub decision_on : Configuration → (boot : ℕ) → (before : List Step) → (moment : ℕ) → Meaning
+    → Decision
 decision_on config boot before moment (Own account act) =
-    option_map_or (λ entry. decision_after entry.rules (own config boot account before) (record { moment = moment; act = act })) (slice_get config.accounts account) Done
+    option_map_or
+    (λ entry. decision_after entry.rules (own config boot account before)
+    (record { moment = moment; act = act })) (slice_get config.accounts account) Done
 decision_on config boot before moment _ = Done
 
--- the octets of the reply to a datagram that has a packet and a client, as every one with a meaning has
-abbrev pub octets_by : Configuration → (boot : ℕ) → Meaning → Decision → Result Fields WireFault → (client : Option ℕ) → List ℕ
-octets_by config boot meaning decision (Ok fields) (Some client) = answer config boot client fields meaning decision
+-- the octets of the reply to a datagram that has a packet and a client, as every one with a meaning
+-- has
+abbrev pub octets_by : Configuration → (boot : ℕ) → Meaning → Decision → Result Fields WireFault
+    → (client : Option ℕ) → List ℕ
+octets_by config boot meaning decision (Ok fields) (Some client) =
+    answer config boot client fields meaning decision
 octets_by config boot meaning decision _ _ = []
 
-abbrev pub answer_by : Configuration → (boot : ℕ) → (before : List Step) → (moment : ℕ) → Source → (datagram : List ℕ) → Result Meaning Dropped → Answer
+abbrev pub answer_by : Configuration → (boot : ℕ) → (before : List Step) → (moment : ℕ) → Source
+    → (datagram : List ℕ) → Result Meaning Dropped → Answer
 answer_by config boot before moment source datagram (Err dropped) = answers.Dropped dropped
 answer_by config boot before moment source datagram (Ok meaning) =
     let decision = decision_on config boot before moment meaning in
-    answers.Reply (said meaning decision) (octets_by config boot meaning decision (packet_of datagram) (client_number config source.address))
+    answers.Reply (said meaning decision)
+    (octets_by config boot meaning decision (packet_of datagram)
+    (client_number config source.address))
 
 -- the answer to a step that comes after others
 abbrev pub answer_after : Configuration → (boot : ℕ) → (before : List Step) → Step → Answer
-answer_after config boot before (Datagram moment port source octets) = answer_by config boot before moment source octets (meaning config boot port source octets)
+answer_after config boot before (Datagram moment port source octets) =
+    answer_by config boot before moment source octets (meaning config boot port source octets)
 answer_after config boot before (steps.Sweep shard moment nas) = answers.Quiet
 answer_after config boot before (steps.Tick shard moment) = answers.Quiet
 
 -- Each step has its answer. A refused one is as if it had not come.
-unfoldable pub AreAnswers : Configuration → (boot : ℕ) → (before : List Step) → List Step → List Answer → Type 0
+unfoldable pub AreAnswers : Configuration → (boot : ℕ) → (before : List Step) → List Step
+    → List Answer → Type 0
 AreAnswers config boot before [] [] = Unit {0}
-AreAnswers config boot before (step ∷ steps) (answers.Refused ∷ rest) = AreAnswers config boot before steps rest
-AreAnswers config boot before (step ∷ steps) (answer ∷ rest) = (answer ≡ answer_after config boot before step) × AreAnswers config boot (step ∷ before) steps rest
+AreAnswers config boot before (step ∷ steps) (answers.Refused ∷ rest) =
+    AreAnswers config boot before steps rest
+AreAnswers config boot before (step ∷ steps) (answer ∷ rest) =
+    (answer ≡ answer_after config boot before step)
+    × AreAnswers config boot (step ∷ before) steps rest
 AreAnswers config boot before [] (answer ∷ rest) = ⊥
 AreAnswers config boot before (step ∷ steps) [] = ⊥
 

@@ -21,26 +21,33 @@ use Rattle.rsl_steps.specs.declared.step.Step.{Step}
 
 -- each shard has room for one line more
 abbrev pub AreRoomy : List ShardSeen → Type 0
-AreRoomy shards = (number : ℕ) (seen : ShardSeen) → slice_get shards number ≡ Some seen → total_of seen < 2 ^ 64 - 1
+AreRoomy shards =
+    (number : ℕ) (seen : ShardSeen) → slice_get shards number ≡ Some seen
+    → total_of seen < 2 ^ 64 - 1
 
 -- there is such a shard for each number of the configuration
 pub record AreReady (config : Configuration) (shards : List ShardSeen) : Type 0 where
   pub count : length shards ≡ config.settings.shards
-  pub setup : (number : ℕ) (seen : ShardSeen) → slice_get shards number ≡ Some seen → seen.setup ≡ setup_of config number
+  pub setup : (number : ℕ) (seen : ShardSeen) → slice_get shards number ≡ Some seen
+      → seen.setup ≡ setup_of config number
   pub room : AreRoomy shards
 
 -- one shard has made a move, which its books decided
-pub record IsMovedAt (number : ℕ) (moved : Move) (decision : Decision) (old new : List ShardSeen) : Type 0 where
+pub record IsMovedAt (number : ℕ) (moved : Move) (decision : Decision) (old new : List ShardSeen)
+    : Type 0 where
   pub seen : ShardSeen
   pub there : slice_get old number ≡ Some seen
   pub moved_on : new ≡ set old number (with_line seen moved decision)
   pub decided : decision ≡ decision_by seen.setup (books_of seen) moved
 
 -- what is an account's own moves its shard, a stray shard 0, and nothing else any
-abbrev pub IsDecided : Configuration → (moment : ℕ) → Meaning → Decision → (old new : List ShardSeen) → Type 0
+abbrev pub IsDecided : Configuration → (moment : ℕ) → Meaning → Decision
+    → (old new : List ShardSeen) → Type 0
 IsDecided config moment (Own account act) decision old new =
-    IsMovedAt (account % config.settings.shards) (moves.Own account (record { moment = moment; act = act })) decision old new
-IsDecided config moment (Stray note) decision old new = IsMovedAt 0 (moves.Stray moment note) decision old new
+    IsMovedAt (account % config.settings.shards)
+    (moves.Own account (record { moment = moment; act = act })) decision old new
+IsDecided config moment (Stray note) decision old new =
+    IsMovedAt 0 (moves.Stray moment note) decision old new
 IsDecided config moment _ decision old new = (decision ≡ Done) × (new ≡ old)
 
 -- a sweep or a tick moves its shard, and is quiet; where the shard is not there nothing changes
@@ -50,15 +57,18 @@ pub record IsNotThere (number : ℕ) (old new : List ShardSeen) : Type 0 where
 
 abbrev pub IsQuietAt : Answer → (number : ℕ) → Move → (old new : List ShardSeen) → Type 0
 IsQuietAt answers.Refused number moved old new = new ≡ old
-IsQuietAt answers.Quiet number moved old new = ((decision : Decision) × IsMovedAt number moved decision old new) ⊎ IsNotThere number old new
+IsQuietAt answers.Quiet number moved old new =
+    ((decision : Decision) × IsMovedAt number moved decision old new) ⊎ IsNotThere number old new
 IsQuietAt _ number moved old new = ⊥
 
 -- a refused step changes nothing; another is answered, and the shards have made its moves
-pub record IsTaken (config : Configuration) (boot : ℕ) (before : List Step) (step : Step) (answer : Answer) (new : List ShardSeen) : Type 0 where
+pub record IsTaken (config : Configuration) (boot : ℕ) (before : List Step) (step : Step)
+    (answer : Answer) (new : List ShardSeen) : Type 0 where
   pub answered : answer ≡ answer_by_book config boot before step
   pub moved : AreShards config boot (step ∷ before) new
 
-abbrev pub Takes : Configuration → (boot : ℕ) → (before : List Step) → Step → Answer → (old new : List ShardSeen) → Type 0
+abbrev pub Takes : Configuration → (boot : ℕ) → (before : List Step) → Step → Answer
+    → (old new : List ShardSeen) → Type 0
 Takes config boot before step answers.Refused old new = new ≡ old
 Takes config boot before step answer old new = IsTaken config boot before step answer new
 

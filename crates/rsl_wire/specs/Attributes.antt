@@ -64,7 +64,8 @@ unfoldable pub list_from : ℕ → List ℕ → Result (List Attribute) ℕ
 list_from most [] = Ok []
 list_from zero (kind ∷ rest) = Err 0
 list_from (suc most) (kind ∷ rest) =
-    option_map_or (λ found. with_first found.0 (list_from most found.1)) (first_attribute (kind ∷ rest)) (Err 0)
+    option_map_or (λ found. with_first found.0 (list_from most found.1)) (first_attribute (kind
+    ∷ rest)) (Err 0)
 
 -- The attribute list of the octets, or the offset of the first bad attribute. It computes what the
 -- grammar says: `Packet::attributes` is proved against both.
@@ -82,7 +83,8 @@ is_kind kind attribute = attribute.kind == kind
 -- the value of the first attribute of a Type
 abbrev pub first_of : ℕ → List Attribute → Option (List ℕ)
 first_of kind [] = None
-first_of kind (attribute ∷ attributes) = if attribute.kind == kind then Some attribute.value else first_of kind attributes
+first_of kind (attribute ∷ attributes) =
+    if attribute.kind == kind then Some attribute.value else first_of kind attributes
 
 -- a value of four octets as a number, the high octet first (RFC 2865 section 5)
 abbrev pub number_in : Option (List ℕ) → Option ℕ

@@ -25,7 +25,8 @@ pub record IsPacket (fields : Fields) : Type 0 where
 -- its octets: Length is that of the whole packet, the high octet first
 abbrev pub packet_octets : Fields → List ℕ
 packet_octets fields =
-    fields.code ∷ fields.id ∷ to_be_bytes w16 (20 + length fields.attributes) ++ fields.authenticator ++ fields.attributes
+    fields.code ∷ fields.id ∷ to_be_bytes w16 (20 + length fields.attributes)
+    ++ fields.authenticator ++ fields.attributes
 
 -- the grammar of a datagram: it is a packet with these fields, and padding
 pub record IsDatagram (datagram : List ℕ) (fields : Fields) (padding : List ℕ) : Type 0 where
@@ -41,7 +42,9 @@ length_field datagram = from_be_bytes w16 (slice_index datagram 2 ∷ slice_inde
 unfoldable pub packet_of : List ℕ → Result Fields WireFault
 packet_of datagram =
     if nat_lt (length datagram) 20 then Err Short
-    else if nat_lt (length_field datagram) 20 || nat_lt 4096 (length_field datagram) || nat_lt (length datagram) (length_field datagram) then Err BadLength
+    else if nat_lt (length_field datagram) 20 || nat_lt 4096 (length_field datagram)
+    || nat_lt (length datagram) (length_field datagram)
+    then Err BadLength
     else Ok (record {
       code = slice_index datagram 0;
       id = slice_index datagram 1;

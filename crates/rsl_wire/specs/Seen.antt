@@ -4,4 +4,11 @@ use Rattle.rsl_wire.specs.declared.packet.Packet.{Packet}
 
 -- its fields, without where they lie in memory
 abbrev pub fields_of : Packet → Fields
-fields_of packet = record { code = packet.code; id = packet.id; authenticator = packet.authenticator; attributes = packet.attrs.now }
+fields_of packet =
+    record {
+      code = packet.code;
+      id = packet.id;
+      authenticator = packet.authenticator;
+      attributes =
+          packet.attrs.now;
+    }
