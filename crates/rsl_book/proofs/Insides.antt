@@ -1,6 +1,7 @@
 -- What is seen of a book once its inside has changed, and the room that it has.
-use Rattle.std.proofs.Common.{◌≡◌, ℕ, ◌+◌, ◌*◌, ◌-◌, ◌^◌, ◌<◌, ◌≤◌, max, min, List, [], ◌∷◌, ◌++◌, length, length-append, map, take, not, refl, ap, sym, ◌∙◌, subst, arith}
-use Rattle.std.specs.Prelude.{Option, None, filter}
+use Rattle.std.proofs.Common.{◌≡◌, ℕ, Bool, ◌+◌, ◌*◌, ◌-◌, ◌^◌, ◌<◌, ◌≤◌, max, min, List, [], ◌∷◌, ◌++◌, length, length-append, map, take, not, refl, ap, sym, ◌∙◌, subst, arith}
+use Rattle.std.specs.Prelude.{Option, None, filter, count_by}
+use Rattle.std.proofs.lemmas.List.Sums.{count_by-le-length}
 use Rattle.std.proofs.lemmas.List.{take-map, map-append, length-map}
 use Rattle.std.proofs.Math.Nat.{mul-le-mul_right}
 use Rattle.std.proofs.lemmas.Bool.{le-leb, lt-leb}
@@ -59,6 +60,15 @@ few_links servers links limit ports counted within same =
     let some : length links.list.items ≤ links.places * links.ports = subst (λ n. length links.list.items ≤ n * links.ports) (sym counted.places) (subst (λ n. n ≤ places_of links.ports (bundles_in (links_seen servers links.list.items)) * links.ports) all most) in
     let bound : links.places * links.ports ≤ limit * links.ports = mul-le-mul_right links.ports within in
     subst (λ n. length links.list.items ≤ limit * n) same (omega arith)
+
+pub few_of : (p : BookLink → Bool) (book : Inside) → IsSound book → count_by p (links_seen book.servers book.links.list.items) ≤ 1024
+few_of p book sound =
+    let some = count_by-le-length p (links_seen book.servers book.links.list.items) in
+    let seen = length-seen book.servers book.links.list.items in
+    let few = few_links book.servers book.links book.rules.places book.rules.ports sound.counted sound.limit sound.ports in
+    let fit = sound.fit in
+    let most : book.rules.places * book.rules.ports ≤ 64 * book.rules.ports = mul-le-mul_right book.rules.ports fit.places in
+    omega (arith, some, seen, few, most, fit.ports)
 
 pub room_in_table : (book : Inside) → IsSound book → length book.links.list.items + book.asks.capacity + book.stops.capacity < length book.servers
 room_in_table book sound =

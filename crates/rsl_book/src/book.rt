@@ -219,26 +219,29 @@ impl Book {
         self.links.places
     }
 
-    /// How many links are reserved.
+    /// How many links are reserved: at most 1,024, as many as an account can have.
     #[tactic(auto, unfolding(rsl_session::specs::Book::reserved_in))]
     pub fn reserved(&self) -> u64
-        ensures { result ≡ reserved_in self.now.book }
+        ensures reserved { result ≡ reserved_in self.now.book }
+        ensures few { result ≤ 1024 }
     {
         self.links.reserved(&self.servers) as u64
     }
 
-    /// How many links are live at the book's clock.
+    /// How many links are live at the book's clock: at most 1,024, as many as an account can have.
     #[tactic(auto, unfolding(rsl_session::specs::Book::live_in))]
     pub fn live(&self) -> u64
-        ensures { result ≡ live_in self.now.rules self.now.book }
+        ensures live { result ≡ live_in self.now.rules self.now.book }
+        ensures few { result ≤ 1024 }
     {
         self.links.live(&self.servers, &self.rules, self.clock) as u64
     }
 
-    /// How many links are stale at the book's clock.
+    /// How many links are stale at the book's clock: at most 1,024, as many as an account can have.
     #[tactic(auto, unfolding(rsl_session::specs::Book::stale_in))]
     pub fn stale(&self) -> u64
-        ensures { result ≡ stale_in self.now.rules self.now.book }
+        ensures stale { result ≡ stale_in self.now.rules self.now.book }
+        ensures few { result ≤ 1024 }
     {
         self.links.stale(&self.servers, &self.rules, self.clock) as u64
     }
@@ -273,9 +276,10 @@ impl Book {
         self.over
     }
 
-    /// The rules of the account.
+    /// The rules of the account. They are within the limits of an account's rules.
     pub fn rules(&self) -> Rules
-        ensures { result ≡ self.now.rules }
+        ensures rules { result ≡ self.now.rules }
+        ensures fit { RulesFit result }
     {
         self.rules
     }

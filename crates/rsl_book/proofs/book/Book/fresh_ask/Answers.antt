@@ -7,7 +7,7 @@ pub returns-then-held-rules-clause-step : goal.returns-then-held-rules-clause-st
 returns-then-held-rules-clause-step c =
     let value = c.args.self.now in
     let held = c.held.ensures.places in
-    let places = ap (λ (rules : Rules). rules.places) c.rules.ensures in
+    let places = ap (λ (rules : Rules). rules.places) c.rules.ensures.rules in
     let free = c.if-held-rules.true in
     fresh_fits value.rules value.book c.args.key c.args.nas (c.accept.new.self.book, c.accept.result) (omega arith) c.accept.ensures.step
 
@@ -15,7 +15,7 @@ pub returns-in-None-clause-step : goal.returns-in-None-clause-step
 returns-in-None-clause-step c =
     let value = c.args.self.now in
     let held = c.held.ensures.places in
-    let places = ap (λ (rules : Rules). rules.places) c.rules.ensures in
+    let places = ap (λ (rules : Rules). rules.places) c.rules.ensures.rules in
     let full = c.if-held-rules.false in
     fresh_full value.rules value.book c.args.key c.args.nas (c.refuse.new.self.book, c.refuse.result) (omega arith) c.in-None.ensures.missed c.refuse.ensures.step
 
@@ -23,6 +23,6 @@ pub returns-in-Some-clause-step : goal.returns-in-Some-clause-step
 returns-in-Some-clause-step c =
     let value = c.args.self.now in
     let held = c.held.ensures.places in
-    let places = ap (λ (rules : Rules). rules.places) c.rules.ensures in
+    let places = ap (λ (rules : Rules). rules.places) c.rules.ensures.rules in
     let full = c.if-held-rules.false in
     fresh_in_place value.rules value.book c.args.key c.args.nas c.in-Some.at (c.ask_in_place.new.self.book, c.ask_in_place.result) (omega arith) c.in-Some.ensures.found c.ask_in_place.ensures.step
