@@ -97,7 +97,7 @@ fn counts_of(alloc: Global, text: &[u8]) -> Result<Counts, Problem>
     ensures counts { IfOk result (λ counts. counts_of_text text.now ≡ Ok counts) }
     ensures fault { IfErr result (λ problem. (fault : ConfigFault) →
         problem ≡ Problem.Fault fault → counts_of_text text.now ≡ Err fault) }
-    ensures too_long { IsErrOf result Problem.TooLong ↔ (MAX_FILE_LEN < length text.now) }
+    ensures too_long { IsErrOf result Problem.TooLong ↔ (16777216 < length text.now) }
 {
     if MAX_FILE_LEN < text.len() as u64 {
         return Err(Problem::TooLong);

@@ -90,6 +90,9 @@ impl Read for Broken {
 
 const SCRIPT: &str = "client 192.168.1.16 xyzzy5461\naccount u pw 1\nask 0 192.168.1.16 n u pw 1\n";
 
+const USAGE: &str =
+    "usage: radlimit replay or radlimit serve FILE ADDRESS AUTHPORT ACCTPORT TURNS\n";
+
 const REPLAY: Arguments = Arguments {
     words: &[b"radlimit", b"replay"],
 };
@@ -123,11 +126,7 @@ fn wrong_arguments_are_told_the_usage_and_nothing_is_read(rt: HostRuntime) {
         assert_eq!(rt; input.len(), SCRIPT.len(), "{words:?}");
         assert!(rt; output.given.is_empty(), "{words:?}");
         let said = errors.text();
-        assert_eq!(rt;
-            said,
-            b"usage: radlimit replay or radlimit serve FILE ADDRESS AUTHPORT ACCTPORT TURNS\n".as_slice(),
-            "{words:?}"
-        );
+        assert_eq!(rt; said, USAGE.as_bytes(), "{words:?}");
     }
 }
 

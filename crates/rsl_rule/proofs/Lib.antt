@@ -15,4 +15,3 @@ pub mod Lowest
 pub mod Yielded
 pub mod ClosedHeld
 pub mod Memory
-pub mod Callers

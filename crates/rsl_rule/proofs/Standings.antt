@@ -18,7 +18,7 @@ use Rattle.rsl_session.specs.Ask.{accepts, fresh_outcome, has_a_place, has_a_pla
 use Rattle.rsl_session.specs.declared.bundle.Bundle.{Bundle}
 use Rattle.rsl_session.specs.Places.{bundles, places_of}
 use Rattle.rsl_session.specs.Alive.{has_room, link_of, is_chosen, reservation_of}
-use Rattle.rsl_rule.specs.Standing.{standing_of, link_where, is_idle_so, is_first_so, is_yielding_so, is_taken_so}
+use Rattle.rsl_rule.specs.Standing.{standing_of, link_where, is_idle_so, is_first_so, is_yielding_so, can_be_taken_so}
 use Rattle.rsl_rule.specs.Holding.{standings}
 use Rattle.rsl_rule.specs.declared.holding.HeldLink.{HeldLink}
 
@@ -59,11 +59,11 @@ bound rules past event session held is =
 
 -- the reservation that an alive takes
 pub taken : (rules : Rules) (past : Past) (event : Event) (nas : Nas) (class : Option ℕ) (held : List HeldLink) → held ≡ standings past (held_before rules past event)
-    → link_where (is_taken_so past nas class) held ≡ reservation_of rules past event nas class
+    → link_where (can_be_taken_so past nas class) held ≡ reservation_of rules past event nas class
 unfolding reservation_of so standing_of is_chosen is_reserved
 taken rules past event nas class held is =
-    ap (link_where (is_taken_so past nas class)) is ∙ found past (is_chosen past nas class) (is_taken_so past nas class) (same past nas class) (held_before rules past event) where
-      same : (past : Past) (nas : Nas) (class : Option ℕ) (link : ℕ) → is_taken_so past nas class (so past link) ≡ is_chosen past nas class link
+    ap (link_where (can_be_taken_so past nas class)) is ∙ found past (is_chosen past nas class) (can_be_taken_so past nas class) (same past nas class) (held_before rules past event) where
+      same : (past : Past) (nas : Nas) (class : Option ℕ) (link : ℕ) → can_be_taken_so past nas class (so past link) ≡ is_chosen past nas class link
       same past nas class link = refl
 
 -- the link that can yield

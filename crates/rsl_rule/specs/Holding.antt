@@ -31,7 +31,7 @@ unfoldable pub furthest_taken : Past → ℕ
 furthest_taken [] = 0
 furthest_taken (entry ∷ past) = max (furthest_taken past) (taken_by entry.outcome)
 
--- this is carried after a past
+-- what is carried once a past was gone over
 pub record IsHolding (rules : Rules) (past : Past) (holding : Holding) : Type 0 where
   pub each : holding.links.items ≡ standings past (held_links rules past)
   pub now : holding.clock ≡ clock past

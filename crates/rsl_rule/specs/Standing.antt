@@ -41,7 +41,7 @@ is_yielding_so rules event held one =
     is_idle_so rules event one.standing && is_first_so rules event held one.standing.touched
 
 -- whether a held link is a reservation that an alive can take
-abbrev pub is_taken_so : Past → Nas → Option ℕ → HeldLink → Bool
-is_taken_so past nas class held =
+abbrev pub can_be_taken_so : Past → Nas → Option ℕ → HeldLink → Bool
+can_be_taken_so past nas class held =
     is_none held.standing.session && is_at past nas held.link
     && is_number class (number_at held.link past)

@@ -12,7 +12,7 @@ ghost use Rattle.rsl_session.specs.Alive.{
 ghost use Rattle.rsl_session.specs.Binding.{is_session};
 ghost use Rattle.rsl_session.specs.Held.{held_before};
 ghost use Rattle.rsl_rule.specs.Holding.{standings};
-ghost use Rattle.rsl_rule.specs.Standing.{is_taken_so, link_where};
+ghost use Rattle.rsl_rule.specs.Standing.{can_be_taken_so, link_where};
 
 use crate::binding::bundle_of_act;
 use crate::closed::is_session_closed;
@@ -50,7 +50,7 @@ fn is_named(class: Option<u64>, number: Option<u64>) -> bool
 
 /// Whether a held link is a reservation that an alive can take.
 fn can_take(history: &[PastEvent], nas: &Nas, class: Option<u64>, held: &HeldLink) -> bool
-    ensures { result ≡ is_taken_so (looking_back history.now) nas.now class held.now }
+    ensures { result ≡ can_be_taken_so (looking_back history.now) nas.now class held.now }
 {
     held.standing.session.is_none()
         && is_link_at(history, nas, held.link)
@@ -65,7 +65,7 @@ fn chosen_reservation(
     class: Option<u64>,
 ) -> Option<usize>
     ensures { result ≡
-        link_where (is_taken_so (looking_back history.now) nas.now class) before.now }
+        link_where (can_be_taken_so (looking_back history.now) nas.now class) before.now }
 {
     before
         .iter()

@@ -12,37 +12,19 @@ ghost use Rattle.rsl_session.specs.Ask.{
   repeated_ask,
   repeats,
 };
-ghost use Rattle.rsl_session.specs.Sweep.{is_sweep_of, swept_in};
 ghost use Rattle.rsl_session.specs.Clock.{clock};
 
 use crate::clock::{clock_of, clock_with};
 use crate::count::has_place_beside;
 use crate::held::{links_before, links_but, numbers_of};
 use crate::link::accept_number;
+use crate::sweep::is_swept_in;
 use crate::yielding::yielding_link;
 use rsl_accounts::Rules;
 use rsl_event::{Act, Decision, Event, Key, Nas};
 use rsl_session::{KEPT_ASKS, KeptAsk, Outcome, PastEvent};
 use rsl_wire::NoMemory;
 use std::alloc::Global;
-
-/// Whether an act is a sweep of an access server.
-fn sweeps(nas: &Nas, act: &Act) -> bool
-    ensures { result ≡ is_sweep_of nas.now act.now }
-{
-    match act {
-        Act::Sweep { nas: other } => other.is_same(nas),
-        _ => false,
-    }
-}
-
-/// Whether there is a sweep of an access server among some entries.
-#[tactic(auto, unfolding(rsl_session::specs::Sweep::swept_in))]
-pub(crate) fn is_swept_in(entries: &[PastEvent], nas: &Nas) -> bool
-    ensures { result ≡ swept_in entries.now nas.now }
-{
-    entries.iter().any(|entry| sweeps(nas, &entry.event.act))
-}
 
 /// The decision on a fresh ask.
 #[tactic(auto, unfolding(rsl_session::specs::Ask::fresh_decision))]

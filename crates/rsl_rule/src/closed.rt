@@ -3,8 +3,8 @@ ghost use Rattle.rsl_session.specs.Past.{looking_back};
 ghost use Rattle.rsl_session.specs.Closed.{closes, is_closed, kept_stop, stops};
 ghost use Rattle.rsl_session.specs.Clock.{clock};
 
-use crate::ask::is_swept_in;
 use crate::clock::{clock_of, clock_with};
+use crate::sweep::is_swept_in;
 use rsl_accounts::Rules;
 use rsl_event::{Act, Event};
 use rsl_session::{KEPT_STOPS, KeptStop, PastEvent, Session};

@@ -19,7 +19,8 @@ pub(crate) fn bundles_of(
     history: &[PastEvent],
     links: &[usize],
 ) -> Result<Vec<Option<Bundle>>, NoMemory>
-    ensures bundles { IfOk result (λ each. each.items ≡ bundles (looking_back history.now) links.now) }
+    ensures bundles { IfOk result (λ each.
+        each.items ≡ bundles (looking_back history.now) links.now) }
     ensures refused { OnErr result (0 < length links.now) }
 {
     let mut each = Vec::new(alloc);
@@ -30,7 +31,7 @@ pub(crate) fn bundles_of(
 }
 
 /// Whether a link's bundle is this one.
-fn is_link_of(bundle: &Bundle, other: &Option<Bundle>) -> bool
+fn is_bundle(bundle: &Bundle, other: &Option<Bundle>) -> bool
     ensures { result ≡ is_bundle bundle.now other.now }
 {
     match other {
@@ -45,7 +46,7 @@ fn link_count(bundle: &Bundle, bundles: &[Option<Bundle>]) -> usize
 {
     bundles
         .iter()
-        .filter(|other| is_link_of(bundle, other))
+        .filter(|other| is_bundle(bundle, other))
         .count()
 }
 

@@ -25,7 +25,8 @@ pub fn outcome(
     event: &Event,
 ) -> Result<Outcome, NoMemory>
     requires { RulesFit rules.now }
-    ensures outcome { IfOk result (λ did. did ≡ outcome_of rules.now (looking_back history.now) event.now) }
+    ensures outcome { IfOk result (λ did.
+        did ≡ outcome_of rules.now (looking_back history.now) event.now) }
     ensures refused { OnErr result (LooksBack history.now event.now.act) }
 {
     match &event.act {
@@ -50,7 +51,8 @@ pub fn outcome(
 #[tactic(auto, using(crate::proofs::Whole::past_steps))]
 fn past_after(alloc: Global, rules: &Rules, events: &[Event]) -> Result<Vec<PastEvent>, NoMemory>
     requires { RulesFit rules.now }
-    ensures past { IfOk result (λ history. looking_back history.items ≡ past_of rules.now events.now) }
+    ensures past { IfOk result (λ history.
+        looking_back history.items ≡ past_of rules.now events.now) }
     ensures refused { OnErr result (0 < length events.now) }
 {
     let mut history = Vec::new(alloc);

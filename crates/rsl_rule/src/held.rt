@@ -15,7 +15,8 @@ use std::alloc::Global;
 /// The numbers of some held links.
 #[tactic(auto, using(crate::proofs::Lists::map_steps))]
 pub(crate) fn numbers_of(alloc: Global, held: &[HeldLink]) -> Result<Vec<usize>, NoMemory>
-    ensures numbers { IfOk result (λ links. links.items ≡ map (λ (one : HeldLink). one.link) held.now) }
+    ensures numbers { IfOk result (λ links.
+        links.items ≡ map (λ (one : HeldLink). one.link) held.now) }
     ensures refused { OnErr result (0 < length held.now) }
 {
     let mut links = Vec::new(alloc);
@@ -49,7 +50,8 @@ pub(crate) fn held_links(
     history: &[PastEvent],
 ) -> Result<Vec<usize>, NoMemory>
     requires { RulesFit rules.now }
-    ensures links { IfOk result (λ links. links.items ≡ held_links rules.now (looking_back history.now)) }
+    ensures links { IfOk result (λ links.
+        links.items ≡ held_links rules.now (looking_back history.now)) }
     ensures refused { OnErr result (0 < length history.now) }
 {
     let holding = holding_after(alloc, rules, history)?;

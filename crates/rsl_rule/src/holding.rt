@@ -226,7 +226,8 @@ pub(crate) fn holding_after(
     history: &[PastEvent],
 ) -> Result<Holding, NoMemory>
     requires { RulesFit rules.now }
-    ensures holding { IfOk result (λ holding. IsHolding rules.now (looking_back history.now) holding) }
+    ensures holding { IfOk result (λ holding.
+        IsHolding rules.now (looking_back history.now) holding) }
     ensures refused { OnErr result (0 < length history.now) }
 {
     let mut holding = Holding::new(alloc);

@@ -14,6 +14,7 @@ mod holding;
 pub mod laws;
 mod link;
 mod standing;
+mod sweep;
 mod yielding;
 
 pub use decisions::{decide, decision, outcome, places};

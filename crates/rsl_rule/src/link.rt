@@ -62,7 +62,7 @@ pub(crate) fn touch_after(
 
 /// The entry at a place.
 #[tactic(auto, using(crate::proofs::Looking::entry_steps))]
-pub(crate) fn entry_of(place: usize, history: &[PastEvent]) -> Option<&PastEvent>
+pub(crate) fn entry_at(place: usize, history: &[PastEvent]) -> Option<&PastEvent>
     ensures { option_copied result ≡ entry_at place (looking_back history.now) }
 {
     if place == 0 {
@@ -91,7 +91,7 @@ fn is_act_at(act: &Act, nas: &Nas) -> bool
 pub(crate) fn is_link_at(history: &[PastEvent], nas: &Nas, link: usize) -> bool
     ensures { result ≡ is_at (looking_back history.now) nas.now link }
 {
-    match entry_of(link, history) {
+    match entry_at(link, history) {
         Some(entry) => is_act_at(&entry.event.act, nas),
         None => false,
     }
@@ -102,7 +102,7 @@ pub(crate) fn is_link_at(history: &[PastEvent], nas: &Nas, link: usize) -> bool
 pub(crate) fn number_of_link(link: usize, history: &[PastEvent]) -> Option<u64>
     ensures { result ≡ number_at link (looking_back history.now) }
 {
-    match entry_of(link, history) {
+    match entry_at(link, history) {
         Some(entry) => accept_number(entry.outcome),
         None => None,
     }

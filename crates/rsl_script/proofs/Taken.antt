@@ -12,13 +12,13 @@ use Rattle.rsl_script.specs.declared.line.Line.{Line}
 use Rattle.rsl_script.specs.declared.line.Line.TheVariants as lines
 use Rattle.rsl_script.specs.Line.{line_of}
 use Rattle.rsl_script.specs.Script.{Contents, contents_of, event_said, first_wrong, is_configuration, is_event, is_wrong, last_of, script_of}
-use Rattle.rsl_script.specs.Words.{lines_of}
+use Rattle.rsl_script.specs.Words.{text_lines}
 use Rattle.rsl_script.specs.declared.fault.ScriptFault.TheVariants.{Line as line_fault, NoMemory as no_memory}
 use Rattle.rsl_script.specs.declared.fault.ScriptFault.{ScriptFault}
 use Rattle.rsl_script.specs.declared.fault.LineFault.{LineFault}
 use Rattle.rsl_script.specs.declared.fault.LineFault.TheVariants.{Wrong, NoMemory as line_no_memory}
 use Rattle.rsl_script.specs.Reads.{script_fault_at}
-use Rattle.rsl_script.specs.Taking.{with_next_line, with_said, with_line}
+use Rattle.rsl_script.specs.Taking.{with_next_line, with_said, contents_with}
 
 -- one line more at the end
 
@@ -34,7 +34,7 @@ last_of_more first [] None = refl
 last_of_more first [] (Some value) = refl
 last_of_more first (value ∷ values) more = last_of_more value values more
 
-contents_more : (said : List Line) (line : Line) → contents_of (said ++ line ∷ []) ≡ with_line (contents_of said) line
+contents_more : (said : List Line) (line : Line) → contents_of (said ++ line ∷ []) ≡ contents_with (contents_of said) line
 unfolding contents_of
 contents_more said line =
     simp (filter_map_last, last_of_more)
@@ -77,7 +77,7 @@ named_where_wrong : (before rest : List (Option Line)) (said : Option Line) → 
 unfolding first_wrong
 named_where_wrong before rest said wrong = rw wrong
 
-taken_held : (held after : Contents) (line : Line) (wrong : Bool) → (is_configuration line && nat_lt 0 (length held.events)) ≡ wrong → with_next_line held line ≡ Some after → (wrong ≡ false) × (with_line held line ≡ after)
+taken_held : (held after : Contents) (line : Line) (wrong : Bool) → (is_configuration line && nat_lt 0 (length held.events)) ≡ wrong → with_next_line held line ≡ Some after → (wrong ≡ false) × (contents_with held line ≡ after)
 taken_held held after line true is took = cc
 taken_held held after line false is took = (refl, cc)
 
@@ -127,10 +127,10 @@ stands_more all k line held after s below is took =
     }
 
 -- what the loop answers
-pub script_refused : (text : List ℕ) (k : ℕ) (line : List ℕ) (held : Contents) → Stands (lines_of text) k held → k < length (lines_of text) → line ≡ get_or (lines_of text) k line → with_said held (line_of line) ≡ None → script_of text ≡ Err (line_fault (k + 1))
+pub script_refused : (text : List ℕ) (k : ℕ) (line : List ℕ) (held : Contents) → Stands (text_lines text) k held → k < length (text_lines text) → line ≡ get_or (text_lines text) k line → with_said held (line_of line) ≡ None → script_of text ≡ Err (line_fault (k + 1))
 unfolding script_of
 script_refused text k line held s below is none =
-    let all = lines_of text in
+    let all = text_lines text in
     let front = take k all in
     let rest = drop (k + 1) all in
     let next : drop k all ≡ line ∷ rest = drop_more all k line below ∙ ap (λ (first : List ℕ). first ∷ rest) (sym is) in
@@ -145,10 +145,10 @@ none_behind : (before : List (Option Line)) → first_wrong before [] ≡ None
 unfolding first_wrong
 none_behind before = refl
 
-pub script_read : (text : List ℕ) (k : ℕ) (held : Contents) → Stands (lines_of text) k held → length (lines_of text) ≤ k → script_of text ≡ Ok held
+pub script_read : (text : List ℕ) (k : ℕ) (held : Contents) → Stands (text_lines text) k held → length (text_lines text) ≤ k → script_of text ≡ Ok held
 unfolding script_of
 script_read text k held s over =
-    let all = lines_of text in
+    let all = text_lines text in
     let none : first_wrong [] (map line_of all) ≡ None =
     s.wrong_is ∙ (ap (λ lines. first_wrong (map line_of (take k all)) (map line_of lines)) (drop_all k all over) ∙ none_behind _) in
     let whole : held ≡ contents_of (filter_map line_of all) = s.held_is ∙ ap (λ lines. contents_of (filter_map line_of lines)) (take_all k all over) in
@@ -171,13 +171,13 @@ length_numbered from [] = refl
 length_numbered from (first ∷ rest) = ap suc (length_numbered (from + 1) rest)
 
 -- a turn of a loop over the numbered lines, and its end. The chain comes last, since what its iterator is shows in the other arguments
-pub line_turn : {S : Type 0} {steps : S → Option (ℕ × Bor (List ℕ)) → S → Type 0} {s : S} (text : List ℕ) (xs : List (ℕ × Bor (List ℕ))) (t : S) → Yields steps s xs t → (r : Option (ℕ × Bor (List ℕ))) (u : S) (x : ℕ × Bor (List ℕ)) → r ≡ Some x → steps t r u → YieldsList {B = ℕ × List ℕ} steps (λ p. (p.0, p.1.now)) s (enumerate_from 0 (lines_of text)) → (length xs < length (lines_of text)) × (x.0 ≡ length xs) × (x.1.now ≡ get_or (lines_of text) (length xs) x.1.now)
+pub line_turn : {S : Type 0} {steps : S → Option (ℕ × Bor (List ℕ)) → S → Type 0} {s : S} (text : List ℕ) (xs : List (ℕ × Bor (List ℕ))) (t : S) → Yields steps s xs t → (r : Option (ℕ × Bor (List ℕ))) (u : S) (x : ℕ × Bor (List ℕ)) → r ≡ Some x → steps t r u → YieldsList {B = ℕ × List ℕ} steps (λ p. (p.0, p.1.now)) s (enumerate_from 0 (text_lines text)) → (length xs < length (text_lines text)) × (x.0 ≡ length xs) × (x.1.now ≡ get_or (text_lines text) (length xs) x.1.now)
 line_turn text xs t yields r u x is step chain =
     let turn = YieldsList-turn chain xs t yields r u x is step in
-    let (below, number, same) = numbered 0 (lines_of text) (length xs) x.0 x.1.now turn.0 turn.1 in
+    let (below, number, same) = numbered 0 (text_lines text) (length xs) x.0 x.1.now turn.0 turn.1 in
     (below, number ∙ zero-add (length xs), same)
 
-pub lines_end : {S : Type 0} {steps : S → Option (ℕ × Bor (List ℕ)) → S → Type 0} {s : S} (text : List ℕ) (xs : List (ℕ × Bor (List ℕ))) (t : S) → Yields steps s xs t → (r : Option (ℕ × Bor (List ℕ))) (u : S) → r ≡ None → steps t r u → YieldsList {B = ℕ × List ℕ} steps (λ p. (p.0, p.1.now)) s (enumerate_from 0 (lines_of text)) → length (lines_of text) ≤ length xs
+pub lines_end : {S : Type 0} {steps : S → Option (ℕ × Bor (List ℕ)) → S → Type 0} {s : S} (text : List ℕ) (xs : List (ℕ × Bor (List ℕ))) (t : S) → Yields steps s xs t → (r : Option (ℕ × Bor (List ℕ))) (u : S) → r ≡ None → steps t r u → YieldsList {B = ℕ × List ℕ} steps (λ p. (p.0, p.1.now)) s (enumerate_from 0 (text_lines text)) → length (text_lines text) ≤ length xs
 lines_end text xs t yields r u is step chain =
     let whole = YieldsList-end chain xs t yields r u is step in
-    omega (arith, whole.1, length_numbered 0 (lines_of text))
+    omega (arith, whole.1, length_numbered 0 (text_lines text))

@@ -13,7 +13,7 @@ use Rattle.rsl_script.specs.declared.script.Script.{Script}
 use Rattle.rsl_script.specs.declared.verb.Setting.{Setting}
 use Rattle.rsl_script.specs.declared.verb.Setting.TheVariants.{Shards, Reserve, Live, Grace, Closed, Keep}
 use Rattle.rsl_script.specs.Line.{line_of}
-use Rattle.rsl_script.specs.Words.{lines_of}
+use Rattle.rsl_script.specs.Words.{text_lines}
 
 -- what a script holds
 pub record Contents : Type 0 where
@@ -113,5 +113,5 @@ unless_wrong (Some number) said = Err (faults.Line number)
 -- the script that a text writes
 unfoldable pub script_of : (text : List ℕ) → Result Contents ScriptFault
 script_of text =
-    unless_wrong (first_wrong [] (map line_of (lines_of text)))
-    (contents_of (filter_map line_of (lines_of text)))
+    unless_wrong (first_wrong [] (map line_of (text_lines text)))
+    (contents_of (filter_map line_of (text_lines text)))

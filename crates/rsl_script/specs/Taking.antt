@@ -16,21 +16,21 @@ with_setting settings line = record {
   keep = unwrap_or (value_said Keep line) settings.keep;
 }
 
-abbrev pub with_line : Contents → Line → Contents
-with_line held line = record {
-  settings = with_setting held.settings line;
-  clients = held.clients ++ option_to_list (client_said line);
-  accounts = held.accounts ++ option_to_list (account_said line);
-  events = held.events ++ option_to_list (event_said line);
+abbrev pub contents_with : Contents → Line → Contents
+contents_with so_far line = record {
+  settings = with_setting so_far.settings line;
+  clients = so_far.clients ++ option_to_list (client_said line);
+  accounts = so_far.accounts ++ option_to_list (account_said line);
+  events = so_far.events ++ option_to_list (event_said line);
 }
 
 -- a line of the configuration after an event line is not taken
 abbrev pub with_next_line : Contents → Line → Option Contents
-with_next_line held line =
-    if is_configuration line && nat_lt 0 (length held.events)
+with_next_line so_far line =
+    if is_configuration line && nat_lt 0 (length so_far.events)
     then None
-    else Some (with_line held line)
+    else Some (contents_with so_far line)
 
 -- nor is a line that says nothing right
 unfoldable pub with_said : Contents → Option Line → Option Contents
-with_said held said = option_and_then (with_next_line held) said
+with_said so_far said = option_and_then (with_next_line so_far) said

@@ -1,5 +1,5 @@
--- The values that a word may write. (The octets of an IPv4 address are `address_of`, of the
--- accounts.)
+-- The values that a word may write. (`address_of`, the octets of an IPv4 address, is a definition of
+-- `rsl_accounts`.)
 use Rattle.std.specs.Prelude.{ℕ, ◌≤◌, ◌^◌, ◌&&◌, nat_lt, nat_le, Bool, if◌then◌else◌, List, [], ◌∷◌, length, take, drop, codes, bytes_eq, Option, None, Some, option_map, option_and_then}
 use Rattle.std.specs.Result.{result_ok}
 use Rattle.std.specs.Str.{all_ascii_digits}
@@ -24,12 +24,12 @@ octet_of number = if nat_lt number 256 then Some number else None
 unfoldable pub read_id : List ℕ → Option ℕ
 read_id word = option_and_then octet_of (read_number word)
 
--- a word has 1 octet up to so many
+-- a word has 1 to `most` octets
 pub record IsUpTo (most : ℕ) (word : List ℕ) : Type 0 where
   pub some : 1 ≤ length word
   pub fits : length word ≤ most
 
--- 1 octet up to so many
+-- the word, where it has 1 to `most` octets
 unfoldable pub up_to : (most : ℕ) → List ℕ → Option (List ℕ)
 up_to most word = if nat_le 1 (length word) && nat_le (length word) most then Some word else None
 

@@ -10,9 +10,10 @@ use Rattle.rsl_script.specs.declared.verb.Verb.TheVariants.{Set, Client, Account
 use Rattle.rsl_script.specs.declared.verb.Kind.TheVariants.{Access, Accounting, Raw, Tick}
 
 -- what the name stands for, in a list of names
-abbrev pub named : {T : Type 0} → (name : List ℕ) → List (List ℕ × T) → Option T
-named name [] = None
-named name (entry ∷ rest) = if bytes_eq name entry.0 then Some entry.1 else named name rest
+abbrev pub value_named : {T : Type 0} → (name : List ℕ) → List (List ℕ × T) → Option T
+value_named name [] = None
+value_named name (entry ∷ rest) =
+    if bytes_eq name entry.0 then Some entry.1 else value_named name rest
 
 abbrev pub verbs : List (List ℕ × Verb)
 verbs =
@@ -43,8 +44,8 @@ setting_names =
 
 -- what a line is about, by its first word
 unfoldable pub verb_of : List ℕ → Option Verb
-verb_of word = named word verbs
+verb_of word = value_named word verbs
 
 -- the setting of a name
 unfoldable pub setting_of : List ℕ → Option Setting
-setting_of word = named word setting_names
+setting_of word = value_named word setting_names

@@ -7,8 +7,8 @@ abbrev pub pieces : (separator : ℕ) → List ℕ → List (List ℕ)
 pieces separator octets = slice_split (λ octet. octet == separator) octets
 
 -- the lines of a text, which is cut at each LF. After a last LF stands an empty line
-abbrev pub lines_of : List ℕ → List (List ℕ)
-lines_of text = pieces 10 text
+abbrev pub text_lines : List ℕ → List (List ℕ)
+text_lines text = pieces 10 text
 
 -- the words of a line, which is cut at each space
 abbrev pub line_words : List ℕ → List (List ℕ)

@@ -10,14 +10,17 @@
 //! | words of a line | says |
 //! |---|---|
 //! | `set NAME VALUE` | a setting has this value; the last line of a name counts |
-//! | `client ADDRESS SECRET [signed]` | there is this client, whose requests must be signed if so it says |
-//! | `account NAME PASSWORD PLACES [PORTS] [live=N] [grace=N]` | there is this account, of one port if no `PORTS` are given, with these times of its own |
+//! | `client ADDRESS SECRET [signed]` | there is this client; with `signed` it must sign its requests |
+//! | `account NAME PASSWORD PLACES [PORTS] [live=N] [grace=N]` | there is this account |
 //! | `ask MOMENT CLIENT NAS NAME PASSWORD ID`, `chap` the same | an Access-Request comes |
-//! | `start MOMENT CLIENT NAS NAME SESSION [multi=M] [class=N]`, `interim` the same | an Accounting-Request comes |
-//! | `stop MOMENT CLIENT NAS NAME SESSION` | the same |
+//! | `start MOMENT CLIENT NAS NAME SESSION [multi=M] [class=N]` | an Accounting-Request comes |
+//! | `interim ..` with the same words; `stop MOMENT CLIENT NAS NAME SESSION` | the same |
 //! | `on MOMENT CLIENT NAS`, `off` the same | the same |
 //! | `raw-auth MOMENT CLIENT HEX`, `raw-acct` the same | a datagram comes to that port |
 //! | `tick MOMENT` | time passes |
+//!
+//! An account has one port if no `PORTS` are given, and the times of the settings in place of those
+//! that its line does not give.
 //!
 //! A text is cut into lines at each LF, and a line into words at each space. Every octet of a line
 //! is 0x20 to 0x7E, and no word is empty. An empty line says nothing, nor does one that begins with

@@ -74,8 +74,8 @@ impl Eq for AttributeText {
     ghost laws = { nat_list_eq_equiv };
 }
 
-/// A password that a User-Password can hide: 1 to 128 octets (RFC 2865 section 5.2). It is a secret,
-/// so `Debug` does not print it. A contract sees it as the list of its octets.
+/// A password that a User-Password can hide: 1 to 128 octets (RFC 2865 section 5.2). It is a
+/// secret, so `Debug` does not print it. A contract sees it as the list of its octets.
 #[derive(Debug, Drop)]
 pub struct Password {
     secret: Secret,

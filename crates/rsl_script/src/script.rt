@@ -1,7 +1,7 @@
 ghost use Rattle.std.specs.Prelude.{◌≡◌, ◌≢◌, None, Some, Ok, Err, [], IfErr, IfOk, IsErrOf, OnOk};
 ghost use Rattle.rsl_script.specs.Line.{line_of};
 ghost use Rattle.rsl_script.specs.Script.{contents, contents_of, script_of};
-ghost use Rattle.rsl_script.specs.Taking.{with_next_line, with_said, with_line};
+ghost use Rattle.rsl_script.specs.Taking.{with_next_line, with_said, contents_with};
 
 use crate::event_line::EventLine;
 use crate::fault::{LineFault, ScriptFault};
@@ -93,7 +93,7 @@ impl Script {
     }
 
     fn set(&mut self, setting: Setting, value: u64)
-        ensures { contents self.new ≡ with_line (contents self.old) (Line.Set setting value) }
+        ensures { contents self.new ≡ contents_with (contents self.old) (Line.Set setting value) }
     {
         match setting {
             Setting::Shards => self.settings.shards = value,

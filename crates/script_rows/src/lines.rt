@@ -4,8 +4,8 @@ use crate::differing;
 use crate::row::replayed;
 use std::{fs, io};
 
-/// How the first line of the table failed that did, if one did. Empty lines of a table and those that
-/// begin with `#` are its comments.
+/// How the first line of the table failed that did, if one did. Empty lines of a table and those
+/// that begin with `#` are its comments.
 pub(crate) fn failure_of(rt: &HostRuntime, file: &str) -> io::Result<Option<String>> {
     let alloc = rt.alloc();
     let table = fs::read_to_string(rt, file)?;

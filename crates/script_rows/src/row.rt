@@ -6,8 +6,8 @@ use std::alloc::Global;
 use std::io::ErrorKind;
 use std::{fs, io};
 
-/// Lines before a script that spread its accounts over three shards, so that its first account is of
-/// another shard than the first.
+/// Lines before a script that spread its accounts over three shards, so that its first account is
+/// of another shard than the first.
 const THREE_SHARDS: &str =
     "set shards 3\naccount first-of-three x 1\naccount second-of-three x 1\n";
 

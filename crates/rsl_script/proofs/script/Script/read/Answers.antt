@@ -4,7 +4,7 @@ use Rattle.std.proofs.lemmas.Iterator.Splits.{YieldsList-from_slice_split}
 use Rattle.std.proofs.lemmas.List.{length_push}
 use borrow.Author.Tests.{tests}
 use Rattle.rsl_script.specs.Reads.{script_fault_at}
-use Rattle.rsl_script.specs.Words.{lines_of}
+use Rattle.rsl_script.specs.Words.{text_lines}
 use Rattle.rsl_script.proofs.Taken.{fault_named, line_turn, lines_end, script_read, script_refused, stands_more}
 use Rattle.rsl_script.proofs.script.Script.read.Goals as goal
 
@@ -27,7 +27,7 @@ loop-index-preserved c =
     c.enumerate-index-items.ensures.count))
     in
     rw (length_push c.loop-index.yielded (c.in-Some.index, c.in-Some.line))
-    (stands_more (lines_of c.args.text.now) (length c.loop-index.yielded) c.in-Some.line.now _ _ c.loop-index.invariant turn.0 turn.2 c.in_default.ensures.taken)
+    (stands_more (text_lines c.args.text.now) (length c.loop-index.yielded) c.in-Some.line.now _ _ c.loop-index.invariant turn.0 turn.2 c.in_default.ensures.taken)
 
 pub returns-in-Err-clause-line : goal.returns-in-Err-clause-line
 returns-in-Err-clause-line c =

@@ -1,5 +1,5 @@
 use Rattle.rsl_rule.proofs.Looking.{entry_read}
-use Rattle.rsl_rule.proofs.link.entry_of.Goals as goal
+use Rattle.rsl_rule.proofs.link.entry_at.Goals as goal
 
 pub returns-else-place-eq0 : goal.returns-else-place-eq0
 returns-else-place-eq0 c =
