@@ -23,9 +23,7 @@ use Rattle.rsl_shard.specs.Setup.{Setup, setup_of}
 use Rattle.rsl_shard.specs.declared.line.Line.{Line}
 use Rattle.rsl_shard.specs.declared.moved.Move.{Move}
 use Rattle.rsl_shard.specs.declared.moved.Move.TheVariants.{Own, Sweep, Tick, Stray}
-use Rattle.rsl_shard.proofs.Beginning.{new_book_at}
-use Rattle.rsl_shard.proofs.Moving.{book_placed}
-use Rattle.rsl_shard.proofs.Numbers.{account_is}
+use Rattle.rsl_shard.proofs.Callers.{account_is, book_placed, new_book_at}
 use Rattle.rsl_report.specs.Replayed.{replayed, ruled}
 
 -- ---- the books

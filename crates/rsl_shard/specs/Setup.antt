@@ -1,6 +1,6 @@
 -- What a shard knows of the configuration: its own number, and how many shards and accounts there
 -- are.
-use Rattle.std.specs.Prelude.{ℕ, ◌<◌, ◌≤◌, List, length}
+use Rattle.std.specs.Prelude.{ℕ, ◌<◌, ◌≤◌, length}
 use Rattle.rsl_accounts.specs.Configuration.{Configuration}
 
 pub record Setup : Type 0 where

@@ -1,14 +1,15 @@
-ghost use Rattle.std.specs.Prelude.{◌≡◌, ◌+◌, ◌*◌, ◌<◌, ◌↔◌, All, IfOk, IfSome, IfNone, IsSome, IsTrue, OnErr, Some, None, length, map, set, slice_get};
+ghost use Rattle.std.specs.Prelude.{◌≡◌, ◌+◌, ◌*◌, ◌<◌, ◌≤◌, ◌↔◌, All, IfOk, IfSome, IfNone, IsSome, IsTrue, OnErr, Some, None, length, map, set, slice_get};
 ghost use Rattle.rsl_book.specs.RuledBook.{IsWithinLimit};
 ghost use Rattle.rsl_event.specs.Prepared.{IsOfOneAccount};
 ghost use Rattle.rsl_event.specs.declared.event.Act.TheVariants.{Sweep, Tick};
 ghost use Rattle.rsl_session.specs.BookStep.{step};
 ghost use Rattle.rsl_shard.specs.Moves.{IsOfShard, IsOwn, IsTaken};
 ghost use Rattle.rsl_shard.specs.Replay.{AreBooks, book_at, books_after, decision_by, new_books, new_books_seen, stepped};
-ghost use Rattle.rsl_shard.specs.Rows.{rows_of};
+ghost use Rattle.rsl_shard.specs.Rows.{rows_from, rows_of};
 ghost use Rattle.rsl_shard.specs.declared.moved.Move.TheVariants as moves;
 
 use crate::moved::Move;
+use crate::row::Row;
 use rsl_accounts::Config;
 use rsl_book::Book;
 use rsl_event::{Act, Decision, Event, Nas};
@@ -116,6 +117,22 @@ fn copies_of(alloc: Global, books: &[Book]) -> Result<Vec<Book>, NoMemory>
         copies.push(book.try_copy(alloc)?)?;
     }
     Ok(copies)
+}
+
+/// The rows of an account and of those that follow it in its shard.
+fn rows_from(alloc: Global, first: u32, shards: u32, books: &[Book]) -> Result<Vec<Row>, NoMemory>
+    requires first { first ≤ 4 }
+    requires shards { shards ≤ 4 }
+    requires few { length books.now ≤ 16384 }
+    ensures { IfOk result (λ rows. rows.items ≡ rows_from first shards books.now) }
+{
+    let mut rows = Vec::with_capacity(alloc, books.len())?;
+    let mut account = first;
+    for book in books {
+        rows.push(Row::of(account, book))?;
+        account += shards;
+    }
+    Ok(rows)
 }
 
 /// The new books of the accounts of a shard.
@@ -252,6 +269,14 @@ impl Books {
         ensures { IsTrue result ↔ (self.now.books ≡ books.now) }
     {
         are_same(&self.list, books)
+    }
+
+    /// What each account of the shard holds, in the order of their numbers. It fails only where memory
+    /// is refused.
+    pub fn rows(&self, alloc: Global) -> Result<Vec<Row>, NoMemory>
+        ensures { IfOk result (λ rows. rows.items ≡ rows_of self.now.setup self.now.books) }
+    {
+        rows_from(alloc, self.shard, self.shards, &self.list)
     }
 
     /// Equal books, one by one. It fails only where memory is refused.

@@ -1,3 +1,8 @@
+ghost use Rattle.std.specs.Prelude.{◌≡◌};
+ghost use Rattle.rsl_shard.specs.Rows.{row_of};
+
+use rsl_book::Book;
+
 /// What an account holds, as a line of the report has it.
 #[derive(Clone, Copy, Debug, PartialEq, Eq)]
 pub struct Row {
@@ -15,4 +20,21 @@ pub struct Row {
     pub stale: u32,
     /// How many of its alives were over, at most 2^64 - 1.
     pub over: u64,
+}
+
+impl Row {
+    /// What an account holds, as its book shows it at the book's own clock.
+    pub(crate) fn of(account: u32, book: &Book) -> Row
+        ensures { result ≡ row_of account book.now }
+    {
+        Row {
+            account,
+            places: book.rules().places as u32,
+            held: book.held() as u32,
+            reserved: book.reserved() as u32,
+            live: book.live() as u32,
+            stale: book.stale() as u32,
+            over: book.over(),
+        }
+    }
 }

@@ -1,11 +1,13 @@
 ghost use Rattle.std.specs.Prelude.{◌≡◌, ◌-◌, ◌^◌, ◌<◌, ◌↔◌, IfNone, IfOk, IfSome, IsSome, IsTrue, OnErr, Some, None, length};
 ghost use Rattle.rsl_shard.specs.Moves.{IsOfShard, IsTaken};
 ghost use Rattle.rsl_shard.specs.Replay.{book_at, decision_by};
+ghost use Rattle.rsl_shard.specs.Rows.{rows_of};
 ghost use Rattle.rsl_shard.specs.Seen.{IsKept, books_of, cut_off, new_shard, total_of, with_line};
 
 use crate::books::Books;
 use crate::line::Line;
 use crate::moved::Move;
+use crate::row::Row;
 use crate::segment::Segment;
 use rsl_accounts::Config;
 use rsl_book::Book;
@@ -90,6 +92,14 @@ impl Shard {
         ensures there { IsSome result ↔ IsOfShard self.now.setup account }
     {
         self.books.book(account)
+    }
+
+    /// What each account of the shard holds, in the order of their numbers. It fails only where memory
+    /// is refused.
+    pub fn rows(&self, alloc: Global) -> Result<Vec<Row>, NoMemory>
+        ensures { IfOk result (λ rows. rows.items ≡ rows_of self.now.setup (books_of self.now)) }
+    {
+        self.books.rows(alloc)
     }
 
     /// The number of lines of the present journal.

@@ -14,9 +14,7 @@ use Rattle.rsl_session.specs.BookLaws.{BooksAreThoseOfThePast, BooksHoldThePlace
 use Rattle.rsl_session.specs.BookOf.{book_of}
 use Rattle.rsl_session.specs.BookStep.{book_after, step}
 use Rattle.rsl_session.specs.Rule.{past_of, places_after}
-use Rattle.rsl_shard.proofs.Beginning.{new_book_at}
-use Rattle.rsl_shard.proofs.Moving.{book_placed}
-use Rattle.rsl_shard.proofs.Numbers.{account_is}
+use Rattle.rsl_shard.proofs.Callers.{account_is, book_placed, new_book_at}
 use Rattle.rsl_shard.specs.Journal.{book_in, decision_in, new_books as books_new}
 use Rattle.rsl_shard.specs.Moves.{own_in}
 use Rattle.rsl_shard.specs.Replay.{book_at, book_of_entry, decision_by, new_books, replay}

@@ -1,7 +1,4 @@
-use Rattle.std.proofs.Common.{arith, ap, sym, refl, ◌∙◌}
-use Rattle.std.proofs.lemmas.List.Elements.{All-nil}
-use Rattle.rsl_accounts.specs.declared.entry.Entry.{Entry}
-use Rattle.rsl_book.specs.RuledBook.{IsWithinLimit, RuledBook}
+use Rattle.std.proofs.Common.{arith, ap, sym, ◌∙◌}
 use Rattle.rsl_shard.specs.Replay.{new_books}
 use Rattle.rsl_shard.proofs.Beginning.{made_more, made_same, new_done}
 use Rattle.rsl_shard.proofs.books.new_list.Goals as goal

@@ -1,5 +1,4 @@
-use Rattle.std.proofs.Common.{◌≡◌, ℕ, ◌+◌, ◌*◌, ◌<◌, Some, None, length, arith, rules, sym, ap, subst, ◌∙◌}
-use Rattle.rsl_shard.specs.Moves.{IsOfShard}
+use Rattle.std.proofs.Common.{◌≡◌, ◌+◌, ◌*◌, ◌<◌, Some, length, arith, rules, sym, subst}
 use Rattle.rsl_shard.specs.Replay.{AreBooks, BooksSeen, book_at}
 use Rattle.rsl_shard.specs.BooksInside.{setup_inside}
 use Rattle.rsl_shard.proofs.Moving.{no_book, stands}

@@ -1,4 +1,4 @@
-use Rattle.std.proofs.Common.{◌≡◌, ℕ, ◌+◌, ◌*◌, ◌<◌, List, length, arith, rules, sym, ap, subst, ◌∙◌}
+use Rattle.std.proofs.Common.{◌≡◌, ◌+◌, ◌*◌, ◌<◌, List, length, arith, rules, sym, ap, subst, ◌∙◌}
 use Rattle.rsl_book.specs.RuledBook.{RuledBook}
 use Rattle.rsl_event.specs.declared.event.Event.{Event}
 use Rattle.rsl_shard.specs.BooksInside.{setup_inside}

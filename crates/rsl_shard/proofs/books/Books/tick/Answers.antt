@@ -1,4 +1,4 @@
-use Rattle.std.proofs.Common.{◌≡◌, ℕ, Some, length, map, arith, refl, rules, sym, ap, ◌∙◌}
+use Rattle.std.proofs.Common.{ℕ, Some, length, map, refl, rules, sym, ap, ◌∙◌}
 use Rattle.rsl_event.specs.declared.event.Act.TheVariants.{Tick}
 use Rattle.rsl_shard.specs.Replay.{BooksSeen, books_after, stepped}
 use Rattle.rsl_shard.specs.declared.moved.Move.TheVariants as moves

@@ -1,8 +1,6 @@
-use Rattle.std.proofs.Common.{◌+◌, ◌^◌, ◌<◌, List, arith, rules, sym, ap, subst, ◌∙◌}
+use Rattle.std.proofs.Common.{◌+◌, ◌^◌, ◌<◌, List, rules, sym, ap, subst, ◌∙◌}
 use Rattle.rsl_book.specs.RuledBook.{RuledBook}
 use Rattle.rsl_shard.specs.Replay.{AreBooks}
-use Rattle.rsl_shard.specs.Seen.{books_of}
-use Rattle.rsl_shard.specs.ShardInside.{shard_seen}
 use Rattle.rsl_shard.proofs.Journaling.{begun}
 use Rattle.rsl_shard.proofs.shard.Shard.cut.Goals as goal
 

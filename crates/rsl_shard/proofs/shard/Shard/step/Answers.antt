@@ -1,4 +1,4 @@
-use Rattle.std.proofs.Common.{◌≡◌, ◌-◌, ◌^◌, ◌<◌, ◌++◌, ◌∷◌, [], List, refl, rules, arith, sym, ap, subst, ◌∙◌}
+use Rattle.std.proofs.Common.{◌-◌, ◌^◌, ◌<◌, ◌++◌, ◌∷◌, [], List, refl, sym, ap, subst, ◌∙◌}
 use Rattle.rsl_shard.specs.Moves.{IsTaken}
 use Rattle.rsl_shard.specs.Seen.{ShardSeen, total_of}
 use Rattle.rsl_shard.specs.declared.line.Line.{Line}

@@ -1,0 +1,8 @@
+-- The lemmas that this crate offers to the proofs of others, as its definitions are offered: what follows from the
+-- definitions alone. Another crate cites no other file of these proofs.
+
+-- an account of a shard stands at its place, and its book at that place of the list
+pub use Rattle.rsl_shard.proofs.Numbers.{account_is}
+pub use Rattle.rsl_shard.proofs.Moving.{book_placed}
+-- the new book at a place is that of the account whose place it is
+pub use Rattle.rsl_shard.proofs.Beginning.{new_book_at}
