@@ -6,13 +6,13 @@
 //! at all), and then its lines, with `; ` between lines. A line is an event as in `timeline`, with the
 //! account's number before it, or `all`, and its decision after ` -> `; a line `stray` is a stray.
 
-use crate::support::{Subject, check_rows};
-use crate::timeline::{event_of, text_of};
 use rsl_accounts::Config;
 use rsl_book::Book;
 use rsl_event::{Act, Decision, Event, Nas, NasName, Note};
 use rsl_report::audit;
+use rsl_rows::{Subject, check_rows};
 use rsl_shard::{Line, Move, Segment};
+use rsl_timelines::{event_of, text_of};
 use rsl_wire::Octets;
 use std::alloc::Global;
 use std::test::Fail;

@@ -8,9 +8,9 @@
 //! the calls of their names: the copy stays as it was until then, comes to the same, and goes on as
 //! the book.
 
-use crate::timeline::{event_of, rules_of, text_of};
 use rsl_book::Book;
 use rsl_event::{Act, Decision, Event};
+use rsl_timelines::{event_of, rules_of, text_of};
 use std::process::Abort;
 use std::test::Fail;
 

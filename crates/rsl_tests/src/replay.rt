@@ -3,9 +3,9 @@
 //!
 //! A script stands in a row with `/` between its lines, and so does what it prints.
 
-use crate::support::{Subject, check_rows};
 use rsl_accounts::{Config, ConfigFault, Field};
 use rsl_replay::{ReplayFault, lines_of, replay, steps_of};
+use rsl_rows::{Subject, check_rows};
 use rsl_script::{EventLine, Script};
 use rsl_steps::{Answer, Step, run};
 use rsl_wire::Octets;

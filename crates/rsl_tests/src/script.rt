@@ -1,8 +1,8 @@
 //! Tests of `rsl_script`: what the lines of a script say. Which lines are right and which are wrong
 //! is shown by `script_rows`.
 
-use crate::support::{Subject, check_rows};
 use rsl_accounts::{Client, Entry};
+use rsl_rows::{Subject, check_rows};
 use rsl_script::{
     AccessRequest, AccountingRequest, AttributeText, EventLine, Happening, Script, ScriptFault,
 };

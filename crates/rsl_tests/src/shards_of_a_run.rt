@@ -2,7 +2,7 @@
 //! `steps`.
 
 use crate::steps::{BOOT, config_and_steps};
-use crate::support::{Subject, check_rows};
+use rsl_rows::{Subject, check_rows};
 use rsl_shard::Shard;
 use rsl_steps::run;
 use std::alloc::Global;

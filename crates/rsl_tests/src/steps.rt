@@ -6,10 +6,10 @@
 //! one shard alone. An access server is at the client 192.168.1.16, of which `C` is the address.
 
 use crate::replay::{replies_in, script_of};
-use crate::support::{Subject, check_rows};
 use rsl_accounts::Config;
 use rsl_event::{Act, Decision, Event, Nas, NasName};
 use rsl_replay::steps_of;
+use rsl_rows::{Subject, check_rows};
 use rsl_rule::{decide, places};
 use rsl_script::Script;
 use rsl_steps::{Answer, Ran, Step, own, run};

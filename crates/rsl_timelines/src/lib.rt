@@ -10,7 +10,9 @@
 //! - `sweep MOMENT NAS`
 //! - `tick MOMENT`
 //!
-//! What stands after ` -> ` tells what is expected of the event, and is not read here.
+//! What stands after ` -> ` tells what is expected of the event, and is not read here. It is for test
+//! crates alone. No call has a clause: each is proved not to stop the program.
+#![tactic(auto)]
 
 use rsl_accounts::Rules;
 use rsl_event::{Act, Event, Key, Nas, NasName, Source};
@@ -19,7 +21,7 @@ use std::alloc::Global;
 use std::test::Fail;
 
 /// The rules of a line: one place and one port a place, where it does not tell them.
-pub(crate) fn rules_of(line: &str) -> Result<Rules, Fail> {
+pub fn rules_of(line: &str) -> Result<Rules, Fail> {
     let mut rules = Rules {
         places: 1,
         ports: 1,
@@ -55,12 +57,12 @@ fn set(rules: &mut Rules, word: &str) -> Result<(), Fail> {
 }
 
 /// The event of a line.
-pub(crate) fn event_of<R: AllocGlobal>(rt: &R, line: &str) -> Result<Event, Fail> {
+pub fn event_of<R: AllocGlobal>(rt: &R, line: &str) -> Result<Event, Fail> {
     event_in(rt.alloc(), line)
 }
 
 /// The event of a line.
-pub(crate) fn event_in(alloc: Global, line: &str) -> Result<Event, Fail> {
+pub fn event_in(alloc: Global, line: &str) -> Result<Event, Fail> {
     let words: Vec<&str> = text_of(line).split(' ').collect(alloc)?;
     Ok(Event {
         moment: word_at(&words, 1)?.parse()?,
@@ -69,7 +71,7 @@ pub(crate) fn event_in(alloc: Global, line: &str) -> Result<Event, Fail> {
 }
 
 /// What stands before ` -> ` in a line.
-pub(crate) fn text_of(line: &str) -> &str {
+pub fn text_of(line: &str) -> &str {
     match line.split_once(" -> ") {
         Some((text, _)) => text,
         None => line,

@@ -10,11 +10,11 @@ mod drops;
 mod replies;
 mod signatures;
 
-use crate::support::{Subject, check_rows, number, octets_of, printed, replaced};
 use rsl_accounts::Config;
 use rsl_event::{Decision, Port, Prepared, Said, Source, prepare, reply, room, said};
+use rsl_rows::{Subject, check_rows, number, octets_of, printed, replaced};
 use std::alloc::Global;
-use std::process::Abort;
+use std::io::Eprint;
 use std::test::Fail;
 
 const AUTH: Port = Port::Auth;
@@ -134,14 +134,14 @@ const PROXY_STATES: &str = "21ff 00*253 21ff 01*253 21ff 02*253 21ff 03*253 21ff
 
 /// Compares what datagrams from a source mean, or why they are dropped, with what rows expect, of
 /// which the fields are the port and the octets.
-fn check<R: AllocGlobal + Abort>(rt: &R, source: Source, rows: &str) -> Result<(), Fail> {
+fn check<R: AllocGlobal + Eprint>(rt: &R, source: Source, rows: &str) -> Result<(), Fail> {
     let config = Config::read(rt.alloc(), FILE.as_bytes())?;
     check_spelled(rt, &MeaningRows { config, source }, rows)
 }
 
 /// Compares the replies to datagrams from a source with what rows expect, of which the fields are
 /// the octets and the decision, and what is expected is the word of the reply and its octets.
-fn check_replies<R: AllocGlobal + Abort>(
+fn check_replies<R: AllocGlobal + Eprint>(
     rt: &R,
     source: Source,
     port: Port,
@@ -157,7 +157,7 @@ fn check_replies<R: AllocGlobal + Abort>(
 }
 
 /// Compares what the subject gives with what rows with words expect.
-fn check_spelled<R: AllocGlobal + Abort, S: Subject>(
+fn check_spelled<R: AllocGlobal + Eprint, S: Subject>(
     rt: &R,
     subject: &S,
     rows: &str,

@@ -1,8 +1,8 @@
 //! What `Config::make` takes, look-ups, rules and addresses.
 
 use super::{SAMPLE, client, entry, numbers_of, rules_of, said, settings};
-use crate::support::{Subject, check_rows, printed, replaced, short_number, shown};
 use rsl_accounts::{Config, ConfigFault, Entry, Rules, Settings, address_of};
+use rsl_rows::{Subject, check_rows, printed, replaced, short_number, shown};
 use std::alloc::Global;
 use std::test::Fail;
 

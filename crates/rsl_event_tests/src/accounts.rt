@@ -5,8 +5,8 @@ mod files;
 mod making;
 mod printing;
 
-use crate::support::{number, shown};
 use rsl_accounts::{Client, Config, ConfigFault, Entry, Rules, Secret, Settings, Text};
+use rsl_rows::{number, shown};
 use std::alloc::Global;
 use std::test::Fail;
 

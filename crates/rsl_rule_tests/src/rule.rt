@@ -8,11 +8,11 @@ mod sizes;
 mod sweeps;
 mod yielding;
 
-use crate::timeline::{event_of, rules_of, text_of};
 use rsl_accounts::Rules;
 use rsl_event::Event;
 use rsl_rule::{decide, decision, outcome, places};
 use rsl_session::PastEvent;
+use rsl_timelines::{event_of, rules_of, text_of};
 use std::process::Abort;
 use std::test::Fail;
 

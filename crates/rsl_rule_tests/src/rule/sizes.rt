@@ -1,11 +1,11 @@
 //! Long pasts: no call wants memory that it need not have.
 
-use crate::support::{Subject, check_rows};
-use crate::timeline::{event_in, rules_of};
 use rsl_accounts::Rules;
 use rsl_event::Event;
+use rsl_rows::{Subject, check_rows};
 use rsl_rule::{decide, outcome, places};
 use rsl_session::PastEvent;
+use rsl_timelines::{event_in, rules_of};
 use std::alloc::Global;
 use std::test::Fail;
 

@@ -1,8 +1,8 @@
 //! HMAC-MD5, Message-Authenticators and the authenticators of packets.
 
 use super::{REQUEST_AUTH, SECRET};
-use crate::support::{Subject, check_rows, octets_of};
 use rsl_auth::{accounting_ok, hmac_md5, seal, sign, signature_ok};
+use rsl_rows::{Subject, check_rows, octets_of};
 use std::alloc::Global;
 use std::test::Fail;
 

@@ -1,8 +1,8 @@
 //! User-Passwords and CHAP-Passwords.
 
 use super::{REQUEST_AUTH, SECRET};
-use crate::support::{Subject, check_rows, front, octets_of};
 use rsl_auth::{chap_ok, chap_response, hide, pap_ok};
+use rsl_rows::{Subject, check_rows, front, octets_of};
 use std::alloc::Global;
 use std::test::Fail;
 

@@ -1,8 +1,8 @@
 //! What faults, secrets and texts print, and copies.
 
 use super::{client, entry};
-use crate::support::{Subject, check_rows, printed, short_number, shown};
 use rsl_accounts::{ConfigFault, Field, Secret, Text};
+use rsl_rows::{Subject, check_rows, printed, short_number, shown};
 use std::alloc::Global;
 use std::test::Fail;
 

@@ -1,7 +1,7 @@
 use super::{ACCT, BOOT, CLIENT, FILE, OTHER, check_spelled, port_of};
-use crate::support::{Subject, check_rows, fields_of, octets_of, printed, shown};
 use rsl_accounts::{Config, address_of};
 use rsl_event::{Act, Event, Key, Meaning, Nas, NasName, Note, Source, prepare};
+use rsl_rows::{Subject, check_rows, fields_of, octets_of, printed, shown};
 use rsl_wire::Octets;
 use std::alloc::Global;
 use std::fmt::Debug;

@@ -5,8 +5,8 @@
 //! line.
 
 use super::{SAMPLE, said};
-use crate::support::{Subject, check_rows, printed, replaced, shown};
 use rsl_accounts::{Client, Config, Entry};
+use rsl_rows::{Subject, check_rows, printed, replaced, shown};
 use std::alloc::Global;
 use std::test::Fail;
 

@@ -1,7 +1,7 @@
 //! Tests of `rsl_wire`: the Access-Request of RFC 2865 section 7.1, read and written, what is no
 //! packet, and hostile lists of attributes.
 
-use crate::support::{Subject, check_rows, front, octets_of};
+use rsl_rows::{Subject, check_rows, front, octets_of};
 use rsl_wire::{
     Attr, Attrs, BuildFault, Draft, NoMemory, Octets, Packet, TooLong, WireFault, build, read,
 };

@@ -1,0 +1,30 @@
+//! What the tables of tests need: rows of text that are compared with what calls answer, and the
+//! octets, numbers and texts that rows write. It is for test crates alone, and knows no other crate
+//! of the repository, so that the tests of every library can stand on it.
+//!
+//! A test gives `check_rows` its rows and a `Subject`, which makes the answer to a row of its
+//! fields:
+//!
+//! ```
+//! check_rows(
+//!     &rt,
+//!     &Digests,
+//!     "
+//! # A row has a name, what is given, and what is expected.
+//! no octets | | d41d8cd98f00b204e9800998ecf8427e
+//! `a` | 61 | 0cc175b9c0f1b6a831c399e269772661
+//! ",
+//! )
+//! ```
+//!
+//! No call has a clause: what they answer shows where a row fails. Each is proved not to stop the
+//! program, once, and not anew in each crate of tests.
+#![tactic(auto)]
+
+mod octets;
+mod rows;
+mod texts;
+
+pub use octets::{front, octets_of};
+pub use rows::{Subject, check_rows, fields_of};
+pub use texts::{number, printed, replaced, short_number, shown};
