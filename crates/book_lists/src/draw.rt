@@ -14,7 +14,7 @@ pub(crate) struct Draw {
     words: Pcg32,
     /// The kind of act that a list has most of.
     favoured: u32,
-    /// A moment in so many is a new one.
+    /// One moment in this many is a new one.
     pace: u32,
     /// The last moments.
     moments: [u64; 4],

@@ -33,7 +33,7 @@ pub(crate) fn is_filled_twice(alloc: Global) -> Result<bool, NoMemory> {
     Ok(by_stops && again && held && shows(&book, 0))
 }
 
-/// Whether a book has so many links, in bundles that are full but for the last.
+/// Whether a book has this many links, in bundles that are full but for the last.
 fn shows(book: &Book, links: u64) -> bool {
     book.stored().links as u64 == links && book.held() == links.div_ceil(PORTS)
 }

@@ -18,11 +18,12 @@ struct Account {
     /// It takes sweeps and ticks by the calls of their names.
     called: Book,
     events: Vec<Event>,
-    past: Vec<PastEvent>,
+    /// The same events, each with what it did, oldest first.
+    history: Vec<PastEvent>,
     decisions: Vec<Decision>,
 }
 
-/// The rules and the past of the next list that is drawn, up to where the books and the rule
+/// The rules and the history of the next list that is drawn, up to where the books and the rule
 /// differ, if they do.
 pub(crate) fn difference(
     alloc: Global,
@@ -47,20 +48,12 @@ pub(crate) fn difference(
     }
 }
 
-/// An equal event.
-fn copy_of(alloc: Global, event: &Event) -> Result<Event, NoMemory> {
-    Ok(Event {
-        moment: event.moment,
-        act: event.act.try_copy(alloc)?,
-    })
-}
-
 /// Hands an event to a book, a sweep and a tick by the calls of their names.
 fn call(alloc: Global, book: &mut Book, event: &Event) -> Result<Decision, NoMemory> {
     match &event.act {
         Act::Sweep { nas } => book.sweep(event.moment, nas),
         Act::Tick => book.tick(event.moment),
-        _ => return Ok(book.apply(copy_of(alloc, event)?)),
+        _ => return Ok(book.apply(event.try_copy(alloc)?)),
     }
     Ok(Decision::Done)
 }
@@ -97,7 +90,7 @@ impl Account {
             book: Book::new(alloc, rules)?,
             called: Book::new(alloc, rules)?,
             events: Vec::new(alloc),
-            past: Vec::new(alloc),
+            history: Vec::new(alloc),
             decisions: Vec::new(alloc),
         })
     }
@@ -113,13 +106,13 @@ impl Account {
     ) -> Result<bool, NoMemory>
         requires { RulesFit rules.now }
     {
-        let did = outcome(alloc, rules, &self.past, &event)?;
+        let did = outcome(alloc, rules, &self.history, &event)?;
         found.note(did);
-        self.past.push(PastEvent {
-            event: copy_of(alloc, &event)?,
+        self.history.push(PastEvent {
+            event: event.try_copy(alloc)?,
             outcome: did,
         })?;
-        self.events.push(copy_of(alloc, &event)?)?;
+        self.events.push(event.try_copy(alloc)?)?;
         let called = call(alloc, &mut self.called, &event)?;
         let decided = self.book.apply(event);
         self.decisions.push(decided)?;
@@ -133,8 +126,8 @@ impl Account {
         )
     }
 
-    /// The account's rules and past.
+    /// The account's rules and history.
     fn told(&self, alloc: Global, rules: &Rules) -> Result<String, NoMemory> {
-        Ok(format!(in alloc; "{rules:?} {:?}", self.past)?)
+        Ok(format!(in alloc; "{rules:?} {:?}", self.history)?)
     }
 }

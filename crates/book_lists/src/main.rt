@@ -1,5 +1,5 @@
 //! The program `book_lists`: random lists of events, each on a running book and by the session rule
-//! that looks back. `book_lists SEED LISTS EVENTS` draws so many accounts, each with rules and
+//! that looks back. `book_lists SEED LISTS EVENTS` draws LISTS accounts, each with rules and EVENTS
 //! events of its own.
 //!
 //! After each event the book must have decided as the rule does and hold as many places, and a
@@ -62,8 +62,8 @@ fn is_every_list_right(rt: &HostRuntime) -> io::Result<bool> {
         let Ok(differing) = difference(rt.alloc(), &mut draw, &mut found, events) else {
             return Err(io::Error::from(ErrorKind::OutOfMemory));
         };
-        if let Some(past) = differing {
-            println!(rt; "list {list}: {past}")?;
+        if let Some(history) = differing {
+            println!(rt; "list {list}: {history}")?;
             return Ok(false);
         }
     }

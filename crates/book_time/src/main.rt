@@ -1,6 +1,6 @@
 //! The program `book_time`: hands one book, or many, so much work that its time and memory can be
-//! seen from outside. `book_time WORK PLACES PORTS LINKS SERVERS TIMES` opens so many links, in
-//! bundles of PORTS, at so many access servers, and then does its work TIMES times over:
+//! seen from outside. `book_time WORK PLACES PORTS LINKS SERVERS TIMES` opens LINKS links, in
+//! bundles of PORTS, at SERVERS access servers, and then does its work TIMES times over:
 //!
 //! | WORK | What it does |
 //! |---|---|

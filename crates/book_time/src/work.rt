@@ -7,7 +7,7 @@ use rsl_event::Event;
 use rsl_wire::NoMemory;
 use std::alloc::Global;
 
-/// What the book shows once it has done some work so many times. There is none where the work has
+/// What the book shows once it has done some work `times` times. There is none where the work has
 /// no such name, or the account is no account.
 pub(crate) fn shown_after(
     alloc: Global,
