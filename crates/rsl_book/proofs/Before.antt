@@ -99,7 +99,7 @@ alike_or_before s t a b h = by_cases (slice_cmp nat_cmp s t) refl where
   by_cases Greater e = absurd (false≢true (sym (ap (λ r. is_lt (ordering_then r (nat_cmp a b))) e) ∙ h))
 
 -- of one number each, what stands before has no greater one
-pub touched_order : (s t a b : ℕ) → is_before (s ∷ [], a) (t ∷ [], b) ≡ true → (s < t) ⊎ ((s ≡ t) × (a < b))
+pub touched_order : (s t a b : ℕ) → is_before (s ∷ 0 ∷ [], a) (t ∷ 0 ∷ [], b) ≡ true → (s < t) ⊎ ((s ≡ t) × (a < b))
 unfolding is_before
 touched_order s t a b h = by_cases (nat_cmp s t) refl where
   by_cases : (r : Ordering) → nat_cmp s t ≡ r → (s < t) ⊎ ((s ≡ t) × (a < b))
@@ -108,8 +108,8 @@ touched_order s t a b h = by_cases (nat_cmp s t) refl where
     lower s t is = grind arith
   by_cases Equal e =
       let same : s ≡ t = exact_unsigned s t e in
-      let moved : is_lt (entry_cmp (t ∷ [], a) (t ∷ [], b)) ≡ true = subst (λ (n : ℕ). is_lt (entry_cmp (n ∷ [], a) (t ∷ [], b)) ≡ true) same h in
-      inr (same, lower_first (t ∷ []) a b moved)
+      let moved : is_lt (entry_cmp (t ∷ 0 ∷ [], a) (t ∷ 0 ∷ [], b)) ≡ true = subst (λ (n : ℕ). is_lt (entry_cmp (n ∷ 0 ∷ [], a) (t ∷ 0 ∷ [], b)) ≡ true) same h in
+      inr (same, lower_first (t ∷ 0 ∷ []) a b moved)
   by_cases Greater e = absurd (false≢true (sym (ap (λ r. is_lt (ordering_then (ordering_then r Equal) (nat_cmp a b))) e) ∙ h))
 
 -- positions that move and stay in their order
@@ -127,3 +127,34 @@ moved_before s t a b c d moves h = by_cases (slice_cmp nat_cmp s t) refl where
         from_lower : (a b : ℕ) → a < b → is_lt (nat_cmp a b) ≡ true
         from_lower a b low = grind arith
   by_cases Greater e = absurd (false≢true (sym (ap (λ r. is_lt (ordering_then r (nat_cmp a b))) e) ∙ h))
+
+-- of two with the same numbers, the one at the lower position stands before the other
+pub lower_before : (t : List ℕ) (a b : ℕ) → a < b → is_before (t, a) (t, b) ≡ true
+lower_before t a b low = tied t a b ∙ from_lower a b low where
+  from_lower : (a b : ℕ) → a < b → is_lt (nat_cmp a b) ≡ true
+  from_lower a b low = grind arith
+
+-- what stands before an entry stands before one with its numbers at a later position
+pub later_target : (s t : List ℕ) (a b c : ℕ) → b ≤ c → is_before (s, a) (t, b) ≡ true → is_before (s, a) (t, c) ≡ true
+later_target s t a b c later h = moved_before s t a b a c (λ low. omega (arith, low, later)) h
+
+-- the first number decides, or else the others
+pub heads : (a b : ℕ) (s t : List ℕ) (i j : ℕ) → is_before (a ∷ s, i) (b ∷ t, j) ≡ true → (a < b) ⊎ ((a ≡ b) × (is_before (s, i) (t, j) ≡ true))
+unfolding is_before
+heads a b s t i j h = by_cases (nat_cmp a b) refl where
+  by_cases : (r : Ordering) → nat_cmp a b ≡ r → (a < b) ⊎ ((a ≡ b) × (is_lt (entry_cmp (s, i) (t, j)) ≡ true))
+  by_cases Less e = inl (lower a b (ap is_lt e)) where
+    lower : (a b : ℕ) → is_lt (nat_cmp a b) ≡ true → a < b
+    lower a b is = grind arith
+  by_cases Equal e = inr (exact_unsigned a b e, sym (ap (λ r. is_lt (ordering_then (ordering_then r (slice_cmp nat_cmp s t)) (nat_cmp i j))) e) ∙ h)
+  by_cases Greater e = absurd (false≢true (sym (ap (λ r. is_lt (ordering_then (ordering_then r (slice_cmp nat_cmp s t)) (nat_cmp i j))) e) ∙ h))
+
+pub lower_head : (a b : ℕ) (s t : List ℕ) (i j : ℕ) → a < b → is_before (a ∷ s, i) (b ∷ t, j) ≡ true
+unfolding is_before
+lower_head a b s t i j low = by_cases (nat_cmp a b) refl where
+  by_cases : (r : Ordering) → nat_cmp a b ≡ r → is_lt (ordering_then (ordering_then (nat_cmp a b) (slice_cmp nat_cmp s t)) (nat_cmp i j)) ≡ true
+  by_cases Less e = ap (λ r. is_lt (ordering_then (ordering_then r (slice_cmp nat_cmp s t)) (nat_cmp i j))) e
+  by_cases Equal e = absurd (let same = exact_unsigned a b e in omega (arith, low, same))
+  by_cases Greater e = absurd (false≢true (sym (ap is_lt e) ∙ lower a b low)) where
+    lower : (a b : ℕ) → a < b → is_lt (nat_cmp a b) ≡ true
+    lower a b low = grind arith

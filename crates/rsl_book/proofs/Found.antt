@@ -1,6 +1,6 @@
 -- The first link that passes, by its place, and what a change of the link at a place is seen as.
 use Rattle.std.proofs.Common.{◌≡◌, ℕ, zero, suc, ◌<◌, List, [], ◌∷◌, ◌++◌, take, drop, set, get_or, length, map, Bool, true, false, refl, ap, sym, ◌∙◌, arith, add-one}
-use Rattle.std.specs.Prelude.{Option, Some, None, find, ◌&&◌, ◌==◌}
+use Rattle.std.specs.Prelude.{Option, Some, None, find, is_some, ◌&&◌, ◌==◌}
 use Rattle.std.specs.Option.{option_or}
 use Rattle.std.specs.List.{list_any}
 use Rattle.std.proofs.lemmas.Bool.{or_parts, and_parts, false≢true}
@@ -14,9 +14,9 @@ use Rattle.rsl_book.specs.declared.link.Link.{Link}
 use Rattle.rsl_book.specs.declared.link.Hold.{Hold}
 use Rattle.rsl_book.specs.declared.link.Hold.TheVariants.{Number, Session as InSession}
 use Rattle.rsl_book.specs.First.{IsFirst, change_at}
-use Rattle.rsl_book.specs.Seen.{nas_at, holder_at, bundle_with, link_seen, links_seen}
-use Rattle.rsl_book.specs.Changed.{touched_link, bound_link}
-use Rattle.rsl_book.specs.Steps.{nas_of, touch_here, take_here, without_at}
+use Rattle.rsl_book.specs.Seen.{server_at, holder_at, bundle_with, link_seen, links_seen}
+use Rattle.rsl_book.specs.Changed.{bound_link, joined_link, touched_link}
+use Rattle.rsl_book.specs.Steps.{server_of, touch_here, take_here, without_at}
 
 module _ {A : Type 0} where
   find_at : (p : A → Bool) (xs : List A) (at : ℕ) (d : A) → at < length xs → ((d : A) → p (get_or xs at d) ≡ true) → list_any p (take at xs) ≡ false → find p xs ≡ Some (get_or xs at d)
@@ -66,6 +66,17 @@ module _ {A : Type 0} where
   change_twice f g (x ∷ xs) zero = refl
   change_twice f g (x ∷ xs) (suc at) = ap (λ ys. x ∷ ys) (change_twice f g xs at)
 
+-- a link that has a bundle joins none
+or_same : (old new : Option (List ℕ)) → is_some old ≡ true → option_or old new ≡ old
+or_same None new some = absurd (false≢true some)
+or_same (Some id) new some = refl
+
+pub joined_same : (bundle : Option (List ℕ)) (links : List Link) (at : ℕ) (x : Link) → at < length links → x ≡ get_or links at x → is_some x.bundle ≡ true → links ≡ change_at at (joined_link bundle) links
+unfolding change_at joined_link
+joined_same bundle [] at x within is some = refl
+joined_same bundle (y ∷ ys) zero x within is some = ap (λ (one : Link). one ∷ ys) (sym (ap (λ b. record y { bundle = b }) (or_same y.bundle bundle (ap (λ (one : Link). is_some one.bundle) (sym is) ∙ some))))
+joined_same bundle (y ∷ ys) (suc at) x within is some = ap (λ zs. y ∷ zs) (joined_same bundle ys at x (omega (arith, within)) is some)
+
 pub length-change_at : {A : Type 0} (f : A → A) (xs : List A) (at : ℕ) → length (change_at at f xs) ≡ length xs
 unfolding change_at
 length-change_at f [] at = refl
@@ -80,7 +91,7 @@ seen_changed servers f g [] at same = refl
 seen_changed servers f g (x ∷ xs) zero same = ap (λ y. y ∷ map (link_seen servers) xs) (same x)
 seen_changed servers f g (x ∷ xs) (suc at) same = ap (λ ys. link_seen servers x ∷ ys) (seen_changed servers f g xs at same)
 
-nas_kept : (nas : Nas) (hold : Hold) → nas_of nas (holder_at nas hold) ≡ nas
+nas_kept : (nas : Nas) (hold : Hold) → server_of nas (holder_at nas hold) ≡ nas
 nas_kept nas (Number number) = refl
 nas_kept nas (InSession id) = refl
 
@@ -91,15 +102,15 @@ bundle_or nas (Some id) new = refl
 pub seen_touched : (servers : List Nas) (now : ℕ) (bundle : Option (List ℕ)) (link : Link) → link_seen servers (touched_link now bundle link) ≡ touch_here now bundle (link_seen servers link)
 unfolding link_seen touched_link touch_here touch
 seen_touched servers now bundle link =
-    rw (nas_kept (nas_at servers link.nas) link.hold, bundle_or (nas_at servers link.nas) link.bundle bundle) refl
+    rw (nas_kept (server_at servers link.nas) link.hold, bundle_or (server_at servers link.nas) link.bundle bundle) refl
 
 pub seen_taken : (servers : List Nas) (now : ℕ) (id : List ℕ) (bundle : Option (List ℕ)) (link : Link) → link_seen servers (touched_link now bundle (bound_link id link)) ≡ take_here now id bundle (link_seen servers link)
 unfolding link_seen touched_link bound_link take_here take_for
 seen_taken servers now id bundle link =
-    rw (nas_kept (nas_at servers link.nas) link.hold, bundle_or (nas_at servers link.nas) link.bundle bundle) refl
+    rw (nas_kept (server_at servers link.nas) link.hold, bundle_or (server_at servers link.nas) link.bundle bundle) refl
 
 -- the link that an alive finds is at its access server
-holder_nas : (nas : Nas) (session : Session) (holder : Holder) → is_holder session holder ≡ true → nas_of nas holder ≡ session.nas
+holder_nas : (nas : Nas) (session : Session) (holder : Holder) → is_holder session holder ≡ true → server_of nas holder ≡ session.nas
 holder_nas nas session (Reserved number) is = absurd (false≢true is)
 holder_nas nas session (Bound other) is = ap (λ (one : Session). one.nas) (same_session-true other session is)
 
@@ -107,7 +118,7 @@ pub touched_here : (session : Session) (now : ℕ) (bundle : Option (List ℕ)) 
 unfolding is_link_of touch_here
 touched_here session now bundle link is = ap (λ nas. touch now (bundle_with nas bundle) link) (holder_nas link.nas session link.holder is)
 
-wanted_nas : (link_nas nas : Nas) (class : Option ℕ) (holder : Holder) → (is_wanted class holder && same_nas link_nas nas) ≡ true → nas_of link_nas holder ≡ nas
+wanted_nas : (link_nas nas : Nas) (class : Option ℕ) (holder : Holder) → (is_wanted class holder && same_nas link_nas nas) ≡ true → server_of link_nas holder ≡ nas
 wanted_nas link_nas nas class (Bound session) is = absurd (false≢true is)
 wanted_nas link_nas nas None (Reserved number) is = same_nas-true link_nas nas is
 wanted_nas link_nas nas (Some wanted) (Reserved number) is = same_nas-true link_nas nas (and_parts (number == wanted) (same_nas link_nas nas) is).1

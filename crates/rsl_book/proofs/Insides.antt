@@ -24,9 +24,11 @@ use Rattle.rsl_book.specs.declared.kept.StoredAsk.{StoredAsk}
 use Rattle.rsl_book.specs.declared.kept.StoredStop.{StoredStop}
 use Rattle.rsl_book.specs.RuledBook.{RuledBook, IsWithinLimit}
 use Rattle.rsl_book.specs.Sound.{IsSound, running, book_seen}
-use Rattle.rsl_book.specs.Seen.{link_seen, links_seen, ask_seen, asks_seen, stop_seen, stops_seen, nas_at, bundle_with}
+use Rattle.rsl_book.specs.Seen.{link_seen, links_seen, ask_seen, asks_seen, stop_seen, stops_seen, server_at, bundle_with}
 use Rattle.rsl_book.specs.Counted.{AreCounted}
+use Rattle.rsl_book.specs.Named.{ArePlaced}
 use Rattle.rsl_book.proofs.Opened.{length-bundles, bundles-push}
+use Rattle.rsl_book.proofs.Placed.{placed_none}
 use Rattle.rsl_book.proofs.Touching.{own_bundle}
 
 -- two values that agree in all but the lists, and in these
@@ -92,9 +94,9 @@ room_for_one servers links limit ports r capacity b counted more within same roo
     omega arith
 
 -- links are counted the same where they are seen the same
-pub counted_again : (old new : List Nas) (links : Links) → links_seen new links.list.items ≡ links_seen old links.list.items → AreCounted old links → AreCounted new links
-counted_again old new links same counted =
-    record { a_port = counted.a_port; places = counted.places ∙ ap (λ seen. places_of links.ports (bundles_in seen)) (sym same) }
+pub counted_again : (old new : List Nas) (links : Links) → links_seen new links.list.items ≡ links_seen old links.list.items → (ArePlaced old links.list.items → ArePlaced new links.list.items) → AreCounted old links → AreCounted new links
+counted_again old new links same stay counted =
+    record { a_port = counted.a_port; places = counted.places ∙ ap (λ seen. places_of links.ports (bundles_in seen)) (sym same); placed = stay counted.placed }
 
 -- the clock moves, and links lapse
 pub come_seen : (book : Inside) (clock : ℕ) (links : List Link) (moment : ℕ) → clock ≡ max book.clock moment
@@ -107,14 +109,14 @@ unfolding come_to
 come_seen book clock links moment moved lapsed = rw (lapsed, moved) refl
 
 -- an ask or a stop is kept in front of the others
-pub pushed_ask : (old new : List Nas) (ask : StoredAsk) (asks : List StoredAsk) (nas : Nas) (n capacity : ℕ) → capacity ≡ n → nas_at new ask.nas ≡ nas → asks_seen new asks ≡ asks_seen old asks
+pub pushed_ask : (old new : List Nas) (ask : StoredAsk) (asks : List StoredAsk) (nas : Nas) (n capacity : ℕ) → capacity ≡ n → server_at new ask.nas ≡ nas → asks_seen new asks ≡ asks_seen old asks
     → (let kept : KeptAsk = record { key = ask.key; nas = nas; decision = ask.decision; at = ask.at; swept = ask.swept } in
     asks_seen new (take capacity (ask ∷ asks)) ≡ take n (kept ∷ asks_seen old asks))
 unfolding asks_seen ask_seen
 pushed_ask old new ask asks nas n capacity same stands seen =
     sym (take-map (ask_seen new) capacity (ask ∷ asks)) ∙ rw (same, seen, stands) refl
 
-pub pushed_stop : (old new : List Nas) (stop : StoredStop) (stops : List StoredStop) (nas : Nas) (n capacity : ℕ) → capacity ≡ n → nas_at new stop.nas ≡ nas → stops_seen new stops ≡ stops_seen old stops
+pub pushed_stop : (old new : List Nas) (stop : StoredStop) (stops : List StoredStop) (nas : Nas) (n capacity : ℕ) → capacity ≡ n → server_at new stop.nas ≡ nas → stops_seen new stops ≡ stops_seen old stops
     → (let kept : KeptStop = record { session = record { nas = nas; id = stop.id }; at = stop.at; swept = stop.swept } in
     stops_seen new (take capacity (stop ∷ stops)) ≡ take n (kept ∷ stops_seen old stops))
 unfolding stops_seen stop_seen
@@ -129,23 +131,23 @@ opened_seen old new link links all seen is same here =
     ap (map (link_seen new)) is ∙ map-append (link_seen new) links (link ∷ []) ∙ rw (same, here) refl
 
 pub opened_within : (servers : List Nas) (old new : Links) (link : Link) (limit r : ℕ) → AreCounted servers old → AreCounted servers new → new.list.items ≡ old.list.items ++ link ∷ [] → new.ports ≡ old.ports
-    → places_of old.ports (bundles_in (links_seen servers old.list.items) ++ bundle_with (nas_at servers link.nas) link.bundle ∷ []) ≡ places_of old.ports (bundles_in (links_seen servers old.list.items)) + r
+    → places_of old.ports (bundles_in (links_seen servers old.list.items) ++ bundle_with (server_at servers link.nas) link.bundle ∷ []) ≡ places_of old.ports (bundles_in (links_seen servers old.list.items)) + r
     → old.places + r ≤ limit → new.places ≤ limit
 opened_within servers old new link limit r counted after is ports more within =
-    let all : bundles_in (links_seen servers new.list.items) ≡ bundles_in (links_seen servers old.list.items) ++ bundle_with (nas_at servers link.nas) link.bundle ∷ [] =
+    let all : bundles_in (links_seen servers new.list.items) ≡ bundles_in (links_seen servers old.list.items) ++ bundle_with (server_at servers link.nas) link.bundle ∷ [] =
     ap (λ links. bundles_in (links_seen servers links)) is ∙ bundles-push servers link old.list.items ∙ ap (λ b. bundles_in (links_seen servers old.list.items) ++ b ∷ []) (own_bundle servers link) in
     let sum : new.places ≡ places_of old.ports (bundles_in (links_seen servers old.list.items)) + r =
     after.places ∙ ap (λ n. places_of n (bundles_in (links_seen servers new.list.items))) ports ∙ ap (places_of old.ports) all ∙ more in
     let before = counted.places in
     omega arith
 
-pub reserved_seen : (servers : List Nas) (nas number touched : ℕ) (at : Nas) → nas_at servers nas ≡ at
+pub reserved_seen : (servers : List Nas) (nas number touched : ℕ) (at : Nas) → server_at servers nas ≡ at
     → (let link : Link = record { nas = nas; hold = Number number; bundle = None; touched = touched } in
     let seen : BookLink = record { nas = at; holder = Reserved number; bundle = None; touched = touched } in link_seen servers link ≡ seen)
 unfolding link_seen
 reserved_seen servers nas number touched at stands = rw stands refl
 
-pub bound_seen : (servers : List Nas) (nas touched : ℕ) (id : List ℕ) (bundle : Option (List ℕ)) (at : Nas) → nas_at servers nas ≡ at
+pub bound_seen : (servers : List Nas) (nas touched : ℕ) (id : List ℕ) (bundle : Option (List ℕ)) (at : Nas) → server_at servers nas ≡ at
     → (let link : Link = record { nas = nas; hold = InSession id; bundle = bundle; touched = touched } in
     let seen : BookLink = record { nas = at; holder = Bound (record { nas = at; id = id }); bundle = bundle_with at bundle; touched = touched } in link_seen servers link ≡ seen)
 unfolding link_seen
@@ -154,7 +156,7 @@ bound_seen servers nas touched id bundle at stands = rw stands refl
 -- no links take no place
 pub counted_none : (servers : List Nas) (links : Links) → links.list.items ≡ [] → links.places ≡ 0 → 1 ≤ links.ports → AreCounted servers links
 unfolding bundles_in links_seen places_of each_bundle
-counted_none servers links none zero_places a_port = record { a_port = a_port; places = zero_places ∙ rw none refl }
+counted_none servers links none zero_places a_port = record { a_port = a_port; places = zero_places ∙ rw none refl; placed = placed_none servers links.list.items none }
 
 pub none_seen : (servers : List Nas) (links : List Link) → links ≡ [] → links_seen servers links ≡ []
 unfolding links_seen
@@ -172,9 +174,9 @@ pub new_table : (most links room : ℕ) → most ≡ links → room ≡ most + 8
 new_table most links room same is = omega arith
 
 -- the places with a link more, as the table is before its access server is put there
-pub open_sum : (old new : List Nas) (links : Links) (ports at r : ℕ) (nas : Nas) (bundle : Option (List ℕ)) → links_seen new links.list.items ≡ links_seen old links.list.items → nas_at new at ≡ nas → links.ports ≡ ports
+pub open_sum : (old new : List Nas) (links : Links) (ports at r : ℕ) (nas : Nas) (bundle : Option (List ℕ)) → links_seen new links.list.items ≡ links_seen old links.list.items → server_at new at ≡ nas → links.ports ≡ ports
     → AreCounted old links
-    → places_of links.ports (bundles_in (links_seen new links.list.items) ++ bundle_with (nas_at new at) bundle ∷ []) ≡ places_of links.ports (bundles_in (links_seen new links.list.items)) + r
+    → places_of links.ports (bundles_in (links_seen new links.list.items) ++ bundle_with (server_at new at) bundle ∷ []) ≡ places_of links.ports (bundles_in (links_seen new links.list.items)) + r
     → places_of ports (bundles_in (links_seen old links.list.items) ++ bundle_with nas bundle ∷ []) ≡ links.places + r
 open_sum old new links ports at r nas bundle same stands is counted more =
     sym (ap (λ p. places_of p (bundles_in (links_seen old links.list.items) ++ bundle_with nas bundle ∷ [])) is)
@@ -219,4 +221,5 @@ counted_copy servers copied links copy same list ports places counted =
     record {
       a_port = let some = counted.a_port in omega arith;
       places = places ∙ counted.places ∙ sym (ap (λ n. places_of n (bundles_in (links_seen copied copy.list.items))) ports ∙ ap (λ one. places_of links.ports (bundles_in (links_seen one copy.list.items))) same ∙ ap (λ xs. places_of links.ports (bundles_in (links_seen servers xs))) list);
+      placed = subst (λ one. ArePlaced one copy.list.items) (sym same) (subst (λ xs. ArePlaced servers xs) (sym list) counted.placed);
     }

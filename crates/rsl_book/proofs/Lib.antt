@@ -14,3 +14,6 @@ pub mod Orders
 pub mod OfLinks
 pub mod Standing
 pub mod Yielding
+pub mod Counting
+pub mod Sought
+pub mod Placed

@@ -11,7 +11,7 @@ use Rattle.rsl_book.specs.declared.link.Link.{Link}
 use Rattle.rsl_book.specs.declared.kept.StoredAsk.{StoredAsk}
 use Rattle.rsl_book.specs.declared.kept.StoredStop.{StoredStop}
 use Rattle.rsl_book.specs.Named.{is_named, named_by_links, named_by_asks, named_by_stops}
-use Rattle.rsl_book.specs.Seen.{nas_at, link_seen, links_seen, ask_seen, asks_seen, stop_seen, stops_seen}
+use Rattle.rsl_book.specs.Seen.{server_at, link_seen, links_seen, ask_seen, asks_seen, stop_seen, stops_seen}
 
 any-append : {A : Type 0} (p : A → Bool) (xs ys : List A) → list_any p (xs ++ ys) ≡ (list_any p xs || list_any p ys)
 any-append p [] ys = refl
@@ -102,7 +102,7 @@ few_named links asks stops n named =
     omega arith
 
 -- what stands at a place that is not named is not seen
-same_nas_at : (servers : List Nas) (nas : Nas) (at name : ℕ) → (name == at) ≡ false → nas_at (set servers at nas) name ≡ nas_at servers name
+same_nas_at : (servers : List Nas) (nas : Nas) (at name : ℕ) → (name == at) ≡ false → server_at (set servers at nas) name ≡ server_at servers name
 same_nas_at servers nas at name other = get_or-set_other servers at name nas _ (λ (e : name ≡ at). false≢true (sym other ∙ eq-eqb name at e))
 
 pub links_put : (servers : List Nas) (nas : Nas) (at : ℕ) (links : List Link) → named_by_links links at ≡ false → links_seen (set servers at nas) links ≡ links_seen servers links

@@ -1,15 +1,17 @@
 -- Orders of a book's links: one link less, more, changed, or gone from among them.
-use Rattle.std.proofs.Common.{◌≡◌, ◌≢◌, ℕ, zero, suc, ◌+◌, ◌-◌, ◌<◌, List, [], ◌∷◌, ◌++◌, get_or, length, length-append, map, set, Bool, true, false, refl, ap, sym, ◌∙◌, subst, arith, inl, inr}
+use Rattle.std.proofs.Common.{◌≡◌, ◌≢◌, ℕ, zero, suc, ◌+◌, ◌-◌, ◌<◌, ◌≤◌, List, [], ◌∷◌, ◌++◌, get_or, length, length-append, map, set, Bool, true, false, refl, ap, sym, ◌∙◌, subst, arith, inl, inr}
 use Rattle.std.specs.List.{insert, remove}
 use Rattle.std.proofs.lemmas.Bool.{false≢true, cases_lt, cases_eq, lt-ltb, le-ltb}
-use Rattle.std.proofs.lemmas.List.{get_or_default, get_or_append_left, get_or-set_other, length-set}
+use Rattle.std.proofs.lemmas.List.{get_or_default, get_or_append_left, get_or-set_same, get_or-set_other, length-set}
 use Rattle.std.proofs.lemmas.List.Edits.{get_or-remove_below, get_or-remove_above, length-remove}
 use Rattle.rsl_book.specs.declared.link.Link.{Link}
 use Rattle.rsl_book.specs.declared.order.Kind.{Kind}
-use Rattle.rsl_book.specs.declared.order.Kind.TheVariants.{Reserved, Bound}
+use Rattle.rsl_book.specs.declared.order.Kind.TheVariants.{Reserved, Bound, Sessions, Bundles}
 use Rattle.rsl_book.specs.declared.list.Orders.{Orders}
-use Rattle.rsl_book.specs.LinkList.{AreOrders, AreOrdersBut}
-use Rattle.rsl_book.specs.Order.{Entry, entry_at, is_before, is_of, number_of, octets_of, link_at, no_link, moved_up, IsSearchable, IsSplit, IsListed, IsOrderBut, IsOrderOf}
+use Rattle.rsl_book.specs.Changed.{bound_link, joined_link, renewed_link}
+use Rattle.std.specs.Prelude.{Option}
+use Rattle.rsl_book.specs.LinkList.{AreClosed, AreOrders, AreOrdersBut, AreRoomy}
+use Rattle.rsl_book.specs.Order.{Entry, entry_at, is_before, is_of, key_of, link_at, no_link, moved_up, IsSearchable, IsSplit, IsListed, IsOrderBut, IsOrderOf}
 use Rattle.rsl_book.proofs.Before.{neither, moved_before}
 use Rattle.rsl_book.proofs.Orders.{apart, stands_at, removed, inserted, same_order, mapped, few, Came}
 
@@ -17,8 +19,8 @@ pub link_here : (links : List Link) (at : ℕ) (link : Link) → at < length lin
 link_here links at link within is = is ∙ get_or_default links at link no_link within
 
 pub entry_here : (kind : Kind) (links : List Link) (at : ℕ) (link : Link) → at < length links → link ≡ get_or links at link
-    → (number_of kind link ∷ octets_of kind link, at) ≡ entry_at kind links at
-entry_here kind links at link within is = ap (λ (one : Link). (number_of kind one ∷ octets_of kind one, at)) (link_here links at link within is)
+    → (key_of kind link, at) ≡ entry_at kind links at
+entry_here kind links at link within is = ap (λ (one : Link). (key_of kind one, at)) (link_here links at link within is)
 
 pub searchable : (kind : Kind) (links : List Link) (but : ℕ) (order : List ℕ) → IsOrderBut kind links but order → IsSearchable kind links order
 searchable kind links but order o = record { within = λ k inside. (o.each k inside).within; rises = o.rises }
@@ -46,13 +48,19 @@ withdrawn kind links order at place o within is =
     (λ y l. record { within = l.within; other = (let w = l.within in omega (arith, w)); of_kind = l.of_kind })
     (λ y l. l.other)
 
-pub not_there : (kind : Kind) (links : List Link) (order : List ℕ) (at place : ℕ) → IsOrderOf kind links order → IsSplit (entry_at kind links) order (entry_at kind links at) place
-    → (((place < length order) × (get_or order place 0 ≡ at)) → false ≡ true) → IsOrderBut kind links at order
-not_there kind links order at place o split none =
+pub not_there : (kind : Kind) (links : List Link) (order : List ℕ) (at : ℕ) → IsOrderOf kind links order → is_of kind (link_at links at) ≡ false → IsOrderBut kind links at order
+not_there kind links order at o other_kind =
     same_order order o
-    (λ x l. record { within = l.within; other = (λ e. false≢true (none (stands_at order o at place split (o.all at (subst (IsListed kind links (length links)) e l))))); of_kind = l.of_kind })
+    (λ x l. record { within = l.within; other = (λ e. false≢true (sym other_kind ∙ subst (λ n. is_of kind (link_at links n) ≡ true) e l.of_kind)); of_kind = l.of_kind })
     (λ x l. record { within = l.within; other = (let w = l.within in omega (arith, w)); of_kind = l.of_kind })
     (λ x l. refl)
+
+-- where the link at a position stands
+pub there : (kind : Kind) (links : List Link) (order view : List ℕ) (at place : ℕ) → at < length links → IsOrderOf kind links order → is_of kind (link_at links at) ≡ true → view ≡ order
+    → IsSplit (entry_at kind links) view (entry_at kind links at) place → (place < length order) × (get_or order place 0 ≡ at)
+there kind links order view at place within o here same split =
+    stands_at order o at place (subst (λ (xs : List ℕ). IsSplit (entry_at kind links) xs (entry_at kind links at) place) same split)
+    (o.all at (record { within = within; other = omega (arith, within); of_kind = here }))
 
 -- a link is put in, or is of another kind
 pub entered : (kind : Kind) (links : List Link) (order : List ℕ) (at place : ℕ) → at < length links → IsOrderBut kind links at order → is_of kind (link_at links at) ≡ true
@@ -87,7 +95,7 @@ changed_but kind links others at order long same o =
     same_order order o
     (λ x l. record { within = (let w = l.within in omega (arith, w, long)); other = l.other; of_kind = ap (λ (one : Link). is_of kind one) (same x l.other) ∙ l.of_kind })
     (λ x l. record { within = (let w = l.within in omega (arith, w, long)); other = l.other; of_kind = sym (ap (λ (one : Link). is_of kind one) (same x l.other)) ∙ l.of_kind })
-    (λ x l. ap (λ (one : Link). (number_of kind one ∷ octets_of kind one, x)) (same x l.other))
+    (λ x l. ap (λ (one : Link). (key_of kind one, x)) (same x l.other))
 
 -- one link more, which the order leaves out
 pub grown : (kind : Kind) (links : List Link) (link : Link) (order : List ℕ) → IsOrderOf kind links order → IsOrderBut kind (links ++ link ∷ []) (length links) order
@@ -101,7 +109,7 @@ grown kind links link order o =
     let ne = l.other in
     let within : x < length links = omega (arith, w, long, ne) in
     record { within = within; other = l.other; of_kind = sym (ap (λ (one : Link). is_of kind one) (same x within)) ∙ l.of_kind })
-    (λ x l. ap (λ (one : Link). (number_of kind one ∷ octets_of kind one, x)) (same x l.within))
+    (λ x l. ap (λ (one : Link). (key_of kind one, x)) (same x l.within))
 
 -- the link that an order leaves out is gone from among the others
 up_below : (gone x : ℕ) → x < gone → moved_up gone x ≡ x
@@ -116,7 +124,7 @@ closed kind links at order within o =
     (λ x l. record { within = inside x l; other = (let w = inside x l in omega (arith, w)); of_kind = ap (λ (one : Link). is_of kind one) (same x l) ∙ l.of_kind })
     (λ x y one two before.
     subst (λ (e : Entry). is_before e (entry_at kind (remove links at) (moved_up at y)) ≡ true) (sym (entry x one))
-    (subst (λ (e : Entry). is_before (number_of kind (link_at links x) ∷ octets_of kind (link_at links x), moved_up at x) e ≡ true) (sym (entry y two))
+    (subst (λ (e : Entry). is_before (key_of kind (link_at links x), moved_up at x) e ≡ true) (sym (entry y two))
     (moved_before _ _ x y (moved_up at x) (moved_up at y) (λ less. order_kept x y one.other two.other less) before)))
     (λ y l. came y l)
   where
@@ -143,8 +151,8 @@ closed kind links at order within o =
               )
         ]
 
-    entry : (x : ℕ) → IsListed kind links at x → entry_at kind (remove links at) (moved_up at x) ≡ (number_of kind (link_at links x) ∷ octets_of kind (link_at links x), moved_up at x)
-    entry x l = ap (λ (one : Link). (number_of kind one ∷ octets_of kind one, moved_up at x)) (same x l)
+    entry : (x : ℕ) → IsListed kind links at x → entry_at kind (remove links at) (moved_up at x) ≡ (key_of kind (link_at links x), moved_up at x)
+    entry x l = ap (λ (one : Link). (key_of kind one, moved_up at x)) (same x l)
 
     order_kept : (x y : ℕ) → x ≢ at → y ≢ at → x < y → moved_up at x < moved_up at y
     order_kept x y one two less =
@@ -172,14 +180,62 @@ closed kind links at order within o =
           }
         ]
 
--- where an order is split before a link of its own
-pub split_own : (kind : Kind) (links : List Link) (order view : List ℕ) (at : ℕ) (link : Link) (number : ℕ) (octets : List ℕ) (place : ℕ) → at < length links → link ≡ get_or links at link
-    → view ≡ order → number ≡ number_of kind link → octets ≡ octets_of kind link
-    → IsSplit (entry_at kind links) view (number ∷ octets, at) place → IsSplit (entry_at kind links) order (entry_at kind links at) place
-split_own kind links order view at link number octets place within is same one two split =
-    let e : (number ∷ octets, at) ≡ entry_at kind links at = rw (one, two) (entry_here kind links at link within is) in
-    subst (λ (xs : List ℕ). IsSplit (entry_at kind links) xs (entry_at kind links at) place) same
-    (subst (λ (target : Entry). IsSplit (entry_at kind links) view target place) e split)
+-- a link is changed, and not in what its order goes by
+pub kept_order : (kind : Kind) (links : List Link) (at : ℕ) (link : Link) (order : List ℕ) → at < length links → key_of kind link ≡ key_of kind (link_at links at) → is_of kind link ≡ is_of kind (link_at links at)
+    → IsOrderOf kind links order → IsOrderOf kind (set links at link) order
+kept_order kind links at link order within same_key same_kind o =
+    let long : length (set links at link) ≡ length links = length-set links at link in
+    same_order order o
+    (λ x l. record { within = (let w = l.within in omega (arith, w, long)); other = (let w = l.within in omega (arith, w, long)); of_kind = kinds x ∙ l.of_kind })
+    (λ x l. record { within = (let w = l.within in omega (arith, w, long)); other = (let w = l.within in omega (arith, w, long)); of_kind = sym (kinds x) ∙ l.of_kind })
+    (λ x l. ap (λ (key : List ℕ). (key, x)) (keys x))
+  where
+    kinds : (x : ℕ) → is_of kind (link_at (set links at link) x) ≡ is_of kind (link_at links x)
+    kinds x = elim (cases_eq x at) [
+      | inl same ↦ ap (λ n. is_of kind (link_at (set links at link) n)) same ∙ ap (λ (one : Link). is_of kind one) (get_or-set_same links at link no_link within) ∙ same_kind ∙ ap (λ n. is_of kind (link_at links n)) (sym same)
+      | inr other ↦ ap (λ (one : Link). is_of kind one) (get_or-set_other links at x link no_link other)
+    ]
+
+    keys : (x : ℕ) → key_of kind (link_at (set links at link) x) ≡ key_of kind (link_at links x)
+    keys x = elim (cases_eq x at) [
+      | inl same ↦ ap (λ n. key_of kind (link_at (set links at link) n)) same ∙ ap (λ (one : Link). key_of kind one) (get_or-set_same links at link no_link within) ∙ same_key ∙ ap (λ n. key_of kind (link_at links n)) (sym same)
+      | inr other ↦ ap (λ (one : Link). key_of kind one) (get_or-set_other links at x link no_link other)
+    ]
+
+pub kept_by : (kind : Kind) (f : Link → Link) → ((x : Link) → key_of kind (f x) ≡ key_of kind x) → ((x : Link) → is_of kind (f x) ≡ is_of kind x) → (links : List Link) (at : ℕ) (x y : Link) (order : List ℕ)
+    → at < length links → x ≡ get_or links at x → y ≡ f x → IsOrderOf kind links order → IsOrderOf kind (set links at y) order
+kept_by kind f same_key same_kind links at x y order within is changed o =
+    let here = link_here links at x within is in
+    kept_order kind links at y order within
+    (ap (λ (one : Link). key_of kind one) changed ∙ same_key x ∙ ap (λ (one : Link). key_of kind one) here)
+    (ap (λ (one : Link). is_of kind one) changed ∙ same_kind x ∙ ap (λ (one : Link). is_of kind one) here) o
+
+pub renewed_sessions : (now : ℕ) (links : List Link) (at : ℕ) (x y : Link) (order : List ℕ) → at < length links → x ≡ get_or links at x → y ≡ renewed_link now x → IsOrderOf Sessions links order → IsOrderOf Sessions (set links at y) order
+unfolding renewed_link
+renewed_sessions now links at x y order within is changed o = kept_by Sessions (renewed_link now) (λ one. refl) (λ one. refl) links at x y order within is changed o
+
+pub renewed_bundles : (now : ℕ) (links : List Link) (at : ℕ) (x y : Link) (order : List ℕ) → at < length links → x ≡ get_or links at x → y ≡ renewed_link now x → IsOrderOf Bundles links order → IsOrderOf Bundles (set links at y) order
+unfolding renewed_link
+renewed_bundles now links at x y order within is changed o = kept_by Bundles (renewed_link now) (λ one. refl) (λ one. refl) links at x y order within is changed o
+
+pub bound_bundles : (id : List ℕ) (links : List Link) (at : ℕ) (x y : Link) (order : List ℕ) → at < length links → x ≡ get_or links at x → y ≡ bound_link id x → IsOrderOf Bundles links order → IsOrderOf Bundles (set links at y) order
+unfolding bound_link
+bound_bundles id links at x y order within is changed o = kept_by Bundles (bound_link id) (λ one. refl) (λ one. refl) links at x y order within is changed o
+
+pub joined_others : (bundle : Option (List ℕ)) (links : List Link) (at : ℕ) (x y : Link) (orders : Orders) → at < length links → x ≡ get_or links at x → y ≡ joined_link bundle x → AreOrders links orders
+    → IsOrderOf Reserved (set links at y) orders.reserved.items × (IsOrderOf Bound (set links at y) orders.bound.items × IsOrderOf Sessions (set links at y) orders.sessions.items)
+unfolding joined_link
+joined_others bundle links at x y orders within is changed are = (
+  kept_by Reserved (joined_link bundle) (λ one. refl) (λ one. refl) links at x y orders.reserved.items within is changed are.reserved,
+  (
+    kept_by Bound (joined_link bundle) (λ one. refl) (λ one. refl) links at x y orders.bound.items within is changed are.bound,
+    kept_by Sessions (joined_link bundle) (λ one. refl) (λ one. refl) links at x y orders.sessions.items within is changed are.sessions,
+  ),
+)
+
+-- the order of a view of links
+pub order_in : (kind : Kind) (links view : List Link) (order shown : List ℕ) → view ≡ links → shown ≡ order → IsOrderOf kind links order → IsOrderOf kind view shown
+order_in kind links view order shown same alike o = subst (λ (xs : List Link). IsOrderOf kind xs shown) (sym same) (subst (IsOrderOf kind links) (sym alike) o)
 
 pub no_order : (kind : Kind) (links : List Link) (order : List ℕ) → links ≡ [] → order ≡ [] → IsOrderOf kind links order
 no_order kind links order none empty =
@@ -189,31 +245,46 @@ no_order kind links order none empty =
       all = λ x l. absurd (let w = l.within in let zero_long = ap length none in omega (arith, w, zero_long));
     }
 
--- the same of both orders
+-- the same of all orders
 pub orders_grown : (links : List Link) (link : Link) (orders : Orders) → AreOrders links orders → AreOrdersBut (links ++ link ∷ []) (length links) orders
 orders_grown links link orders are =
-    record { reserved = grown Reserved links link orders.reserved.items are.reserved; bound = grown Bound links link orders.bound.items are.bound }
-
-pub orders_changed : (links : List Link) (at : ℕ) (link : Link) (orders : Orders) → AreOrdersBut links at orders → AreOrdersBut (set links at link) at orders
-orders_changed links at link orders are =
-    let long : length (set links at link) ≡ length links = length-set links at link in
-    let same : (x : ℕ) → x ≢ at → link_at (set links at link) x ≡ link_at links x = λ x other. get_or-set_other links at x link _ other in
     record {
-      reserved = changed_but Reserved links (set links at link) at orders.reserved.items long same are.reserved;
-      bound = changed_but Bound links (set links at link) at orders.bound.items long same are.bound;
+      reserved = grown Reserved links link orders.reserved.items are.reserved;
+      bound = grown Bound links link orders.bound.items are.bound;
+      sessions = grown Sessions links link orders.sessions.items are.sessions;
+      bundles = grown Bundles links link orders.bundles.items are.bundles;
     }
 
-pub orders_closed : (links : List Link) (at : ℕ) (old new : Orders) → at < length links → AreOrdersBut links at old
-    → new.reserved.items ≡ map (moved_up at) old.reserved.items → new.bound.items ≡ map (moved_up at) old.bound.items → AreOrders (remove links at) new
-orders_closed links at old new within are one two =
+pub set_but : (kind : Kind) (links : List Link) (at : ℕ) (link : Link) (order : List ℕ) → IsOrderBut kind links at order → IsOrderBut kind (set links at link) at order
+set_but kind links at link order o =
+    changed_but kind links (set links at link) at order (length-set links at link) (λ x other. get_or-set_other links at x link _ other) o
+
+pub orders_closed : (links : List Link) (at : ℕ) (old new : Orders) → at < length links → AreOrdersBut links at old → AreClosed at old new → AreOrders (remove links at) new
+orders_closed links at old new within are closes =
     record {
-      reserved = subst (IsOrderOf Reserved (remove links at)) (sym one) (closed Reserved links at old.reserved.items within are.reserved);
-      bound = subst (IsOrderOf Bound (remove links at)) (sym two) (closed Bound links at old.bound.items within are.bound);
+      reserved = subst (IsOrderOf Reserved (remove links at)) (sym closes.reserved) (closed Reserved links at old.reserved.items within are.reserved);
+      bound = subst (IsOrderOf Bound (remove links at)) (sym closes.bound) (closed Bound links at old.bound.items within are.bound);
+      sessions = subst (IsOrderOf Sessions (remove links at)) (sym closes.sessions) (closed Sessions links at old.sessions.items within are.sessions);
+      bundles = subst (IsOrderOf Bundles (remove links at)) (sym closes.bundles) (closed Bundles links at old.bundles.items within are.bundles);
     }
 
-pub no_orders : (links : List Link) (orders : Orders) → links ≡ [] → orders.reserved.items ≡ [] → orders.bound.items ≡ [] → AreOrders links orders
-no_orders links orders none one two =
-    record { reserved = no_order Reserved links orders.reserved.items none one; bound = no_order Bound links orders.bound.items none two }
+pub no_orders : (links : List Link) (orders : Orders) → links ≡ [] → orders.reserved.items ≡ [] → orders.bound.items ≡ [] → orders.sessions.items ≡ [] → orders.bundles.items ≡ [] → AreOrders links orders
+no_orders links orders none one two three four =
+    record {
+      reserved = no_order Reserved links orders.reserved.items none one;
+      bound = no_order Bound links orders.bound.items none two;
+      sessions = no_order Sessions links orders.sessions.items none three;
+      bundles = no_order Bundles links orders.bundles.items none four;
+    }
 
 pub orders_of : (links others : List Link) (at : ℕ) (orders : Orders) → links ≡ others → AreOrdersBut links at orders → AreOrdersBut others at orders
 orders_of links others at orders same are = subst (λ (xs : List Link). AreOrdersBut xs at orders) same are
+
+pub roomy_for : (most few : ℕ) (orders : Orders) → few ≤ most → AreRoomy most orders → AreRoomy few orders
+roomy_for most few orders less roomy =
+    record {
+      reserved = let room = roomy.reserved in omega (arith, less, room);
+      bound = let room = roomy.bound in omega (arith, less, room);
+      sessions = let room = roomy.sessions in omega (arith, less, room);
+      bundles = let room = roomy.bundles in omega (arith, less, room);
+    }

@@ -16,7 +16,7 @@ use Rattle.rsl_session.specs.Places.{places_of, is_bundle}
 use Rattle.rsl_session.specs.Book.{BookLink, bundles_in}
 use Rattle.rsl_session.proofs.Callers.{same_bundle-refl, places_of_front, places_of_alone, places_of-Some}
 use Rattle.rsl_book.specs.declared.link.Link.{Link}
-use Rattle.rsl_book.specs.Seen.{link_seen, links_seen, nas_at, bundle_with}
+use Rattle.rsl_book.specs.Seen.{link_seen, links_seen, server_at, bundle_with}
 use Rattle.rsl_book.specs.First.{change_at}
 use Rattle.rsl_book.specs.Changed.{touched_link, bound_link}
 
@@ -114,7 +114,7 @@ pub bundle_none : (servers : List Nas) (link : Link) → link.bundle ≡ None �
 unfolding link_seen
 bundle_none servers link is = rw is refl
 
-pub bundle_some : (servers : List Nas) (link : Link) (id : List ℕ) → link.bundle ≡ Some id → (link_seen servers link).bundle ≡ Some (record { nas = nas_at servers link.nas; id = id })
+pub bundle_some : (servers : List Nas) (link : Link) (id : List ℕ) → link.bundle ≡ Some id → (link_seen servers link).bundle ≡ Some (record { nas = server_at servers link.nas; id = id })
 unfolding link_seen
 bundle_some servers link id is = rw is refl
 
@@ -179,28 +179,28 @@ none_is : (old : Option Bundle) → is_none old ≡ true → old ≡ None
 none_is None has = refl
 none_is (Some bundle) has = absurd (false≢true has)
 
-touched_bundle : (servers : List Nas) (now : ℕ) (bundle : Option (List ℕ)) (link : Link) → (link_seen servers (touched_link now bundle link)).bundle ≡ option_or (link_seen servers link).bundle (bundle_with (nas_at servers link.nas) bundle)
+touched_bundle : (servers : List Nas) (now : ℕ) (bundle : Option (List ℕ)) (link : Link) → (link_seen servers (touched_link now bundle link)).bundle ≡ option_or (link_seen servers link).bundle (bundle_with (server_at servers link.nas) bundle)
 unfolding link_seen touched_link
-touched_bundle servers now bundle link = by_cases (nas_at servers link.nas) link.bundle where
+touched_bundle servers now bundle link = by_cases (server_at servers link.nas) link.bundle where
   by_cases : (nas : Nas) (old : Option (List ℕ)) → bundle_with nas (option_or old bundle) ≡ option_or (bundle_with nas old) (bundle_with nas bundle)
   by_cases nas None = refl
   by_cases nas (Some id) = refl
 
 seen_none : (servers : List Nas) (link : Link) → is_none (link_seen servers link).bundle ≡ is_none link.bundle
 unfolding link_seen
-seen_none servers link = by_cases (nas_at servers link.nas) link.bundle where
+seen_none servers link = by_cases (server_at servers link.nas) link.bundle where
   by_cases : (nas : Nas) (old : Option (List ℕ)) → is_none (bundle_with nas old) ≡ is_none old
   by_cases nas None = refl
   by_cases nas (Some id) = refl
 
 pub touched_alone : (servers : List Nas) (ports places r now : ℕ) (bundle : Option (List ℕ)) (xs : List Link) (at : ℕ) (x : Link) → 0 < ports → at < length xs → x ≡ get_or xs at x → is_none x.bundle ≡ true
     → places ≡ places_of ports (bundles_in (links_seen servers xs))
-    → places_of ports (bundles_in (links_seen servers xs) ++ bundle_with (nas_at servers x.nas) bundle ∷ []) ≡ places_of ports (bundles_in (links_seen servers xs)) + r
+    → places_of ports (bundles_in (links_seen servers xs) ++ bundle_with (server_at servers x.nas) bundle ∷ []) ≡ places_of ports (bundles_in (links_seen servers xs)) + r
     → places_of ports (bundles_in (links_seen servers (set xs at (touched_link now bundle x)))) + 1 ≡ places + r
 touched_alone servers ports places r now bundle xs at x some within is none counted added =
     let before = bundles_in (links_seen servers (take at xs)) in
     let behind = bundles_in (links_seen servers (drop (at + 1) xs)) in
-    let joined = bundle_with (nas_at servers x.nas) bundle in
+    let joined = bundle_with (server_at servers x.nas) bundle in
     let empty : (link_seen servers x).bundle ≡ None = none_is (link_seen servers x).bundle (seen_none servers x ∙ none) in
     let whole : bundles_in (links_seen servers xs) ≡ before ++ None ∷ behind = bundles-split servers xs at x within is ∙ ap (λ (b : Option Bundle). before ++ b ∷ behind) empty in
     let now_in : (link_seen servers (touched_link now bundle x)).bundle ≡ joined = touched_bundle servers now bundle x ∙ ap (λ (b : Option Bundle). option_or b joined) empty in
@@ -220,7 +220,7 @@ touched_bundled servers now bundle xs at x within is has =
     let before = bundles_in (links_seen servers (take at xs)) in
     let behind = bundles_in (links_seen servers (drop (at + 1) xs)) in
     let same : (link_seen servers (touched_link now bundle x)).bundle ≡ (link_seen servers x).bundle =
-    touched_bundle servers now bundle x ∙ or_some (link_seen servers x).bundle (bundle_with (nas_at servers x.nas) bundle) (seen_none servers x ∙ has) in
+    touched_bundle servers now bundle x ∙ or_some (link_seen servers x).bundle (bundle_with (server_at servers x.nas) bundle) (seen_none servers x ∙ has) in
     ap (λ ys. bundles_in (links_seen servers ys)) (set_split xs at (touched_link now bundle x) within ∙ ap (λ ys. take at xs ++ touched_link now bundle x ∷ ys) (rw add-one refl))
     ∙ bundles-append servers (take at xs) (touched_link now bundle x ∷ drop (at + 1) xs)
     ∙ ap (λ ys. before ++ ys) (bundles-cons servers (touched_link now bundle x) (drop (at + 1) xs))

@@ -9,10 +9,10 @@ use Rattle.rsl_book.specs.declared.link.Link.{Link}
 use Rattle.rsl_book.specs.declared.link.Hold.{Hold}
 use Rattle.rsl_book.specs.declared.link.Hold.TheVariants.{Number, Session}
 use Rattle.rsl_book.specs.declared.order.Kind.{Kind}
-use Rattle.rsl_book.specs.declared.order.Kind.TheVariants.{Reserved, Bound, Sessions}
+use Rattle.rsl_book.specs.declared.order.Kind.TheVariants.{Reserved, Bound, Sessions, Bundles}
 use Rattle.rsl_book.specs.Order.{entry_at, is_before, is_by_touch, is_number, is_of, is_session, link_at, IsOrderOf}
 use Rattle.rsl_book.specs.LinkList.{IsOldest}
-use Rattle.rsl_book.specs.Seen.{holder_at, link_seen, nas_at}
+use Rattle.rsl_book.specs.Seen.{holder_at, link_seen, server_at}
 use Rattle.rsl_book.proofs.Before.{touched_order}
 
 numbers_alike : (rules : Rules) (n m : Nas) (a b : Hold) → is_number a ≡ true → is_number b ≡ true → time_of rules (holder_at n a) ≡ time_of rules (holder_at m b)
@@ -25,10 +25,11 @@ sessions_alike rules n m (Session a) (Session b) one two = refl
 sessions_alike rules n m (Session a) (Number b) one two = absurd (false≢true two)
 sessions_alike rules n m (Number a) b one two = absurd (false≢true one)
 
-time_kept : (rules : Rules) (kind : Kind) (n m : Nas) (f x : Link) → is_of kind f ≡ true → is_of kind x ≡ true → time_of rules (holder_at n f.hold) ≡ time_of rules (holder_at m x.hold)
-time_kept rules Reserved n m f x one two = numbers_alike rules n m f.hold x.hold one two
-time_kept rules Bound n m f x one two = sessions_alike rules n m f.hold x.hold one two
-time_kept rules Sessions n m f x one two = sessions_alike rules n m f.hold x.hold one two
+time_kept : (rules : Rules) (kind : Kind) → is_by_touch kind ≡ true → (n m : Nas) (f x : Link) → is_of kind f ≡ true → is_of kind x ≡ true → time_of rules (holder_at n f.hold) ≡ time_of rules (holder_at m x.hold)
+time_kept rules Reserved is n m f x one two = numbers_alike rules n m f.hold x.hold one two
+time_kept rules Bound is n m f x one two = sessions_alike rules n m f.hold x.hold one two
+time_kept rules Sessions is n m f x one two = absurd (false≢true is)
+time_kept rules Bundles is n m f x one two = absurd (false≢true is)
 
 stays : (time a b now : ℕ) → a ≤ b → nat_le time (now - a) ≡ false → nat_le time (now - b) ≡ false
 stays time a b now later none =
@@ -37,18 +38,19 @@ stays time a b now later none =
       | inr high ↦ absurd (false≢true (sym none ∙ le-leb time (now - a) (omega (arith, high, later))))
     ]
 
-later_stays : (servers : List Nas) (rules : Rules) (now : ℕ) (kind : Kind) (f x : Link) → is_of kind f ≡ true → is_of kind x ≡ true → f.touched ≤ x.touched
+later_stays : (servers : List Nas) (rules : Rules) (now : ℕ) (kind : Kind) → is_by_touch kind ≡ true → (f x : Link) → is_of kind f ≡ true → is_of kind x ≡ true → f.touched ≤ x.touched
     → lapses_at rules now (link_seen servers f) ≡ false → lapses_at rules now (link_seen servers x) ≡ false
 unfolding lapses_at link_seen
-later_stays servers rules now kind f x one two later none =
-    let time = time_kept rules kind (nas_at servers f.nas) (nas_at servers x.nas) f x one two in
+later_stays servers rules now kind is f x one two later none =
+    let time = time_kept rules kind is (server_at servers f.nas) (server_at servers x.nas) f x one two in
     stays _ f.touched x.touched now later (sym (ap (λ t. nat_le t (now - f.touched)) time) ∙ none)
 
 by_touch : (kind : Kind) → is_by_touch kind ≡ true → (links : List Link) (a b : ℕ) → is_before (entry_at kind links a) (entry_at kind links b) ≡ true
-    → is_before ((link_at links a).touched ∷ [], a) ((link_at links b).touched ∷ [], b) ≡ true
+    → is_before ((link_at links a).touched ∷ 0 ∷ [], a) ((link_at links b).touched ∷ 0 ∷ [], b) ≡ true
 by_touch Reserved is links a b h = h
 by_touch Bound is links a b h = h
 by_touch Sessions is links a b h = absurd (false≢true is)
+by_touch Bundles is links a b h = absurd (false≢true is)
 
 -- the first of an order was touched no later than any other
 pub first_touched : (kind : Kind) → is_by_touch kind ≡ true → (links : List Link) (order : List ℕ) → IsOrderOf kind links order → (x : ℕ) → x < length links → is_of kind (link_at links x) ≡ true
@@ -69,8 +71,8 @@ none_lapses servers rules now kind is links order o some none x within here =
     elim (first_touched kind is links order o x within here) [
       | inl same ↦ ap (λ n. lapses_at rules now (link_seen servers (link_at links n))) same ∙ none
       | inr rest ↦ elim rest [
-        | inl less ↦ later_stays servers rules now kind (link_at links (get_or order 0 0)) (link_at links x) (o.each 0 some).of_kind here (omega (arith, less)) none
-        | inr tied ↦ (let same = tied.0 in later_stays servers rules now kind (link_at links (get_or order 0 0)) (link_at links x) (o.each 0 some).of_kind here (omega (arith, same)) none)
+        | inl less ↦ later_stays servers rules now kind is (link_at links (get_or order 0 0)) (link_at links x) (o.each 0 some).of_kind here (omega (arith, less)) none
+        | inr tied ↦ (let same = tied.0 in later_stays servers rules now kind is (link_at links (get_or order 0 0)) (link_at links x) (o.each 0 some).of_kind here (omega (arith, same)) none)
       ]
     ]
 

@@ -6,7 +6,7 @@ use Rattle.rsl_event.specs.declared.nas.Nas.{Nas}
 use Rattle.rsl_session.specs.BookStep.{sweep_ask, sweep_stop}
 use Rattle.rsl_book.specs.declared.kept.StoredAsk.{StoredAsk}
 use Rattle.rsl_book.specs.declared.kept.StoredStop.{StoredStop}
-use Rattle.rsl_book.specs.Seen.{ask_seen, asks_seen, stop_seen, stops_seen, nas_at}
+use Rattle.rsl_book.specs.Seen.{ask_seen, asks_seen, stop_seen, stops_seen, server_at}
 use Rattle.std.specs.Prelude.{◌||◌}
 use Rattle.rsl_session.specs.Same.{same_nas}
 
@@ -19,7 +19,7 @@ over_more f g xs orig i x y within same is so_far changed =
 
 pub asks_more : (servers : List Nas) (nas : Nas) (xs orig : List StoredAsk) (i : ℕ) (x y : StoredAsk) → i < length xs → length xs ≡ length orig → x ≡ get_or xs i x
     → asks_seen servers xs ≡ map (sweep_ask nas) (take i (asks_seen servers orig)) ++ drop i (asks_seen servers orig)
-    → y ≡ record x { swept = x.swept || same_nas nas (nas_at servers x.nas) }
+    → y ≡ record x { swept = x.swept || same_nas nas (server_at servers x.nas) }
     → asks_seen servers (set xs i y) ≡ map (sweep_ask nas) (take (i + 1) (asks_seen servers orig)) ++ drop (i + 1) (asks_seen servers orig)
 unfolding asks_seen ask_seen sweep_ask
 asks_more servers nas xs orig i x y within same is so_far changed =
@@ -27,7 +27,7 @@ asks_more servers nas xs orig i x y within same is so_far changed =
 
 pub stops_more : (servers : List Nas) (nas : Nas) (xs orig : List StoredStop) (i : ℕ) (x y : StoredStop) → i < length xs → length xs ≡ length orig → x ≡ get_or xs i x
     → stops_seen servers xs ≡ map (sweep_stop nas) (take i (stops_seen servers orig)) ++ drop i (stops_seen servers orig)
-    → y ≡ record x { swept = x.swept || same_nas nas (nas_at servers x.nas) }
+    → y ≡ record x { swept = x.swept || same_nas nas (server_at servers x.nas) }
     → stops_seen servers (set xs i y) ≡ map (sweep_stop nas) (take (i + 1) (stops_seen servers orig)) ++ drop (i + 1) (stops_seen servers orig)
 unfolding stops_seen stop_seen sweep_stop
 stops_more servers nas xs orig i x y within same is so_far changed =

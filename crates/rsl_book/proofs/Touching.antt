@@ -6,21 +6,21 @@ use Rattle.rsl_session.specs.Places.{places_of}
 use Rattle.rsl_session.specs.Book.{bundles_in}
 use Rattle.rsl_book.specs.declared.link.Link.{Link}
 use Rattle.rsl_book.specs.First.{change_at}
-use Rattle.rsl_book.specs.Seen.{link_seen, links_seen, nas_at, bundle_with}
+use Rattle.rsl_book.specs.Seen.{link_seen, links_seen, server_at, bundle_with}
 use Rattle.rsl_book.specs.Changed.{touched_link}
 use Rattle.rsl_book.proofs.Found.{set_is_change}
 use Rattle.rsl_book.proofs.Opened.{bundles-push, touched_alone, touched_bundled}
 
-pub own_bundle : (servers : List Nas) (link : Link) → (link_seen servers link).bundle ≡ bundle_with (nas_at servers link.nas) link.bundle
+pub own_bundle : (servers : List Nas) (link : Link) → (link_seen servers link).bundle ≡ bundle_with (server_at servers link.nas) link.bundle
 unfolding link_seen
 own_bundle servers link = refl
 
 pub counted_open : (servers : List Nas) (ports places new r : ℕ) (link : Link) (xs ys : List Link) → ys ≡ xs ++ link ∷ []
     → places ≡ places_of ports (bundles_in (links_seen servers xs))
-    → places_of ports (bundles_in (links_seen servers xs) ++ bundle_with (nas_at servers link.nas) link.bundle ∷ []) ≡ places_of ports (bundles_in (links_seen servers xs)) + r
+    → places_of ports (bundles_in (links_seen servers xs) ++ bundle_with (server_at servers link.nas) link.bundle ∷ []) ≡ places_of ports (bundles_in (links_seen servers xs)) + r
     → new ≡ places + r → new ≡ places_of ports (bundles_in (links_seen servers ys))
 counted_open servers ports places new r link xs ys is counted added sum =
-    let all : bundles_in (links_seen servers ys) ≡ bundles_in (links_seen servers xs) ++ bundle_with (nas_at servers link.nas) link.bundle ∷ [] =
+    let all : bundles_in (links_seen servers ys) ≡ bundles_in (links_seen servers xs) ++ bundle_with (server_at servers link.nas) link.bundle ∷ [] =
     ap (λ zs. bundles_in (links_seen servers zs)) is ∙ bundles-push servers link xs ∙ ap (λ b. bundles_in (links_seen servers xs) ++ b ∷ []) (own_bundle servers link) in
     sum ∙ ap (λ n. n + r) counted ∙ sym added ∙ ap (places_of ports) (sym all)
 
@@ -33,7 +33,7 @@ joins_bundled servers ports now bundle xs at x within is has =
     omega arith
 
 pub joins_alone : (servers : List Nas) (ports now : ℕ) (bundle : Option (List ℕ)) (xs : List Link) (at : ℕ) (x : Link) (adds : Bool) → 0 < ports → at < length xs → x ≡ get_or xs at x → is_none x.bundle ≡ true
-    → places_of ports (bundles_in (links_seen servers xs) ++ bundle_with (nas_at servers x.nas) bundle ∷ []) ≡ places_of ports (bundles_in (links_seen servers xs)) + cond adds 1 0
+    → places_of ports (bundles_in (links_seen servers xs) ++ bundle_with (server_at servers x.nas) bundle ∷ []) ≡ places_of ports (bundles_in (links_seen servers xs)) + cond adds 1 0
     → places_of ports (bundles_in (links_seen servers (change_at at (touched_link now bundle) xs))) + cond (not adds) 1 0 ≡ places_of ports (bundles_in (links_seen servers xs))
 joins_alone servers ports now bundle xs at x adds some within is none added =
     let more = touched_alone servers ports (places_of ports (bundles_in (links_seen servers xs))) (cond adds 1 0) now bundle xs at x some within is none refl added in

@@ -1,6 +1,7 @@
 -- The links that lapse, and the one that yields, found by what the first of an order tells.
 use Rattle.std.proofs.Common.{◌≡◌, ℕ, zero, suc, ◌+◌, ◌-◌, ◌<◌, ◌≤◌, List, [], ◌∷◌, ◌++◌, take, drop, get_or, length, length-append, length-drop, Bool, true, false, cond, not, refl, ap, sym, ◌∙◌, subst, arith, add-one, inl, inr}
-use Rattle.std.specs.Prelude.{filter, find, nat_le, None}
+use Rattle.std.specs.Prelude.{filter, find, nat_le, None, Some}
+use Rattle.std.proofs.lemmas.Option.{none-some}
 use Rattle.std.specs.List.{list_any, list_all}
 use Rattle.std.proofs.lemmas.Bool.{false≢true, and_parts, and_from, cases_lt, lt-leb, le-leb}
 use Rattle.std.proofs.lemmas.List.{get_or-map, length-map, length-take-le}
@@ -14,7 +15,7 @@ use Rattle.rsl_book.specs.declared.link.Hold.TheVariants.{Number, Session}
 use Rattle.rsl_book.specs.First.{IsFirst}
 use Rattle.rsl_book.specs.LinkList.{IsOldest}
 use Rattle.rsl_book.specs.Order.{is_session, link_at, no_link}
-use Rattle.rsl_book.specs.Seen.{holder_at, link_seen, links_seen, nas_at}
+use Rattle.rsl_book.specs.Seen.{holder_at, link_seen, links_seen, server_at}
 use Rattle.rsl_book.proofs.Lists.{find_none}
 use Rattle.rsl_book.proofs.Stepping.{seen_without}
 use Rattle.rsl_book.specs.Steps.{without_at}
@@ -29,12 +30,12 @@ module _ {B : Type 0} where
   filter_same keep [] all = refl
   filter_same keep (x ∷ xs) all = rw (all zero x (omega arith)) (ap (λ ys. x ∷ ys) (filter_same keep xs (λ i d within. all (suc i) d (omega (arith, within)))))
 
-  any_none : (p : B → Bool) (xs : List B) (n : ℕ) → ((i : ℕ) (d : B) → i < n → i < length xs → p (get_or xs i d) ≡ false) → list_any p (take n xs) ≡ false
+  pub any_none : (p : B → Bool) (xs : List B) (n : ℕ) → ((i : ℕ) (d : B) → i < n → i < length xs → p (get_or xs i d) ≡ false) → list_any p (take n xs) ≡ false
   any_none p xs zero none = refl
   any_none p [] (suc n) none = refl
   any_none p (x ∷ xs) (suc n) none = rw (none zero x (omega arith) (omega arith)) (any_none p xs n (λ i d low within. none (suc i) d (omega (arith, low)) (omega (arith, within))))
 
-  any_nowhere : (p : B → Bool) (xs : List B) → ((i : ℕ) (d : B) → i < length xs → p (get_or xs i d) ≡ false) → list_any p xs ≡ false
+  pub any_nowhere : (p : B → Bool) (xs : List B) → ((i : ℕ) (d : B) → i < length xs → p (get_or xs i d) ≡ false) → list_any p xs ≡ false
   any_nowhere p [] none = refl
   any_nowhere p (x ∷ xs) none = rw (none zero x (omega arith)) (any_nowhere p xs (λ i d within. none (suc i) d (omega (arith, within))))
 
@@ -62,6 +63,27 @@ length_seen : (servers : List Nas) (links : List Link) → length (links_seen se
 unfolding links_seen
 length_seen servers links = length-map links (link_seen servers)
 
+-- a link that ends is taken out, and in the end there is none
+pub ended_step : (servers : List Nas) (ends : BookLink → Bool) (links left : List Link) (at : ℕ) → at < length links → ((d : BookLink) → ends (get_or (links_seen servers links) at d) ≡ true) → left ≡ take at links ++ drop (at + 1) links
+    → filter (λ (link : BookLink). not (ends link)) (links_seen servers left) ≡ filter (λ (link : BookLink). not (ends link)) (links_seen servers links)
+unfolding without_at
+ended_step servers ends links left at within passed is =
+    let long = length_seen servers links in
+    let gone = filter_less (λ (link : BookLink). not (ends link)) (links_seen servers links) at (omega (arith, within, long)) (λ d. ap not (passed d)) in
+    ap (λ xs. filter (λ (link : BookLink). not (ends link)) (links_seen servers xs)) is
+    ∙ ap (filter (λ (link : BookLink). not (ends link))) (seen_without servers links at)
+    ∙ rw add-one gone
+
+pub ended_all : {B : Type 0} (ends : B → Bool) (xs : List B) → find ends xs ≡ None → filter (λ x. not (ends x)) xs ≡ xs
+ended_all ends [] none = refl
+ended_all ends (x ∷ xs) none = by_cases (ends x) none (ended_all ends xs) where
+  by_cases : (b : Bool) → cond b (Some x) (find ends xs) ≡ None → (find ends xs ≡ None → filter (λ y. not (ends y)) xs ≡ xs) → cond (not b) (x ∷ filter (λ y. not (ends y)) xs) (filter (λ y. not (ends y)) xs) ≡ x ∷ xs
+  by_cases true none rest = absurd (none-some x (sym none))
+  by_cases false none rest = ap (λ ys. x ∷ ys) (rest none)
+
+pub fewer_found : (servers : List Nas) (ends : BookLink → Bool) (links : List Link) (at : ℕ) → IsFirst ends (links_seen servers links) at → at < length links
+fewer_found servers ends links at first = let long = length_seen servers links in let front = first.within in omega (arith, long, front)
+
 -- a link that lapses is taken out, and in the end none does
 pub lapse_step : (servers : List Nas) (rules : Rules) (now : ℕ) (links left : List Link) (at : ℕ) → at < length links → lapses_at rules now (link_seen servers (link_at links at)) ≡ true
     → left ≡ take at links ++ drop (at + 1) links
@@ -87,8 +109,8 @@ lapse_end servers rules now links none =
 stale_parts : (servers : List Nas) (rules : Rules) (now : ℕ) (link : Link) → is_stale_at rules now (link_seen servers link) ≡ true → (is_session link.hold ≡ true) × (nat_le rules.live (now - link.touched) ≡ true)
 unfolding is_stale_at link_seen
 stale_parts servers rules now link stale =
-    let parts = and_parts (is_bound (holder_at (nas_at servers link.nas) link.hold)) (nat_le rules.live (now - link.touched)) stale in
-    (by_hold (nas_at servers link.nas) link.hold parts.0, parts.1)
+    let parts = and_parts (is_bound (holder_at (server_at servers link.nas) link.hold)) (nat_le rules.live (now - link.touched)) stale in
+    (by_hold (server_at servers link.nas) link.hold parts.0, parts.1)
   where
     by_hold : (nas : Nas) (hold : Hold) → is_bound (holder_at nas hold) ≡ true → is_session hold ≡ true
     by_hold nas (Number number) is = is
@@ -96,7 +118,7 @@ stale_parts servers rules now link stale =
 
 stale_from : (servers : List Nas) (rules : Rules) (now : ℕ) (link : Link) → is_session link.hold ≡ true → nat_le rules.live (now - link.touched) ≡ true → is_stale_at rules now (link_seen servers link) ≡ true
 unfolding is_stale_at link_seen
-stale_from servers rules now link bound old = and_from _ _ (by_hold (nas_at servers link.nas) link.hold bound) old where
+stale_from servers rules now link bound old = and_from _ _ (by_hold (server_at servers link.nas) link.hold bound) old where
   by_hold : (nas : Nas) (hold : Hold) → is_session hold ≡ true → is_bound (holder_at nas hold) ≡ true
   by_hold nas (Number number) is = is
   by_hold nas (Session id) is = refl

@@ -7,5 +7,12 @@ use Rattle.rsl_book.specs.declared.link.Hold.TheVariants.{Session}
 unfoldable pub touched_link : ℕ → Option (List ℕ) → Link → Link
 touched_link now bundle link = record link { bundle = option_or link.bundle bundle; touched = now }
 
+-- the bundle that it then has, if it had none, and the clock
+unfoldable pub joined_link : Option (List ℕ) → Link → Link
+joined_link bundle link = record link { bundle = option_or link.bundle bundle }
+
+unfoldable pub renewed_link : ℕ → Link → Link
+renewed_link now link = record link { touched = now }
+
 unfoldable pub bound_link : List ℕ → Link → Link
 bound_link id link = record link { hold = Session id }

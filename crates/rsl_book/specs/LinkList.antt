@@ -1,12 +1,16 @@
 -- What a contract sees of a list of links: the links in the order in which they opened, and the
 -- room for them. Inside, its orders list the positions of the reserved links and of those that are
--- bound, by their last touch.
-use Rattle.std.specs.Prelude.{◌≡◌, ℕ, ◌<◌, ◌≤◌, List, true, vec_capacity, length}
+-- bound, by their last touch, of those that are bound, by their sessions, and of all, by their
+-- bundles.
+use Rattle.std.specs.Prelude.{◌≡◌, ℕ, ◌<◌, ◌≤◌, ◌==◌, ◌&&◌, List, Bool, true, false, Option, None, Some, vec_capacity, length, map}
+use Rattle.rsl_session.specs.Same.{same_octets}
+use Rattle.rsl_book.specs.declared.link.Hold.{Hold}
+use Rattle.rsl_book.specs.declared.link.Hold.TheVariants.{Number, Session}
 use Rattle.rsl_book.specs.declared.link.Link.{Link}
 use Rattle.rsl_book.specs.declared.list.LinkList.TheInside.{Inside}
 use Rattle.rsl_book.specs.declared.list.Orders.{Orders}
-use Rattle.rsl_book.specs.declared.order.Kind.TheVariants.{Reserved, Bound}
-use Rattle.rsl_book.specs.Order.{IsOrderBut, is_session, link_at}
+use Rattle.rsl_book.specs.declared.order.Kind.TheVariants.{Reserved, Bound, Sessions, Bundles}
+use Rattle.rsl_book.specs.Order.{IsOrderBut, is_session, link_at, moved_up}
 
 pub record RoomyList : Type 0 where
   pub items : List Link
@@ -19,14 +23,45 @@ list_seen list = record { items = list.links.items; room = vec_capacity list.lin
 pub record AreOrdersBut (links : List Link) (but : ℕ) (orders : Orders) : Type 0 where
   pub reserved : IsOrderBut Reserved links but orders.reserved.items
   pub bound : IsOrderBut Bound links but orders.bound.items
+  pub sessions : IsOrderBut Sessions links but orders.sessions.items
+  pub bundles : IsOrderBut Bundles links but orders.bundles.items
 
 abbrev pub AreOrders : List Link → Orders → Type 0
 AreOrders links orders = AreOrdersBut links (length links) orders
 
+-- each order has room for so many positions
+pub record AreRoomy (most : ℕ) (orders : Orders) : Type 0 where
+  pub reserved : most ≤ vec_capacity orders.reserved
+  pub bound : most ≤ vec_capacity orders.bound
+  pub sessions : most ≤ vec_capacity orders.sessions
+  pub bundles : most ≤ vec_capacity orders.bundles
+
+-- the orders close up after the position of a link that is gone
+pub record AreClosed (gone : ℕ) (old new : Orders) : Type 0 where
+  pub reserved : new.reserved.items ≡ map (moved_up gone) old.reserved.items
+  pub bound : new.bound.items ≡ map (moved_up gone) old.bound.items
+  pub sessions : new.sessions.items ≡ map (moved_up gone) old.sessions.items
+  pub bundles : new.bundles.items ≡ map (moved_up gone) old.bundles.items
+
 pub record IsRanked (list : Inside) : Type 0 where
   pub orders : AreOrders list.links.items list.orders
-  pub reserved_room : vec_capacity list.links ≤ vec_capacity list.orders.reserved
-  pub bound_room : vec_capacity list.links ≤ vec_capacity list.orders.bound
+  pub room : AreRoomy (vec_capacity list.links) list.orders
+
+-- whether a link is bound to the session of this id, or in the bundle of this id, at the access
+-- server of a place
+abbrev pub is_id : List ℕ → Hold → Bool
+is_id id (Number number) = false
+is_id id (Session own) = same_octets own id
+
+unfoldable pub is_held : ℕ → List ℕ → Link → Bool
+is_held nas id link = link.nas == nas && is_id id link.hold
+
+abbrev pub is_bundle_id : List ℕ → Option (List ℕ) → Bool
+is_bundle_id id None = false
+is_bundle_id id (Some own) = same_octets own id
+
+unfoldable pub is_member : ℕ → List ℕ → Link → Bool
+is_member nas id link = link.nas == nas && is_bundle_id id link.bundle
 
 -- the bound link that was touched longest ago, and of these the first
 pub record IsOldest (links : List Link) (at : ℕ) : Type 0 where

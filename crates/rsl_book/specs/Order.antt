@@ -1,7 +1,7 @@
 -- An order lists the positions of some links of a book: those that are reserved or those that are
--- bound, by their last touch, or those that are bound, by their sessions. Links that are alike in
--- this stand as they opened.
-use Rattle.std.specs.Prelude.{◌≡◌, ◌≢◌, ℕ, ◌<◌, ◌≤◌, ◌-◌, List, [], ◌∷◌, get_or, length, nat_lt, if◌then◌else◌, Bool, true, false, None}
+-- bound, by their last touch, those that are bound, by their sessions, or all, by their bundles.
+-- Links that are alike in this stand as they opened.
+use Rattle.std.specs.Prelude.{◌≡◌, ◌≢◌, ℕ, ◌<◌, ◌≤◌, ◌-◌, List, [], ◌∷◌, get_or, length, nat_lt, if◌then◌else◌, Bool, true, false, Option, None, Some}
 use Rattle.std.specs.Ordering.{ordering_then, nat_cmp, is_lt}
 use Rattle.std.specs.declared.cmp.Ordering.{Ordering}
 use Rattle.std.specs.Cmp.Lexicographic.{slice_cmp}
@@ -9,7 +9,7 @@ use Rattle.rsl_book.specs.declared.link.Link.{Link}
 use Rattle.rsl_book.specs.declared.link.Hold.{Hold}
 use Rattle.rsl_book.specs.declared.link.Hold.TheVariants.{Number, Session}
 use Rattle.rsl_book.specs.declared.order.Kind.{Kind}
-use Rattle.rsl_book.specs.declared.order.Kind.TheVariants.{Reserved, Bound, Sessions}
+use Rattle.rsl_book.specs.declared.order.Kind.TheVariants.{Reserved, Bound, Sessions, Bundles}
 
 -- what an order goes by: numbers, and then the position
 abbrev pub Entry : Type 0
@@ -60,24 +60,44 @@ abbrev pub id_of : Hold → List ℕ
 id_of (Number number) = []
 id_of (Session id) = id
 
--- the links of a kind, and what their order goes by
+abbrev pub mark_of_bundle : Option (List ℕ) → ℕ
+mark_of_bundle None = 0
+mark_of_bundle (Some id) = 1
+
+abbrev pub id_of_bundle : Option (List ℕ) → List ℕ
+id_of_bundle None = []
+id_of_bundle (Some id) = id
+
+-- the links of a kind, and what their order goes by: a number, a mark, and octets
 abbrev pub is_of : Kind → Link → Bool
 is_of Reserved link = is_number link.hold
 is_of Bound link = is_session link.hold
 is_of Sessions link = is_session link.hold
+is_of Bundles link = true
 
 abbrev pub number_of : Kind → Link → ℕ
 number_of Reserved link = link.touched
 number_of Bound link = link.touched
 number_of Sessions link = link.nas
+number_of Bundles link = link.nas
+
+abbrev pub mark_of : Kind → Link → ℕ
+mark_of Reserved link = 0
+mark_of Bound link = 0
+mark_of Sessions link = 0
+mark_of Bundles link = mark_of_bundle link.bundle
 
 abbrev pub octets_of : Kind → Link → List ℕ
 octets_of Reserved link = []
 octets_of Bound link = []
 octets_of Sessions link = id_of link.hold
+octets_of Bundles link = id_of_bundle link.bundle
+
+abbrev pub key_of : Kind → Link → List ℕ
+key_of kind link = number_of kind link ∷ mark_of kind link ∷ octets_of kind link
 
 abbrev pub entry_at : Kind → List Link → ℕ → Entry
-entry_at kind links at = (number_of kind (link_at links at) ∷ octets_of kind (link_at links at), at)
+entry_at kind links at = (key_of kind (link_at links at), at)
 
 -- positions of links, each before those that come after it
 pub record IsSearchable (kind : Kind) (links : List Link) (order : List ℕ) : Type 0 where
@@ -108,3 +128,4 @@ abbrev pub is_by_touch : Kind → Bool
 is_by_touch Reserved = true
 is_by_touch Bound = true
 is_by_touch Sessions = false
+is_by_touch Bundles = false

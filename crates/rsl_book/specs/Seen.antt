@@ -18,8 +18,8 @@ abbrev pub unnamed : Nas
 unnamed = record { client = 0; name = Unnamed }
 
 -- the access server at a place of the table, and past its end one without a name
-abbrev pub nas_at : List Nas → ℕ → Nas
-nas_at servers at = get_or servers at unnamed
+abbrev pub server_at : List Nas → ℕ → Nas
+server_at servers at = get_or servers at unnamed
 
 -- what has a link at an access server
 abbrev pub holder_at : Nas → Hold → Holder
@@ -33,9 +33,9 @@ bundle_with nas id = option_map (λ id. record { nas = nas; id = id }) id
 unfoldable pub link_seen : List Nas → Link → BookLink
 link_seen servers link =
     record {
-      nas = nas_at servers link.nas;
-      holder = holder_at (nas_at servers link.nas) link.hold;
-      bundle = bundle_with (nas_at servers link.nas) link.bundle;
+      nas = server_at servers link.nas;
+      holder = holder_at (server_at servers link.nas) link.hold;
+      bundle = bundle_with (server_at servers link.nas) link.bundle;
       touched = link.touched;
     }
 
@@ -46,7 +46,7 @@ unfoldable pub ask_seen : List Nas → StoredAsk → KeptAsk
 ask_seen servers ask =
     record {
       key = ask.key;
-      nas = nas_at servers ask.nas;
+      nas = server_at servers ask.nas;
       decision = ask.decision;
       at = ask.at;
       swept = ask.swept;
@@ -58,7 +58,7 @@ asks_seen servers asks = map (ask_seen servers) asks
 unfoldable pub stop_seen : List Nas → StoredStop → KeptStop
 stop_seen servers stop =
     record {
-      session = record { nas = nas_at servers stop.nas; id = stop.id };
+      session = record { nas = server_at servers stop.nas; id = stop.id };
       at = stop.at;
       swept = stop.swept;
     }

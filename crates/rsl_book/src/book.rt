@@ -306,7 +306,7 @@ impl Book {
     {
         let nas = place_for(
             &mut self.servers,
-            self.links.list.as_slice(),
+            &self.links.list,
             &self.asks,
             &self.stops,
             nas,
@@ -330,7 +330,7 @@ impl Book {
     {
         let nas = place_for(
             &mut self.servers,
-            self.links.list.as_slice(),
+            &self.links.list,
             &self.asks,
             &self.stops,
             nas,
@@ -495,7 +495,7 @@ impl Book {
     {
         let nas = place_for(
             &mut self.servers,
-            self.links.list.as_slice(),
+            &self.links.list,
             &self.asks,
             &self.stops,
             nas,
@@ -547,7 +547,7 @@ impl Book {
         self.links.stop(&self.servers, &nas, &id);
         let nas = place_for(
             &mut self.servers,
-            self.links.list.as_slice(),
+            &self.links.list,
             &self.asks,
             &self.stops,
             nas,

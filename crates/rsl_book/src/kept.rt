@@ -7,7 +7,7 @@ ghost use Rattle.rsl_session.specs.Same.{same_nas, same_key};
 ghost use Rattle.rsl_session.specs.Ask.{repeats};
 ghost use Rattle.rsl_session.specs.Closed.{closes};
 ghost use Rattle.rsl_session.specs.BookStep.{sweep_ask, sweep_stop};
-ghost use Rattle.rsl_book.specs.Seen.{nas_at, ask_seen, asks_seen, stop_seen, stops_seen};
+ghost use Rattle.rsl_book.specs.Seen.{server_at, ask_seen, asks_seen, stop_seen, stops_seen};
 
 use crate::servers::Servers;
 use circular_buffer::HeapCircularBuffer;
@@ -75,7 +75,7 @@ impl StoredAsk {
     /// Notes a sweep of an access server.
     #[tactic(auto, unfolding(crate::specs::Seen::ask_seen, rsl_session::specs::BookStep::sweep_ask))]
     fn sweep(&mut self, servers: &Servers, nas: &Nas)
-        ensures { self.new ≡ record self.old { swept = self.old.swept || same_nas nas.now (nas_at servers.now self.old.nas) } }
+        ensures { self.new ≡ record self.old { swept = self.old.swept || same_nas nas.now (server_at servers.now self.old.nas) } }
     {
         self.swept = self.swept || servers.is_as(nas, self.nas);
     }
@@ -106,7 +106,7 @@ impl StoredStop {
 
     /// Notes a sweep of an access server.
     fn sweep(&mut self, servers: &Servers, nas: &Nas)
-        ensures { self.new ≡ record self.old { swept = self.old.swept || same_nas nas.now (nas_at servers.now self.old.nas) } }
+        ensures { self.new ≡ record self.old { swept = self.old.swept || same_nas nas.now (server_at servers.now self.old.nas) } }
     {
         self.swept = self.swept || servers.is_as(nas, self.nas);
     }

@@ -5,7 +5,8 @@
 //! definition in `rsl_session`'s `specs/BookStep.antt`, whose laws join it to the session rule.
 //!
 //! Inside, the links stand in the order in which they opened, the last asks and stops in rings, and each access
-//! server once in a table: whatever is at one names its place there.
+//! server once in a table: whatever is at one names its place there. Orders of the links lead from a session to
+//! its link, from a bundle to its links, and to the links that were touched longest ago.
 #![tactic(auto)]
 
 mod book;

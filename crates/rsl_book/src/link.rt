@@ -1,11 +1,11 @@
 ghost use Rattle.std.specs.Prelude.{◌≡◌, ◌↔◌, Option, IfOk, IsTrue};
 ghost use Rattle.rsl_accounts.specs.Limits.{RulesFit};
-ghost use Rattle.rsl_session.specs.Places.{is_bundle};
 ghost use Rattle.rsl_session.specs.Same.{same_nas};
 ghost use Rattle.rsl_session.specs.Book.{is_stale_at, is_live_at, is_reservation, Reserved};
-ghost use Rattle.rsl_session.specs.BookLinks.{lapses_at, is_link_of, is_wanted, can_be_taken};
-ghost use Rattle.rsl_book.specs.Seen.{nas_at, link_seen};
-ghost use Rattle.rsl_book.specs.Changed.{touched_link, bound_link};
+ghost use Rattle.rsl_session.specs.BookLinks.{lapses_at, is_wanted, can_be_taken};
+ghost use Rattle.rsl_book.specs.Seen.{server_at, link_seen};
+ghost use Rattle.rsl_book.specs.LinkList.{is_held};
+ghost use Rattle.rsl_book.specs.Changed.{bound_link, joined_link, renewed_link};
 
 use crate::servers::Servers;
 use rsl_accounts::Rules;
@@ -132,17 +132,6 @@ impl Link {
         servers.is_at(self.nas, nas)
     }
 
-    /// Whether it is bound to the session of this id at an access server.
-    #[tactic(auto, unfolding(crate::specs::Seen::link_seen, rsl_session::specs::BookLinks::is_link_of, rsl_session::specs::Same::same_session))]
-    pub(crate) fn is_of(&self, servers: &Servers, nas: &Nas, id: &Octets) -> bool
-        ensures { result ≡ is_link_of (record { nas = nas.now; id = id.now }) (link_seen servers.now self.now) }
-    {
-        match &self.hold {
-            Hold::Number(_) => false,
-            Hold::Session(own) => servers.is_at(self.nas, nas) && *own == *id,
-        }
-    }
-
     /// Whether it is a reservation that an alive at an access server can take.
     #[tactic(auto, unfolding(crate::specs::Seen::link_seen, rsl_session::specs::BookLinks::can_be_taken))]
     pub(crate) fn can_be_taken(&self, servers: &Servers, nas: &Nas, class: Option<u64>) -> bool
@@ -154,26 +143,33 @@ impl Link {
         }
     }
 
-    /// Whether it is in the bundle of this id at an access server.
-    #[tactic(auto, unfolding(crate::specs::Seen::link_seen, rsl_session::specs::Same::same_bundle))]
-    pub(crate) fn is_in(&self, servers: &Servers, nas: &Nas, id: &Octets) -> bool
-        ensures { result ≡ is_bundle (record { nas = nas.now; id = id.now }) (link_seen servers.now self.now).bundle }
+    /// Touches it at this clock.
+    #[tactic(auto, unfolding(crate::specs::Changed::renewed_link))]
+    pub(crate) fn renew(&mut self, now: u64)
+        ensures { self.new ≡ renewed_link now self.old }
     {
-        match &self.bundle {
-            None => false,
-            Some(own) => servers.is_at(self.nas, nas) && *own == *id,
-        }
+        self.touched = now;
     }
 
-    /// Touches it, by an alive that may carry a bundle.
-    #[tactic(auto, unfolding(crate::specs::Changed::touched_link))]
-    pub(crate) fn touch(&mut self, now: u64, bundle: Option<Octets>)
-        ensures { self.new ≡ touched_link now bundle self.old }
+    /// Puts it into the bundle of an alive, if it is in none.
+    #[tactic(auto, unfolding(crate::specs::Changed::joined_link))]
+    pub(crate) fn join(&mut self, bundle: Option<Octets>)
+        ensures { self.new ≡ joined_link bundle self.old }
     {
         if self.bundle.is_none() {
             self.bundle = bundle;
         }
-        self.touched = now;
+    }
+
+    /// Whether it is bound to the session of this id at the access server of a place.
+    #[tactic(auto, unfolding(crate::specs::LinkList::is_held))]
+    pub(crate) fn is_held(&self, nas: usize, id: &[u8]) -> bool
+        ensures { result ≡ is_held nas id.now self.now }
+    {
+        match &self.hold {
+            Hold::Number(_) => false,
+            Hold::Session(own) => self.nas == nas && own.as_slice() == id,
+        }
     }
 
     /// Binds it to the session of this id.

@@ -2,14 +2,15 @@ ghost use Rattle.std.specs.Prelude.{◌≡◌, ℕ, IfOk, ◌+◌, ◌-◌, ◌<
 ghost use Rattle.std.specs.List.{list_all};
 ghost use Rattle.std.specs.Int.{div_ceil};
 ghost use Rattle.rsl_accounts.specs.Limits.{RulesFit};
-ghost use Rattle.rsl_session.specs.Places.{is_bundle, places_of};
+ghost use Rattle.rsl_session.specs.Places.{places_of};
 ghost use Rattle.rsl_session.specs.Same.{same_nas};
 ghost use Rattle.rsl_session.specs.Book.{BookLink, bundles_in, is_live_at, is_reservation, is_stale_at};
 ghost use Rattle.rsl_session.specs.BookLinks.{lapses_at, is_link_of, can_be_taken, can_yield};
-ghost use Rattle.rsl_book.specs.Seen.{nas_at, links_seen, link_seen, bundle_with};
+ghost use Rattle.rsl_book.specs.Seen.{server_at, links_seen, link_seen, bundle_with};
 ghost use Rattle.rsl_book.specs.First.{IsFirst, change_at};
 ghost use Rattle.rsl_book.specs.Changed.{touched_link, bound_link};
 ghost use Rattle.rsl_book.specs.Counted.{AreCounted};
+ghost use Rattle.rsl_book.specs.Named.{IsPlace};
 
 use crate::link::Link;
 use crate::list::LinkList;
@@ -60,21 +61,6 @@ impl Links {
         })
     }
 
-    /// How many of the links are in the bundle of this id at an access server.
-    #[tactic(auto, using(crate::proofs::Lists::count_steps), unfolding(crate::specs::Seen::links_seen, rsl_session::specs::Book::bundles_in))]
-    fn members(&self, servers: &Servers, nas: &Nas, id: &Octets) -> usize
-        ensures { result ≡ count_by (is_bundle (record { nas = nas.now; id = id.now })) (bundles_in (links_seen servers.now self.now.list.items)) }
-    {
-        let links = self.list.as_slice();
-        let mut members = 0;
-        for link in links {
-            if link.is_in(servers, nas, id) {
-                members += 1;
-            }
-        }
-        members
-    }
-
     /// Whether one more link, at an access server of the table and with this bundle, takes a place more.
     pub(crate) fn adds_a_place(
         &self,
@@ -82,34 +68,32 @@ impl Links {
         nas: usize,
         bundle: &Option<Octets>,
     ) -> bool
-        requires { 1 ≤ self.now.ports }
-        ensures { places_of self.now.ports (bundles_in (links_seen servers.now self.now.list.items) ++ bundle_with (nas_at servers.now nas) bundle.now ∷ []) ≡ places_of self.now.ports (bundles_in (links_seen servers.now self.now.list.items)) + (if result then 1 else 0) }
+        requires place { IsPlace servers.now nas }
+        requires counted { AreCounted servers.now self.now }
+        ensures { places_of self.now.ports (bundles_in (links_seen servers.now self.now.list.items) ++ bundle_with (server_at servers.now nas) bundle.now ∷ []) ≡ places_of self.now.ports (bundles_in (links_seen servers.now self.now.list.items)) + (if result then 1 else 0) }
     {
         match bundle {
             None => true,
-            Some(id) => takes_a_place(self.ports, self.members(servers, servers.at(nas), id)),
+            Some(id) => takes_a_place(self.ports, self.list.members(nas, id.as_slice())),
         }
     }
 
     /// Whether a place is free once a link ends.
     pub(crate) fn frees_a_place(&self, servers: &Servers, at: usize) -> bool
-        requires a_port { 1 ≤ self.now.ports }
+        requires counted { AreCounted servers.now self.now }
         requires within { at < length self.now.list.items }
         ensures { places_of self.now.ports (bundles_in (links_seen servers.now self.now.list.items)) ≡ places_of self.now.ports (bundles_in (links_seen servers.now (take at self.now.list.items ++ drop (at + 1) self.now.list.items))) + (if result then 1 else 0) }
     {
         let link = self.list.index(at);
         match &link.bundle {
             None => true,
-            Some(id) => takes_a_place(
-                self.ports,
-                self.members(servers, servers.at(link.nas), id) - 1,
-            ),
+            Some(id) => takes_a_place(self.ports, self.list.members(link.nas, id.as_slice()) - 1),
         }
     }
 
     /// Whether a place is free once an alive with this bundle touches a link.
     fn joins_a_place(&self, servers: &Servers, at: usize, bundle: &Option<Octets>) -> bool
-        requires a_port { 1 ≤ self.now.ports }
+        requires counted { AreCounted servers.now self.now }
         requires within { at < length self.now.list.items }
         ensures { (now : ℕ) → places_of self.now.ports (bundles_in (links_seen servers.now (change_at at (touched_link now bundle.now) self.now.list.items))) + (if result then 1 else 0) ≡ places_of self.now.ports (bundles_in (links_seen servers.now self.now.list.items)) }
     {
@@ -140,6 +124,7 @@ impl Links {
     pub(crate) fn open(&mut self, servers: &Servers, link: Link)
         requires room { length self.old.list.items < self.old.list.room }
         requires counted { AreCounted servers.now self.old }
+        requires place { IsPlace servers.now link.nas }
         requires few { self.old.places ≤ 64 }
         ensures counted { AreCounted servers.now self.new }
         ensures links { self.new.list.items ≡ self.old.list.items ++ link ∷ [] }
@@ -207,12 +192,8 @@ impl Links {
         ensures ports { self.new.ports ≡ self.old.ports }
         ensures room { self.new.list.room ≡ self.old.list.room }
     {
-        let mut at = self.list.len();
-        while at > 0 {
-            at -= 1;
-            if self.list.index(at).is_of(servers, nas, id) {
-                self.end_at(servers, at);
-            }
+        while let Some(at) = self.bound_to(servers, nas, id) {
+            self.end_at(servers, at);
         }
     }
 
@@ -235,17 +216,15 @@ impl Links {
     }
 
     /// The link that is bound to the session of this id at an access server.
-    #[tactic(auto, using(crate::proofs::Lists::first_steps), unfolding(crate::specs::Seen::links_seen))]
     pub(crate) fn bound_to(&self, servers: &Servers, nas: &Nas, id: &Octets) -> Option<usize>
+        requires { AreCounted servers.now self.now }
         ensures found { IfSome result (λ at. IsFirst (is_link_of (record { nas = nas.now; id = id.now })) (links_seen servers.now self.now.list.items) at) }
         ensures missed { IfNone result (find (is_link_of (record { nas = nas.now; id = id.now })) (links_seen servers.now self.now.list.items) ≡ None) }
     {
-        for at in 0..self.list.len() {
-            if self.list.index(at).is_of(servers, nas, id) {
-                return Some(at);
-            }
+        match servers.find(nas) {
+            None => None,
+            Some(place) => self.list.session(place, id.as_slice()),
         }
-        None
     }
 
     /// The first reservation that an alive at an access server can take.

@@ -1,12 +1,14 @@
 //! The links of a book, with the orders by which those that stand longest are found.
 
-ghost use Rattle.std.specs.Prelude.{◌≡◌, ℕ, ◌+◌, ◌<◌, ◌≤◌, [], ◌∷◌, ◌++◌, IfOk, IfSome, IfNone, drop, false, get_or, length, map, take, true, vec_capacity};
+ghost use Rattle.std.specs.Prelude.{◌≡◌, ℕ, ◌+◌, ◌<◌, ◌≤◌, [], ◌∷◌, ◌++◌, IfOk, IfSome, IfNone, count_by, drop, false, get_or, length, take, true};
+ghost use Rattle.std.specs.List.{list_any};
 ghost use Rattle.rsl_accounts.specs.Limits.{RulesFit};
 ghost use Rattle.rsl_session.specs.BookLinks.{lapses_at};
-ghost use Rattle.rsl_book.specs.Changed.{bound_link, touched_link};
-ghost use Rattle.rsl_book.specs.First.{change_at};
-ghost use Rattle.rsl_book.specs.Order.{IsOrderOf, is_by_touch, is_of, is_session, link_at, moved_up};
-ghost use Rattle.rsl_book.specs.LinkList.{AreOrders, AreOrdersBut, IsOldest};
+ghost use Rattle.rsl_book.specs.Changed.{bound_link, joined_link, renewed_link, touched_link};
+ghost use Rattle.rsl_book.specs.First.{IsFirst, change_at};
+ghost use Rattle.rsl_book.specs.Order.{IsOrderOf, is_by_touch, is_of, is_session, link_at};
+ghost use Rattle.rsl_book.specs.LinkList.{AreClosed, AreOrders, AreOrdersBut, AreRoomy, IsOldest, is_held, is_member};
+ghost use Rattle.rsl_book.specs.Named.{named_by_links};
 ghost use Rattle.rsl_book.specs.Seen.{link_seen};
 
 use crate::link::Link;
@@ -22,44 +24,60 @@ use std::marker::Model;
 struct Orders {
     reserved: Vec<usize>,
     bound: Vec<usize>,
+    sessions: Vec<usize>,
+    bundles: Vec<usize>,
 }
 
 impl Orders {
+    /// Orders of no links, with room for so many. It fails only where memory is refused.
+    fn new(alloc: Global, room: usize) -> Result<Orders, NoMemory>
+        ensures empty { IfOk result (λ orders. AreOrders [] orders) }
+        ensures room { IfOk result (λ orders. AreRoomy room orders) }
+    {
+        Ok(Orders {
+            reserved: Vec::with_capacity(alloc, room)?,
+            bound: Vec::with_capacity(alloc, room)?,
+            sessions: Vec::with_capacity(alloc, room)?,
+            bundles: Vec::with_capacity(alloc, room)?,
+        })
+    }
+
     /// Takes the link at a position out of each order.
     fn withdraw(&mut self, links: &[Link], at: usize)
         requires within { at < length links.now }
         requires orders { AreOrders links.now self.old }
         ensures orders { AreOrdersBut links.now at self.new }
-        ensures reserved_room { vec_capacity self.new.reserved ≡ vec_capacity self.old.reserved }
-        ensures bound_room { vec_capacity self.new.bound ≡ vec_capacity self.old.bound }
+        ensures room { (most : ℕ) → AreRoomy most self.old → AreRoomy most self.new }
     {
         Kind::Reserved.withdraw(&mut self.reserved, links, at);
         Kind::Bound.withdraw(&mut self.bound, links, at);
+        Kind::Sessions.withdraw(&mut self.sessions, links, at);
+        Kind::Bundles.withdraw(&mut self.bundles, links, at);
     }
 
     /// Puts the link at a position into the orders of its kind.
     fn enter(&mut self, links: &[Link], at: usize)
         requires within { at < length links.now }
         requires orders { AreOrdersBut links.now at self.old }
-        requires room { length links.now ≤ vec_capacity self.old.reserved }
-        requires more_room { length links.now ≤ vec_capacity self.old.bound }
+        requires room { AreRoomy (length links.now) self.old }
         ensures orders { AreOrders links.now self.new }
-        ensures reserved_room { vec_capacity self.new.reserved ≡ vec_capacity self.old.reserved }
-        ensures bound_room { vec_capacity self.new.bound ≡ vec_capacity self.old.bound }
+        ensures room { (most : ℕ) → AreRoomy most self.old → AreRoomy most self.new }
     {
         Kind::Reserved.enter(&mut self.reserved, links, at);
         Kind::Bound.enter(&mut self.bound, links, at);
+        Kind::Sessions.enter(&mut self.sessions, links, at);
+        Kind::Bundles.enter(&mut self.bundles, links, at);
     }
 
     /// Moves the positions after one whose link is gone.
     fn close_up(&mut self, gone: usize)
-        ensures reserved { self.new.reserved.items ≡ map (moved_up gone) self.old.reserved.items }
-        ensures bound { self.new.bound.items ≡ map (moved_up gone) self.old.bound.items }
-        ensures reserved_room { vec_capacity self.new.reserved ≡ vec_capacity self.old.reserved }
-        ensures bound_room { vec_capacity self.new.bound ≡ vec_capacity self.old.bound }
+        ensures closed { AreClosed gone self.old self.new }
+        ensures room { (most : ℕ) → AreRoomy most self.old → AreRoomy most self.new }
     {
         close_up(&mut self.reserved, gone);
         close_up(&mut self.bound, gone);
+        close_up(&mut self.sessions, gone);
+        close_up(&mut self.bundles, gone);
     }
 }
 
@@ -90,10 +108,7 @@ impl LinkList {
     {
         Ok(LinkList {
             links: Vec::with_capacity(alloc, room)?,
-            orders: Orders {
-                reserved: Vec::with_capacity(alloc, room)?,
-                bound: Vec::with_capacity(alloc, room)?,
-            },
+            orders: Orders::new(alloc, room)?,
         })
     }
 
@@ -141,15 +156,40 @@ impl LinkList {
         self.orders.close_up(at);
     }
 
+    /// Touches a link at this clock. What its session and its bundle stand by stays.
+    fn renew(&mut self, at: usize, now: u64)
+        requires { at < length self.old.items }
+        ensures items { self.new.items ≡ change_at at (renewed_link now) self.old.items }
+        ensures room { self.new.room ≡ self.old.room }
+    {
+        Kind::Reserved.withdraw(&mut self.orders.reserved, &self.links, at);
+        Kind::Bound.withdraw(&mut self.orders.bound, &self.links, at);
+        self.links[at].renew(now);
+        Kind::Reserved.enter(&mut self.orders.reserved, &self.links, at);
+        Kind::Bound.enter(&mut self.orders.bound, &self.links, at);
+    }
+
+    /// Puts a link that is in no bundle into one, if an alive carries it.
+    fn join(&mut self, at: usize, bundle: Option<Octets>)
+        requires { at < length self.old.items }
+        ensures items { self.new.items ≡ change_at at (joined_link bundle) self.old.items }
+        ensures room { self.new.room ≡ self.old.room }
+    {
+        if self.links[at].bundle.is_none() {
+            Kind::Bundles.withdraw(&mut self.orders.bundles, &self.links, at);
+            self.links[at].join(bundle);
+            Kind::Bundles.enter(&mut self.orders.bundles, &self.links, at);
+        }
+    }
+
     /// Touches a link, by an alive that may carry a bundle.
     pub(crate) fn touch(&mut self, at: usize, now: u64, bundle: Option<Octets>)
         requires { at < length self.old.items }
         ensures items { self.new.items ≡ change_at at (touched_link now bundle) self.old.items }
         ensures room { self.new.room ≡ self.old.room }
     {
-        self.orders.withdraw(&self.links, at);
-        self.links[at].touch(now, bundle);
-        self.orders.enter(&self.links, at);
+        self.join(at, bundle);
+        self.renew(at, now);
     }
 
     /// Binds a link to the session of this id.
@@ -158,9 +198,56 @@ impl LinkList {
         ensures items { self.new.items ≡ change_at at (bound_link id) self.old.items }
         ensures room { self.new.room ≡ self.old.room }
     {
-        self.orders.withdraw(&self.links, at);
+        Kind::Reserved.withdraw(&mut self.orders.reserved, &self.links, at);
+        Kind::Bound.withdraw(&mut self.orders.bound, &self.links, at);
+        Kind::Sessions.withdraw(&mut self.orders.sessions, &self.links, at);
         self.links[at].bind(id);
-        self.orders.enter(&self.links, at);
+        Kind::Reserved.enter(&mut self.orders.reserved, &self.links, at);
+        Kind::Bound.enter(&mut self.orders.bound, &self.links, at);
+        Kind::Sessions.enter(&mut self.orders.sessions, &self.links, at);
+    }
+
+    /// The first link that is bound to the session of this id at the access server of a place.
+    pub(crate) fn session(&self, nas: usize, id: &[u8]) -> Option<usize>
+        ensures found { IfSome result (λ at. IsFirst (is_held nas id.now) self.now.items at) }
+        ensures missed { IfNone result (list_any (is_held nas id.now) self.now.items ≡ false) }
+    {
+        let links = self.links.as_slice();
+        let order = self.orders.sessions.as_slice();
+        let place = Kind::Sessions.count_before(order, links, nas as u64, 0, id, 0);
+        if place == order.len() {
+            return None;
+        }
+        let at = order[place];
+        if links[at].is_held(nas, id) {
+            Some(at)
+        } else {
+            None
+        }
+    }
+
+    /// How many links are in the bundle of this id at the access server of a place.
+    pub(crate) fn members(&self, nas: usize, id: &[u8]) -> usize
+        ensures { result ≡ count_by (is_member nas id.now) self.now.items }
+    {
+        let links = self.links.as_slice();
+        let order = self.orders.bundles.as_slice();
+        let first = Kind::Bundles.count_before(order, links, nas as u64, 1, id, 0);
+        let end = Kind::Bundles.count_before(order, links, nas as u64, 1, id, links.len());
+        end - first
+    }
+
+    /// Whether a link names a place of the table of access servers.
+    pub(crate) fn names(&self, nas: usize) -> bool
+        ensures { result ≡ named_by_links self.now.items nas }
+    {
+        let links = self.links.as_slice();
+        let order = self.orders.bundles.as_slice();
+        let place = Kind::Bundles.count_before(order, links, nas as u64, 0, &[], 0);
+        if place == order.len() {
+            return false;
+        }
+        links[order[place]].nas == nas
     }
 
     /// A link that lapses at this clock, if there is one: the first in its order.

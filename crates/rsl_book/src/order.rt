@@ -1,7 +1,7 @@
 //! Orders of a book's links: lists of their positions, so that a link is found without a look at each.
 
-ghost use Rattle.std.specs.Prelude.{◌≡◌, ◌↔◌, ◌<◌, ◌≤◌, ◌∷◌, get_or, map, length, vec_capacity, IsTrue};
-ghost use Rattle.rsl_book.specs.Order.{IsSearchable, IsSplit, IsOrderBut, IsOrderOf, entry_at, is_before, is_of, moved_up, number_of, octets_of};
+ghost use Rattle.std.specs.Prelude.{◌≡◌, ◌<◌, ◌≤◌, ◌∷◌, map, length, vec_capacity};
+ghost use Rattle.rsl_book.specs.Order.{IsSearchable, IsSplit, IsOrderBut, IsOrderOf, entry_at, is_before, is_of, key_of, mark_of, moved_up, number_of, octets_of};
 
 use crate::link::{Hold, Link};
 
@@ -14,6 +14,9 @@ pub(crate) enum Kind {
     Bound,
     /// The bound links, by their sessions: the place of the access server, and the Acct-Session-Id.
     Sessions,
+    /// All links, by their bundles: the place of the access server, and the Acct-Multi-Session-Id. Those that
+    /// are in none come first.
+    Bundles,
 }
 
 impl Kind {
@@ -24,6 +27,7 @@ impl Kind {
         match self {
             Kind::Reserved => matches!(&link.hold, Hold::Number(_)),
             Kind::Bound | Kind::Sessions => matches!(&link.hold, Hold::Session(_)),
+            Kind::Bundles => true,
         }
     }
 
@@ -33,48 +37,68 @@ impl Kind {
     {
         match self {
             Kind::Reserved | Kind::Bound => link.touched,
-            Kind::Sessions => link.nas as u64,
+            Kind::Sessions | Kind::Bundles => link.nas as u64,
         }
     }
 
-    /// The octets that a link of this kind goes by then.
+    /// The mark that a link of this kind goes by then: 1 for one in a bundle.
+    fn mark(self, link: &Link) -> u64
+        ensures { result ≡ mark_of self link.now }
+    {
+        match (self, &link.bundle) {
+            (Kind::Bundles, Some(_)) => 1,
+            _ => 0,
+        }
+    }
+
+    /// The octets that a link of this kind goes by at last.
     fn octets(self, link: &Link) -> &[u8]
         ensures { result.now ≡ octets_of self link.now }
     {
-        match (self, &link.hold) {
-            (Kind::Sessions, Hold::Session(id)) => id.as_slice(),
+        match (self, &link.hold, &link.bundle) {
+            (Kind::Sessions, Hold::Session(id), _) => id.as_slice(),
+            (Kind::Bundles, _, Some(id)) => id.as_slice(),
             _ => &[],
         }
     }
 
     /// Whether a link at a position stands before what goes by these.
     #[tactic(auto, unfolding(crate::specs::Order::is_before))]
-    fn is_before(self, link: &Link, at: usize, number: u64, octets: &[u8], other: usize) -> bool
-        ensures { result ≡ is_before (number_of self link.now ∷ octets_of self link.now, at) (number ∷ octets.now, other) }
+    fn is_before(
+        self,
+        link: &Link,
+        at: usize,
+        number: u64,
+        mark: u64,
+        octets: &[u8],
+        other: usize,
+    ) -> bool
+        ensures { result ≡ is_before (key_of self link.now, at) (number ∷ mark ∷ octets.now, other) }
     {
-        (self.number(link), self.octets(link), at)
-            .cmp(&(number, octets, other))
+        (self.number(link), self.mark(link), self.octets(link), at)
+            .cmp(&(number, mark, octets, other))
             .is_lt()
     }
 
     /// How many links of an order stand before what goes by these.
-    fn count_before(
+    pub(crate) fn count_before(
         self,
         order: &[usize],
         links: &[Link],
         number: u64,
+        mark: u64,
         octets: &[u8],
         at: usize,
     ) -> usize
         requires { IsSearchable self links.now order.now }
-        ensures { IsSplit (entry_at self links.now) order.now (number ∷ octets.now, at) result }
+        ensures { IsSplit (entry_at self links.now) order.now (number ∷ mark ∷ octets.now, at) result }
     {
         let mut low = 0;
         let mut high = order.len();
         while low < high {
             let middle = low + (high - low) / 2;
             let place = order[middle];
-            if self.is_before(&links[place], place, number, octets, at) {
+            if self.is_before(&links[place], place, number, mark, octets, at) {
                 low = middle + 1;
             } else {
                 high = middle;
@@ -83,16 +107,32 @@ impl Kind {
         low
     }
 
-    /// Takes the link at a position out of an order, if it stands there.
+    /// How many links of an order stand before the link at a position.
+    fn count_before_link(self, order: &[usize], links: &[Link], at: usize) -> usize
+        requires within { at < length links.now }
+        requires order { IsSearchable self links.now order.now }
+        ensures { IsSplit (entry_at self links.now) order.now (entry_at self links.now at) result }
+    {
+        let link = &links[at];
+        self.count_before(
+            order,
+            links,
+            self.number(link),
+            self.mark(link),
+            self.octets(link),
+            at,
+        )
+    }
+
+    /// Takes the link at a position out of an order, if it is of its kind.
     pub(crate) fn withdraw(self, order: &mut Vec<usize>, links: &[Link], at: usize)
         requires within { at < length links.now }
         requires order { IsOrderOf self links.now order.old.items }
         ensures order { IsOrderBut self links.now at order.new.items }
         ensures room { vec_capacity order.new ≡ vec_capacity order.old }
     {
-        let link = &links[at];
-        let place = self.count_before(order, links, self.number(link), self.octets(link), at);
-        if stands_at(order, place, at) {
+        if self.holds(&links[at]) {
+            let place = self.count_before_link(order, links, at);
             let _ = order.remove(place);
         }
     }
@@ -105,19 +145,11 @@ impl Kind {
         ensures order { IsOrderOf self links.now order.new.items }
         ensures room { vec_capacity order.new ≡ vec_capacity order.old }
     {
-        let link = &links[at];
-        if self.holds(link) {
-            let place = self.count_before(order, links, self.number(link), self.octets(link), at);
+        if self.holds(&links[at]) {
+            let place = self.count_before_link(order, links, at);
             let _ = order.insert(place, at);
         }
     }
-}
-
-/// Whether a position stands at a place of an order.
-fn stands_at(order: &[usize], place: usize, at: usize) -> bool
-    ensures { IsTrue result ↔ ((place < length order.now) × (get_or order.now place 0 ≡ at)) }
-{
-    place < order.len() && order[place] == at
 }
 
 /// Where a position moves once the link at another is gone.

@@ -1,5 +1,6 @@
-ghost use Rattle.std.specs.Prelude.{◌≡◌, ◌<◌, IfOk, IfSome, length, set};
-ghost use Rattle.rsl_book.specs.Seen.{nas_at, unnamed};
+ghost use Rattle.std.specs.Prelude.{◌≡◌, ◌≢◌, ℕ, ◌<◌, IfOk, IfNone, IfSome, length, set};
+ghost use Rattle.rsl_book.specs.Named.{IsPlace};
+ghost use Rattle.rsl_book.specs.Seen.{server_at, unnamed};
 ghost use Rattle.rsl_session.specs.Same.{same_nas};
 
 use rsl_event::{Nas, NasName};
@@ -76,7 +77,7 @@ impl Servers {
 
     /// The access server at a place.
     pub(crate) fn at(&self, at: usize) -> &Nas
-        ensures { result.now ≡ nas_at self.now at }
+        ensures { result.now ≡ server_at self.now at }
     {
         if at < self.table.len() {
             &self.table[at]
@@ -87,21 +88,23 @@ impl Servers {
 
     /// Whether an access server is the one at a place.
     pub(crate) fn is_at(&self, at: usize, nas: &Nas) -> bool
-        ensures { result ≡ same_nas (nas_at self.now at) nas.now }
+        ensures { result ≡ same_nas (server_at self.now at) nas.now }
     {
         self.at(at).is_same(nas)
     }
 
     /// Whether the one at a place is this access server: the same test, the other way round.
     pub(crate) fn is_as(&self, nas: &Nas, at: usize) -> bool
-        ensures { result ≡ same_nas nas.now (nas_at self.now at) }
+        ensures { result ≡ same_nas nas.now (server_at self.now at) }
     {
         nas.is_same(self.at(at))
     }
 
-    /// Where an access server stands, if it does.
+    /// The first place where an access server stands, if it does.
     pub(crate) fn find(&self, nas: &Nas) -> Option<usize>
-        ensures { IfSome result (λ at. nas_at self.now at ≡ nas.now) }
+        ensures found { IfSome result (λ at. server_at self.now at ≡ nas.now) }
+        ensures place { IfSome result (λ at. IsPlace self.now at) }
+        ensures missed { IfNone result ((at : ℕ) → at < length self.now → server_at self.now at ≢ nas.now) }
     {
         for at in 0..self.table.len() {
             if self.at(at).is_same(nas) {

@@ -1,20 +1,12 @@
 ghost use Rattle.std.specs.Prelude.{◌≡◌, ◌+◌, ◌<◌, ◌≤◌, false, length};
-ghost use Rattle.rsl_book.specs.Seen.{nas_at, links_seen, asks_seen, stops_seen};
-ghost use Rattle.rsl_book.specs.Named.{is_named, named_by_links, named_by_asks, named_by_stops};
+ghost use Rattle.rsl_book.specs.Seen.{server_at, links_seen, asks_seen, stops_seen};
+ghost use Rattle.rsl_book.specs.Named.{ArePlaced, IsPlace, is_named, named_by_asks, named_by_stops};
 
 use crate::kept::{StoredAsk, StoredStop};
-use crate::link::Link;
+use crate::list::LinkList;
 use crate::servers::Servers;
 use circular_buffer::HeapCircularBuffer;
 use rsl_event::Nas;
-
-/// Whether a link names a place of the table.
-#[tactic(auto, unfolding(crate::specs::Named::named_by_links))]
-fn is_named_by_links(links: &[Link], at: usize) -> bool
-    ensures { result ≡ named_by_links links.now at }
-{
-    links.iter().any(|link| link.nas == at)
-}
 
 /// Whether one of some asks names a place of the table.
 #[tactic(auto, unfolding(crate::specs::Named::named_by_asks))]
@@ -53,30 +45,28 @@ fn is_named_by_kept_stops(stops: &HeapCircularBuffer<StoredStop>, at: usize) -> 
 /// Whether anything names a place of the table.
 #[tactic(auto, unfolding(crate::specs::Named::is_named))]
 fn is_named_at(
-    links: &[Link],
+    links: &LinkList,
     asks: &HeapCircularBuffer<StoredAsk>,
     stops: &HeapCircularBuffer<StoredStop>,
     at: usize,
 ) -> bool
-    ensures { result ≡ is_named links.now asks.now.items stops.now.items at }
+    ensures { result ≡ is_named links.now.items asks.now.items stops.now.items at }
 {
-    is_named_by_links(links, at)
-        || is_named_by_kept_asks(asks, at)
-        || is_named_by_kept_stops(stops, at)
+    links.names(at) || is_named_by_kept_asks(asks, at) || is_named_by_kept_stops(stops, at)
 }
 
 /// The first place of the table that nothing names.
 fn free_place(
-    links: &[Link],
+    links: &LinkList,
     asks: &HeapCircularBuffer<StoredAsk>,
     stops: &HeapCircularBuffer<StoredStop>,
     room: usize,
 ) -> usize
-    requires { length links.now + asks.now.capacity + stops.now.capacity < room }
-    ensures free { is_named links.now asks.now.items stops.now.items result ≡ false }
+    requires { length links.now.items + asks.now.capacity + stops.now.capacity < room }
+    ensures free { is_named links.now.items asks.now.items stops.now.items result ≡ false }
     ensures within { result < room }
 {
-    let _kept = asks.len() + stops.len();
+    let _kept = links.len() + asks.len() + stops.len();
     let mut at = 0;
     while is_named_at(links, asks, stops, at) {
         at += 1;
@@ -88,14 +78,16 @@ fn free_place(
 /// named.
 pub(crate) fn place_for(
     servers: &mut Servers,
-    links: &[Link],
+    links: &LinkList,
     asks: &HeapCircularBuffer<StoredAsk>,
     stops: &HeapCircularBuffer<StoredStop>,
     nas: Nas,
 ) -> usize
-    requires { length links.now + asks.now.capacity + stops.now.capacity < length servers.old }
-    ensures stands { nas_at servers.new result ≡ nas }
-    ensures links { links_seen servers.new links.now ≡ links_seen servers.old links.now }
+    requires { length links.now.items + asks.now.capacity + stops.now.capacity < length servers.old }
+    ensures stands { server_at servers.new result ≡ nas }
+    ensures place { IsPlace servers.new result }
+    ensures placed { ArePlaced servers.old links.now.items → ArePlaced servers.new links.now.items }
+    ensures links { links_seen servers.new links.now.items ≡ links_seen servers.old links.now.items }
     ensures asks { asks_seen servers.new asks.now.items ≡ asks_seen servers.old asks.now.items }
     ensures stops { stops_seen servers.new stops.now.items ≡ stops_seen servers.old stops.now.items }
     ensures len { length servers.new ≡ length servers.old }

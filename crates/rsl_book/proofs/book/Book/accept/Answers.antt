@@ -1,4 +1,4 @@
-use Rattle.std.proofs.Common.{◌≡◌, ◌+◌, ◌≤◌, sym, ◌∙◌, ap, subst, length, arith, false}
+use Rattle.std.proofs.Common.{◌≡◌, ◌+◌, ◌≤◌, sym, ◌∙◌, ap, subst, arith, false}
 use Rattle.circular_buffer.specs.Buffer.{Buffer}
 use Rattle.std.specs.Prelude.{None}
 use Rattle.rsl_event.specs.declared.event.Decision.TheVariants.{Accept}
@@ -16,7 +16,6 @@ use Rattle.rsl_book.proofs.book.Book.accept.Goals as goal
 pub place_for-nas-requires : goal.place_for-nas-requires
 place_for-nas-requires c =
     let room = room_in_table c.self.inside c.self.invariant in
-    let same = ap length c.as_slice.ensures in
     omega arith
 
 pub open-requires-clause-room : goal.open-requires-clause-room
@@ -35,7 +34,7 @@ invariant_of-self c =
     let sound = c.self.invariant in
     let place = c.place_for-nas in
     let links : links_seen place.new.servers inside.links.list.items ≡ links_seen inside.servers inside.links.list.items =
-    subst (λ links. links_seen place.new.servers links ≡ links_seen inside.servers links) c.as_slice.ensures place.ensures.links in
+    place.ensures.links in
     let free : places_in inside.rules (running inside) + 1 ≤ inside.rules.places =
     subst (λ (value : RuledBook). places_in value.rules value.book + 1 ≤ value.rules.places) (sym c.self.view_is) c.requires.place in
     let held = held_places inside sound in
@@ -44,7 +43,7 @@ invariant_of-self c =
       ports = c.open.ensures.ports ∙ sound.ports;
       counted = c.open.ensures.counted;
       limit = opened_within place.new.servers inside.links c.open.new.self (record { nas = place.result; hold = Number inside.accepts; bundle = None; touched = inside.clock }) inside.rules.places 1
-          (counted_again inside.servers place.new.servers inside.links links sound.counted) c.open.ensures.counted c.open.ensures.links c.open.ensures.ports
+          (counted_again inside.servers place.new.servers inside.links links place.ensures.placed sound.counted) c.open.ensures.counted c.open.ensures.links c.open.ensures.ports
           (more_alone inside.links.ports (bundles_in (links_seen place.new.servers inside.links.list.items)) sound.counted.a_port) (omega arith);
       room = let room = sound.room in let same = c.open.ensures.room in omega arith;
       table = let table = sound.table in let same = place.ensures.len in omega arith;
@@ -58,7 +57,7 @@ returns-clause-step c =
     let inside = c.self.inside in
     let place = c.place_for-nas in
     let links : links_seen place.new.servers inside.links.list.items ≡ links_seen inside.servers inside.links.list.items =
-    subst (λ links. links_seen place.new.servers links ≡ links_seen inside.servers links) c.as_slice.ensures place.ensures.links in
+    place.ensures.links in
     rw (← c.self.view_is)
     (ap (λ (book : Book). (book, Accept inside.accepts))
     (same_book inside.clock (inside.accepts + 1) inside.over

@@ -1,8 +1,8 @@
-use Rattle.std.proofs.Common.{◌≡◌, sym, ◌∙◌, ap, subst, length, arith, cond}
+use Rattle.std.proofs.Common.{◌≡◌, sym, ◌∙◌, ap, arith, cond}
 use Rattle.rsl_session.specs.Book.{Book}
 use Rattle.rsl_book.specs.RuledBook.{RuledBook}
 use Rattle.rsl_book.specs.Sound.{running}
-use Rattle.rsl_book.specs.Seen.{links_seen, bundle_with, nas_at}
+use Rattle.rsl_book.specs.Seen.{links_seen, bundle_with, server_at}
 use Rattle.rsl_book.specs.declared.link.Hold.TheVariants.{Session}
 use Rattle.rsl_book.proofs.Insides.{same_value, room_in_table, room_for_one, counted_again, opened_within, opened_seen, bound_seen, open_sum, open_yes, open_not, over_value}
 use Rattle.rsl_book.proofs.book.Book.open_link.Goals as goal
@@ -10,7 +10,6 @@ use Rattle.rsl_book.proofs.book.Book.open_link.Goals as goal
 pub place_for-nas-requires : goal.place_for-nas-requires
 place_for-nas-requires c =
     let room = room_in_table c.self.inside c.self.invariant in
-    let same = ap length c.as_slice.ensures in
     omega arith
 
 pub open-requires-clause-room : goal.open-requires-clause-room
@@ -19,10 +18,10 @@ open-requires-clause-room c =
     let sound = c.self.invariant in
     let place = c.place_for-nas in
     let links : links_seen place.new.servers inside.links.list.items ≡ links_seen inside.servers inside.links.list.items =
-    subst (λ links. links_seen place.new.servers links ≡ links_seen inside.servers links) c.as_slice.ensures place.ensures.links in
+    place.ensures.links in
     let fits = c.if-self-more.true in
-    room_for_one place.new.servers inside.links inside.rules.places inside.rules.ports (cond c.adds_a_place.result 1 0) _ (bundle_with (nas_at place.new.servers place.result) c.args.bundle)
-    (counted_again inside.servers place.new.servers inside.links links sound.counted) c.adds_a_place.ensures (let same = c.one_if-more.ensures in omega arith) sound.ports sound.room
+    room_for_one place.new.servers inside.links inside.rules.places inside.rules.ports (cond c.adds_a_place.result 1 0) _ (bundle_with (server_at place.new.servers place.result) c.args.bundle)
+    (counted_again inside.servers place.new.servers inside.links links place.ensures.placed sound.counted) c.adds_a_place.ensures (let same = c.one_if-more.ensures in omega arith) sound.ports sound.room
 
 pub invariant_of-self : goal.invariant_of-self
 invariant_of-self c =
@@ -30,14 +29,14 @@ invariant_of-self c =
     let sound = c.self.invariant in
     let place = c.place_for-nas in
     let links : links_seen place.new.servers inside.links.list.items ≡ links_seen inside.servers inside.links.list.items =
-    subst (λ links. links_seen place.new.servers links ≡ links_seen inside.servers links) c.as_slice.ensures place.ensures.links in
+    place.ensures.links in
     let fits = c.if-self-more.true in
     record {
       fit = sound.fit;
       ports = c.open.ensures.ports ∙ sound.ports;
       counted = c.open.ensures.counted;
       limit = opened_within place.new.servers inside.links c.open.new.self (record { nas = place.result; hold = Session c.args.id; bundle = c.args.bundle; touched = inside.clock }) inside.rules.places (cond c.adds_a_place.result 1 0)
-          (counted_again inside.servers place.new.servers inside.links links sound.counted) c.open.ensures.counted c.open.ensures.links c.open.ensures.ports
+          (counted_again inside.servers place.new.servers inside.links links place.ensures.placed sound.counted) c.open.ensures.counted c.open.ensures.links c.open.ensures.ports
           c.adds_a_place.ensures (let same = c.one_if-more.ensures in omega arith);
       room = let room = sound.room in let same = c.open.ensures.room in omega arith;
       table = let table = sound.table in let same = place.ensures.len in omega arith;
@@ -51,7 +50,7 @@ returns-then-self-more c =
     let sound = c.self.invariant in
     let place = c.place_for-nas in
     let links : links_seen place.new.servers inside.links.list.items ≡ links_seen inside.servers inside.links.list.items =
-    subst (λ links. links_seen place.new.servers links ≡ links_seen inside.servers links) c.as_slice.ensures place.ensures.links in
+    place.ensures.links in
     let sum = open_sum inside.servers place.new.servers inside.links inside.rules.ports place.result (cond c.adds_a_place.result 1 0) c.args.nas c.args.bundle links place.ensures.stands sound.ports sound.counted c.adds_a_place.ensures in
     let fits = c.if-self-more.true in
     let same = c.one_if-more.ensures in
@@ -69,7 +68,7 @@ returns-else-self-more c =
     let sound = c.self.invariant in
     let place = c.place_for-nas in
     let links : links_seen place.new.servers inside.links.list.items ≡ links_seen inside.servers inside.links.list.items =
-    subst (λ links. links_seen place.new.servers links ≡ links_seen inside.servers links) c.as_slice.ensures place.ensures.links in
+    place.ensures.links in
     let sum = open_sum inside.servers place.new.servers inside.links inside.rules.ports place.result (cond c.adds_a_place.result 1 0) c.args.nas c.args.bundle links place.ensures.stands sound.ports sound.counted c.adds_a_place.ensures in
     let full = c.if-self-more.false in
     let same = c.one_if-more.ensures in

@@ -1,4 +1,4 @@
-use Rattle.std.proofs.Common.{◌≡◌, ◌∙◌, ap, subst, length, arith, false}
+use Rattle.std.proofs.Common.{◌≡◌, ◌∙◌, ap, arith, false}
 use Rattle.circular_buffer.specs.Buffer.{Buffer}
 use Rattle.rsl_event.specs.declared.event.Decision.TheVariants.{LimitReject}
 use Rattle.rsl_session.specs.Book.{Book}
@@ -11,7 +11,6 @@ use Rattle.rsl_book.proofs.book.Book.refuse.Goals as goal
 pub place_for-nas-requires : goal.place_for-nas-requires
 place_for-nas-requires c =
     let room = room_in_table c.self.inside c.self.invariant in
-    let same = ap length c.as_slice.ensures in
     omega arith
 
 pub returns-clause-step : goal.returns-clause-step
@@ -20,7 +19,7 @@ returns-clause-step c =
     let inside = c.self.inside in
     let place = c.place_for-nas in
     let links : links_seen place.new.servers inside.links.list.items ≡ links_seen inside.servers inside.links.list.items =
-    subst (λ links. links_seen place.new.servers links ≡ links_seen inside.servers links) c.as_slice.ensures place.ensures.links in
+    place.ensures.links in
     rw (← c.self.view_is)
     (ap (λ (book : Book). (book, LimitReject))
     (same_book inside.clock inside.accepts inside.over links

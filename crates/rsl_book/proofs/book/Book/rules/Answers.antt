@@ -1,4 +1,3 @@
-use Rattle.std.proofs.Common.{ap}
 use Rattle.rsl_book.proofs.book.Book.rules.Goals as goal
 
 pub returns-clause-fit : goal.returns-clause-fit

@@ -1,4 +1,4 @@
-use Rattle.std.proofs.Common.{◌≡◌, ◌∙◌, ap, subst, length, false}
+use Rattle.std.proofs.Common.{refl, ◌≡◌, ◌∙◌, ap, length, false}
 use Rattle.circular_buffer.specs.Buffer.{Buffer}
 use Rattle.rsl_book.specs.declared.kept.StoredStop.{StoredStop}
 use Rattle.rsl_book.specs.Seen.{links_seen, stops_seen}
@@ -8,8 +8,8 @@ use Rattle.rsl_book.proofs.book.Book.stop.Goals as goal
 
 pub place_for-nas-requires : goal.place_for-nas-requires
 place_for-nas-requires c =
-    few_after c.self.inside.servers c.self.inside c.stop.new.self (length c.as_slice.result.now) c.self.invariant c.stop.ensures.counted c.stop.ensures.fewer c.stop.ensures.ports
-    (ap length c.as_slice.ensures)
+    few_after c.self.inside.servers c.self.inside c.stop.new.self (length c.stop.new.self.list.items) c.self.invariant c.stop.ensures.counted c.stop.ensures.fewer c.stop.ensures.ports
+    refl
 
 pub returns : goal.returns
 unfolding stop
@@ -17,7 +17,7 @@ returns c =
     let inside = c.self.inside in
     let place = c.place_for-nas in
     let links : links_seen place.new.servers c.stop.new.self.list.items ≡ links_seen inside.servers c.stop.new.self.list.items =
-    subst (λ links. links_seen place.new.servers links ≡ links_seen inside.servers links) c.as_slice.ensures place.ensures.links in
+    place.ensures.links in
     rw (← c.self.view_is)
     (same_value inside.rules inside.clock inside.accepts inside.over (links ∙ c.stop.ensures.links) place.ensures.asks
     (ap (λ (ring : Buffer StoredStop). stops_seen place.new.servers ring.items) c.push_front.ensures.items

@@ -1,12 +1,15 @@
-use Rattle.std.proofs.Common.{◌≡◌, ◌+◌, cond, ap, sym, ◌∙◌, take, drop}
+use Rattle.std.proofs.Common.{◌≡◌, ℕ, ◌+◌, List, cond, ap, sym, ◌∙◌, subst, take, drop}
 use Rattle.std.specs.Prelude.{count_by}
 use Rattle.rsl_session.specs.Places.{is_bundle, places_of}
 use Rattle.rsl_session.specs.declared.bundle.Bundle.{Bundle}
-use Rattle.rsl_event.specs.declared.nas.Nas.{Nas}
 use Rattle.rsl_session.specs.Book.{bundles_in}
 use Rattle.rsl_book.specs.declared.link.Link.{Link}
-use Rattle.rsl_book.specs.Seen.{links_seen, link_seen, nas_at}
+use Rattle.rsl_book.specs.LinkList.{is_member}
+use Rattle.rsl_book.specs.Named.{IsPlace}
+use Rattle.rsl_book.specs.Seen.{links_seen, link_seen, server_at}
+use Rattle.rsl_book.proofs.OfLinks.{link_here}
 use Rattle.rsl_book.proofs.Opened.{less_alone, less_bundled, bundles-append, bundles-split, bundle_none, bundle_some, members_some}
+use Rattle.rsl_book.proofs.Placed.{members_seen}
 use Rattle.rsl_book.proofs.links.Links.frees_a_place.Goals as goal
 
 pub overflow_sub-members : goal.overflow_sub-members
@@ -14,9 +17,11 @@ overflow_sub-members c =
     let servers = c.args.servers.now in
     let links = c.args.self.now.list.items in
     let link : Link = c.index-link.result.now in
-    let named : Bundle = record { nas = nas_at servers link.nas; id = c.in-Some.id } in
+    let named : Bundle = record { nas = server_at servers link.nas; id = c.in-Some.id } in
+    let here = link_here links c.args.at link c.requires.within c.index-link.ensures in
     let counted : c.members.result ≡ count_by (is_bundle named) (bundles_in (links_seen servers links)) =
-    c.members.ensures ∙ ap (λ (nas : Nas). count_by (is_bundle (record { nas = nas; id = c.in-Some.id })) (bundles_in (links_seen servers links))) c.at.ensures in
+    c.members.ensures ∙ ap (λ (octets : List ℕ). count_by (is_member link.nas octets) links) c.as_slice.ensures
+    ∙ members_seen servers c.in-Some.id link.nas links (subst (λ (one : Link). IsPlace servers one.nas) (sym here) (c.requires.counted.placed c.args.at c.requires.within)) c.requires.counted.placed in
     members_some c.members.result (link_seen servers link).bundle named (bundles_in (links_seen servers (take c.args.at links)))
     (bundles_in (links_seen servers (drop (c.args.at + 1) links))) (bundles_in (links_seen servers links))
     (bundles-split servers links c.args.at link c.requires.within c.index-link.ensures)
@@ -28,7 +33,7 @@ returns-in-None c =
     let links = c.args.self.now.list.items in
     let link : Link = c.index-link.result.now in
     less_alone c.args.self.now.ports (link_seen servers link).bundle (bundles_in (links_seen servers (take c.args.at links)))
-    (bundles_in (links_seen servers (drop (c.args.at + 1) links))) (bundles_in (links_seen servers links)) c.requires.a_port
+    (bundles_in (links_seen servers (drop (c.args.at + 1) links))) (bundles_in (links_seen servers links)) c.requires.counted.a_port
     (bundles-split servers links c.args.at link c.requires.within c.index-link.ensures)
     (bundle_none servers link c.in-None.is)
     ∙ ap (λ xs. places_of c.args.self.now.ports xs + 1) (sym (bundles-append servers (take c.args.at links) (drop (c.args.at + 1) links)))
@@ -38,11 +43,13 @@ returns-in-Some c =
     let servers = c.args.servers.now in
     let links = c.args.self.now.list.items in
     let link : Link = c.index-link.result.now in
-    let named : Bundle = record { nas = nas_at servers link.nas; id = c.in-Some.id } in
+    let named : Bundle = record { nas = server_at servers link.nas; id = c.in-Some.id } in
+    let here = link_here links c.args.at link c.requires.within c.index-link.ensures in
     let counted : c.members.result ≡ count_by (is_bundle named) (bundles_in (links_seen servers links)) =
-    c.members.ensures ∙ ap (λ (nas : Nas). count_by (is_bundle (record { nas = nas; id = c.in-Some.id })) (bundles_in (links_seen servers links))) c.at.ensures in
+    c.members.ensures ∙ ap (λ (octets : List ℕ). count_by (is_member link.nas octets) links) c.as_slice.ensures
+    ∙ members_seen servers c.in-Some.id link.nas links (subst (λ (one : Link). IsPlace servers one.nas) (sym here) (c.requires.counted.placed c.args.at c.requires.within)) c.requires.counted.placed in
     less_bundled c.args.self.now.ports c.members.result (cond c.takes_a_place.result 1 0) (link_seen servers link).bundle named
     (bundles_in (links_seen servers (take c.args.at links))) (bundles_in (links_seen servers (drop (c.args.at + 1) links))) (bundles_in (links_seen servers links))
-    c.requires.a_port (bundles-split servers links c.args.at link c.requires.within c.index-link.ensures)
+    c.requires.counted.a_port (bundles-split servers links c.args.at link c.requires.within c.index-link.ensures)
     (bundle_some servers link c.in-Some.id c.in-Some.is) counted c.takes_a_place.ensures
     ∙ ap (λ xs. places_of c.args.self.now.ports xs + cond c.takes_a_place.result 1 0) (sym (bundles-append servers (take c.args.at links) (drop (c.args.at + 1) links)))

@@ -1,49 +1,32 @@
-use Rattle.std.proofs.Common.{◌≡◌, ◌∙◌, arith, rules, refl, length}
+use Rattle.std.proofs.Common.{sym, ◌∙◌, arith}
 use Rattle.rsl_session.specs.BookLinks.{is_link_of}
 use Rattle.rsl_book.specs.Seen.{links_seen}
-use Rattle.rsl_book.proofs.Ending.{seen_pass, seen_gone, seen_start, seen_within, long_enough}
+use Rattle.rsl_book.proofs.Yielding.{ended_all, ended_step, fewer_found, fewer_left}
 use Rattle.rsl_book.proofs.links.Links.stop.Goals as goal
 
-pub loop-at-init : goal.loop-at-init
-loop-at-init c =
-    let all : c.len-at.result ≡ length c.args.self.now.list.items = search rules in
-    record {
-      within = seen_within c.args.servers.now c.args.self.now.list.items c.len-at.result all;
-      inside = omega arith;
-      left = seen_start c.args.servers.now (is_link_of (record { nas = c.args.nas.now; id = c.args.id.now })) c.args.self.now.list.items c.len-at.result all;
-      counted = c.requires.counted;
-      fewer = omega arith;
-      ports = refl;
-      room = refl;
-    }
+pub end_at-requires-clause-within : goal.end_at-requires-clause-within
+end_at-requires-clause-within c = fewer_found c.args.servers.now (is_link_of (record { nas = c.args.nas.now; id = c.args.id.now })) c.loop-at.self.list.items c.in-Some.at c.in-Some.ensures.found
 
-pub loop-at-preserved-then-is_of : goal.loop-at-preserved-then-is_of
-loop-at-preserved-then-is_of c =
-    let before = c.loop-at.invariant in
-    let gone = c.end_at.ensures in
-    record {
-      within = omega arith;
-      inside = long_enough c.loop-at.self.list.items c.end_at.new.self.list.items c.loop-at.at c.loop-at-test.true before.inside gone.links;
-      left = seen_gone c.args.servers.now (is_link_of (record { nas = c.args.nas.now; id = c.args.id.now })) c.loop-at.self.list.items c.end_at.new.self.list.items
-          (links_seen c.args.servers.now c.args.self.now.list.items) c.loop-at.at c.index.result.now c.is_of.result
-          c.loop-at-test.true before.within before.inside c.index.ensures c.is_of.ensures c.if-is_of.true gone.links before.left;
-      counted = gone.counted;
-      fewer = omega (arith, gone.fewer, before.fewer);
-      ports = gone.ports ∙ before.ports;
-      room = gone.room ∙ before.room;
-    }
+pub loop-at-smaller : goal.loop-at-smaller
+loop-at-smaller c =
+    fewer_left c.loop-at.self.list.items c.end_at.new.self.list.items c.in-Some.at
+    (fewer_found c.args.servers.now (is_link_of (record { nas = c.args.nas.now; id = c.args.id.now })) c.loop-at.self.list.items c.in-Some.at c.in-Some.ensures.found) c.end_at.ensures.links
 
 pub loop-at-preserved : goal.loop-at-preserved
 loop-at-preserved c =
-    let before = c.loop-at.invariant in
+    let so_far = c.loop-at.invariant in
+    let gone = c.end_at.ensures in
     record {
-      within = omega arith;
-      inside = omega arith;
-      left = seen_pass c.args.servers.now (is_link_of (record { nas = c.args.nas.now; id = c.args.id.now })) c.loop-at.self.list.items
-          (links_seen c.args.servers.now c.args.self.now.list.items) c.loop-at.at c.index.result.now c.is_of.result
-          c.loop-at-test.true before.within before.inside c.index.ensures c.is_of.ensures c.if-is_of.false before.left;
-      counted = before.counted;
-      fewer = before.fewer;
-      ports = before.ports;
-      room = before.room;
+      left = ended_step c.args.servers.now (is_link_of (record { nas = c.args.nas.now; id = c.args.id.now })) c.loop-at.self.list.items c.end_at.new.self.list.items c.in-Some.at
+          (fewer_found c.args.servers.now (is_link_of (record { nas = c.args.nas.now; id = c.args.id.now })) c.loop-at.self.list.items c.in-Some.at c.in-Some.ensures.found)
+          c.in-Some.ensures.found.passed gone.links ∙ so_far.left;
+      counted = gone.counted;
+      fewer = omega (arith, gone.fewer, so_far.fewer);
+      ports = gone.ports ∙ so_far.ports;
+      room = gone.room ∙ so_far.room;
     }
+
+pub returns-clause-links : goal.returns-clause-links
+returns-clause-links c =
+    let so_far = c.loop-at.invariant in
+    sym (ended_all (is_link_of (record { nas = c.args.nas.now; id = c.args.id.now })) (links_seen c.args.servers.now c.loop-at.self.list.items) c.in_default.ensures.missed) ∙ so_far.left

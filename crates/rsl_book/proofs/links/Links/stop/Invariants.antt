@@ -1,4 +1,4 @@
-use Rattle.std.proofs.Common.{◌≡◌, ◌≤◌, ◌++◌, take, drop, length, not}
+use Rattle.std.proofs.Common.{◌≡◌, ◌≤◌, length, not}
 use Rattle.std.specs.Prelude.{filter}
 use Rattle.rsl_session.specs.Book.{BookLink}
 use Rattle.rsl_session.specs.BookLinks.{is_link_of}
@@ -9,11 +9,8 @@ use Rattle.rsl_book.proofs.links.Links.stop.Given as goal
 abbrev pub invariant-loop-at : goal.invariant-loop-at
 invariant-loop-at l =
     record {
-      within : l.at ≤ length (links_seen l.servers l.initial.self.list.items);
-      inside : l.at ≤ length l.self.list.items;
-      left : links_seen l.servers l.self.list.items
-          ≡ take l.at (links_seen l.servers l.initial.self.list.items)
-          ++ filter (λ (link : BookLink). not (is_link_of (record { nas = l.nas; id = l.id }) link)) (drop l.at (links_seen l.servers l.initial.self.list.items));
+      left : filter (λ (link : BookLink). not (is_link_of (record { nas = l.nas; id = l.id }) link)) (links_seen l.servers l.self.list.items)
+          ≡ filter (λ (link : BookLink). not (is_link_of (record { nas = l.nas; id = l.id }) link)) (links_seen l.servers l.initial.self.list.items);
       counted : AreCounted l.servers l.self;
       fewer : l.self.places ≤ l.initial.self.places;
       ports : l.self.ports ≡ l.initial.self.ports;
@@ -21,4 +18,4 @@ invariant-loop-at l =
     }
 
 abbrev pub decreases-loop-at : goal.decreases-loop-at
-decreases-loop-at l = l.at
+decreases-loop-at l = length l.self.list.items

@@ -2,6 +2,7 @@ use Rattle.std.proofs.Common.{◌-◌, sym, ◌∙◌, ap, arith}
 use Rattle.rsl_session.specs.Places.{places_of}
 use Rattle.rsl_session.specs.Book.{bundles_in}
 use Rattle.rsl_book.specs.Seen.{links_seen}
+use Rattle.rsl_book.proofs.Placed.{placed_touched}
 use Rattle.rsl_book.proofs.Touching.{joined_less, joined_within}
 use Rattle.rsl_book.proofs.links.Links.touch_at.Goals as goal
 
@@ -17,4 +18,5 @@ returns-clause-counted c =
       places = ap (λ n. c.args.self.now.places - n) c.one_if.ensures
           ∙ joined_less c.joins_a_place.result c.args.self.now.places _ _ c.requires.counted.places (c.joins_a_place.ensures c.args.now)
           ∙ ap (λ links. places_of c.args.self.now.ports (bundles_in (links_seen c.args.servers.now links))) (sym c.touch.ensures.items);
+      placed = placed_touched c.args.servers.now c.args.now c.args.bundle c.args.self.now.list.items c.touch.new.self.items c.args.at c.touch.ensures.items c.requires.counted.placed;
     }

@@ -1,47 +1,42 @@
-use Rattle.std.proofs.Common.{List, set, length, ap, sym, ◌∙◌, subst, arith}
-use Rattle.std.proofs.lemmas.List.{length-set}
+use Rattle.std.proofs.Common.{List, length, ap, sym, ◌∙◌, subst, arith}
 use Rattle.rsl_book.specs.declared.link.Link.{Link}
-use Rattle.rsl_book.specs.LinkList.{AreOrders, RoomyList}
+use Rattle.rsl_book.specs.declared.order.Kind.TheVariants.{Reserved, Bound, Sessions}
 use Rattle.rsl_book.specs.Changed.{bound_link}
 use Rattle.rsl_book.specs.First.{change_at}
+use Rattle.rsl_book.specs.LinkList.{RoomyList}
+use Rattle.rsl_book.specs.Order.{IsOrderBut, IsOrderOf}
 use Rattle.rsl_book.proofs.Found.{set_is_change}
-use Rattle.rsl_book.proofs.OfLinks.{orders_changed, orders_of}
+use Rattle.rsl_book.proofs.OfLinks.{bound_bundles, set_but}
 use Rattle.rsl_book.proofs.list.LinkList.bind.Goals as goal
 
-pub withdraw-requires-clause-within : goal.withdraw-requires-clause-within
-withdraw-requires-clause-within c =
-    let items = ap length c.deref.ensures.value in
-    let few = ap (λ (value : RoomyList). length value.items) c.self.view_is in
-    omega (arith, items, few, c.requires)
-
-pub withdraw-requires-clause-orders : goal.withdraw-requires-clause-orders
-withdraw-requires-clause-orders c =
-    subst (λ (xs : List Link). AreOrders xs c.self.inside.orders) (sym c.deref.ensures.value) c.self.invariant.orders
-
-pub enter-requires-clause-within : goal.enter-requires-clause-within
-enter-requires-clause-within c =
-    let items = ap length c.deref-2.ensures.value in
-    let long = length-set c.self.inside.links.items c.args.at c.bind.new.self in
-    let few = ap (λ (value : RoomyList). length value.items) c.self.view_is in
-    omega (arith, items, long, few, c.requires)
-
-pub enter-requires-clause-orders : goal.enter-requires-clause-orders
-enter-requires-clause-orders c =
+pub enter-requires-3-clause-order : goal.enter-requires-3-clause-order
+enter-requires-3-clause-order c =
     let inside = c.self.inside in
-    orders_of (set inside.links.items c.args.at c.bind.new.self) c.deref-2.result.now c.args.at c.withdraw.new.self (sym c.deref-2.ensures.value)
-    (orders_changed inside.links.items c.args.at c.bind.new.self c.withdraw.new.self
-    (orders_of c.deref.result.now inside.links.items c.args.at c.withdraw.new.self c.deref.ensures.value c.withdraw.ensures.orders))
+    subst (λ (xs : List Link). IsOrderBut Sessions xs c.args.at c.withdraw-3.new.order.items) (sym c.deref-6.ensures.value)
+    (set_but Sessions inside.links.items c.args.at c.bind.new.self c.withdraw-3.new.order.items
+    (subst (λ (xs : List Link). IsOrderBut Sessions xs c.args.at c.withdraw-3.new.order.items) c.deref-3.ensures.value c.withdraw-3.ensures.order))
+
+pub invariant_of-self : goal.invariant_of-self
+invariant_of-self c =
+    let inside = c.self.inside in
+    let few = ap (λ (value : RoomyList). length value.items) c.self.view_is in
+    record {
+      orders = record {
+        reserved = subst (λ (xs : List Link). IsOrderOf Reserved xs c.enter.new.order.items) c.deref-4.ensures.value c.enter.ensures.order;
+        bound = subst (λ (xs : List Link). IsOrderOf Bound xs c.enter-2.new.order.items) c.deref-5.ensures.value c.enter-2.ensures.order;
+        sessions = subst (λ (xs : List Link). IsOrderOf Sessions xs c.enter-3.new.order.items) c.deref-6.ensures.value c.enter-3.ensures.order;
+        bundles = bound_bundles c.args.id inside.links.items c.args.at c.index_mut.result.now c.bind.new.self inside.orders.bundles.items (omega (arith, few, c.requires)) c.index_mut.ensures.value c.bind.ensures c.self.invariant.orders.bundles;
+      };
+      room = record {
+        reserved = let one = c.withdraw.ensures.room in let two = c.enter.ensures.room in let room = c.self.invariant.room.reserved in omega (arith, one, two, room);
+        bound = let one = c.withdraw-2.ensures.room in let two = c.enter-2.ensures.room in let room = c.self.invariant.room.bound in omega (arith, one, two, room);
+        sessions = let one = c.withdraw-3.ensures.room in let two = c.enter-3.ensures.room in let room = c.self.invariant.room.sessions in omega (arith, one, two, room);
+        bundles = c.self.invariant.room.bundles;
+      };
+    }
 
 pub returns-clause-items : goal.returns-clause-items
 returns-clause-items c =
     let few = ap (λ (value : RoomyList). length value.items) c.self.view_is in
     set_is_change (bound_link c.args.id) c.self.inside.links.items c.args.at c.index_mut.result.now c.bind.new.self (omega (arith, few, c.requires)) c.index_mut.ensures.value c.bind.ensures
     ∙ ap (λ (value : RoomyList). change_at c.args.at (bound_link c.args.id) value.items) c.self.view_is
-
-pub invariant_of-self : goal.invariant_of-self
-invariant_of-self c =
-    record {
-      orders = subst (λ (xs : List Link). AreOrders xs c.enter.new.self) c.deref-2.ensures.value c.enter.ensures.orders;
-      reserved_room = let one = c.withdraw.ensures.reserved_room in let two = c.enter.ensures.reserved_room in let room = c.self.invariant.reserved_room in omega (arith, one, two, room);
-      bound_room = let one = c.withdraw.ensures.bound_room in let two = c.enter.ensures.bound_room in let room = c.self.invariant.bound_room in omega (arith, one, two, room);
-    }

@@ -1,7 +1,8 @@
 use Rattle.std.proofs.Common.{◌≡◌, ℕ, List, [], ◌∷◌, ◌++◌, length, length-append, ap, sym, ◌∙◌, subst, arith, rules}
+use Rattle.std.specs.Prelude.{vec_capacity}
 use Rattle.rsl_book.specs.declared.link.Link.{Link}
 use Rattle.rsl_book.specs.LinkList.{AreOrders, AreOrdersBut, RoomyList}
-use Rattle.rsl_book.proofs.OfLinks.{orders_grown, orders_of}
+use Rattle.rsl_book.proofs.OfLinks.{orders_grown, orders_of, roomy_for}
 use Rattle.rsl_book.proofs.list.LinkList.push.Goals as goal
 
 pub enter-requires-clause-within : goal.enter-requires-clause-within
@@ -26,22 +27,11 @@ enter-requires-clause-room c =
     let more = length-append c.self.inside.links.items (c.args.link ∷ []) in
     let few = ap (λ (value : RoomyList). length value.items) c.self.view_is in
     let free = ap (λ (value : RoomyList). value.room) c.self.view_is in
-    let room = c.self.invariant.reserved_room in
-    omega (arith, items, more, few, free, room, c.requires)
-
-pub enter-requires-clause-more_room : goal.enter-requires-clause-more_room
-enter-requires-clause-more_room c =
-    let items = ap length (c.deref.ensures.value ∙ c.push_reserved.ensures.items) in
-    let more = length-append c.self.inside.links.items (c.args.link ∷ []) in
-    let few = ap (λ (value : RoomyList). length value.items) c.self.view_is in
-    let free = ap (λ (value : RoomyList). value.room) c.self.view_is in
-    let room = c.self.invariant.bound_room in
-    omega (arith, items, more, few, free, room, c.requires)
+    roomy_for (vec_capacity c.self.inside.links) (length c.deref.result.now) c.self.inside.orders (omega (arith, items, more, few, free, c.requires)) c.self.invariant.room
 
 pub invariant_of-self : goal.invariant_of-self
 invariant_of-self c =
     record {
       orders = subst (λ (xs : List Link). AreOrders xs c.enter.new.self) c.deref.ensures.value c.enter.ensures.orders;
-      reserved_room = let one = c.push_reserved.ensures.capacity in let two = c.enter.ensures.reserved_room in let room = c.self.invariant.reserved_room in omega (arith, one, two, room);
-      bound_room = let one = c.push_reserved.ensures.capacity in let two = c.enter.ensures.bound_room in let room = c.self.invariant.bound_room in omega (arith, one, two, room);
+      room = let one = c.push_reserved.ensures.capacity in roomy_for (vec_capacity c.self.inside.links) _ c.enter.new.self (omega (arith, one)) (c.enter.ensures.room (vec_capacity c.self.inside.links) c.self.invariant.room);
     }

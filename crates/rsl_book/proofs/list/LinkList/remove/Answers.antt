@@ -1,7 +1,8 @@
 use Rattle.std.proofs.Common.{List, length, ap, sym, subst, arith}
+use Rattle.std.specs.Prelude.{vec_capacity}
 use Rattle.rsl_book.specs.declared.link.Link.{Link}
 use Rattle.rsl_book.specs.LinkList.{AreOrders, RoomyList}
-use Rattle.rsl_book.proofs.OfLinks.{orders_closed, orders_of}
+use Rattle.rsl_book.proofs.OfLinks.{orders_closed, orders_of, roomy_for}
 use Rattle.rsl_book.proofs.list.LinkList.remove.Goals as goal
 
 pub withdraw-requires-clause-within : goal.withdraw-requires-clause-within
@@ -21,7 +22,7 @@ invariant_of-self c =
     record {
       orders = subst (λ (xs : List Link). AreOrders xs c.close_up.new.self) (sym c.remove.ensures.items)
           (orders_closed inside.links.items c.args.at c.withdraw.new.self c.close_up.new.self (omega (arith, few, c.requires))
-          (orders_of c.deref.result.now inside.links.items c.args.at c.withdraw.new.self c.deref.ensures.value c.withdraw.ensures.orders) c.close_up.ensures.reserved c.close_up.ensures.bound);
-      reserved_room = let one = c.remove.ensures.capacity in let two = c.withdraw.ensures.reserved_room in let three = c.close_up.ensures.reserved_room in let room = c.self.invariant.reserved_room in omega (arith, one, two, three, room);
-      bound_room = let one = c.remove.ensures.capacity in let two = c.withdraw.ensures.bound_room in let three = c.close_up.ensures.bound_room in let room = c.self.invariant.bound_room in omega (arith, one, two, three, room);
+          (orders_of c.deref.result.now inside.links.items c.args.at c.withdraw.new.self c.deref.ensures.value c.withdraw.ensures.orders) c.close_up.ensures.closed);
+      room = let one = c.remove.ensures.capacity in roomy_for (vec_capacity inside.links) _ c.close_up.new.self (omega (arith, one))
+          (c.close_up.ensures.room (vec_capacity inside.links) (c.withdraw.ensures.room (vec_capacity inside.links) c.self.invariant.room));
     }

@@ -15,8 +15,8 @@ loop-low-preserved-then-is_before c =
     record {
       within = omega (arith, less, top);
       inside = so_far.inside;
-      before = low_part c.args.self c.args.links.now c.args.order.now c.requires (c.args.number ∷ c.args.octets.now, c.args.at) middle within
-          (ap (λ (e : Entry). is_before e (c.args.number ∷ c.args.octets.now, c.args.at)) (sym here) ∙ sym c.is_before.ensures ∙ c.if-is_before.true);
+      before = low_part c.args.self c.args.links.now c.args.order.now c.requires (c.args.number ∷ c.args.mark ∷ c.args.octets.now, c.args.at) middle within
+          (ap (λ (e : Entry). is_before e (c.args.number ∷ c.args.mark ∷ c.args.octets.now, c.args.at)) (sym here) ∙ sym c.is_before.ensures ∙ c.if-is_before.true);
       after = so_far.after;
     }
 
@@ -32,6 +32,6 @@ loop-low-preserved c =
       within = omega (arith, less, top);
       inside = omega (arith, less, top);
       before = so_far.before;
-      after = high_part c.args.self c.args.links.now c.args.order.now c.requires (c.args.number ∷ c.args.octets.now, c.args.at) middle
-          (ap (λ (e : Entry). is_before e (c.args.number ∷ c.args.octets.now, c.args.at)) (sym here) ∙ sym c.is_before.ensures ∙ c.if-is_before.false);
+      after = high_part c.args.self c.args.links.now c.args.order.now c.requires (c.args.number ∷ c.args.mark ∷ c.args.octets.now, c.args.at) middle
+          (ap (λ (e : Entry). is_before e (c.args.number ∷ c.args.mark ∷ c.args.octets.now, c.args.at)) (sym here) ∙ sym c.is_before.ensures ∙ c.if-is_before.false);
     }

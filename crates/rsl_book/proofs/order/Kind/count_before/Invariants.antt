@@ -7,8 +7,8 @@ invariant-loop-low l =
     record {
       within : l.low ≤ l.high;
       inside : l.high ≤ length l.order;
-      before : (k : ℕ) → k < l.low → is_before (entry_at l.self l.links (get_or l.order k 0)) (l.number ∷ l.octets, l.at) ≡ true;
-      after : (k : ℕ) → l.high ≤ k → k < length l.order → is_before (entry_at l.self l.links (get_or l.order k 0)) (l.number ∷ l.octets, l.at) ≡ false;
+      before : (k : ℕ) → k < l.low → is_before (entry_at l.self l.links (get_or l.order k 0)) (l.number ∷ l.mark ∷ l.octets, l.at) ≡ true;
+      after : (k : ℕ) → l.high ≤ k → k < length l.order → is_before (entry_at l.self l.links (get_or l.order k 0)) (l.number ∷ l.mark ∷ l.octets, l.at) ≡ false;
     }
 
 abbrev pub decreases-loop-low : goal.decreases-loop-low

@@ -1,0 +1,68 @@
+-- How many of a list pass, counted over any order of its positions.
+use Rattle.std.proofs.Common.{◌≡◌, ℕ, zero, suc, ◌+◌, ◌-◌, ◌<◌, ◌≤◌, List, [], ◌∷◌, take, get_or, length, Bool, true, false, cond, refl, ap, sym, ◌∙◌, inl, inr, arith}
+use Rattle.std.specs.Prelude.{count_by}
+use Rattle.std.specs.List.{remove}
+use Rattle.std.proofs.lemmas.Bool.{cases_lt}
+use Rattle.std.proofs.lemmas.List.{take_all}
+use Rattle.std.proofs.lemmas.List.Sums.{count_by_more_no, count_by_more_yes, sum_by-remove}
+use Rattle.rsl_book.specs.Order.{Entry, IsOrder}
+use Rattle.rsl_book.proofs.Orders.{removed}
+
+abbrev count_upto : (ℕ → Bool) → ℕ → ℕ
+count_upto q zero = 0
+count_upto q (suc n) = count_upto q n + cond (q n) 1 0
+
+-- over the positions in any order
+over_order : (entry : ℕ → Entry) (q : ℕ → Bool) (n : ℕ) (order : List ℕ) → IsOrder (λ x. x < n) entry order → count_by q order ≡ count_upto q n
+over_order entry q zero [] o = refl
+over_order entry q zero (x ∷ xs) o = absurd (let none = o.each 0 (omega arith) in omega (arith, none))
+over_order entry q (suc n) order o =
+    let s = o.all n (omega arith) in
+    let rest = removed order o (λ x. x < n) s.at n s.within s.is (λ y low other. omega (arith, low, other)) (λ y low. omega (arith, low)) (λ y low. omega (arith, low)) in
+    sym (sum_by-remove (λ x. cond (q x) 1 0) order s.at 0 s.within)
+    ∙ ap (λ x. count_by q (remove order s.at) + cond (q x) 1 0) s.is
+    ∙ ap (λ k. k + cond (q n) 1 0) (over_order entry q n (remove order s.at) rest)
+
+-- over the list
+over_list : {A : Type 0} (p : A → Bool) (d : A) (xs : List A) (i : ℕ) → i ≤ length xs → count_by p (take i xs) ≡ count_upto (λ x. p (get_or xs x d)) i
+over_list p d xs zero within = refl
+over_list p d xs (suc i) within = ap (λ n. count_by p (take n xs)) next ∙ by_cases (over_list p d xs i (omega (arith, within))) (p (get_or xs i d)) refl where
+  next : suc i ≡ i + 1
+  next = omega arith
+
+  by_cases : count_by p (take i xs) ≡ count_upto (λ x. p (get_or xs x d)) i → (b : Bool) → p (get_or xs i d) ≡ b → count_by p (take (i + 1) xs) ≡ count_upto (λ x. p (get_or xs x d)) i + cond b 1 0
+  by_cases so_far true is = count_by_more_yes p xs i d (omega (arith, within)) is ∙ ap (λ k. k + 1) so_far
+  by_cases so_far false is = count_by_more_no p xs i d (omega (arith, within)) is ∙ so_far ∙ (omega arith)
+
+-- of an order in which those that pass stand together
+together : (q : ℕ → Bool) (order : List ℕ) (a b : ℕ) → a ≤ b
+    → ((k : ℕ) → k < a → k < length order → q (get_or order k 0) ≡ false)
+    → ((k : ℕ) → a ≤ k → k < b → k < length order → q (get_or order k 0) ≡ true)
+    → ((k : ℕ) → b ≤ k → k < length order → q (get_or order k 0) ≡ false)
+    → (i : ℕ) → i ≤ length order → count_by q (take i order) ≡ (i - a) - (i - b)
+together q order a b in_turn before inside after zero within = omega arith
+together q order a b in_turn before inside after (suc i) within =
+    let next : suc i ≡ i + 1 = omega arith in
+    let here : i < length order = omega (arith, within) in
+    let so_far = together q order a b in_turn before inside after i (omega (arith, within)) in
+    ap (λ n. count_by q (take n order)) next
+    ∙ elim (cases_lt i a) [
+      | inl low ↦ (let more = count_by_more_no q order i 0 here (before i low here) in omega (arith, more, so_far, low, in_turn))
+      | inr past ↦ elim (cases_lt i b) [
+        | inl low ↦ (let more = count_by_more_yes q order i 0 here (inside i past low here) in omega (arith, more, so_far, low, past))
+        | inr high ↦ (let more = count_by_more_no q order i 0 here (after i high here) in omega (arith, more, so_far, high, in_turn))
+      ]
+    ]
+
+pub counted_between : {A : Type 0} (p : A → Bool) (d : A) (xs : List A) (entry : ℕ → Entry) (order : List ℕ) (a b : ℕ) → IsOrder (λ x. x < length xs) entry order → a ≤ b → b ≤ length order
+    → ((k : ℕ) → k < a → k < length order → p (get_or xs (get_or order k 0) d) ≡ false)
+    → ((k : ℕ) → a ≤ k → k < b → k < length order → p (get_or xs (get_or order k 0) d) ≡ true)
+    → ((k : ℕ) → b ≤ k → k < length order → p (get_or xs (get_or order k 0) d) ≡ false)
+    → b - a ≡ count_by p xs
+counted_between p d xs entry order a b o in_turn within before inside after =
+    let list = over_list p d xs (length xs) (omega arith) in
+    let whole = ap (count_by p) (take_all (length xs) xs (omega arith)) in
+    let places = over_order entry (λ x. p (get_or xs x d)) (length xs) order o in
+    let some = together (λ x. p (get_or xs x d)) order a b in_turn before inside after (length order) (omega arith) in
+    let all = ap (count_by (λ x. p (get_or xs x d))) (take_all (length order) order (omega arith)) in
+    omega (arith, list, whole, places, some, all, in_turn, within)
