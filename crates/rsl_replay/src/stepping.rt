@@ -87,7 +87,7 @@ fn push_line(
     Ok(())
 }
 
-/// The datagram of an Access-Request.
+/// The datagram of an Access-Request, in room of its own length.
 fn access_datagram(
     alloc: Global,
     config: &Config,
@@ -100,11 +100,12 @@ fn access_datagram(
         request.now (is_signed_at config.now address) (secret_at config.now address))) }
 {
     let is_signed = is_signed_at(config, address);
-    let octets = access_octets(alloc, request, is_signed, secret_at(config, address))?;
+    let mut octets = access_octets(alloc, request, is_signed, secret_at(config, address))?;
+    octets.shrink_to_fit();
     Ok(datagram(moment, Port::Auth, address, Octets::from(octets)))
 }
 
-/// The datagram of an Accounting-Request.
+/// The datagram of an Accounting-Request, in room of its own length.
 fn accounting_datagram(
     alloc: Global,
     config: &Config,
@@ -117,7 +118,8 @@ fn accounting_datagram(
         datagram moment Port.Acct address (accounting_octets
         boot request.now (secret_at config.now address))) }
 {
-    let octets = accounting_octets(alloc, boot, request, secret_at(config, address))?;
+    let mut octets = accounting_octets(alloc, boot, request, secret_at(config, address))?;
+    octets.shrink_to_fit();
     Ok(datagram(moment, Port::Acct, address, Octets::from(octets)))
 }
 

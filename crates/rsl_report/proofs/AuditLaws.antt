@@ -23,7 +23,7 @@ use Rattle.rsl_shard.specs.Setup.{Setup, setup_of}
 use Rattle.rsl_shard.specs.declared.line.Line.{Line}
 use Rattle.rsl_shard.specs.declared.moved.Move.{Move}
 use Rattle.rsl_shard.specs.declared.moved.Move.TheVariants.{Own, Sweep, Tick, Stray}
-use Rattle.rsl_shard.proofs.Callers.{account_is, book_placed, new_book_at}
+use Rattle.rsl_shard.proofs.Callers.{account_is, book_placed, moved_book, new_book_at}
 use Rattle.rsl_report.specs.Replayed.{replayed, ruled}
 
 -- ---- the books
@@ -45,23 +45,6 @@ pub replayed-more : (config : Configuration) (shard : ℕ) (before : List Line) 
     → replayed config shard (before ++ line ∷ []) ≡ books_after (setup_of config shard) (replayed config shard before) line.moved
 unfolding replayed replay
 replayed-more config shard before line = replay-append (setup_of config shard) (new_books config shard) before (line ∷ [])
-
--- the book of an account after a move
-book_from-moved : (first shards account : ℕ) (moved : Move) (books : List RuledBook)
-    → book_from first shards (moved_from first shards moved books) account ≡ option_map (stepped (event_to account moved)) (book_from first shards books account)
-unfolding book_from moved_from
-book_from-moved first shards account moved [] = refl
-book_from-moved first shards account moved (ruled ∷ books) = by (first == account) refl (book_from-moved (first + shards) shards account moved books)
-  where
-    Rest : Type 0
-    Rest = book_from (first + shards) shards (moved_from (first + shards) shards moved books) account
-        ≡ option_map (stepped (event_to account moved)) (book_from (first + shards) shards books account)
-
-    by : (t : Bool) → (first == account) ≡ t → Rest
-        → cond t (Some (stepped (event_to first moved) ruled)) (book_from (first + shards) shards (moved_from (first + shards) shards moved books) account)
-        ≡ option_map (stepped (event_to account moved)) (cond t (Some ruled) (book_from (first + shards) shards books account))
-    by true is rest = ap (λ (n : ℕ). Some (stepped (event_to n moved) ruled)) (eqb-true first account is)
-    by false is rest = rest
 
 -- a book of an account after its own events among lines
 book_past : (account : ℕ) → List Line → RuledBook → RuledBook
@@ -94,7 +77,7 @@ unfolding replay
 book_at-replay setup opening [] account = book_past-none account (book_at setup opening account)
 book_at-replay setup opening (line ∷ lines) account =
     book_at-replay setup (books_after setup opening line.moved) lines account
-    ∙ ap (option_map (book_past account lines)) (book_from-moved setup.shard setup.shards account line.moved opening)
+    ∙ ap (option_map (book_past account lines)) (moved_book setup.shard setup.shards account line.moved opening)
     ∙ book_past-more account line lines (book_at setup opening account)
 
 -- the new book of an account of a shard

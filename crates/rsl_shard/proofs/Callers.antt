@@ -4,5 +4,7 @@
 -- an account of a shard stands at its place, and its book at that place of the list
 pub use Rattle.rsl_shard.proofs.Numbers.{account_is}
 pub use Rattle.rsl_shard.proofs.Moving.{book_placed}
+-- a move steps the book of an account by what it is to the account
+pub use Rattle.rsl_shard.proofs.Moving.{moved_book}
 -- the new book at a place is that of the account whose place it is
 pub use Rattle.rsl_shard.proofs.Beginning.{new_book_at}

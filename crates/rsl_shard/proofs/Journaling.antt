@@ -1,5 +1,5 @@
 -- A journal with one line more, and one without lines.
-use Rattle.std.proofs.Common.{◌≡◌, ℕ, zero, suc, ◌-◌, ◌^◌, ◌<◌, ◌≤◌, ◌⊎◌, List, [], ◌∷◌, ◌++◌, take, length, Some, inl, inr, refl, sym, ap, subst, ◌∙◌, arith, length-append}
+use Rattle.std.proofs.Common.{◌≡◌, ℕ, zero, suc, ◌+◌, ◌-◌, ◌^◌, ◌%◌, ◌<◌, ◌≤◌, ◌⊎◌, ◌==◌, cond, Bool, true, false, Option, None, List, [], ◌∷◌, ◌++◌, map, take, length, Some, inl, inr, refl, sym, ap, subst, ◌∙◌, arith, length-append}
 use Rattle.std.specs.Prelude.{slice_get}
 use Rattle.std.proofs.lemmas.Bool.{cases_lt}
 use Rattle.std.proofs.lemmas.List.{take-append-le, take_all}
@@ -7,14 +7,22 @@ use Rattle.std.proofs.lemmas.List.Elements.{All-append, All-cons, All-nil}
 use Rattle.rsl_book.specs.RuledBook.{RuledBook}
 use Rattle.rsl_event.specs.declared.event.Decision.{Decision}
 use Rattle.rsl_shard.specs.Moves.{IsTaken}
-use Rattle.rsl_shard.specs.Replay.{AreBooks, books_after, decision_by, replay}
-use Rattle.rsl_shard.specs.Seen.{IsKept, ShardSeen, books_of, total_of, with_line}
-use Rattle.rsl_shard.specs.ShardJournal.{IsJournal}
-use Rattle.rsl_shard.specs.Setup.{Setup}
+use Rattle.rsl_accounts.specs.Configuration.{Configuration}
+use Rattle.rsl_accounts.specs.declared.entry.Entry.{Entry}
+use Rattle.rsl_event.specs.declared.event.Event.{Event}
+use Rattle.rsl_shard.specs.Moves.{event_to}
+use Rattle.rsl_shard.specs.Opening.{opening_of, renewed}
+use Rattle.rsl_shard.specs.Replay.{AreBooks, HaveStepped, book_of_entry, books_after, decision_by, moved_from, new_books, new_books_from, replay, stepped}
+use Rattle.rsl_shard.specs.declared.opening.Opening.{Opening}
+use Rattle.rsl_shard.specs.declared.opening.Opening.TheVariants.{New, Kept}
+use Rattle.rsl_shard.specs.Seen.{IsKept, ShardSeen, books_of, new_shard, total_of, with_line}
+use Rattle.rsl_shard.specs.Journal.{IsJournal}
+use Rattle.rsl_shard.specs.Setup.{Setup, setup_of}
 use Rattle.rsl_shard.specs.declared.line.Line.{Line}
 use Rattle.rsl_shard.specs.declared.moved.Move.{Move}
 use Rattle.rsl_shard.specs.declared.shard.Shard.TheInside.{Inside}
 use Rattle.rsl_shard.specs.ShardInside.{HasJournal, shard_seen}
+use Rattle.rsl_shard.proofs.Moving.{have_stepped}
 
 -- an element of a list with one more at its end
 earlier : {A : Type 0} (xs : List A) (x y : A) (n : ℕ) → n < length xs → slice_get (xs ++ x ∷ []) n ≡ slice_get xs n
@@ -71,16 +79,69 @@ one_line_more setup opening lines moved decision journal taken decided = record 
         ∙ ap (λ (some : List Line). decision_by setup (replay setup opening some) moved) (sym all)
         ∙ ap (λ (one : Line). decision_by setup (replay setup opening (take n (lines ++ new ∷ []))) one.moved) there.1
 
+-- what a move makes of books has their rules: so the books that they were when they were new stay the same
+renewed_stepped : (event : Option Event) (ruled : RuledBook) → renewed (stepped event ruled) ≡ renewed ruled
+renewed_stepped None ruled = refl
+renewed_stepped (Some event) ruled = refl
+
+renewed_moved : (first shards : ℕ) (moved : Move) (books : List RuledBook) → map renewed (moved_from first shards moved books) ≡ map renewed books
+unfolding moved_from
+renewed_moved first shards moved [] = refl
+renewed_moved first shards moved (ruled ∷ books) =
+    ap (λ (book : RuledBook). book ∷ map renewed (moved_from (first + shards) shards moved books)) (renewed_stepped (event_to first moved) ruled)
+    ∙ ap (λ (rest : List RuledBook). renewed ruled ∷ rest) (renewed_moved (first + shards) shards moved books)
+
+opening_stays : (opening : Opening) (setup : Setup) (books : List RuledBook) (moved : Move) → opening_of opening (books_after setup books moved) ≡ opening_of opening books
+opening_stays New setup books moved = renewed_moved setup.shard setup.shards moved books
+opening_stays (Kept kept) setup books moved = refl
+
+renewed_from : (shards shard number : ℕ) (entries : List Entry) → map renewed (new_books_from shards shard number entries) ≡ new_books_from shards shard number entries
+unfolding new_books_from
+renewed_from shards shard number [] = refl
+renewed_from shards shard number (entry ∷ entries) = by (number % shards == shard) (renewed_from shards shard (number + 1) entries)
+  where
+    rest : List RuledBook
+    rest = new_books_from shards shard (number + 1) entries
+
+    by : (test : Bool) → map renewed rest ≡ rest → map renewed (cond test (book_of_entry entry ∷ rest) rest) ≡ cond test (book_of_entry entry ∷ rest) rest
+    by true same = ap (λ (books : List RuledBook). book_of_entry entry ∷ books) same
+    by false same = same
+
+-- the new books of a shard are those of which they are the new books
+pub renewed_new : (config : Configuration) (shard : ℕ) (books : List RuledBook) → books ≡ new_books config shard → opening_of New books ≡ books
+renewed_new config shard books are =
+    ap (map renewed) are ∙ renewed_from config.settings.shards shard 0 config.accounts ∙ sym are
+
+-- what is seen of a shard after one move more
+pub seen_on : (old new : Inside) (moved : Move) (decision : Decision) → new.books.setup ≡ old.books.setup
+    → new.books.books ≡ books_after old.books.setup old.books.books moved → new.opening ≡ old.opening → new.first ≡ old.first
+    → new.lines.items ≡ old.lines.items ++ record { moved = moved; decision = decision } ∷ [] → shard_seen new ≡ with_line (shard_seen old) moved decision
+seen_on old new moved decision setup books opening first lines = λ i. record { setup = setup i; first = first i; opening = same i; lines = lines i }
+  where
+    same : opening_of new.opening new.books.books ≡ opening_of old.opening old.books.books
+    same =
+        ap (λ (o : Opening). opening_of o new.books.books) opening ∙ ap (λ (all : List RuledBook). opening_of old.opening all) books
+        ∙ opening_stays old.opening old.books.setup old.books.books moved
+
+-- the books of a shard after one move more
+pub books_on : (old new : ShardSeen) (moved : Move) (decision : Decision) → new ≡ with_line old moved decision
+    → HaveStepped old.setup moved (books_of old) (books_of new)
+books_on old new moved decision is =
+    subst (λ (seen : ShardSeen). HaveStepped old.setup moved (books_of old) (books_of seen)) (sym is)
+    (subst (λ (books : List RuledBook). HaveStepped old.setup moved (books_of old) books)
+    (sym (replay_more old.setup old.opening old.lines (record { moved = moved; decision = decision })))
+    (have_stepped old.setup moved (books_of old)))
+
 -- what the fields of a shard are after one move more
 pub moved_on : (old new : Inside) (moved : Move) (decision : Decision) → HasJournal old → IsTaken old.books.setup moved
     → total_of (shard_seen old) < 2 ^ 64 - 1 → decision ≡ decision_by old.books.setup old.books.books moved
     → new.books.setup ≡ old.books.setup → new.books.books ≡ books_after old.books.setup old.books.books moved → AreBooks new.books.setup new.books.books
-    → new.opening.items ≡ old.opening.items → new.first ≡ old.first
+    → new.opening ≡ old.opening → new.first ≡ old.first
     → new.lines.items ≡ old.lines.items ++ record { moved = moved; decision = decision } ∷ [] → HasJournal new
 moved_on old new moved decision has taken room decided setup books sound opening first lines = record {
   replayed = replayed;
   kept = subst IsKept (sym seen) (record {
-    journal = one_line_more old.books.setup old.opening.items old.lines.items moved decision has.kept.journal taken
+    journal = one_line_more old.books.setup begins old.lines.items moved decision has.kept.journal taken
         (decided ∙ ap (λ (all : List RuledBook). decision_by old.books.setup all moved) has.replayed);
     books = subst (λ (shard : ShardSeen). AreBooks shard.setup (books_of shard)) seen (subst (λ (all : List RuledBook). AreBooks new.books.setup all) replayed sound);
     total = omega (arith, room, length-append old.lines.items (line ∷ []));
@@ -90,21 +151,24 @@ moved_on old new moved decision has taken room decided setup books sound opening
     line : Line
     line = record { moved = moved; decision = decision }
 
+    begins : List RuledBook
+    begins = opening_of old.opening old.books.books
+
     seen : shard_seen new ≡ with_line (shard_seen old) moved decision
-    seen = λ i. record { setup = setup i; first = first i; opening = opening i; lines = lines i }
+    seen = seen_on old new moved decision setup books opening first lines
 
     replayed : new.books.books ≡ books_of (shard_seen new)
     replayed =
         books ∙ ap (λ (all : List RuledBook). books_after old.books.setup all moved) has.replayed
-        ∙ sym (replay_more old.books.setup old.opening.items old.lines.items line)
+        ∙ sym (replay_more old.books.setup begins old.lines.items line)
         ∙ ap (λ (shard : ShardSeen). books_of shard) (sym seen)
 
 -- what the fields of a shard are that begins: with new books, or with copies of those of a shard
-pub begun : (new : Inside) → AreBooks new.books.setup new.books.books → new.opening.items ≡ new.books.books → new.lines.items ≡ [] → new.first < 2 ^ 64 → HasJournal new
+pub begun : (new : Inside) → AreBooks new.books.setup new.books.books → opening_of new.opening new.books.books ≡ new.books.books → new.lines.items ≡ [] → new.first < 2 ^ 64 → HasJournal new
 begun new sound opening lines within = record {
   replayed = replayed;
   kept = record {
-    journal = subst (λ (some : List Line). IsJournal new.books.setup new.opening.items some) (sym lines) (no_lines new.books.setup new.opening.items);
+    journal = subst (λ (some : List Line). IsJournal new.books.setup (opening_of new.opening new.books.books) some) (sym lines) (no_lines new.books.setup (opening_of new.opening new.books.books));
     books = subst (λ (all : List RuledBook). AreBooks new.books.setup all) replayed sound;
     total = omega (arith, within, ap length lines);
   };
@@ -112,5 +176,10 @@ begun new sound opening lines within = record {
   where
     replayed : new.books.books ≡ books_of (shard_seen new)
     replayed =
-        sym opening ∙ sym (replay_none new.books.setup new.opening.items)
-        ∙ ap (λ (some : List Line). replay new.books.setup new.opening.items some) (sym lines)
+        sym opening ∙ sym (replay_none new.books.setup (opening_of new.opening new.books.books))
+        ∙ ap (λ (some : List Line). replay new.books.setup (opening_of new.opening new.books.books) some) (sym lines)
+
+-- what is seen of a shard that begins with new books
+pub new_seen : (config : Configuration) (shard : ℕ) (new : Inside) → new.books.setup ≡ setup_of config shard
+    → opening_of new.opening new.books.books ≡ new_books config shard → new.lines.items ≡ [] → new.first ≡ 0 → shard_seen new ≡ new_shard config shard
+new_seen config shard new setup opening lines first = λ i. record { setup = setup i; first = first i; opening = opening i; lines = lines i }

@@ -1,7 +1,7 @@
 -- What a move makes of the books of a shard, place by place.
 use Rattle.std.proofs.Common.{◌≡◌, ℕ, zero, suc, ◌+◌, ◌*◌, ◌/◌, ◌%◌, ◌<◌, ◌≤◌, ◌⊎◌, List, [], ◌∷◌, ◌++◌, take, drop, set, get_or, length, map, Bool, true, false, ◌==◌, cond, Option, Some, None, inl, inr, refl, sym, ap, subst, ◌∙◌, arith, append-nil}
 use Rattle.std.specs.Prelude.{IfSome, slice_get}
-use Rattle.std.specs.Option.{option_map_or}
+use Rattle.std.specs.Option.{option_map, option_map_or}
 use Rattle.std.proofs.Math.Nat.{mod-eq_of_lt, suc-mul}
 use Rattle.std.proofs.lemmas.Bool.{cases_lt, eqb-true, eq-eqb}
 use Rattle.std.proofs.lemmas.List.{drop_all, take_all, take_more, get_or_default}
@@ -15,7 +15,7 @@ use Rattle.rsl_event.specs.declared.event.Event.{Event}
 use Rattle.rsl_session.specs.Book.{Book}
 use Rattle.rsl_session.specs.BookStep.{step}
 use Rattle.rsl_shard.specs.Moves.{IsOfShard, event_to}
-use Rattle.rsl_shard.specs.Replay.{AreBooks, book_at, book_from, books_after, decision_by, moved_from, stepped}
+use Rattle.rsl_shard.specs.Replay.{AreBooks, HaveStepped, book_at, book_from, books_after, decision_by, moved_from, stepped}
 use Rattle.rsl_shard.specs.Setup.{Setup}
 use Rattle.rsl_shard.specs.declared.moved.Move.{Move}
 use Rattle.rsl_shard.specs.declared.moved.Move.TheVariants.{Own}
@@ -63,6 +63,33 @@ moved_none first shards moved [] each = refl
 moved_none first shards moved (ruled ∷ books) each =
     ap (λ (o : Option Event). stepped o ruled ∷ moved_from (first + shards) shards moved books) (each first)
     ∙ ap (λ (rest : List RuledBook). ruled ∷ rest) (moved_none (first + shards) shards moved books each)
+
+-- a move steps the book of an account by what it is to the account
+moved_first : (first shards account : ℕ) (moved : Move) (ruled : RuledBook) (books : List RuledBook) (b : Bool) → (first == account) ≡ b
+    → book_from (first + shards) shards (moved_from (first + shards) shards moved books) account ≡ option_map (stepped (event_to account moved)) (book_from (first + shards) shards books account)
+    → cond b (Some (stepped (event_to first moved) ruled)) (book_from (first + shards) shards (moved_from (first + shards) shards moved books) account)
+    ≡ option_map (stepped (event_to account moved)) (cond b (Some ruled) (book_from (first + shards) shards books account))
+moved_first first shards account moved ruled books true is rest = ap (λ (number : ℕ). Some (stepped (event_to number moved) ruled)) (eqb-true first account is)
+moved_first first shards account moved ruled books false is rest = rest
+
+pub moved_book : (first shards account : ℕ) (moved : Move) (books : List RuledBook)
+    → book_from first shards (moved_from first shards moved books) account ≡ option_map (stepped (event_to account moved)) (book_from first shards books account)
+unfolding book_from moved_from
+moved_book first shards account moved [] = refl
+moved_book first shards account moved (ruled ∷ books) =
+    moved_first first shards account moved ruled books (first == account) refl (moved_book (first + shards) shards account moved books)
+
+stepped_by_none : (o : Option RuledBook) → option_map (stepped None) o ≡ o
+stepped_by_none None = refl
+stepped_by_none (Some ruled) = refl
+
+pub have_stepped : (setup : Setup) (moved : Move) (old : List RuledBook) → HaveStepped setup moved old (books_after setup old moved)
+have_stepped setup moved old = record {
+  each = λ account. moved_book setup.shard setup.shards account moved old;
+  others = λ account nothing.
+      moved_book setup.shard setup.shards account moved old
+      ∙ ap (λ (event : Option Event). option_map (stepped event) (book_at setup old account)) nothing ∙ stepped_by_none (book_at setup old account);
+}
 
 -- the book of an account stands at its place
 pub book_placed : (first shards account place : ℕ) (books : List RuledBook) → 0 < shards → account ≡ first + place * shards

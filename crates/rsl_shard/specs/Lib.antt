@@ -1,9 +1,9 @@
 pub mod BooksInside
 pub mod Journal
 pub mod Moves
+pub mod Opening
 pub mod Replay
 pub mod Rows
 pub mod Seen
 pub mod Setup
 pub mod ShardInside
-pub mod ShardJournal

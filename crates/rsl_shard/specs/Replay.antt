@@ -4,8 +4,8 @@
 -- number, and each next account's number is higher by the number of shards. A move steps each book
 -- by what it is to the book's account: an own move that of its account alone, a sweep or a tick
 -- every one, a stray none.
-use Rattle.std.specs.Prelude.{ℕ, ◌+◌, ◌*◌, ◌<◌, ◌==◌, ◌%◌, List, [], ◌∷◌, length, All, Option, Some, None, if◌then◌else◌}
-use Rattle.std.specs.Option.{option_map_or}
+use Rattle.std.specs.Prelude.{◌≡◌, ℕ, ◌+◌, ◌*◌, ◌<◌, ◌==◌, ◌%◌, List, [], ◌∷◌, length, All, Option, Some, None, if◌then◌else◌}
+use Rattle.std.specs.Option.{option_map, option_map_or}
 use Rattle.rsl_accounts.specs.Configuration.{Configuration}
 use Rattle.rsl_accounts.specs.declared.entry.Entry.{Entry}
 use Rattle.rsl_book.specs.RuledBook.{IsWithinLimit, RuledBook}
@@ -45,6 +45,15 @@ book_at setup books account = book_from setup.shard setup.shards books account
 -- the books of a shard after a move
 abbrev pub books_after : Setup → List RuledBook → Move → List RuledBook
 books_after setup books moved = moved_from setup.shard setup.shards moved books
+
+-- What a move makes of the books of a shard, account by account.
+pub record HaveStepped (setup : Setup) (moved : Move) (old new : List RuledBook) : Type 0 where
+  -- each account's book is stepped by what the move is to the account
+  pub each : (account : ℕ) → book_at setup new account
+      ≡ option_map (stepped (event_to account moved)) (book_at setup old account)
+  -- and it is as it was where that is nothing, as an own move of another account is
+  pub others : (account : ℕ) → event_to account moved ≡ None
+      → book_at setup new account ≡ book_at setup old account
 
 -- the books of a shard after the moves of some lines: their decisions are not used
 unfoldable pub replay : Setup → (opening : List RuledBook) → List Line → List RuledBook

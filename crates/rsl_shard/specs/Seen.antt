@@ -6,7 +6,7 @@ use Rattle.rsl_accounts.specs.Configuration.{Configuration}
 use Rattle.rsl_book.specs.RuledBook.{RuledBook}
 use Rattle.rsl_event.specs.declared.event.Decision.{Decision}
 use Rattle.rsl_shard.specs.Replay.{AreBooks, new_books, replay}
-use Rattle.rsl_shard.specs.ShardJournal.{IsJournal}
+use Rattle.rsl_shard.specs.Journal.{IsJournal}
 use Rattle.rsl_shard.specs.Setup.{Setup, setup_of}
 use Rattle.rsl_shard.specs.declared.line.Line.{Line}
 use Rattle.rsl_shard.specs.declared.moved.Move.{Move}

@@ -1,5 +1,6 @@
 -- How the inside of a shard is seen.
 use Rattle.std.specs.Prelude.{◌≡◌}
+use Rattle.rsl_shard.specs.Opening.{opening_of}
 use Rattle.rsl_shard.specs.Seen.{IsKept, ShardSeen, books_of}
 use Rattle.rsl_shard.specs.declared.shard.Shard.TheInside.{Inside}
 
@@ -7,7 +8,7 @@ abbrev pub shard_seen : Inside → ShardSeen
 shard_seen inside = record {
   setup = inside.books.setup;
   first = inside.first;
-  opening = inside.opening.items;
+  opening = opening_of inside.opening inside.books.books;
   lines = inside.lines.items;
 }
 

@@ -1,10 +1,39 @@
-ghost use Rattle.std.specs.Prelude.{◌≡◌, ◌+◌, ◌*◌, ◌<◌, ◌≤◌, ◌↔◌, All, IfOk, IfSome, IfNone, IsSome, IsTrue, OnErr, Some, None, length, map, set, slice_get};
+ghost use Rattle.std.specs.Prelude.{
+  ◌≡◌,
+  ◌+◌,
+  ◌*◌,
+  ◌<◌,
+  ◌≤◌,
+  ◌↔◌,
+  All,
+  IfOk,
+  IfSome,
+  IfNone,
+  IsSome,
+  IsTrue,
+  OnErr,
+  Some,
+  None,
+  length,
+  map,
+  set,
+  slice_get,
+};
 ghost use Rattle.rsl_book.specs.RuledBook.{IsWithinLimit};
 ghost use Rattle.rsl_event.specs.Prepared.{IsOfOneAccount};
 ghost use Rattle.rsl_event.specs.declared.event.Act.TheVariants.{Sweep, Tick};
 ghost use Rattle.rsl_session.specs.BookStep.{step};
 ghost use Rattle.rsl_shard.specs.Moves.{IsOfShard, IsOwn, IsTaken};
-ghost use Rattle.rsl_shard.specs.Replay.{AreBooks, book_at, books_after, decision_by, new_books, new_books_seen, stepped};
+ghost use Rattle.rsl_shard.specs.Opening.{renewed};
+ghost use Rattle.rsl_shard.specs.Replay.{
+  AreBooks,
+  book_at,
+  books_after,
+  decision_by,
+  new_books,
+  new_books_seen,
+  stepped,
+};
 ghost use Rattle.rsl_shard.specs.Rows.{rows_from, rows_of};
 ghost use Rattle.rsl_shard.specs.declared.moved.Move.TheVariants as moves;
 
@@ -17,10 +46,11 @@ use rsl_wire::NoMemory;
 use std::alloc::Global;
 use std::marker::Model;
 
-/// The books of the accounts of one shard, in the order of the accounts' numbers, without a journal.
+/// The books of the accounts of one shard, in the order of the accounts' numbers, without a
+/// journal.
 ///
-/// A contract sees the shard's number, how many shards and accounts there are, and each book with its
-/// account's rules.
+/// A contract sees the shard's number, how many shards and accounts there are, and each book with
+/// its account's rules.
 #[derive(Drop)]
 pub struct Books {
     shard: u32,
@@ -69,12 +99,13 @@ fn step_at(books: &mut [Book], place: usize, event: Event) -> Decision
 #[tactic(auto, using(crate::proofs::Moving::each_steps))]
 fn sweep_each(books: &mut [Book], moment: u64, nas: &Nas)
     requires { All IsWithinLimit books.old }
-    ensures books { books.new ≡ map (stepped (Some (record { moment = moment; act = Sweep nas.now }))) books.old }
+    ensures books { books.new ≡
+        map (stepped (Some (record { moment = moment; act = Sweep nas.now }))) books.old }
     ensures limit { All IsWithinLimit books.new }
     ensures len { length books.new ≡ length books.old }
 {
-    for place in 0..books.len() {
-        books[place].sweep(moment, nas);
+    for at in 0..books.len() {
+        books[at].sweep(moment, nas);
     }
 }
 
@@ -82,7 +113,8 @@ fn sweep_each(books: &mut [Book], moment: u64, nas: &Nas)
 #[tactic(auto, using(crate::proofs::Moving::each_steps))]
 fn tick_each(books: &mut [Book], moment: u64)
     requires { All IsWithinLimit books.old }
-    ensures books { books.new ≡ map (stepped (Some (record { moment = moment; act = Tick }))) books.old }
+    ensures books { books.new ≡
+        map (stepped (Some (record { moment = moment; act = Tick }))) books.old }
     ensures limit { All IsWithinLimit books.new }
     ensures len { length books.new ≡ length books.old }
 {
@@ -119,6 +151,18 @@ fn copies_of(alloc: Global, books: &[Book]) -> Result<Vec<Book>, NoMemory>
     Ok(copies)
 }
 
+/// New books of the same accounts.
+#[tactic(auto, using(crate::proofs::Moving::copy_steps, std::proofs::lemmas::List::map_push))]
+fn new_again(alloc: Global, books: &[Book]) -> Result<Vec<Book>, NoMemory>
+    ensures { IfOk result (λ made. made.items ≡ map renewed books.now) }
+{
+    let mut made = Vec::with_capacity(alloc, books.len())?;
+    for book in books {
+        made.push(Book::new(alloc, book.rules())?)?;
+    }
+    Ok(made)
+}
+
 /// The rows of an account and of those that follow it in its shard.
 fn rows_from(alloc: Global, first: u32, shards: u32, books: &[Book]) -> Result<Vec<Row>, NoMemory>
     requires first { first ≤ 4 }
@@ -150,8 +194,8 @@ fn new_list(alloc: Global, config: &Config, shard: u32) -> Result<Vec<Book>, NoM
 }
 
 impl Books {
-    /// The books of the accounts of a shard, none of which has had an event. It fails only where memory is
-    /// refused.
+    /// The books of the accounts of a shard, none of which has had an event. It fails only where
+    /// memory is refused.
     pub fn new(alloc: Global, config: &Config, shard: u32) -> Result<Books, NoMemory>
         requires { shard < config.now.settings.shards }
         ensures books { IfOk result (λ books. books ≡ new_books_seen config.now shard) }
@@ -181,8 +225,8 @@ impl Books {
         (account / self.shards) as usize
     }
 
-    /// Whether a move can be made: what is one account's own is an ask, an alive or a stop of an account of
-    /// the shard.
+    /// Whether a move can be made: what is one account's own is an ask, an alive or a stop of an
+    /// account of the shard.
     pub fn takes(&self, moved: &Move) -> bool
         ensures { IsTrue result ↔ IsTaken self.now.setup moved.now }
     {
@@ -194,7 +238,8 @@ impl Books {
 
     /// The book of an account, if the account is one of the shard.
     pub fn book(&self, account: u32) -> Option<&Book>
-        ensures some { IfSome result (λ book. book_at self.now.setup self.now.books account ≡ Some book.now) }
+        ensures some { IfSome result (λ book.
+            book_at self.now.setup self.now.books account ≡ Some book.now) }
         ensures none { IfNone result (book_at self.now.setup self.now.books account ≡ None) }
         ensures there { IsSome result ↔ IsOfShard self.now.setup account }
     {
@@ -205,14 +250,16 @@ impl Books {
         }
     }
 
-    /// Steps the books by a move, which is as it was: what is one account's own steps its book and no other, a
-    /// sweep or a tick each book, a stray none. The decision is that of the account's book, and `Done` on every
-    /// other move. Where memory is refused nothing has changed.
+    /// Steps the books by a move, which is as it was: what is one account's own steps its book and
+    /// no other, a sweep or a tick each book, a stray none. The decision is that of the account's
+    /// book, and `Done` on every other move. Where memory is refused nothing has changed.
     pub fn step(&mut self, alloc: Global, moved: &Move) -> Result<Decision, NoMemory>
         requires { IsTaken self.old.setup moved.now }
         ensures setup { self.new.setup ≡ self.old.setup }
-        ensures books { IfOk result (λ _. self.new.books ≡ books_after self.old.setup self.old.books moved.now) }
-        ensures decision { IfOk result (λ decision. decision ≡ decision_by self.old.setup self.old.books moved.now) }
+        ensures books { IfOk result (λ _.
+            self.new.books ≡ books_after self.old.setup self.old.books moved.now) }
+        ensures decision { IfOk result (λ decision.
+            decision ≡ decision_by self.old.setup self.old.books moved.now) }
         ensures err { OnErr result (self.new ≡ self.old) }
     {
         match moved {
@@ -227,8 +274,10 @@ impl Books {
     fn own(&mut self, alloc: Global, account: u32, event: &Event) -> Result<Decision, NoMemory>
         requires { IsOwn self.old.setup account event.now }
         ensures setup { self.new.setup ≡ self.old.setup }
-        ensures books { IfOk result (λ _. self.new.books ≡ books_after self.old.setup self.old.books (moves.Own account event.now)) }
-        ensures decision { IfOk result (λ decision. decision ≡ decision_by self.old.setup self.old.books (moves.Own account event.now)) }
+        ensures books { IfOk result (λ _. self.new.books ≡
+            books_after self.old.setup self.old.books (moves.Own account event.now)) }
+        ensures decision { IfOk result (λ decision. decision ≡
+            decision_by self.old.setup self.old.books (moves.Own account event.now)) }
         ensures err { OnErr result (self.new ≡ self.old) }
     {
         let event = event.try_copy(alloc)?;
@@ -239,7 +288,8 @@ impl Books {
     /// Sweeps each book.
     fn sweep(&mut self, moment: u64, nas: &Nas) -> Decision
         ensures setup { self.new.setup ≡ self.old.setup }
-        ensures books { self.new.books ≡ books_after self.old.setup self.old.books (moves.Sweep moment nas.now) }
+        ensures books { self.new.books ≡
+            books_after self.old.setup self.old.books (moves.Sweep moment nas.now) }
         ensures decision { result ≡ Decision.Done }
     {
         sweep_each(&mut self.list, moment, nas);
@@ -249,15 +299,16 @@ impl Books {
     /// Ticks each book.
     fn tick(&mut self, moment: u64) -> Decision
         ensures setup { self.new.setup ≡ self.old.setup }
-        ensures books { self.new.books ≡ books_after self.old.setup self.old.books (moves.Tick moment) }
+        ensures books { self.new.books ≡
+            books_after self.old.setup self.old.books (moves.Tick moment) }
         ensures decision { result ≡ Decision.Done }
     {
         tick_each(&mut self.list, moment);
         Decision::Done
     }
 
-    /// What the books of a shard have always: there is one for each of its accounts, and none holds more than
-    /// its limit.
+    /// What the books of a shard have always: there is one for each of its accounts, and none holds
+    /// more than its limit.
     pub(crate) fn are_sound(&self)
         ensures { AreBooks self.now.setup self.now.books }
     {
@@ -271,8 +322,8 @@ impl Books {
         are_same(&self.list, books)
     }
 
-    /// What each account of the shard holds, in the order of their numbers. It fails only where memory
-    /// is refused.
+    /// What each account of the shard holds, in the order of their numbers. It fails only where
+    /// memory is refused.
     pub fn rows(&self, alloc: Global) -> Result<Vec<Row>, NoMemory>
         ensures { IfOk result (λ rows. rows.items ≡ rows_of self.now.setup self.now.books) }
     {
@@ -284,6 +335,13 @@ impl Books {
         ensures { IfOk result (λ copies. copies.items ≡ self.now.books) }
     {
         copies_of(alloc, &self.list)
+    }
+
+    /// New books of the same accounts. It fails only where memory is refused.
+    pub(crate) fn renewed(&self, alloc: Global) -> Result<Vec<Book>, NoMemory>
+        ensures { IfOk result (λ made. made.items ≡ map renewed self.now.books) }
+    {
+        new_again(alloc, &self.list)
     }
 
     /// The number of the shard.

@@ -1,13 +1,14 @@
 //! Shards: the books of some accounts, with the journal of what was done to them.
 //!
-//! What a journal means is defined in `specs/`: `Moves.antt` says which lines concern an account, `Replay.antt`
-//! what moves make of the books of a shard, `ShardJournal.antt` what the lines of a journal are, and `Seen.antt`
-//! what is kept of every shard.
+//! What a journal means is defined in `specs/`: `Moves.antt` says which lines concern an account,
+//! `Replay.antt` what moves make of the books of a shard, `Journal.antt` what the lines of a
+//! journal are, and `Seen.antt` what is kept of every shard.
 #![tactic(auto)]
 
 mod books;
 mod line;
 mod moved;
+mod opening;
 mod row;
 mod segment;
 mod shard;

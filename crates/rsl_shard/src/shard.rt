@@ -1,12 +1,28 @@
-ghost use Rattle.std.specs.Prelude.{◌≡◌, ◌-◌, ◌^◌, ◌<◌, ◌↔◌, IfNone, IfOk, IfSome, IsSome, IsTrue, OnErr, Some, None, length};
+ghost use Rattle.std.specs.Prelude.{
+  ◌≡◌,
+  ◌-◌,
+  ◌^◌,
+  ◌<◌,
+  ◌↔◌,
+  IfNone,
+  IfOk,
+  IfSome,
+  IsSome,
+  IsTrue,
+  OnErr,
+  Some,
+  None,
+  length,
+};
 ghost use Rattle.rsl_shard.specs.Moves.{IsOfShard, IsTaken};
-ghost use Rattle.rsl_shard.specs.Replay.{book_at, decision_by};
+ghost use Rattle.rsl_shard.specs.Replay.{HaveStepped, book_at, decision_by};
 ghost use Rattle.rsl_shard.specs.Rows.{rows_of};
 ghost use Rattle.rsl_shard.specs.Seen.{IsKept, books_of, cut_off, new_shard, total_of, with_line};
 
 use crate::books::Books;
 use crate::line::Line;
 use crate::moved::Move;
+use crate::opening::Opening;
 use crate::row::Row;
 use crate::segment::Segment;
 use rsl_accounts::Config;
@@ -19,13 +35,14 @@ use std::mem::replace;
 
 /// The books of the accounts of one shard, with the journal of what was done to them.
 ///
-/// A contract sees what the shard knows of the configuration, how many lines were handed out, the books that the
-/// journal begins with, and its lines. The books are what the lines make of those: its type keeps it, and that
-/// each line's move is one that the shard takes, with the decision of the books at that point.
+/// A contract sees what the shard knows of the configuration, how many lines were handed out, the
+/// books that the journal begins with, and its lines. The books are what the lines make of those:
+/// its type keeps it, and that each line's move is one that the shard takes, with the decision of
+/// the books at that point.
 #[derive(Drop)]
 pub struct Shard {
     books: Books,
-    opening: Vec<Book>,
+    opening: Opening,
     lines: Vec<Line>,
     first: u64,
 }
@@ -48,32 +65,33 @@ impl Shard {
         requires { number < config.now.settings.shards }
         ensures { IfOk result (λ shard. shard ≡ new_shard config.now number) }
     {
-        let books = Books::new(alloc, config, number)?;
-        let opening = books.copies(alloc)?;
         Ok(Shard {
-            books,
-            opening,
+            books: Books::new(alloc, config, number)?,
+            opening: Opening::New,
             lines: Vec::new(alloc),
             first: 0,
         })
     }
 
-    /// Whether a move can be made: what is one account's own is an ask, an alive or a stop of an account of
-    /// this shard.
+    /// Whether a move can be made: what is one account's own is an ask, an alive or a stop of an
+    /// account of this shard.
     pub fn takes(&self, moved: &Move) -> bool
         ensures { IsTrue result ↔ IsTaken self.now.setup moved.now }
     {
         self.books.takes(moved)
     }
 
-    /// Makes a move, and notes it with its decision as the last line of the journal. What is one account's own
-    /// steps its book and no other, a sweep or a tick each book, a stray none. All memory is taken before the
-    /// first book changes: where it is refused, nothing has changed.
+    /// Makes a move, and notes it with its decision as the last line of the journal. What is one
+    /// account's own steps its book and no other, a sweep or a tick each book, a stray none. All
+    /// memory is taken before the first book changes: where it is refused, nothing has changed.
     pub fn step(&mut self, alloc: Global, moved: Move) -> Result<Decision, NoMemory>
         requires takes { IsTaken self.old.setup moved }
         requires room { total_of self.old < 2 ^ 64 - 1 }
         ensures line { IfOk result (λ decision. self.new ≡ with_line self.old moved decision) }
-        ensures decision { IfOk result (λ decision. decision ≡ decision_by self.old.setup (books_of self.old) moved) }
+        ensures decision { IfOk result (λ decision.
+            decision ≡ decision_by self.old.setup (books_of self.old) moved) }
+        ensures books { IfOk result (λ _.
+            HaveStepped self.old.setup moved (books_of self.old) (books_of self.new)) }
         ensures err { OnErr result (self.new ≡ self.old) }
         ensures kept { IsKept self.new }
     {
@@ -87,15 +105,16 @@ impl Shard {
 
     /// The book of an account, if the account is one of this shard.
     pub fn book(&self, account: u32) -> Option<&Book>
-        ensures some { IfSome result (λ book. book_at self.now.setup (books_of self.now) account ≡ Some book.now) }
+        ensures some { IfSome result (λ book.
+            book_at self.now.setup (books_of self.now) account ≡ Some book.now) }
         ensures none { IfNone result (book_at self.now.setup (books_of self.now) account ≡ None) }
         ensures there { IsSome result ↔ IsOfShard self.now.setup account }
     {
         self.books.book(account)
     }
 
-    /// What each account of the shard holds, in the order of their numbers. It fails only where memory
-    /// is refused.
+    /// What each account of the shard holds, in the order of their numbers. It fails only where
+    /// memory is refused.
     pub fn rows(&self, alloc: Global) -> Result<Vec<Row>, NoMemory>
         ensures { IfOk result (λ rows. rows.items ≡ rows_of self.now.setup (books_of self.now)) }
     {
@@ -109,7 +128,8 @@ impl Shard {
         self.lines.len()
     }
 
-    /// The number of lines of all segments so far: those that were handed out, and those of the present journal.
+    /// The number of lines of all segments so far: those that were handed out, and those of the
+    /// present journal.
     pub fn total(&self) -> u64
         ensures total { result ≡ total_of self.now }
         ensures kept { IsKept self.now }
@@ -124,8 +144,8 @@ impl Shard {
         let _ = &self.lines;
     }
 
-    /// Hands out the journal with the books that it began with, and goes on from equal books, with no lines.
-    /// Where memory is refused nothing has changed.
+    /// Hands out the journal with the books that it began with, and goes on from equal books, with
+    /// no lines. Where memory is refused nothing has changed.
     pub fn cut(&mut self, alloc: Global) -> Result<Segment, NoMemory>
         ensures shard { IfOk result (λ segment. segment.shard ≡ self.old.setup.shard) }
         ensures first { IfOk result (λ segment. segment.first ≡ self.old.first) }
@@ -135,13 +155,14 @@ impl Shard {
         ensures err { OnErr result (self.new ≡ self.old) }
         ensures kept { IsKept self.new }
     {
-        let copies = self.books.copies(alloc)?;
+        let next = self.books.copies(alloc)?;
+        let opening = self.opening.hand_out(alloc, &self.books, next)?;
         let first = self.first;
         let more = self.lines.len() as u64;
         let segment = Segment {
             shard: self.books.shard(),
             first,
-            opening: replace(&mut self.opening, copies),
+            opening,
             lines: replace(&mut self.lines, Vec::new(alloc)),
         };
         self.first = first + more;

@@ -15,7 +15,6 @@ use Rattle.rsl_session.specs.BookOf.{book_of}
 use Rattle.rsl_session.specs.BookStep.{book_after, step}
 use Rattle.rsl_session.specs.Rule.{past_of, places_after}
 use Rattle.rsl_shard.proofs.Callers.{account_is, book_placed, new_book_at}
-use Rattle.rsl_shard.specs.Journal.{book_in, decision_in, new_books as books_new}
 use Rattle.rsl_shard.specs.Moves.{own_in}
 use Rattle.rsl_shard.specs.Replay.{book_at, book_of_entry, decision_by, new_books, replay}
 use Rattle.rsl_shard.specs.Setup.{setup_of}
@@ -51,25 +50,17 @@ book_after_lines config shard account entry lines less there of_shard =
     ∙ ap Some (after_entry entry (own_in account lines))
 
 module _ (decides : DecisionLaw) (are_of : BooksAreThoseOfThePast) (hold : BooksHoldThePlacesOfTheRule) where
-  book_is : (rules : Rules) (account : ℕ) (lines : List Line) → book_in rules books_new account lines ≡ book_of rules (past_of rules (own_in account lines))
-  unfolding book_in
-  book_is rules account lines = are_of rules (own_in account lines)
-
-  places_are : (rules : Rules) (account : ℕ) (lines : List Line) → places_in rules (book_in rules books_new account lines) ≡ places_after rules (own_in account lines)
-  unfolding book_in
-  places_are rules account lines = hold rules (own_in account lines)
-
-  step_decides : (rules : Rules) (account : ℕ) (lines : List Line) (event : Event) → (step rules (book_in rules books_new account lines) event).1 ≡ decision_after rules (own_in account lines) event
-  unfolding book_in
-  step_decides rules account lines event = book_decides decides are_of rules (own_in account lines) event
-
   pub journals_obey : JournalsObeyTheRule
-  journals_obey config shard account entry lines is there = record {
+  journals_obey config shard account entry lines is of_shard less there = record {
     decided = λ n line event at own.
         is.decided n line at
-        ∙ ap (decision_in config books_new (take n lines)) own
-        ∙ ap (λ (o : Option Account). option_map_or (λ (found : Account). (step found.rules (book_in found.rules books_new account (take n lines)) event).1) o Done) there
-        ∙ step_decides entry.rules account (take n lines) event;
-    book = book_is entry.rules account lines;
-    places = places_are entry.rules account lines;
+        ∙ ap (decision_by (setup_of config shard) (replay (setup_of config shard) (new_books config shard) (take n lines))) own
+        ∙ ap (λ (o : Option RuledBook). option_map_or (λ (ruled : RuledBook). (step ruled.rules ruled.book event).1) o Done)
+        (book_after_lines config shard account entry (take n lines) less there of_shard.of_shard)
+        ∙ book_decides decides are_of entry.rules (own_in account (take n lines)) event;
+    ruled = record { rules = entry.rules; book = book_after entry.rules new_book (own_in account lines) };
+    there = book_after_lines config shard account entry lines less there of_shard.of_shard;
+    ruled_by = refl;
+    book = are_of entry.rules (own_in account lines);
+    places = hold entry.rules (own_in account lines);
   }

@@ -8,6 +8,7 @@ use Rattle.rsl_book.specs.RuledBook.{RuledBook}
 use Rattle.rsl_event.specs.declared.event.Event.{Event}
 use Rattle.rsl_session.specs.Book.{Book}
 use Rattle.rsl_session.specs.BookStep.{book_after, step}
+use Rattle.rsl_shard.proofs.Callers.{moved_book}
 use Rattle.rsl_shard.specs.Moves.{event_to, own_in}
 use Rattle.rsl_shard.specs.Replay.{book_at, book_from, books_after, moved_from, replay, stepped}
 use Rattle.rsl_shard.specs.Setup.{Setup}
@@ -17,21 +18,6 @@ use Rattle.rsl_shard.specs.declared.moved.Move.{Move}
 -- a book after some events
 unfoldable pub after : List Event → RuledBook → RuledBook
 after events ruled = record { rules = ruled.rules; book = book_after ruled.rules ruled.book events }
-
-moved_first : (first shards account : ℕ) (moved : Move) (ruled : RuledBook) (books : List RuledBook) (b : Bool) → (first == account) ≡ b
-    → book_from (first + shards) shards (moved_from (first + shards) shards moved books) account ≡ option_map (stepped (event_to account moved)) (book_from (first + shards) shards books account)
-    → cond b (Some (stepped (event_to first moved) ruled)) (book_from (first + shards) shards (moved_from (first + shards) shards moved books) account)
-    ≡ option_map (stepped (event_to account moved)) (cond b (Some ruled) (book_from (first + shards) shards books account))
-moved_first first shards account moved ruled books true is rest = ap (λ (number : ℕ). Some (stepped (event_to number moved) ruled)) (eqb-true first account is)
-moved_first first shards account moved ruled books false is rest = rest
-
--- a move steps the book of an account by what it is to the account
-moved_book : (first shards account : ℕ) (moved : Move) (books : List RuledBook)
-    → book_from first shards (moved_from first shards moved books) account ≡ option_map (stepped (event_to account moved)) (book_from first shards books account)
-unfolding book_from moved_from
-moved_book first shards account moved [] = refl
-moved_book first shards account moved (ruled ∷ books) =
-    moved_first first shards account moved ruled books (first == account) refl (moved_book (first + shards) shards account moved books)
 
 step_more : (o : Option Event) (events : List Event) (ruled : RuledBook) → after events (stepped o ruled) ≡ after (cons_option o events) ruled
 unfolding after book_after

@@ -27,7 +27,7 @@ use Rattle.rsl_event.specs.declared.meaning.Note.{Note}
 use Rattle.rsl_event.specs.declared.words.Said.{Said}
 use Rattle.rsl_session.specs.Book.{Book, new_book}
 use Rattle.rsl_session.specs.BookStep.{book_after, step}
-use Rattle.rsl_shard.specs.Moves.{IsTaken as IsTakenBy, own_in}
+use Rattle.rsl_shard.specs.Moves.{IsTaken, own_in}
 use Rattle.rsl_shard.specs.Replay.{book_at, decision_by, replay}
 use Rattle.rsl_shard.specs.Seen.{ShardSeen, books_of, new_shard, total_of, with_line}
 use Rattle.rsl_shard.specs.Setup.{Setup, setup_of}
@@ -42,7 +42,7 @@ use Rattle.rsl_steps.specs.Moves.{move_in, move_of, moves_of}
 use Rattle.rsl_steps.specs.Own.{is_of_shard, own}
 use Rattle.rsl_steps.specs.Ran.{AreShards, HasMoved}
 use Rattle.rsl_steps.specs.Run.{octets_by}
-use Rattle.rsl_steps.specs.Taking.{AreReady, AreRoomy, IsDecided, IsMovedAt, IsNotThere, IsQuietAt, IsTaken, Takes, answer_to_drop}
+use Rattle.rsl_steps.specs.Taking.{AreReady, AreRoomy, IsDecided, IsMovedAt, IsNotThere, IsQuietAt, IsStepTaken, Takes, answer_to_drop}
 use Rattle.rsl_steps.specs.declared.step.Answer.{Answer}
 use Rattle.rsl_steps.specs.declared.step.Answer.TheVariants as answers
 use Rattle.rsl_steps.specs.declared.step.Step.{Step}
@@ -204,7 +204,7 @@ decided_right config boot before moment port source datagram (Own account act) d
 
 dropped_is : (config : Configuration) (boot : ℕ) (before : List Step) (moment : ℕ) (port : Port) (source : Source) (datagram : List ℕ) (dropped : Dropped) (old : List ShardSeen)
     → meaning config boot port source datagram ≡ Err dropped → AreShards config boot before old
-    → IsTaken config boot before (Datagram moment port source datagram) (answers.Dropped dropped) old
+    → IsStepTaken config boot before (Datagram moment port source datagram) (answers.Dropped dropped) old
 dropped_is config boot before moment port source datagram dropped old is are = record {
   answered = sym (ap (answer_with_book config boot before moment source datagram) is);
   moved = moved_none config boot before moment port source datagram (Err dropped) old old is (λ _. refl) are refl;
@@ -229,7 +229,7 @@ pub takes_reply : (config : Configuration) (boot : ℕ) (before : List Step) (mo
     → meaning config boot port source datagram ≡ Ok found → packet_of datagram ≡ Ok fields → client_number config source.address ≡ Some client
     → HasAccount config found → AreShards config boot before old → IsDecided config moment found decision old new
     → word ≡ said found decision → octets ≡ answer config boot client fields found decision
-    → IsTaken config boot before (Datagram moment port source datagram) (answers.Reply word octets) new
+    → IsStepTaken config boot before (Datagram moment port source datagram) (answers.Reply word octets) new
 takes_reply config boot before moment port source datagram found fields client decision word octets old new is packet at has are d ew eo =
     let c = decided_right config boot before moment port source datagram found decision old new is has are d in
     let replied : octets_by config boot found decision (packet_of datagram) (client_number config source.address) ≡ answer config boot client fields found decision =
@@ -307,7 +307,7 @@ not_moved old number d later (Err e) same = ap (set old number) same ∙ set-get
 -- what is an account's own is a move that its shard takes
 pub own_taken : (config : Configuration) (shards : List ShardSeen) (account moment number : ℕ) (act : Act) (seen : ShardSeen) → AreReady config shards → account < length config.accounts
     → IsOfOneAccount act → number ≡ account % config.settings.shards → slice_get shards number ≡ Some seen
-    → IsTakenBy seen.setup (moves.Own account (record { moment = moment; act = act }))
+    → IsTaken seen.setup (moves.Own account (record { moment = moment; act = act }))
 own_taken config shards account moment number act seen ready within one is at =
     rw (ready.setup number seen at) (record { own_account = record { there = within; of_shard = sym is }; act = one })
 

@@ -14,9 +14,12 @@ use Rattle.rsl_event.specs.declared.words.Said.{Said}
 use Rattle.rsl_session.specs.Book.{places_in}
 use Rattle.rsl_session.specs.BookOf.{book_of}
 use Rattle.rsl_session.specs.Rule.{past_of, places_after}
-use Rattle.rsl_shard.specs.Journal.{IsJournal, book_in, new_books}
-use Rattle.rsl_shard.specs.Moves.{own_in}
+use Rattle.rsl_book.specs.RuledBook.{RuledBook}
+use Rattle.rsl_shard.specs.Journal.{IsJournal}
+use Rattle.rsl_shard.specs.Moves.{IsOfShard, own_in}
+use Rattle.rsl_shard.specs.Replay.{book_at, new_books, replay}
 use Rattle.rsl_shard.specs.Seen.{ShardSeen}
+use Rattle.rsl_shard.specs.Setup.{setup_of}
 use Rattle.rsl_shard.specs.declared.line.Line.{Line}
 use Rattle.rsl_shard.specs.declared.moved.Move.{Move}
 use Rattle.rsl_steps.specs.Books.{answer_by_book}
@@ -68,15 +71,15 @@ events_of served =
     own served.config served.boot served.account (taken [] served.steps served.answers)
 
 -- the places that it holds
-abbrev pub places_of : Served → ℕ
-places_of served = places_after served.entry.rules (events_of served)
+abbrev pub places_held : Served → ℕ
+places_held served = places_after served.entry.rules (events_of served)
 
 -- Two accounts with the same rules and equal own events are told the same, and hold as many places,
 -- whatever else is in their servers' configurations and steps.
 abbrev pub EqualOwnEventsAreAnsweredAlike : Type 0
 EqualOwnEventsAreAnsweredAlike =
     (one other : Served) → one.entry.rules ≡ other.entry.rules → events_of one ≡ events_of other
-    → (words_of one ≡ words_of other) × (places_of one ≡ places_of other)
+    → (words_of one ≡ words_of other) × (places_held one ≡ places_held other)
 
 -- ---- packets of two accounts
 
@@ -142,27 +145,32 @@ EarlyTicksChangeNothing =
 
 -- ---- a journal
 
--- what a journal whose books began new says of an account
-pub record ObeysTheRule (rules : Rules) (account : ℕ) (lines : List Line) : Type 0 where
+-- what the journal of a shard whose books began new says of an account of the shard
+pub record ObeysTheRule (config : Configuration) (shard account : ℕ) (rules : Rules)
+    (lines : List Line) : Type 0 where
   -- each line of the account's own has the decision that the rule finds by looking back
   pub decided : (n : ℕ) (line : Line) (event : Event) → slice_get lines n ≡ Some line
       → line.moved ≡ Move.Own account event
       → line.decision ≡ decision_after rules (own_in account (take n lines)) event
   -- its book has the clock, the links, the accept number, the kept asks and stops and the over
   -- count of its past
-  pub book : book_in rules new_books account lines ≡ book_of rules
-      (past_of rules (own_in account lines))
+  pub ruled : RuledBook
+  pub there : book_at (setup_of config shard)
+      (replay (setup_of config shard) (new_books config shard) lines) account ≡ Some ruled
+  pub ruled_by : ruled.rules ≡ rules
+  pub book : ruled.book ≡ book_of rules (past_of rules (own_in account lines))
   -- and so its places are the rule's
-  pub places : places_in rules (book_in rules new_books account lines) ≡ places_after rules
-      (own_in account lines)
+  pub places : places_in rules ruled.book ≡ places_after rules (own_in account lines)
 
--- a journal obeys the rule: so do each account's decisions, its book and its places, over its own
--- events among the lines
+-- a journal obeys the rule: so do the decisions, the book and the places of each account of its
+-- shard, over the account's own events among the lines
 abbrev pub JournalsObeyTheRule : Type 0
 JournalsObeyTheRule =
     (config : Configuration) (shard account : ℕ) (entry : Entry) (lines : List Line)
-    → IsJournal config shard new_books lines → slice_get config.accounts account ≡ Some entry
-    → ObeysTheRule entry.rules account lines
+    → IsJournal (setup_of config shard) (new_books config shard) lines
+    → IsOfShard (setup_of config shard) account → shard < config.settings.shards
+    → slice_get config.accounts account ≡ Some entry
+    → ObeysTheRule config shard account entry.rules lines
 
 -- ---- shards
 

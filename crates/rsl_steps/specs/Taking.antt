@@ -62,7 +62,7 @@ IsQuietAt answers.Quiet number moved old new =
 IsQuietAt _ number moved old new = ⊥
 
 -- a refused step changes nothing; another is answered, and the shards have made its moves
-pub record IsTaken (config : Configuration) (boot : ℕ) (before : List Step) (step : Step)
+pub record IsStepTaken (config : Configuration) (boot : ℕ) (before : List Step) (step : Step)
     (answer : Answer) (new : List ShardSeen) : Type 0 where
   pub answered : answer ≡ answer_by_book config boot before step
   pub moved : AreShards config boot (step ∷ before) new
@@ -70,7 +70,8 @@ pub record IsTaken (config : Configuration) (boot : ℕ) (before : List Step) (s
 abbrev pub Takes : Configuration → (boot : ℕ) → (before : List Step) → Step → Answer
     → (old new : List ShardSeen) → Type 0
 Takes config boot before step answers.Refused old new = new ≡ old
-Takes config boot before step answer old new = IsTaken config boot before step answer new
+Takes config boot before step answer old new =
+    IsStepTaken config boot before step answer new
 
 -- want of memory is given as refused
 abbrev pub answer_to_drop : Dropped → Answer

@@ -84,7 +84,8 @@ fn event_in(
     source: Source,
     octets: &[u8],
 ) -> Result<Option<Event>, NoMemory>
-    ensures { IfOk result (λ event. event ≡ event_in account moment (meaning config.now boot port source octets.now)) }
+    ensures { IfOk result (λ event. event ≡
+        event_in account moment (meaning config.now boot port source octets.now)) }
 {
     match prepare(alloc, config, boot, port, source, octets) {
         Ok(prepared) => own_event(alloc, account, moment, &prepared.meaning),

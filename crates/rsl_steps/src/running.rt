@@ -1,4 +1,4 @@
-ghost use Rattle.std.specs.Prelude.{◌≡◌, ℕ, ◌<◌, ◌≤◌, List, [], length, Some, slice_get, IfOk};
+ghost use Rattle.std.specs.Prelude.{◌≡◌, ℕ, ◌<◌, List, [], length, Some, slice_get, IfOk};
 ghost use Rattle.rsl_accounts.specs.declared.entry.Entry.{Entry};
 ghost use Rattle.rsl_shard.specs.Moves.{IsTaken};
 ghost use Rattle.rsl_shard.specs.Setup.{Setup};
@@ -121,7 +121,9 @@ fn take_datagram(
     let Ok(decision) = decide_meaning(alloc, config, shards, moment, &prepared.meaning) else {
         return Answer::Refused;
     };
-    let octets = reply(&prepared, config, boot, decision, draft);
+    let mut octets = reply(&prepared, config, boot, decision, draft);
+    // The step is made: where a smaller room is refused, the octets stay in theirs.
+    octets.shrink_to_fit();
     Answer::Reply(said(&prepared.meaning, decision), Octets::from(octets))
 }
 

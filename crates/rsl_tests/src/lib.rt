@@ -15,6 +15,8 @@ mod report;
 #[cfg(test)]
 mod script;
 #[cfg(test)]
+mod shards;
+#[cfg(test)]
 mod shards_of_a_run;
 #[cfg(test)]
 mod steps;

@@ -4,9 +4,9 @@ use Rattle.rsl_event.specs.declared.event.Act.TheVariants.{Sweep}
 use Rattle.rsl_shard.specs.Replay.{stepped}
 use Rattle.rsl_shard.proofs.books.sweep_each.Given as goal
 
-abbrev pub invariant-loop-place : goal.invariant-loop-place
-invariant-loop-place l =
+abbrev pub invariant-loop-at : goal.invariant-loop-at
+invariant-loop-at l =
     record {
-      books : l.books ≡ map (stepped (Some (record { moment = l.moment; act = Sweep l.nas }))) (take l.place l.initial.books) ++ drop l.place l.initial.books;
+      books : l.books ≡ map (stepped (Some (record { moment = l.moment; act = Sweep l.nas }))) (take l.at l.initial.books) ++ drop l.at l.initial.books;
       limit : All IsWithinLimit l.books;
     }

@@ -10,4 +10,4 @@ returns-in-Err c = λ before are.
 pub returns : goal.returns
 returns c = λ before are.
     takes_reply c.args.config.now c.args.boot before c.args.moment c.args.port c.args.source c.args.octets.now c.in-Ok.prepared.meaning (fields_of c.in-Ok.prepared.packet) c.in-Ok.prepared.client c.in-Ok-decide_meaning.decision c.said.result c.from.result
-    c.args.shards.now c.decide_meaning.new.shards c.in-Ok.ensures.meaning c.in-Ok.ensures.packet c.in-Ok.ensures.client c.in-Ok.ensures.prepared.account are c.in-Ok-decide_meaning.ensures.decided c.said.ensures (c.from.ensures ∙ c.reply-octets.ensures)
+    c.args.shards.now c.decide_meaning.new.shards c.in-Ok.ensures.meaning c.in-Ok.ensures.packet c.in-Ok.ensures.client c.in-Ok.ensures.prepared.account are c.in-Ok-decide_meaning.ensures.decided c.said.ensures (c.from.ensures ∙ c.shrink_to_fit.ensures.items ∙ c.reply-octets.ensures)

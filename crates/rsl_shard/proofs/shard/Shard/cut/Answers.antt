@@ -1,13 +1,24 @@
-use Rattle.std.proofs.Common.{◌+◌, ◌^◌, ◌<◌, List, rules, sym, ap, subst, ◌∙◌}
+use Rattle.std.proofs.Common.{◌≡◌, ◌+◌, ◌^◌, ◌<◌, List, arith, rules, sym, ap, subst, ◌∙◌}
 use Rattle.rsl_book.specs.RuledBook.{RuledBook}
+use Rattle.rsl_shard.specs.Opening.{opening_of}
 use Rattle.rsl_shard.specs.Replay.{AreBooks}
+use Rattle.rsl_shard.specs.ShardInside.{HasJournal}
+use Rattle.rsl_shard.specs.declared.opening.Opening.{Opening}
+use Rattle.rsl_shard.specs.declared.shard.Shard.TheInside.{Inside}
 use Rattle.rsl_shard.proofs.Journaling.{begun}
 use Rattle.rsl_shard.proofs.shard.Shard.cut.Goals as goal
 
 pub invariant_of-self : goal.invariant_of-self
 invariant_of-self c =
+    subst (λ (opening : Opening). let inside : Inside = record { books = c.self.inside.books; opening = opening; lines = c.self.inside.lines; first = c.self.inside.first } in HasJournal inside)
+    (sym c.in_err-opening.ensures.err) c.self.invariant
+
+pub invariant_of-self-2 : goal.invariant_of-self-2
+invariant_of-self-2 c =
     let sound : AreBooks c.self.inside.books.setup c.self.inside.books.books =
     subst (λ (all : List RuledBook). AreBooks c.self.inside.books.setup all) (sym c.self.invariant.replayed) c.self.invariant.kept.books in
     let within : c.self.inside.first + c.len-more.result < 2 ^ 64 = search rules in
-    begun (record { books = c.self.inside.books; opening = c.replace.new.dest; lines = c.replace-2.new.dest; first = c.self.inside.first + c.len-more.result })
-    sound (ap (λ vec. vec.items) c.replace.ensures.after ∙ c.in_ok-copies.ensures) (ap (λ vec. vec.items) c.replace-2.ensures.after ∙ c.new.ensures.items) within
+    let opening : opening_of c.hand_out.new.self c.self.inside.books.books ≡ c.self.inside.books.books =
+    ap (λ (opening : Opening). opening_of opening c.self.inside.books.books) c.in_ok-opening.ensures.next ∙ c.in_ok-next.ensures in
+    begun (record { books = c.self.inside.books; opening = c.hand_out.new.self; lines = c.replace.new.dest; first = c.self.inside.first + c.len-more.result })
+    sound opening (ap (λ vec. vec.items) c.replace.ensures.after ∙ c.new.ensures.items) within

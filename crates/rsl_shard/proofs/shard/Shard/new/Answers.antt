@@ -1,8 +1,18 @@
-use Rattle.std.proofs.Common.{arith}
-use Rattle.rsl_shard.proofs.Journaling.{begun}
+use Rattle.std.proofs.Common.{◌≡◌, ap, arith, refl, ◌∙◌}
+use Rattle.rsl_shard.specs.Replay.{BooksSeen, new_books}
+use Rattle.rsl_shard.specs.declared.opening.Opening.TheVariants.{New}
+use Rattle.rsl_shard.proofs.Journaling.{begun, new_seen, renewed_new}
 use Rattle.rsl_shard.proofs.shard.Shard.new.Goals as goal
 
 pub invariant_of-result : goal.invariant_of-result
 invariant_of-result c =
-    begun (record { books = c.in_ok-books.books; opening = c.in_ok-opening.opening; lines = c.new-2.result; first = 0 })
-    c.in_ok-books.ensures.sound c.in_ok-opening.ensures c.new-2.ensures.items (omega arith)
+    let are : c.in_ok-new.field-0.books ≡ new_books c.args.config.now c.args.number = ap (λ (seen : BooksSeen). seen.books) c.in_ok-new.ensures.books in
+    begun (record { books = c.in_ok-new.field-0; opening = New; lines = c.new-2.result; first = 0 })
+    c.in_ok-new.ensures.sound (renewed_new c.args.config.now c.args.number c.in_ok-new.field-0.books are) c.new-2.ensures.items (omega arith)
+
+pub returns : goal.returns
+returns c =
+    let are : c.in_ok-new.field-0.books ≡ new_books c.args.config.now c.args.number = ap (λ (seen : BooksSeen). seen.books) c.in_ok-new.ensures.books in
+    new_seen c.args.config.now c.args.number (record { books = c.in_ok-new.field-0; opening = New; lines = c.new-2.result; first = 0 })
+    (ap (λ (seen : BooksSeen). seen.setup) c.in_ok-new.ensures.books)
+    (renewed_new c.args.config.now c.args.number c.in_ok-new.field-0.books are ∙ are) c.new-2.ensures.items refl

@@ -1,0 +1,16 @@
+-- The books that a journal begins with, told from those that they have become: where they were new
+-- they are not kept, since they follow from the rules of those.
+use Rattle.std.specs.Prelude.{List, map}
+use Rattle.rsl_book.specs.RuledBook.{RuledBook}
+use Rattle.rsl_session.specs.Book.{new_book}
+use Rattle.rsl_shard.specs.declared.opening.Opening.{Opening}
+use Rattle.rsl_shard.specs.declared.opening.Opening.TheVariants.{New, Kept}
+
+-- the new book of the account whose book this is
+abbrev pub renewed : RuledBook → RuledBook
+renewed ruled = record { rules = ruled.rules; book = new_book }
+
+-- the books that a journal began with, where they have become these
+abbrev pub opening_of : Opening → (become : List RuledBook) → List RuledBook
+opening_of New become = map renewed become
+opening_of (Kept books) become = books.items
