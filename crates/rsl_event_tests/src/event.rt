@@ -12,7 +12,7 @@ mod signatures;
 
 use rsl_accounts::Config;
 use rsl_event::{Decision, Port, Prepared, Said, Source, prepare, reply, room, said};
-use rsl_rows::{Subject, check_rows, number, octets_of, printed, replaced};
+use rsl_rows::{Hex, Subject, check_rows, number, octets_of, printed, push_printed, replaced};
 use std::alloc::Global;
 use std::io::Eprint;
 use std::test::Fail;
@@ -169,7 +169,7 @@ fn check_spelled<R: AllocGlobal + Eprint, S: Subject>(
 /// Rows with what stands for their words.
 fn spelled(alloc: Global, rows: &str) -> Result<String, Fail> {
     let rows = replaced(alloc, rows, WORDS)?;
-    let proxy_states = hex::encode(alloc, &octets_of(alloc, PROXY_STATES)?)?;
+    let proxy_states = printed(alloc, &Hex(&octets_of(alloc, PROXY_STATES)?))?;
     Ok(
         rows.as_str()
             .replace(alloc, "<3825>", proxy_states.as_str())?,
@@ -260,8 +260,9 @@ fn reply_octets(
 }
 
 fn reply_text(alloc: Global, word: Said, octets: &[u8]) -> Result<String, Fail> {
-    let digits = hex::encode(alloc, octets)?;
-    Ok(format!(in alloc; "{word:?} {digits}")?)
+    let mut text = printed(alloc, &word)?;
+    push_printed(&mut text, &Hex(octets))?;
+    Ok(text)
 }
 
 /// The port that `auth` or `acct` names.

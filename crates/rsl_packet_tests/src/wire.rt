@@ -1,12 +1,13 @@
 //! Tests of `rsl_wire`: the Access-Request of RFC 2865 section 7.1, read and written, what is no
 //! packet, and hostile lists of attributes.
 
-use rsl_rows::{Subject, check_rows, front, octets_of};
+use rsl_rows::{
+    Hex, Subject, check_rows, front, length, octet, octets_of, printed, push_printed, shown,
+};
 use rsl_wire::{
     Attr, Attrs, BuildFault, Draft, NoMemory, Octets, Packet, TooLong, WireFault, build, read,
 };
 use std::alloc::Global;
-use std::fmt::Display;
 use std::test::Fail;
 
 /// Octets, and how many in all with zeros after them: what `read` says of them.
@@ -18,7 +19,7 @@ impl Subject for Padded {
             return Err("octets and a length")?;
         };
         let mut datagram = octets_of(alloc, octets)?;
-        datagram.resize(len.parse()?, 0)?;
+        datagram.resize(length(len)?, 0)?;
         said(alloc, &datagram)
     }
 }
@@ -27,16 +28,23 @@ impl Subject for Padded {
 fn said(alloc: Global, datagram: &[u8]) -> Result<String, Fail> {
     match read(datagram) {
         Ok(packet) => said_of(alloc, &packet),
-        Err(fault) => Ok(format!(in alloc; "{fault:?}")?),
+        Err(fault) => printed(alloc, &fault),
     }
 }
 
 /// A packet's Authenticator, Code and Identifier, and how many octets it and its attributes have.
 fn said_of(alloc: Global, packet: &Packet<'_>) -> Result<String, Fail> {
-    let mut text = hex::encode(alloc, &packet.authenticator)?;
-    write!(text, " {} {}", packet.code, packet.id)?;
-    write!(text, " {} {}", packet.octets().len(), packet.attrs.len())?;
-    Ok(text)
+    let (authenticator, len) = (Hex(&packet.authenticator), packet.octets().len());
+    printed(
+        alloc,
+        &(
+            authenticator,
+            packet.code,
+            packet.id,
+            len,
+            packet.attrs.len(),
+        ),
+    )
 }
 
 #[test]
@@ -47,20 +55,20 @@ fn datagrams_are_read_up_to_their_length(rt: HostRuntime) -> Result<(), Fail> {
         "
 nothing | | 0 | Short
 19 octets | 01000013 | 19 | Short
-a header | 02070014 | 20 | 00000000000000000000000000000000 2 7 20 0
+a header | 02070014 | 20 | (00000000000000000000000000000000, 2, 7, 20, 0)
 the request | 010000380f403f9473978057bd83d5cb98f4227a \
     01066e656d6f 02120dbe708d93d413ce3196e43f782a0aee 0406c0a80110 050600000003 | 56 \
-    | 0f403f9473978057bd83d5cb98f4227a 1 0 56 36
+    | (0f403f9473978057bd83d5cb98f4227a, 1, 0, 56, 36)
 padding | 010000380f403f9473978057bd83d5cb98f4227a \
     01066e656d6f 02120dbe708d93d413ce3196e43f782a0aee 0406c0a80110 050600000003 | 61 \
-    | 0f403f9473978057bd83d5cb98f4227a 1 0 56 36
+    | (0f403f9473978057bd83d5cb98f4227a, 1, 0, 56, 36)
 a Length of 0 | 01000000 | 4100 | BadLength
 a Length of 19 | 01000013 | 4100 | BadLength
 a Length over the datagram | 01000015 | 20 | BadLength
-4096 octets | 01001000 | 4096 | 00000000000000000000000000000000 1 0 4096 4076
-4097 octets, padded | 01001000 | 4097 | 00000000000000000000000000000000 1 0 4096 4076
+4096 octets | 01001000 | 4096 | (00000000000000000000000000000000, 1, 0, 4096, 4076)
+4097 octets, padded | 01001000 | 4097 | (00000000000000000000000000000000, 1, 0, 4096, 4076)
 a Length of 4097 | 01001001 | 4100 | BadLength
-65507 octets, padded | 04ff1000 | 65507 | 00000000000000000000000000000000 4 255 4096 4076
+65507 octets, padded | 04ff1000 | 65507 | (00000000000000000000000000000000, 4, 255, 4096, 4076)
 65507 octets, a Length of 65507 | 0400ffe3 | 65507 | BadLength
 ",
     )
@@ -80,7 +88,7 @@ impl Subject for Prefixes {
             return Err("two lengths")?;
         };
         let request = octets_of(alloc, REQUEST)?;
-        said_of_prefixes(alloc, &request, first.parse()?, last.parse()?)
+        said_of_prefixes(alloc, &request, length(first)?, length(last)?)
     }
 }
 
@@ -114,7 +122,7 @@ fn prefixes_of_the_request_are_no_packets(rt: HostRuntime) -> Result<(), Fail> {
         "
 up to 19 octets | 0 | 19 | Short
 up to 55 octets | 20 | 55 | BadLength
-all | 56 | 56 | 0f403f9473978057bd83d5cb98f4227a 1 0 56 36
+all | 56 | 56 | (0f403f9473978057bd83d5cb98f4227a, 1, 0, 56, 36)
 ",
     )
 }
@@ -129,7 +137,7 @@ fn with_header(alloc: Global, list: &str) -> Result<Vec<u8>, Fail> {
     Ok(datagram)
 }
 
-/// A list of attributes: each as `TYPE:VALUE`, or where the first bad one is.
+/// A list of attributes: each as `(TYPE, VALUE)`, or where the first bad one is.
 struct Listed;
 
 impl Subject for Listed {
@@ -140,27 +148,18 @@ impl Subject for Listed {
         let datagram = with_header(alloc, list)?;
         match read(&datagram)?.attributes() {
             Ok(attributes) => words_of(alloc, attributes),
-            Err(bad) => Ok(format!(in alloc; "{bad:?}")?),
+            Err(bad) => printed(alloc, &bad),
         }
     }
 }
 
-/// The attributes, each as `TYPE:VALUE`.
+/// The attributes, each as `(TYPE, VALUE)`.
 fn words_of(alloc: Global, attributes: Attrs<'_>) -> Result<String, Fail> {
     let mut text = String::new(alloc);
     for (kind, value) in attributes {
-        push_attribute(&mut text, alloc, kind, value)?;
+        push_printed(&mut text, &(kind, Hex(value)))?;
     }
     Ok(text)
-}
-
-fn push_attribute(text: &mut String, alloc: Global, kind: u8, value: &[u8]) -> Result<(), Fail> {
-    if !text.is_empty() {
-        text.push(' ')?;
-    }
-    let value = hex::encode(alloc, value)?;
-    write!(text, "{kind}:{value}")?;
-    Ok(())
 }
 
 #[test]
@@ -172,10 +171,10 @@ fn lists_are_cut_into_attributes_or_have_the_offset_of_the_first_bad_one(
         &Listed,
         "
 none | |
-no value | 0102 | 1:
-Types 0 and 255 | 000361 ff046263 | 0:61 255:6263
+no value | 0102 | (1, )
+Types 0 and 255 | 000361 ff046263 | (0, 61) (255, 6263)
 one octet at the end | 21036201 02210361 00 | BadAttribute { at: 8 }
-three | 210362 0102 210361 | 33:62 1: 33:61
+three | 210362 0102 210361 | (33, 62) (1, ) (33, 61)
 no Length | 01 | BadAttribute { at: 0 }
 no Length after one | 01036e 02 | BadAttribute { at: 3 }
 Length 0 | 0100 | BadAttribute { at: 0 }
@@ -186,7 +185,7 @@ Length 1 between two | 01036e 0201 0502 | BadAttribute { at: 3 }
 no value of one octet | 0103 | BadAttribute { at: 0 }
 Length 255 | 01ff | BadAttribute { at: 0 }
 one octet too few | 01066e656d | BadAttribute { at: 0 }
-a number at the end | 0102 0202 050600000000 | 1: 2: 5:00000000
+a number at the end | 0102 0202 050600000000 | (1, ) (2, ) (5, 00000000)
 one octet too few at the end | 0102 0202 0506000000 | BadAttribute { at: 4 }
 Length 255 after one | 01066e656d6f 02ff00 | BadAttribute { at: 6 }
 ",
@@ -205,10 +204,10 @@ impl Subject for Counted {
         let datagram = with_header(alloc, list)?;
         match read(&datagram)?.attributes() {
             Ok(mut attributes) => {
-                take(&mut attributes, taken.parse()?);
-                counts(alloc, &attributes, kind.parse()?)
+                take(&mut attributes, length(taken)?);
+                counts(alloc, &attributes, octet(kind)?)
             }
-            Err(_) => Ok(String::from_str(alloc, "malformed")?),
+            Err(_) => shown(alloc, &"malformed"),
         }
     }
 }
@@ -221,14 +220,8 @@ fn take(attributes: &mut Attrs<'_>, times: usize) {
 }
 
 fn counts(alloc: Global, attributes: &Attrs<'_>, kind: u8) -> Result<String, Fail> {
-    let mut text = format!(in alloc; "{}", attributes.count(kind))?;
-    write!(
-        text,
-        " {:?} {:?}",
-        attributes.first(kind),
-        attributes.number(kind)
-    )?;
-    Ok(text)
+    let (count, first) = (attributes.count(kind), attributes.first(kind));
+    printed(alloc, &(count, first, attributes.number(kind)))
 }
 
 #[test]
@@ -239,21 +232,21 @@ fn a_type_is_counted_and_its_first_value_found(rt: HostRuntime) -> Result<(), Fa
         "
 # The attributes of the RFC's request; User-Name is `nemo` there.
 User-Name | 01066e656d6f 02120dbe708d93d413ce3196e43f782a0aee 0406c0a80110 050600000003 | 0 | 1 \
-    | 1 Some([110, 101, 109, 111]) Some(1852140911)
+    | (1, Some([110, 101, 109, 111]), Some(1852140911))
 NAS-IP-Address | 01066e656d6f 02120dbe708d93d413ce3196e43f782a0aee 0406c0a80110 050600000003 \
-    | 0 | 4 | 1 Some([192, 168, 1, 16]) Some(3232235792)
+    | 0 | 4 | (1, Some([192, 168, 1, 16]), Some(3232235792))
 NAS-Port | 01066e656d6f 02120dbe708d93d413ce3196e43f782a0aee 0406c0a80110 050600000003 | 0 | 5 \
-    | 1 Some([0, 0, 0, 3]) Some(3)
+    | (1, Some([0, 0, 0, 3]), Some(3))
 no CHAP-Password | 01066e656d6f 02120dbe708d93d413ce3196e43f782a0aee 0406c0a80110 050600000003 \
-    | 0 | 3 | 0 None None
+    | 0 | 3 | (0, None, None)
 a malformed list | 210362 050600000102 210361 050221 03 | 0 | 33 | malformed
-the first of two | 210362 050600000102 210361 | 0 | 33 | 2 Some([98]) None
-the second, where the first was taken | 210362 050600000102 210361 | 1 | 33 | 1 Some([97]) None
-the second, where two were taken | 210362 050600000102 210361 | 2 | 33 | 1 Some([97]) None
-none that is left | 210362 050600000102 210361 | 3 | 33 | 0 None None
-a number before none | 050600000102 0502 | 0 | 5 | 2 Some([0, 0, 1, 2]) Some(258)
-five octets are no number | 05070000000003 | 0 | 5 | 1 Some([0, 0, 0, 0, 3]) None
-no octets are no number | 0502 | 0 | 5 | 1 Some([]) None
+the first of two | 210362 050600000102 210361 | 0 | 33 | (2, Some([98]), None)
+the second, where the first was taken | 210362 050600000102 210361 | 1 | 33 | (1, Some([97]), None)
+the second, where two were taken | 210362 050600000102 210361 | 2 | 33 | (1, Some([97]), None)
+none that is left | 210362 050600000102 210361 | 3 | 33 | (0, None, None)
+a number before none | 050600000102 0502 | 0 | 5 | (2, Some([0, 0, 1, 2]), Some(258))
+five octets are no number | 05070000000003 | 0 | 5 | (1, Some([0, 0, 0, 0, 3]), None)
+no octets are no number | 0502 | 0 | 5 | (1, Some([]), None)
 ",
     )
 }
@@ -273,16 +266,16 @@ impl Subject for Built {
             "drafted" => drafted(alloc, &packet)?,
             _ => return Err("an unknown way")?,
         };
-        Ok(hex::encode(alloc, &octets)?)
+        printed(alloc, &Hex(&octets))
     }
 }
 
 /// What `build` makes of a packet's parts.
 fn packet_built(alloc: Global, packet: &Packet<'_>) -> Result<Vec<u8>, Fail> {
-    let attributes: Vec<Attr<'_>> = packet
-        .attributes()?
-        .map(|(kind, value)| Attr { kind, value })
-        .collect(alloc)?;
+    let mut attributes = Vec::new(alloc);
+    for (kind, value) in packet.attributes()? {
+        attributes.push(Attr { kind, value })?;
+    }
     Ok(build(
         alloc,
         packet.code,
@@ -331,15 +324,14 @@ impl Subject for Filled {
         let [first, last] = fields else {
             return Err("two lengths")?;
         };
-        let (first, last) = (first.parse()?, last.parse()?);
-        let mut text = built_of_zeros(alloc, first, last)?;
-        let pushed = drafted_of_zeros(alloc, first, last)?;
-        write!(text, " {pushed:?}")?;
-        Ok(text)
+        let (first, last) = (length(first)?, length(last)?);
+        let built = built_of_zeros(alloc, first, last);
+        let drafted = drafted_of_zeros(alloc, first, last)?;
+        printed(alloc, &(built, drafted))
     }
 }
 
-fn built_of_zeros(alloc: Global, first: usize, last: usize) -> Result<String, Fail> {
+fn built_of_zeros(alloc: Global, first: usize, last: usize) -> Result<usize, BuildFault> {
     let zeros = [0; 254];
     let mut attributes = [Attr {
         kind: 33,
@@ -347,10 +339,7 @@ fn built_of_zeros(alloc: Global, first: usize, last: usize) -> Result<String, Fa
     }; 16];
     attributes[0].value = front(&zeros, first);
     attributes[15].value = front(&zeros, last);
-    match build(alloc, 1, 0, &[0; 16], &attributes) {
-        Ok(octets) => Ok(format!(in alloc; "{}", octets.len())?),
-        Err(fault) => Ok(format!(in alloc; "{fault:?}")?),
-    }
+    Ok(build(alloc, 1, 0, &[0; 16], &attributes)?.len())
 }
 
 fn drafted_of_zeros(alloc: Global, first: usize, last: usize) -> Result<Result<(), TooLong>, Fail> {
@@ -370,9 +359,9 @@ fn packets_have_at_most_4096_octets(rt: HostRuntime) -> Result<(), Fail> {
         &rt,
         &Filled,
         "
-the longest | 253 | 249 | 4096 Ok(())
-one octet more | 253 | 250 | TooLong Err(TooLong)
-a value of 254 octets | 254 | 0 | TooLong Ok(())
+the longest | 253 | 249 | (Ok(4096), Ok(()))
+one octet more | 253 | 250 | (Err(TooLong), Err(TooLong))
+a value of 254 octets | 254 | 0 | (Err(TooLong), Ok(()))
 ",
     )
 }
@@ -385,12 +374,11 @@ impl Subject for Same {
         let [one, other] = fields else {
             return Err("two octet strings")?;
         };
+        let other = Octets::from(octets_of(alloc, other)?);
         let copy = Octets::from(octets_of(alloc, one)?).try_copy(alloc)?;
-        let mut text = format!(in alloc; "{} {}", copy.len(), copy.is_empty())?;
+        let (len, is_empty) = (copy.len(), copy.is_empty());
         let back = Octets::from(copy.into_vec());
-        let is_same = back == Octets::from(octets_of(alloc, other)?);
-        write!(text, " {is_same}")?;
-        Ok(text)
+        printed(alloc, &(len, is_empty, back == other))
     }
 }
 
@@ -401,13 +389,13 @@ fn octets_are_equal_octet_by_octet(rt: HostRuntime) -> Result<(), Fail> {
         &Same,
         "
 # How many octets the first has, whether it has none, and whether the second is equal.
-equal | 6e656d6f | 6e656d6f | 4 false true
-another octet | 6e656d6f | 6e656d61 | 4 false false
-a prefix | 6e656d6f | 6e656d | 4 false false
-a NUL more | 6e656d6f | 6e656d6f 00 | 4 false false
-none | | | 0 true true
-65535 octets | 6e*65535 | 6e*65535 | 65535 false true
-65535 and 65534 octets | 6e*65535 | 6e*65534 | 65535 false false
+equal | 6e656d6f | 6e656d6f | (4, false, true)
+another octet | 6e656d6f | 6e656d61 | (4, false, false)
+a prefix | 6e656d6f | 6e656d | (4, false, false)
+a NUL more | 6e656d6f | 6e656d6f 00 | (4, false, false)
+none | | | (0, true, true)
+65535 octets | 6e*65535 | 6e*65535 | (65535, false, true)
+65535 and 65534 octets | 6e*65535 | 6e*65534 | (65535, false, false)
 ",
     )
 }
@@ -418,20 +406,16 @@ struct Printed;
 impl Subject for Printed {
     fn found(&self, alloc: Global, fields: &[&str]) -> Result<String, Fail> {
         match fields {
-            ["Short"] => printed_of(alloc, &WireFault::Short),
-            ["BadLength"] => printed_of(alloc, &WireFault::BadLength),
-            ["TooLong"] => printed_of(alloc, &TooLong),
-            ["BuildFault::TooLong"] => printed_of(alloc, &BuildFault::TooLong),
-            ["BuildFault::NoMemory"] => printed_of(alloc, &BuildFault::NoMemory),
-            ["NoMemory"] => printed_of(alloc, &NoMemory),
+            ["Short"] => shown(alloc, &WireFault::Short),
+            ["BadLength"] => shown(alloc, &WireFault::BadLength),
+            ["TooLong"] => shown(alloc, &TooLong),
+            ["BuildFault::TooLong"] => shown(alloc, &BuildFault::TooLong),
+            ["BuildFault::NoMemory"] => shown(alloc, &BuildFault::NoMemory),
+            ["NoMemory"] => shown(alloc, &NoMemory),
             ["BadAttribute of", list] => bad_attribute(alloc, list),
             _ => Err("an unknown fault")?,
         }
     }
-}
-
-fn printed_of<E: Display>(alloc: Global, fault: &E) -> Result<String, Fail> {
-    Ok(format!(in alloc; "{fault}")?)
 }
 
 /// What the fault of a list of attributes prints.
@@ -439,7 +423,7 @@ fn bad_attribute(alloc: Global, list: &str) -> Result<String, Fail> {
     let datagram = with_header(alloc, list)?;
     match read(&datagram)?.attributes() {
         Ok(_) => Err("no bad attribute")?,
-        Err(bad) => printed_of(alloc, &bad),
+        Err(bad) => shown(alloc, &bad),
     }
 }
 

@@ -17,14 +17,18 @@
 //! )
 //! ```
 //!
+//! `printed` of a tuple is the cheapest way to an answer: its caller has no text of its own to drop.
+//!
 //! No call has a clause: what they answer shows where a row fails. Each is proved not to stop the
 //! program, once, and not anew in each crate of tests.
 #![tactic(auto)]
 
+mod numbers;
 mod octets;
 mod rows;
 mod texts;
 
-pub use octets::{front, octets_of};
+pub use numbers::{length, number, octet, port_number, short_number};
+pub use octets::{Hex, front, octets_of};
 pub use rows::{Subject, check_rows, fields_of};
-pub use texts::{number, printed, replaced, short_number, shown};
+pub use texts::{Plain, printed, push_printed, replaced, shown};

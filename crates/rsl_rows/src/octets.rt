@@ -1,8 +1,22 @@
 //! The octets that rows write.
 
-use crate::texts::short_number;
+use crate::numbers::short_number;
 use std::alloc::Global;
+use std::fmt;
 use std::test::Fail;
+
+/// Octets whose Debug is their hexadecimal digits, so that they can stand in a tuple that is printed.
+#[derive(Clone, Copy)]
+pub struct Hex<'a>(pub &'a [u8]);
+
+impl fmt::Debug for Hex<'_> {
+    fn fmt<W: fmt::Write>(&self, f: &mut fmt::Formatter<W>) -> fmt::Result {
+        for octet in self.0 {
+            write!(f, "{octet:02x}")?;
+        }
+        Ok(())
+    }
+}
 
 /// The octets that words of hexadecimal digits write, where `WORD*N` stands for the word N times.
 pub fn octets_of(alloc: Global, text: &str) -> Result<Vec<u8>, Fail> {

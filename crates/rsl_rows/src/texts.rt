@@ -1,8 +1,19 @@
 //! Texts and numbers of rows.
 
 use std::alloc::Global;
+use std::fmt;
 use std::fmt::{Debug, Display};
 use std::test::Fail;
+
+/// A text whose Debug is the text as it is, so that it can stand in a tuple that is printed.
+#[derive(Clone, Copy)]
+pub struct Plain<'a>(pub &'a str);
+
+impl Debug for Plain<'_> {
+    fn fmt<W: fmt::Write>(&self, f: &mut fmt::Formatter<W>) -> fmt::Result {
+        f.write_str(self.0)
+    }
+}
 
 /// A text with what stands for each of some words, of which each is a line `WORD = TEXT`.
 pub fn replaced(alloc: Global, text: &str, words: &str) -> Result<String, Fail> {
@@ -28,12 +39,11 @@ pub fn shown<T: Display>(alloc: Global, value: &T) -> Result<String, Fail> {
     Ok(format!(in alloc; "{value}")?)
 }
 
-/// The number that decimal digits write.
-pub fn number(digits: &str) -> Result<u64, Fail> {
-    Ok(digits.parse::<u64>()?)
-}
-
-/// The number of at most 32 bits that decimal digits write.
-pub fn short_number(digits: &str) -> Result<u32, Fail> {
-    Ok(digits.parse::<u32>()?)
+/// Adds the Debug of a value to a text, after a blank where that is not empty.
+pub fn push_printed<T: Debug>(text: &mut String, value: &T) -> Result<(), Fail> {
+    if !text.is_empty() {
+        text.push(' ')?;
+    }
+    write!(text, "{value:?}")?;
+    Ok(())
 }

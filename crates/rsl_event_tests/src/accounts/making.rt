@@ -1,7 +1,7 @@
 //! What `Config::make` takes, look-ups, rules and addresses.
 
 use super::{SAMPLE, client, entry, numbers_of, rules_of, said, settings};
-use rsl_accounts::{Config, ConfigFault, Entry, Rules, Settings, address_of};
+use rsl_accounts::{Client, Config, ConfigFault, Entry, Rules, Settings, address_of};
 use rsl_rows::{Subject, check_rows, printed, replaced, short_number, shown};
 use std::alloc::Global;
 use std::test::Fail;
@@ -147,17 +147,27 @@ fn texts_are_taken_up_to_their_limits(rt: HostRuntime) -> Result<(), Fail> {
 
 /// So many clients and accounts, each with an address or a name of its own.
 fn many(alloc: Global, clients: u32, accounts: u32) -> Result<Result<Config, ConfigFault>, Fail> {
-    let mut some_clients = Vec::new(alloc);
-    for number in 0..clients {
+    let clients = many_clients(alloc, clients)?;
+    let accounts = many_accounts(alloc, accounts)?;
+    Ok(Config::make(alloc, settings(2), clients, accounts))
+}
+
+fn many_clients(alloc: Global, number: u32) -> Result<Vec<Client>, Fail> {
+    let mut clients = Vec::new(alloc);
+    for number in 0..number {
         let [_, _, high, low] = number.to_be_bytes();
-        some_clients.push(client(alloc, [10, 0, high, low], "s")?)?;
+        clients.push(client(alloc, [10, 0, high, low], "s")?)?;
     }
-    let mut some_accounts = Vec::new(alloc);
-    for number in 0..accounts {
-        let name = format!(in alloc; "a{number}")?;
-        some_accounts.push(entry(alloc, name.as_str(), "p")?)?;
+    Ok(clients)
+}
+
+fn many_accounts(alloc: Global, number: u32) -> Result<Vec<Entry>, Fail> {
+    let mut accounts = Vec::new(alloc);
+    for number in 0..number {
+        let name = printed(alloc, &number)?;
+        accounts.push(entry(alloc, name.as_str(), "p")?)?;
     }
-    Ok(Config::make(alloc, settings(2), some_clients, some_accounts))
+    Ok(accounts)
 }
 
 /// Where a client and an account are found among so many of each, and the numbers of clients,
@@ -188,14 +198,14 @@ fn places(alloc: Global, config: &Config, address: &str, name: &str) -> Result<S
 #[test]
 fn clients_and_accounts_are_found_up_to_the_greatest_numbers(rt: HostRuntime) -> Result<(), Fail> {
     let rows = "
-        one of each | 1 | 1 | 10.0.0.0 | a0 | (Some(0), Some(0), 1, 1, 2)
-        the last of some | 2 | 3 | 10.0.0.1 | a2 | (Some(1), Some(2), 2, 3, 2)
-        none of these | 2 | 3 | 10.0.0.2 | a | (None, None, 2, 3, 2)
-        the most | 256 | 16384 | 10.0.0.255 | a16383 | (Some(255), Some(16383), 256, 16384, 2)
-        none | 0 | 0 | 10.0.0.0 | a0 | BadValue client
-        a client too many | 257 | 1 | 10.0.0.0 | a0 | BadValue client
-        no account | 1 | 0 | 10.0.0.0 | a0 | BadValue account
-        an account too many | 1 | 16385 | 10.0.0.0 | a0 | BadValue account
+        one of each | 1 | 1 | 10.0.0.0 | 0 | (Some(0), Some(0), 1, 1, 2)
+        the last of some | 2 | 3 | 10.0.0.1 | 2 | (Some(1), Some(2), 2, 3, 2)
+        none of these | 2 | 3 | 10.0.0.2 | 3 | (None, None, 2, 3, 2)
+        the most | 256 | 16384 | 10.0.0.255 | 16383 | (Some(255), Some(16383), 256, 16384, 2)
+        none | 0 | 0 | 10.0.0.0 | 0 | BadValue client
+        a client too many | 257 | 1 | 10.0.0.0 | 0 | BadValue client
+        no account | 1 | 0 | 10.0.0.0 | 0 | BadValue account
+        an account too many | 1 | 16385 | 10.0.0.0 | 0 | BadValue account
     ";
     check_rows(&rt, &ManyRows, rows)
 }

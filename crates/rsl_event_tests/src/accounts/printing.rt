@@ -52,8 +52,8 @@ fn faults_are_printed_with_the_key_of_their_field(rt: HostRuntime) -> Result<(),
 fn all_shown(alloc: Global, faults: &[ConfigFault]) -> Result<String, Fail> {
     let mut text = String::new(alloc);
     for fault in faults {
-        let one = format!(in alloc; "{fault}, ")?;
-        text.push_str(one.as_str())?;
+        text.push_str(shown(alloc, fault)?.as_str())?;
+        text.push_str(", ")?;
     }
     Ok(text)
 }

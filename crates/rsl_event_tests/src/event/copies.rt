@@ -1,7 +1,7 @@
 use super::{ACCT, BOOT, CLIENT, FILE, OTHER, check_spelled, port_of};
 use rsl_accounts::{Config, address_of};
 use rsl_event::{Act, Event, Key, Meaning, Nas, NasName, Note, Source, prepare};
-use rsl_rows::{Subject, check_rows, fields_of, octets_of, printed, shown};
+use rsl_rows::{Subject, check_rows, fields_of, octet, octets_of, port_number, printed, shown};
 use rsl_wire::Octets;
 use std::alloc::Global;
 use std::fmt::Debug;
@@ -131,20 +131,18 @@ impl Subject for SameRows {
         let [source, datagram] = fields else {
             return Err("a row has a client and a datagram")?;
         };
-        let datagram = octets_of(alloc, datagram)?;
-        let prepared = prepare(
-            alloc,
-            &self.config,
-            BOOT,
-            ACCT,
-            source_of(source),
-            &datagram,
-        )?;
-        self.names(alloc, &prepared.meaning)
+        self.names(alloc, &self.restart(alloc, source, datagram)?)
     }
 }
 
 impl SameRows {
+    /// What an Accounting-On of a source means.
+    fn restart(&self, alloc: Global, source: &str, datagram: &str) -> Result<Meaning, Fail> {
+        let datagram = octets_of(alloc, datagram)?;
+        let source = source_of(source);
+        Ok(prepare(alloc, &self.config, BOOT, ACCT, source, &datagram)?.meaning)
+    }
+
     /// The names of the rows whose access server is the same as that of a meaning.
     fn names(&self, alloc: Global, meaning: &Meaning) -> Result<String, Fail> {
         let mut names = String::new(alloc);
@@ -166,16 +164,7 @@ impl SameRows {
         let [name, source, datagram, _] = fields.as_slice() else {
             return Ok(());
         };
-        let datagram = octets_of(alloc, datagram)?;
-        let prepared = prepare(
-            alloc,
-            &self.config,
-            BOOT,
-            ACCT,
-            source_of(source),
-            &datagram,
-        )?;
-        let is_same = restart_same(meaning, &prepared.meaning);
+        let is_same = restart_same(meaning, &self.restart(alloc, source, datagram)?);
         Ok(names.push_str(if is_same { name } else { "" })?)
     }
 }
@@ -230,9 +219,9 @@ impl Subject for KeyRows {
         };
         let mut other = key;
         other.source.address = address_of(address.as_bytes()).unwrap_or([0; 4]);
-        other.source.port = port.parse::<u16>()?;
-        other.id = id.parse::<u8>()?;
-        other.authenticator[15] = authenticator.parse::<u8>()?;
+        other.source.port = port_number(port)?;
+        other.id = octet(id)?;
+        other.authenticator[15] = octet(authenticator)?;
         printed(alloc, &key.is_same(&other))
     }
 }

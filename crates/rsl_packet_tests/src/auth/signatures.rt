@@ -2,7 +2,7 @@
 
 use super::{REQUEST_AUTH, SECRET};
 use rsl_auth::{accounting_ok, hmac_md5, seal, sign, signature_ok};
-use rsl_rows::{Subject, check_rows, octets_of};
+use rsl_rows::{Hex, Subject, check_rows, length, octets_of, printed, push_printed};
 use std::alloc::Global;
 use std::test::Fail;
 
@@ -46,7 +46,7 @@ impl Subject for Keyed {
             return Err("a key and a message")?;
         };
         let digest = hmac_md5(&octets_of(alloc, key)?, &octets_of(alloc, message)?);
-        Ok(hex::encode(alloc, &digest)?)
+        printed(alloc, &Hex(&digest))
     }
 }
 
@@ -98,7 +98,7 @@ impl Subject for Signing {
         };
         let secret = octets_of(alloc, secret)?;
         let mut packet = octets_of(alloc, packet)?;
-        told_of_signed(alloc, &secret, at.parse()?, &mut packet)
+        told_of_signed(alloc, &secret, length(at)?, &mut packet)
     }
 }
 
@@ -108,19 +108,12 @@ fn told_of_signed(
     at: usize,
     packet: &mut [u8],
 ) -> Result<String, Fail> {
-    let mut text = format!(in alloc; "{} ", is_right(packet, at, secret))?;
+    let before = is_right(packet, at, secret);
     signed(packet, at, secret);
-    push_hex(&mut text, alloc, packet)?;
-    write!(text, " {} ", is_right(packet, at, secret))?;
+    let once = Vec::from_slice(alloc, packet)?;
+    let after = is_right(packet, at, secret);
     signed(packet, at, secret);
-    push_hex(&mut text, alloc, packet)?;
-    Ok(text)
-}
-
-fn push_hex(text: &mut String, alloc: Global, octets: &[u8]) -> Result<(), Fail> {
-    let digits = hex::encode(alloc, octets)?;
-    text.push_str(digits.as_str())?;
-    Ok(())
+    printed(alloc, &(before, Hex(&once), after, Hex(packet)))
 }
 
 /// The value that stands there does not count: a packet is signed alike once more. The packet is
@@ -132,42 +125,42 @@ fn a_request_is_signed_and_found_right(rt: HostRuntime) -> Result<(), Fail> {
         &Signing,
         "
 first | 78797a7a7935343631 | 22 | 0100004a0f403f9473978057bd83d5cb98f4227a 5012 00*16 01066e656d6f \
-    02120dbe708d93d413ce3196e43f782a0aee0406c0a80110050600000003 | false \
+    02120dbe708d93d413ce3196e43f782a0aee0406c0a80110050600000003 | (false, \
     0100004a0f403f9473978057bd83d5cb98f4227a50128f16b45f90d3494989a4f14f4421c61801066e656d6f\
-    02120dbe708d93d413ce3196e43f782a0aee0406c0a80110050600000003 true \
+    02120dbe708d93d413ce3196e43f782a0aee0406c0a80110050600000003, true, \
     0100004a0f403f9473978057bd83d5cb98f4227a50128f16b45f90d3494989a4f14f4421c61801066e656d6f\
-    02120dbe708d93d413ce3196e43f782a0aee0406c0a80110050600000003
+    02120dbe708d93d413ce3196e43f782a0aee0406c0a80110050600000003)
 second | 78797a7a7935343631 | 28 | 0100004a0f403f9473978057bd83d5cb98f4227a 01066e656d6f \
     5012 00*16 \
-    02120dbe708d93d413ce3196e43f782a0aee0406c0a80110050600000003 | false \
+    02120dbe708d93d413ce3196e43f782a0aee0406c0a80110050600000003 | (false, \
     0100004a0f403f9473978057bd83d5cb98f4227a01066e656d6f5012ea9ad6c8b9113cc4b2cfc3998e21aa08\
-    02120dbe708d93d413ce3196e43f782a0aee0406c0a80110050600000003 true \
+    02120dbe708d93d413ce3196e43f782a0aee0406c0a80110050600000003, true, \
     0100004a0f403f9473978057bd83d5cb98f4227a01066e656d6f5012ea9ad6c8b9113cc4b2cfc3998e21aa08\
-    02120dbe708d93d413ce3196e43f782a0aee0406c0a80110050600000003
+    02120dbe708d93d413ce3196e43f782a0aee0406c0a80110050600000003)
 63 octets | 73*63 | 22 | 0100004a0f403f9473978057bd83d5cb98f4227a 5012 00*16 01066e656d6f \
-    02120dbe708d93d413ce3196e43f782a0aee0406c0a80110050600000003 | false \
+    02120dbe708d93d413ce3196e43f782a0aee0406c0a80110050600000003 | (false, \
     0100004a0f403f9473978057bd83d5cb98f4227a50123e09842edbccf3b3c12cb8954b0892a801066e656d6f\
-    02120dbe708d93d413ce3196e43f782a0aee0406c0a80110050600000003 true \
+    02120dbe708d93d413ce3196e43f782a0aee0406c0a80110050600000003, true, \
     0100004a0f403f9473978057bd83d5cb98f4227a50123e09842edbccf3b3c12cb8954b0892a801066e656d6f\
-    02120dbe708d93d413ce3196e43f782a0aee0406c0a80110050600000003
+    02120dbe708d93d413ce3196e43f782a0aee0406c0a80110050600000003)
 64 octets | 73*64 | 22 | 0100004a0f403f9473978057bd83d5cb98f4227a 5012 00*16 01066e656d6f \
-    02120dbe708d93d413ce3196e43f782a0aee0406c0a80110050600000003 | false \
+    02120dbe708d93d413ce3196e43f782a0aee0406c0a80110050600000003 | (false, \
     0100004a0f403f9473978057bd83d5cb98f4227a50129d172071ad106b3c21a55aa1b739872601066e656d6f\
-    02120dbe708d93d413ce3196e43f782a0aee0406c0a80110050600000003 true \
+    02120dbe708d93d413ce3196e43f782a0aee0406c0a80110050600000003, true, \
     0100004a0f403f9473978057bd83d5cb98f4227a50129d172071ad106b3c21a55aa1b739872601066e656d6f\
-    02120dbe708d93d413ce3196e43f782a0aee0406c0a80110050600000003
+    02120dbe708d93d413ce3196e43f782a0aee0406c0a80110050600000003)
 65 octets | 73*65 | 22 | 0100004a0f403f9473978057bd83d5cb98f4227a 5012 00*16 01066e656d6f \
-    02120dbe708d93d413ce3196e43f782a0aee0406c0a80110050600000003 | false \
+    02120dbe708d93d413ce3196e43f782a0aee0406c0a80110050600000003 | (false, \
     0100004a0f403f9473978057bd83d5cb98f4227a5012c0556e97f664d5f4ac29280545c51bec01066e656d6f\
-    02120dbe708d93d413ce3196e43f782a0aee0406c0a80110050600000003 true \
+    02120dbe708d93d413ce3196e43f782a0aee0406c0a80110050600000003, true, \
     0100004a0f403f9473978057bd83d5cb98f4227a5012c0556e97f664d5f4ac29280545c51bec01066e656d6f\
-    02120dbe708d93d413ce3196e43f782a0aee0406c0a80110050600000003
+    02120dbe708d93d413ce3196e43f782a0aee0406c0a80110050600000003)
 128 octets | 73*128 | 22 | 0100004a0f403f9473978057bd83d5cb98f4227a 5012 00*16 01066e656d6f \
-    02120dbe708d93d413ce3196e43f782a0aee0406c0a80110050600000003 | false \
+    02120dbe708d93d413ce3196e43f782a0aee0406c0a80110050600000003 | (false, \
     0100004a0f403f9473978057bd83d5cb98f4227a5012a8c8fefd352d5c17cf011a9a9a07d80101066e656d6f\
-    02120dbe708d93d413ce3196e43f782a0aee0406c0a80110050600000003 true \
+    02120dbe708d93d413ce3196e43f782a0aee0406c0a80110050600000003, true, \
     0100004a0f403f9473978057bd83d5cb98f4227a5012a8c8fefd352d5c17cf011a9a9a07d80101066e656d6f\
-    02120dbe708d93d413ce3196e43f782a0aee0406c0a80110050600000003
+    02120dbe708d93d413ce3196e43f782a0aee0406c0a80110050600000003)
 ",
     )
 }
@@ -182,7 +175,7 @@ impl Subject for Changed {
             return Err("a packet, an octet and a secret")?;
         };
         let mut packet = octets_of(alloc, packet)?;
-        told_of_changes(alloc, &mut packet, at.parse()?, &octets_of(alloc, secret)?)
+        told_of_changes(alloc, &mut packet, length(at)?, &octets_of(alloc, secret)?)
     }
 }
 
@@ -192,11 +185,11 @@ fn told_of_changes(
     at: usize,
     secret: &[u8],
 ) -> Result<String, Fail> {
-    let mut text = format!(in alloc; "{}", is_right(packet, at, secret))?;
+    let mut text = printed(alloc, &is_right(packet, at, secret))?;
     for changed in 0..packet.len() {
         change(packet, changed);
         if is_right(packet, at, secret) {
-            write!(text, " {changed}")?;
+            push_printed(&mut text, &changed)?;
         }
         change(packet, changed);
     }
@@ -235,12 +228,10 @@ impl Subject for Answered {
             return Err("a reply and an octet")?;
         };
         let mut reply = octets_of(alloc, reply)?;
-        signed(&mut reply, at.parse()?, SECRET);
-        let mut text = hex::encode(alloc, &reply)?;
+        signed(&mut reply, length(at)?, SECRET);
+        let unsealed = Vec::from_slice(alloc, &reply)?;
         with_seal(&mut reply, &REQUEST_AUTH, SECRET);
-        text.push(' ')?;
-        push_hex(&mut text, alloc, &reply)?;
-        Ok(text)
+        printed(alloc, &(Hex(&unsealed), Hex(&reply)))
     }
 }
 
@@ -252,10 +243,10 @@ fn a_reply_is_signed_and_then_sealed(rt: HostRuntime) -> Result<(), Fail> {
         &Answered,
         "
 an accept | 0201003e 00*16 5012 00*16 191200000000000000010000000000000000 3e0600000001 | 22 | \
-    0201003e000000000000000000000000000000005012be99dbbfaa1abaf748787fe375162670\
-    1912000000000000000100000000000000003e0600000001 \
+    (0201003e000000000000000000000000000000005012be99dbbfaa1abaf748787fe375162670\
+    1912000000000000000100000000000000003e0600000001, \
     0201003ede46bb9f3db71fea0ffc06f18e8479fe5012be99dbbfaa1abaf748787fe375162670\
-    1912000000000000000100000000000000003e0600000001
+    1912000000000000000100000000000000003e0600000001)
 ",
     )
 }
@@ -288,11 +279,11 @@ fn told_of_sealed(
 ) -> Result<String, Fail> {
     let request_auth = if is_reply { REQUEST_AUTH } else { [0; 16] };
     with_seal(packet, &request_auth, secret);
-    let mut text = hex::encode(alloc, &*packet)?;
-    write!(text, " {}", is_authentic(packet, secret))?;
+    let is_right = is_authentic(packet, secret);
     change(packet, 0);
-    write!(text, " {}", is_authentic(packet, secret))?;
-    Ok(text)
+    let is_right_still = is_authentic(packet, secret);
+    change(packet, 0);
+    printed(alloc, &(Hex(packet), is_right, is_right_still))
 }
 
 /// The Access-Accept of RFC 2865 section 7.1, and Accounting-Requests.
@@ -304,17 +295,17 @@ fn packets_are_sealed(rt: HostRuntime) -> Result<(), Fail> {
         "
 the accept of the RFC | request | 02000026 ff*16 0606000000010f06000000000e06c0a80103 \
     | 78797a7a7935343631 \
-    | 0200002686fe220e7624ba2a1005f6bf9b55e0b20606000000010f06000000000e06c0a80103 false false
+    | (0200002686fe220e7624ba2a1005f6bf9b55e0b20606000000010f06000000000e06c0a80103, false, false)
 accounting | none | 0401001a ff*16 280600000001 | 78797a7a7935343631 \
-    | 0401001aedbee5ec65451894cfbcd3a359710921280600000001 true false
+    | (0401001aedbee5ec65451894cfbcd3a359710921280600000001, true, false)
 63 octets | none | 0401001a ff*16 280600000001 | 73*63 \
-    | 0401001a6b31b4ff2d6100d26f03ea8554bf1e91280600000001 true false
+    | (0401001a6b31b4ff2d6100d26f03ea8554bf1e91280600000001, true, false)
 64 octets | none | 0401001a ff*16 280600000001 | 73*64 \
-    | 0401001a2da37ccd2b424a65febdcd479720dd9a280600000001 true false
+    | (0401001a2da37ccd2b424a65febdcd479720dd9a280600000001, true, false)
 65 octets | none | 0401001a ff*16 280600000001 | 73*65 \
-    | 0401001ab5f311cf95283a8b23fd08aa35091888280600000001 true false
+    | (0401001ab5f311cf95283a8b23fd08aa35091888280600000001, true, false)
 128 octets | none | 0401001a ff*16 280600000001 | 73*128 \
-    | 0401001ace8c7b0b9a698aceaf135bfd185796dc280600000001 true false
+    | (0401001ace8c7b0b9a698aceaf135bfd185796dc280600000001, true, false)
 ",
     )
 }
