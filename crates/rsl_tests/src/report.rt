@@ -3,8 +3,10 @@
 ghost use Rattle.std.specs.Prelude.{IsTrue, All, ◌<◌};
 
 use rsl_accounts::Config;
-use rsl_report::{WriteFault, write_table};
+use rsl_report::{AuditFault, WriteFault, write_table};
+use rsl_rows::{Subject, check_rows, number, shown};
 use rsl_shard::Row;
+use std::alloc::Global;
 use std::io;
 use std::io::{ErrorKind, Write};
 use std::process::Abort;
@@ -153,7 +155,8 @@ fn a_fault_comes_where_the_writer_fails(rt: HostRuntime) -> Result<(), Fail> {
     Ok(())
 }
 
-/// Writes a table over a writer of these limits. Gives what was answered and the octets that were taken.
+/// Writes a table over a writer of these limits. Gives what was answered and the octets that were
+/// taken.
 fn write<R: AllocGlobal + Abort>(
     rt: &R,
     rows: &[Row],
@@ -177,4 +180,46 @@ fn are_below(rows: &[Row], accounts: u32) -> bool
     ensures { IsTrue result → All (λ row. row.account < accounts) rows.now }
 {
     rows.iter().all(|row| row.account < accounts)
+}
+
+/// A fault of a table or of an audit: what it prints.
+struct Faults;
+
+impl Subject for Faults {
+    fn found(&self, alloc: Global, fields: &[&str]) -> Result<String, Fail> {
+        if let ["WriteFault"] = fields {
+            return shown(alloc, &WriteFault);
+        }
+        shown(alloc, &audit_fault(fields)?)
+    }
+}
+
+fn audit_fault(fields: &[&str]) -> Result<AuditFault, Fail> {
+    Ok(match fields {
+        ["NotFromEmpty"] => AuditFault::NotFromEmpty,
+        ["Gap", segment] => AuditFault::Gap {
+            segment: number(segment)?,
+        },
+        ["WrongDecision", position] => AuditFault::WrongDecision {
+            account: None,
+            position: number(position)?,
+        },
+        ["NoMemory"] => AuditFault::NoMemory,
+        _ => Err("an unknown fault")?,
+    })
+}
+
+#[test]
+fn faults_are_printed(rt: HostRuntime) -> Result<(), Fail> {
+    check_rows(
+        &rt,
+        &Faults,
+        "
+a write | WriteFault | write fault
+a beginning | NotFromEmpty | does not begin from empty
+a gap | Gap | 3 | gap before segment 3
+a decision | WrongDecision | 18446744073709551615 | wrong decision at 18446744073709551615
+no memory | NoMemory | no memory
+",
+    )
 }

@@ -2,9 +2,9 @@
 //!
 //! The folder that this program runs in has the rows (data/ of this crate). Each `NAME.script` is
 //! replayed, and what comes of it is compared with `NAME.stdout`, or with `NAME.fault` where the
-//! replay is to fail. Each `NAME.lines` is a table of lines that are right or wrong where they stand
-//! alone. A line is printed for each script and each table: `ok NAME`, or what was expected and what
-//! was found, and then the status is 1.
+//! replay is to fail. Each `NAME.lines` is a table of lines that are right or wrong where they
+//! stand alone. A line is printed for each script and each table: `ok NAME`, or what was expected
+//! and what was found, and then the status is 1.
 #![tactic(auto)]
 
 mod lines;
