@@ -100,6 +100,13 @@ impl Read for Broken {
 
 const SCRIPT: &str = "client 192.168.1.16 xyzzy5461\naccount u pw 1\nask 0 192.168.1.16 n u pw 1\n";
 
+/// What the script prints.
+const PRINTED: &str = "\
+1 accept 0
+name                   places     held reserved     live    stale     over
+u                           1        1        1        0        0        0
+";
+
 const USAGE: &str =
     "usage: radlimit replay or radlimit serve FILE ADDRESS AUTHPORT ACCTPORT TURNS\n";
 
@@ -143,7 +150,7 @@ fn wrong_arguments_are_told_the_usage_and_nothing_is_read(rt: HostRuntime) {
 fn replay_ends_with_its_status_and_a_line_for_its_fault(rt: HostRuntime) -> Result<(), Fail> {
     let long = "#".repeat(rt.alloc(), 1_048_577)?;
     for (name, script, output_fails, expected, prints, says) in [
-        ("an ask", SCRIPT, false, 0, "1 accept 0\n", ""),
+        ("an ask", SCRIPT, false, 0, PRINTED, ""),
         (
             "a wrong line",
             "ask\n",

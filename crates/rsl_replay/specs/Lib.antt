@@ -4,4 +4,6 @@ pub mod Attributes
 pub mod Fault
 pub mod Printing
 pub mod Replay
+pub mod Report
+pub mod Shards
 pub mod Stepping

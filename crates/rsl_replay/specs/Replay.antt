@@ -1,11 +1,12 @@
 -- What a replay writes for the octets of a script, and why it fails.
-use Rattle.std.specs.Prelude.{◌≡◌, ℕ, ◌<◌, ◌≤◌, ⊤, List, [], length, Ok, Err}
+use Rattle.std.specs.Prelude.{◌≡◌, ℕ, ◌<◌, ◌≤◌, ⊤, List, [], ◌++◌, length, Ok, Err}
 use Rattle.rsl_accounts.specs.Configuration.{Configuration, configuration_of}
 use Rattle.rsl_accounts.specs.declared.fault.ConfigFault.{ConfigFault}
 use Rattle.rsl_script.specs.Script.{Contents, script_of}
 use Rattle.rsl_script.specs.declared.fault.ScriptFault.TheVariants.{Line as wrong_line}
 use Rattle.rsl_replay.specs.Printing.{printed}
-use Rattle.rsl_steps.specs.Run.{AreAnswers}
+use Rattle.rsl_replay.specs.Report.{report_after}
+use Rattle.rsl_steps.specs.Run.{AreAnswers, taken}
 use Rattle.rsl_replay.specs.Stepping.{steps_of_lines}
 use Rattle.rsl_replay.specs.declared.fault.ReplayFault.{ReplayFault}
 use Rattle.rsl_replay.specs.declared.fault.ReplayFault.TheVariants.{Line, TooLong, Config, InputOutput, NoMemory}
@@ -20,7 +21,9 @@ abbrev pub replay_boot : ℕ
 replay_boot = 1
 
 -- The text is a right script of a right configuration, and not too long; each step of its event
--- lines has its answer, and what is written tells for each event line what it was answered.
+-- lines has its answer. What is written tells for each event line what it was answered, and then
+-- for each account what it holds after the steps that were taken: a refused one is as if it had
+-- not come.
 pub record IsReplayed (text written : List ℕ) : Type 0 where
   pub script : Contents
   pub config : Configuration
@@ -30,7 +33,9 @@ pub record IsReplayed (text written : List ℕ) : Type 0 where
   pub made : configuration_of script.settings script.clients script.accounts ≡ Ok config
   pub answered : AreAnswers config replay_boot [] (steps_of_lines config replay_boot script.events)
       answers
-  pub printed_lines : written ≡ printed config script.events answers
+  pub lines_and_report : written ≡ printed config script.events answers
+      ++ report_after config replay_boot
+      (taken [] (steps_of_lines config replay_boot script.events) answers)
 
 -- a right script whose configuration has the fault
 pub record IsRefused (text : List ℕ) (fault : ConfigFault) : Type 0 where

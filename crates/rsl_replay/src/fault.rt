@@ -5,6 +5,7 @@ ghost use Rattle.rsl_replay.specs.declared.fault.ReplayFault.TheVariants.{
 };
 
 use rsl_accounts::ConfigFault;
+use rsl_report::WriteFault;
 use rsl_script::ScriptFault;
 use rsl_wire::NoMemory;
 use std::alloc::AllocError;
@@ -94,6 +95,14 @@ impl From<io::Error> for ReplayFault {
     ghost from_gives = { λ _ fault. fault ≡ InputOutput };
 
     fn from(_failed: io::Error) -> ReplayFault {
+        ReplayFault::InputOutput
+    }
+}
+
+impl From<WriteFault> for ReplayFault {
+    ghost from_gives = { λ _ fault. fault ≡ InputOutput };
+
+    fn from(_failed: WriteFault) -> ReplayFault {
         ReplayFault::InputOutput
     }
 }

@@ -410,7 +410,16 @@ impl Write for Threes {
 const ASKS: &str = "client 192.168.1.16 xyzzy5461\naccount u pw 2\n\
 ask 0 192.168.1.16 n u pw 1\nask 0 192.168.1.16 n u pw 2\nask 0 192.168.1.16 n u pw 3\n";
 
-const PRINTED: &str = "1 accept 0\n2 accept 1\n3 reject limit\n";
+const PRINTED: &str = "\
+1 accept 0
+2 accept 1
+3 reject limit
+name                   places     held reserved     live    stale     over
+u                           2        2        2        0        0        0
+";
+
+/// The titles of a report, which a row of a test writes as `TITLES`.
+const TITLES: &str = "name                   places     held reserved     live    stale     over";
 
 /// What a replay gave, and what was written.
 fn told_replay(
@@ -419,7 +428,8 @@ fn told_replay(
     written: &[u8],
 ) -> Result<String, Fail> {
     let written = str::from_utf8(written).unwrap_or("no text");
-    let written = written.replace(alloc, "\n", "/")?;
+    let written = written.replace(alloc, TITLES, "TITLES")?;
+    let written = written.as_str().replace(alloc, "\n", "/")?;
     Ok(format!(in alloc; "{found:?} [{written}]")?)
 }
 
@@ -450,10 +460,14 @@ fn pieces_are_one_script_unless_a_read_fails(rt: HostRuntime) -> Result<(), Fail
         &rt,
         &Pieced,
         "
-octets | 1 | ends | Ok(()) [1 accept 0/2 accept 1/3 reject limit/]
-twos | 2 | ends | Ok(()) [1 accept 0/2 accept 1/3 reject limit/]
-sevens | 7 | ends | Ok(()) [1 accept 0/2 accept 1/3 reject limit/]
-all | 4096 | ends | Ok(()) [1 accept 0/2 accept 1/3 reject limit/]
+octets | 1 | ends | Ok(()) [1 accept 0/2 accept 1/3 reject limit/\
+    TITLES/u                           2        2        2        0        0        0/]
+twos | 2 | ends | Ok(()) [1 accept 0/2 accept 1/3 reject limit/\
+    TITLES/u                           2        2        2        0        0        0/]
+sevens | 7 | ends | Ok(()) [1 accept 0/2 accept 1/3 reject limit/\
+    TITLES/u                           2        2        2        0        0        0/]
+all | 4096 | ends | Ok(()) [1 accept 0/2 accept 1/3 reject limit/\
+    TITLES/u                           2        2        2        0        0        0/]
 a fault | 16 | fails | Err(InputOutput) []
 ",
     )
@@ -484,18 +498,21 @@ impl Subject for Taken {
     }
 }
 
-// The three asks print 37 octets.
+// The three asks print lines of 37 octets, and two lines of 75.
 #[test]
 fn writer_of_three_octets_gets_all_unless_it_fails(rt: HostRuntime) -> Result<(), Fail> {
     check_rows(
         &rt,
         &Taken,
         "
-all | 37 | passes on | Ok(()) [1 accept 0/2 accept 1/3 reject limit/]
+all | 187 | passes on | Ok(()) [1 accept 0/2 accept 1/3 reject limit/\
+    TITLES/u                           2        2        2        0        0        0/]
 nothing | 0 | passes on | Err(InputOutput) []
 a part | 4 | passes on | Err(InputOutput) []
-all but three octets | 34 | passes on | Err(InputOutput) []
-no flush | 37 | fails | Err(InputOutput) []
+the lines alone | 37 | passes on | Err(InputOutput) []
+the lines and the titles | 112 | passes on | Err(InputOutput) []
+all but three octets | 184 | passes on | Err(InputOutput) []
+no flush | 187 | fails | Err(InputOutput) []
 ",
     )
 }
@@ -571,12 +588,15 @@ fn long_lines_are_replayed(rt: HostRuntime) -> Result<(), Fail> {
         "
 4,097 octets | client 192.168.1.16 xyzzy5461/account nemo arctangent 1/raw-auth 0 192.168.1.16 \
     010000380f403f9473978057bd83d5cb98f4227a01066e656d6f02120dbe708d93d413ce3196e43f782a0aee\
-    0406c0a80110050600000003WORD/ | 00 | 4041 | Ok(()) [1 accept 0/]
+    0406c0a80110050600000003WORD/ | 00 | 4041 | Ok(()) [1 accept 0/\
+    TITLES/nemo                        1        1        1        0        0        0/]
 65,507 octets | client 192.168.1.16 xyzzy5461/account nemo arctangent 1/raw-auth 0 192.168.1.16 \
     010000380f403f9473978057bd83d5cb98f4227a01066e656d6f02120dbe708d93d413ce3196e43f782a0aee\
-    0406c0a80110050600000003WORD/ | 00 | 65451 | Ok(()) [1 accept 0/]
+    0406c0a80110050600000003WORD/ | 00 | 65451 | Ok(()) [1 accept 0/\
+    TITLES/nemo                        1        1        1        0        0        0/]
 no packet | client 192.168.1.16 xyzzy5461/account nemo arctangent 1/raw-auth 0 192.168.1.16 WORD/ \
-    | ff | 65507 | Ok(()) [1 drop BadLength/]
+    | ff | 65507 | Ok(()) [1 drop BadLength/\
+    TITLES/nemo                        1        0        0        0        0        0/]
 ",
     )
 }
