@@ -1,4 +1,6 @@
-ghost use Rattle.std.specs.Prelude.{◌≡◌, ◌↔◌, ℕ, ◌+◌, ◌-◌, ◌*◌, ◌^◌, ◌<◌, ◌≤◌, [], ◌∷◌, ◌++◌, Option, Some, None, find, IfOk, IfSome, IfNone, IsTrue, length, option_map, if◌then◌else◌};
+ghost use Rattle.std.specs.Prelude.{◌≡◌, ◌↔◌, ℕ, ◌+◌, ◌-◌, ◌*◌, ◌^◌, ◌<◌, ◌≤◌, [], ◌∷◌, ◌++◌};
+ghost use Rattle.std.specs.Prelude.{Option, Some, None, find, IfOk, IfSome, IfNone, IsTrue, length};
+ghost use Rattle.std.specs.Prelude.{option_map, if◌then◌else◌};
 ghost use Rattle.std.specs.List.{list_any};
 ghost use Rattle.std.specs.Option.{option_map};
 ghost use Rattle.rsl_accounts.specs.Limits.{RulesFit};
@@ -8,9 +10,12 @@ ghost use Rattle.rsl_session.specs.declared.kept.KeptAsk.{KeptAsk};
 ghost use Rattle.rsl_session.specs.Ask.{repeats};
 ghost use Rattle.rsl_session.specs.Closed.{closes};
 ghost use Rattle.rsl_session.specs.Places.{places_of};
-ghost use Rattle.rsl_session.specs.Book.{new_book, places_in, bundles_in, reserved_in, live_in, stale_in};
-ghost use Rattle.rsl_session.specs.BookLinks.{is_link_of, can_be_taken, can_yield, fits_beside, without_first};
-ghost use Rattle.rsl_session.specs.BookStep.{come_to, refuse, accept_beside, fresh_ask, ask, open_link, bind, alive, stop, sweep, act_on, step};
+ghost use Rattle.rsl_session.specs.Book.{new_book, places_in, bundles_in, reserved_in, live_in};
+ghost use Rattle.rsl_session.specs.Book.{stale_in};
+ghost use Rattle.rsl_session.specs.BookLinks.{is_link_of, can_be_taken, can_yield, fits_beside};
+ghost use Rattle.rsl_session.specs.BookLinks.{without_first};
+ghost use Rattle.rsl_session.specs.BookStep.{come_to, refuse, accept_beside, fresh_ask, ask};
+ghost use Rattle.rsl_session.specs.BookStep.{open_link, bind, alive, stop, sweep, act_on, step};
 ghost use Rattle.rsl_book.specs.RuledBook.{RuledBook, IsWithinLimit};
 ghost use Rattle.rsl_book.specs.First.{IsFirst, change_at};
 ghost use Rattle.rsl_book.specs.Seen.{bundle_with};
@@ -28,21 +33,16 @@ use crate::table::place_for;
 use circular_buffer::HeapCircularBuffer;
 use rsl_accounts::Rules;
 use rsl_event::{Act, Decision, Event, Key, Nas};
+use rsl_session::{KEPT_ASKS, KEPT_STOPS};
 use rsl_wire::{NoMemory, Octets};
 use std::alloc::Global;
 use std::marker::Model;
 
-/// How many of the last fresh asks are kept for their repeats.
-const KEPT_ASKS: usize = 8;
-
-/// How many of the last stops are kept.
-const KEPT_STOPS: usize = 16;
-
 /// What one account holds now, so that its next event is decided without a look back.
 ///
-/// A contract sees the rules of the account and the running book: the clock, the links in the order in
-/// which they opened, the next accept number, the last fresh asks and stops, newest first, and the over
-/// count. All memory is taken in `new`.
+/// A contract sees the rules of the account and the running book: the clock, the links in the order
+/// in which they opened, the next accept number, the last fresh asks and stops, newest first, and
+/// the over count. All memory is taken in `new`.
 #[derive(Drop)]
 pub struct Book {
     rules: Rules,
@@ -88,8 +88,8 @@ fn most_links(rules: &Rules) -> usize
 }
 
 impl Book {
-    /// The book of an account that has had no event, with all the room that it will ever use. It fails
-    /// only where memory is refused.
+    /// The book of an account that has had no event, with all the room that it will ever use. It
+    /// fails only where memory is refused.
     pub fn new(alloc: Global, rules: Rules) -> Result<Book, NoMemory>
         requires { RulesFit rules }
         ensures made { IfOk result (λ made. made ≡ record { rules = rules; book = new_book }) }
@@ -108,8 +108,8 @@ impl Book {
         })
     }
 
-    /// What an event makes of the book, and the decision on it: `Done` for every event but an ask. It
-    /// takes no memory.
+    /// What an event makes of the book, and the decision on it: `Done` for every event but an ask.
+    /// It takes no memory.
     pub fn apply(&mut self, event: Event) -> Decision
         ensures step { (self.new.book, result) ≡ step self.old.rules self.old.book event }
         ensures rules { self.new.rules ≡ self.old.rules }
@@ -188,7 +188,8 @@ impl Book {
 
     /// What a sweep of an access server at this moment makes of the book, as `apply` does.
     pub fn sweep(&mut self, moment: u64, nas: &Nas)
-        ensures step { (self.new.book, Done) ≡ step self.old.rules self.old.book (record { moment = moment; act = Sweep nas.now }) }
+        ensures step { (self.new.book, Done) ≡
+            step self.old.rules self.old.book (record { moment = moment; act = Sweep nas.now }) }
         ensures rules { self.new.rules ≡ self.old.rules }
         ensures limit_before { IsWithinLimit self.old }
         ensures limit { IsWithinLimit self.new }
@@ -201,7 +202,8 @@ impl Book {
 
     /// What a tick at this moment makes of the book, as `apply` does.
     pub fn tick(&mut self, moment: u64)
-        ensures step { (self.new.book, Done) ≡ step self.old.rules self.old.book (record { moment = moment; act = Tick }) }
+        ensures step { (self.new.book, Done) ≡
+            step self.old.rules self.old.book (record { moment = moment; act = Tick }) }
         ensures rules { self.new.rules ≡ self.old.rules }
         ensures limit_before { IsWithinLimit self.old }
         ensures limit { IsWithinLimit self.new }
@@ -293,7 +295,8 @@ impl Book {
 
     /// Comes to a moment: the clock moves, and the links that lapse then are gone.
     fn come_to(&mut self, moment: u64)
-        ensures { self.new ≡ record self.old { book = come_to self.old.rules self.old.book moment } }
+        ensures { self.new ≡
+            record self.old { book = come_to self.old.rules self.old.book moment } }
     {
         self.clock = self.clock.max(moment);
         self.links.lapse(&self.servers, &self.rules, self.clock);
@@ -325,7 +328,8 @@ impl Book {
     fn accept(&mut self, key: Key, nas: Nas) -> Decision
         requires number { self.old.book.accepts < 2 ^ 64 - 1 }
         requires place { places_in self.old.rules self.old.book + 1 ≤ self.old.rules.places }
-        ensures step { (self.new.book, result) ≡ accept_beside self.old.book.links self.old.book key nas }
+        ensures step { (self.new.book, result) ≡
+            accept_beside self.old.book.links self.old.book key nas }
         ensures rules { self.new.rules ≡ self.old.rules }
     {
         let nas = place_for(
@@ -359,7 +363,9 @@ impl Book {
     /// Whether a place is free once a link ends.
     fn frees_a_place(&self, at: usize) -> bool
         requires { at < length self.now.book.links }
-        ensures { places_in self.now.rules self.now.book ≡ places_of self.now.rules.ports (bundles_in (without_at at self.now.book.links)) + (if result then 1 else 0) }
+        ensures { places_in self.now.rules self.now.book ≡
+            places_of self.now.rules.ports (bundles_in (without_at at self.now.book.links))
+            + (if result then 1 else 0) }
     {
         self.links.frees_a_place(&self.servers, at)
     }
@@ -367,15 +373,25 @@ impl Book {
     /// Ends a link.
     fn end_link(&mut self, at: usize)
         requires { at < length self.old.book.links }
-        ensures { self.new ≡ record self.old { book = record self.old.book { links = without_at at self.old.book.links } } }
+        ensures { self.new ≡
+            record self.old {
+              book = record self.old.book {
+                links = without_at at
+                    self.old.book.links;
+              };
+            } }
     {
         self.links.end_at(&self.servers, at);
     }
 
     /// The link that can yield.
     fn yielding(&self) -> Option<usize>
-        ensures found { IfSome result (λ at. IsFirst (can_yield self.now.rules self.now.book.clock self.now.book.links) self.now.book.links at) }
-        ensures missed { IfNone result (find (can_yield self.now.rules self.now.book.clock self.now.book.links) self.now.book.links ≡ None) }
+        ensures found { IfSome result (λ at. IsFirst
+            (can_yield self.now.rules self.now.book.clock self.now.book.links) self.now.book.links
+            at) }
+        ensures missed { IfNone result (find
+            (can_yield self.now.rules self.now.book.clock self.now.book.links) self.now.book.links
+            ≡ None) }
     {
         self.links.yielding(&self.servers, &self.rules, self.clock)
     }
@@ -384,8 +400,15 @@ impl Book {
     fn ask_in_place(&mut self, at: usize, key: Key, nas: Nas) -> Decision
         requires number { self.old.book.accepts < 2 ^ 64 - 1 }
         requires full { self.old.rules.places ≤ places_in self.old.rules self.old.book }
-        requires yields { IsFirst (can_yield self.old.rules self.old.book.clock self.old.book.links) self.old.book.links at }
-        ensures step { (self.new.book, result) ≡ (if fits_beside self.old.rules (without_first (can_yield self.old.rules self.old.book.clock self.old.book.links) self.old.book.links) then accept_beside (without_first (can_yield self.old.rules self.old.book.clock self.old.book.links) self.old.book.links) self.old.book key nas else refuse self.old.book key nas) }
+        requires yields { IsFirst
+            (can_yield self.old.rules self.old.book.clock self.old.book.links) self.old.book.links
+            at }
+        ensures step { (self.new.book, result) ≡
+            (if fits_beside self.old.rules (without_first
+            (can_yield self.old.rules self.old.book.clock self.old.book.links) self.old.book.links)
+            then accept_beside (without_first
+            (can_yield self.old.rules self.old.book.clock self.old.book.links) self.old.book.links)
+            self.old.book key nas else refuse self.old.book key nas) }
         ensures rules { self.new.rules ≡ self.old.rules }
     {
         self.stays_within_limit();
@@ -414,7 +437,8 @@ impl Book {
 
     /// The decision of the latest kept ask that an ask of this key repeats.
     fn repeated(&self, key: &Key) -> Option<Decision>
-        ensures { result ≡ option_map (λ (ask : KeptAsk). ask.decision) (find (repeats self.now.rules key.now self.now.book.clock) self.now.book.asks) }
+        ensures { result ≡ option_map (λ (ask : KeptAsk). ask.decision) (find
+            (repeats self.now.rules key.now self.now.book.clock) self.now.book.asks) }
     {
         repeated(&self.asks, &self.servers, &self.rules, key, self.clock)
     }
@@ -440,7 +464,9 @@ impl Book {
 
     /// An ask.
     fn ask(&mut self, key: Key, nas: Nas) -> Decision
-        ensures step { (self.new.book, result) ≡ ask self.old.rules self.old.book key nas (find (repeats self.old.rules key self.old.book.clock) self.old.book.asks) }
+        ensures step { (self.new.book, result) ≡
+            ask self.old.rules self.old.book key nas (find
+            (repeats self.old.rules key self.old.book.clock) self.old.book.asks) }
         ensures rules { self.new.rules ≡ self.old.rules }
     {
         match self.repeated(&key) {
@@ -451,23 +477,28 @@ impl Book {
 
     /// The link that is bound to the session of this id at an access server.
     fn bound_to(&self, nas: &Nas, id: &Octets) -> Option<usize>
-        ensures found { IfSome result (λ at. IsFirst (is_link_of (record { nas = nas.now; id = id.now })) self.now.book.links at) }
-        ensures missed { IfNone result (find (is_link_of (record { nas = nas.now; id = id.now })) self.now.book.links ≡ None) }
+        ensures found { IfSome result (λ at. IsFirst (is_link_of
+            (record { nas = nas.now; id = id.now })) self.now.book.links at) }
+        ensures missed { IfNone result (find (is_link_of
+            (record { nas = nas.now; id = id.now })) self.now.book.links ≡ None) }
     {
         self.links.bound_to(&self.servers, nas, id)
     }
 
     /// The reservation that an alive at an access server takes.
     fn reservation(&self, nas: &Nas, class: Option<u64>) -> Option<usize>
-        ensures found { IfSome result (λ at. IsFirst (can_be_taken nas.now class) self.now.book.links at) }
-        ensures missed { IfNone result (find (can_be_taken nas.now class) self.now.book.links ≡ None) }
+        ensures found { IfSome result (λ at. IsFirst
+            (can_be_taken nas.now class) self.now.book.links at) }
+        ensures missed { IfNone result (find (can_be_taken nas.now class) self.now.book.links ≡
+            None) }
     {
         self.links.reservation(&self.servers, nas, class)
     }
 
     /// Whether the session of this id at an access server is closed.
     fn is_closed(&self, nas: &Nas, id: &Octets) -> bool
-        ensures { result ≡ list_any (closes self.now.rules (record { nas = nas.now; id = id.now }) self.now.book.clock) self.now.book.stops }
+        ensures { result ≡ list_any (closes self.now.rules
+            (record { nas = nas.now; id = id.now }) self.now.book.clock) self.now.book.stops }
     {
         is_closed(&self.stops, &self.servers, &self.rules, self.clock, nas, id)
     }
@@ -475,7 +506,12 @@ impl Book {
     /// Touches a link.
     fn touch_link(&mut self, at: usize, bundle: Option<Octets>)
         requires { at < length self.old.book.links }
-        ensures { self.new ≡ record self.old { book = record self.old.book { links = change_at at (touch_here self.old.book.clock bundle) self.old.book.links } } }
+        ensures { self.new ≡ record self.old {
+          book = record self.old.book {
+            links = change_at at
+                (touch_here self.old.book.clock bundle) self.old.book.links;
+          };
+        } }
     {
         self.links.touch_at(&self.servers, at, self.clock, bundle);
     }
@@ -483,7 +519,12 @@ impl Book {
     /// Takes a link for the session of this id.
     fn take_link(&mut self, at: usize, id: Octets, bundle: Option<Octets>)
         requires { at < length self.old.book.links }
-        ensures { self.new ≡ record self.old { book = record self.old.book { links = change_at at (take_here self.old.book.clock id bundle) self.old.book.links } } }
+        ensures { self.new ≡ record self.old {
+          book = record self.old.book {
+            links = change_at at
+                (take_here self.old.book.clock id bundle) self.old.book.links;
+          };
+        } }
     {
         self.links.bind_at(&self.servers, at, id);
         self.links.touch_at(&self.servers, at, self.clock, bundle);
@@ -491,7 +532,10 @@ impl Book {
 
     /// Opens a link for a session, if the places then are within the limit.
     fn open_link(&mut self, nas: Nas, id: Octets, bundle: Option<Octets>)
-        ensures { self.new ≡ record self.old { book = open_link self.old.rules self.old.book (record { nas = nas; id = id }) (bundle_with nas bundle) } }
+        ensures { self.new ≡ record self.old {
+          book = open_link self.old.rules self.old.book
+              (record { nas = nas; id = id }) (bundle_with nas bundle);
+        } }
     {
         let nas = place_for(
             &mut self.servers,
@@ -518,7 +562,11 @@ impl Book {
 
     /// An alive of a session that is bound to no link, and is not closed.
     fn bind(&mut self, nas: Nas, id: Octets, bundle: Option<Octets>, class: Option<u64>)
-        ensures { self.new ≡ record self.old { book = bind self.old.rules self.old.book (record { nas = nas; id = id }) (bundle_with nas bundle) class (find (can_be_taken nas class) self.old.book.links) } }
+        ensures { self.new ≡ record self.old {
+          book = bind self.old.rules self.old.book
+              (record { nas = nas; id = id }) (bundle_with nas bundle) class (find
+              (can_be_taken nas class) self.old.book.links);
+        } }
     {
         match self.reservation(&nas, class) {
             Some(at) => self.take_link(at, id, bundle),
@@ -528,7 +576,11 @@ impl Book {
 
     /// An alive.
     fn alive(&mut self, nas: Nas, id: Octets, bundle: Option<Octets>, class: Option<u64>)
-        ensures { self.new ≡ record self.old { book = alive self.old.rules self.old.book (record { nas = nas; id = id }) (bundle_with nas bundle) class (find (is_link_of (record { nas = nas; id = id })) self.old.book.links) } }
+        ensures { self.new ≡ record self.old {
+          book = alive self.old.rules self.old.book
+              (record { nas = nas; id = id }) (bundle_with nas bundle) class (find (is_link_of
+              (record { nas = nas; id = id })) self.old.book.links);
+        } }
     {
         match self.bound_to(&nas, &id) {
             Some(at) => self.touch_link(at, bundle),
@@ -542,7 +594,10 @@ impl Book {
 
     /// A stop.
     fn stop(&mut self, nas: Nas, id: Octets)
-        ensures { self.new ≡ record self.old { book = stop self.old.book (record { nas = nas; id = id }) } }
+        ensures { self.new ≡ record self.old {
+          book = stop self.old.book
+              (record { nas = nas; id = id });
+        } }
     {
         self.links.stop(&self.servers, &nas, &id);
         let nas = place_for(

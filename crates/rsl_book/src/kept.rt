@@ -1,4 +1,5 @@
-ghost use Rattle.std.specs.Prelude.{◌≡◌, ◌↔◌, ◌+◌, ◌≤◌, IfOk, ◌∷◌, ◌++◌, ◌<◌, ◌||◌, Option, find, map, take, length, IsTrue};
+ghost use Rattle.std.specs.Prelude.{◌≡◌, ◌↔◌, ◌+◌, ◌≤◌, IfOk, ◌∷◌, ◌++◌, ◌<◌, ◌||◌, Option, find};
+ghost use Rattle.std.specs.Prelude.{map, take, length, IsTrue};
 ghost use Rattle.std.specs.Option.{option_map, option_or};
 ghost use Rattle.std.specs.List.{list_any};
 ghost use Rattle.circular_buffer.specs.Buffer.{buffer};
@@ -75,7 +76,10 @@ impl StoredAsk {
     /// Notes a sweep of an access server.
     #[tactic(auto, unfolding(crate::specs::Seen::ask_seen, rsl_session::specs::BookStep::sweep_ask))]
     fn sweep(&mut self, servers: &Servers, nas: &Nas)
-        ensures { self.new ≡ record self.old { swept = self.old.swept || same_nas nas.now (server_at servers.now self.old.nas) } }
+        ensures { self.new ≡ record self.old {
+          swept = self.old.swept || same_nas nas.now
+              (server_at servers.now self.old.nas);
+        } }
     {
         self.swept = self.swept || servers.is_as(nas, self.nas);
     }
@@ -85,7 +89,8 @@ impl StoredStop {
     /// Whether it closes the session of this id at an access server.
     #[tactic(auto, unfolding(crate::specs::Seen::stop_seen, rsl_session::specs::Closed::closes, rsl_session::specs::Same::same_session))]
     fn closes(&self, servers: &Servers, rules: &Rules, now: u64, nas: &Nas, id: &Octets) -> bool
-        ensures { result ≡ closes rules.now (record { nas = nas.now; id = id.now }) now (stop_seen servers.now self.now) }
+        ensures { result ≡ closes rules.now (record { nas = nas.now; id = id.now }) now
+            (stop_seen servers.now self.now) }
     {
         servers.is_at(self.nas, nas)
             && self.id == *id
@@ -96,7 +101,8 @@ impl StoredStop {
     /// Whether it is the same as one of another book.
     #[tactic(auto, unfolding(crate::specs::Seen::stop_seen))]
     pub(crate) fn is_same(&self, servers: &Servers, other: &StoredStop, others: &Servers) -> bool
-        ensures { IsTrue result ↔ (stop_seen servers.now self.now ≡ stop_seen others.now other.now) }
+        ensures { IsTrue result ↔ (stop_seen servers.now self.now ≡
+            stop_seen others.now other.now) }
     {
         servers.at(self.nas).is_same(others.at(other.nas))
             && self.id == other.id
@@ -106,7 +112,10 @@ impl StoredStop {
 
     /// Notes a sweep of an access server.
     fn sweep(&mut self, servers: &Servers, nas: &Nas)
-        ensures { self.new ≡ record self.old { swept = self.old.swept || same_nas nas.now (server_at servers.now self.old.nas) } }
+        ensures { self.new ≡ record self.old {
+          swept = self.old.swept || same_nas nas.now
+              (server_at servers.now self.old.nas);
+        } }
     {
         self.swept = self.swept || servers.is_as(nas, self.nas);
     }
@@ -121,7 +130,8 @@ fn repeated_in(
     key: &Key,
     now: u64,
 ) -> Option<Decision>
-    ensures { result ≡ option_map (λ (ask : KeptAsk). ask.decision) (find (repeats rules.now key.now now) (asks_seen servers.now asks.now)) }
+    ensures { result ≡ option_map (λ (ask : KeptAsk). ask.decision) (find
+        (repeats rules.now key.now now) (asks_seen servers.now asks.now)) }
 {
     for ask in asks {
         if ask.is_repeated(servers, rules, key, now) {
@@ -139,7 +149,8 @@ pub(crate) fn repeated(
     key: &Key,
     now: u64,
 ) -> Option<Decision>
-    ensures { result ≡ option_map (λ (ask : KeptAsk). ask.decision) (find (repeats rules.now key.now now) (asks_seen servers.now asks.now.items)) }
+    ensures { result ≡ option_map (λ (ask : KeptAsk). ask.decision) (find
+        (repeats rules.now key.now now) (asks_seen servers.now asks.now.items)) }
 {
     let (newer, older) = asks.as_slices();
     match repeated_in(newer, servers, rules, key, now) {
@@ -158,7 +169,8 @@ fn closed_by(
     nas: &Nas,
     id: &Octets,
 ) -> bool
-    ensures { result ≡ list_any (closes rules.now (record { nas = nas.now; id = id.now }) now) (stops_seen servers.now stops.now) }
+    ensures { result ≡ list_any (closes rules.now (record { nas = nas.now; id = id.now }) now)
+        (stops_seen servers.now stops.now) }
 {
     for stop in stops {
         if stop.closes(servers, rules, now, nas, id) {
@@ -177,7 +189,8 @@ pub(crate) fn is_closed(
     nas: &Nas,
     id: &Octets,
 ) -> bool
-    ensures { result ≡ list_any (closes rules.now (record { nas = nas.now; id = id.now }) now) (stops_seen servers.now stops.now.items) }
+    ensures { result ≡ list_any (closes rules.now (record { nas = nas.now; id = id.now }) now)
+        (stops_seen servers.now stops.now.items) }
 {
     let (newer, older) = stops.as_slices();
     closed_by(newer, servers, rules, now, nas, id) || closed_by(older, servers, rules, now, nas, id)
@@ -186,7 +199,8 @@ pub(crate) fn is_closed(
 /// Notes a sweep of an access server in some asks.
 #[tactic(auto, using(crate::proofs::Swept::swept_steps))]
 fn sweep_each_ask(asks: &mut [StoredAsk], servers: &Servers, nas: &Nas)
-    ensures seen { asks_seen servers.now asks.new ≡ map (sweep_ask nas.now) (asks_seen servers.now asks.old) }
+    ensures seen { asks_seen servers.now asks.new ≡
+        map (sweep_ask nas.now) (asks_seen servers.now asks.old) }
     ensures len { length asks.new ≡ length asks.old }
 {
     for at in 0..asks.len() {
@@ -196,7 +210,8 @@ fn sweep_each_ask(asks: &mut [StoredAsk], servers: &Servers, nas: &Nas)
 
 /// Notes a sweep of an access server in the kept asks.
 pub(crate) fn sweep_asks(asks: &mut HeapCircularBuffer<StoredAsk>, servers: &Servers, nas: &Nas)
-    ensures seen { asks_seen servers.now asks.new.items ≡ map (sweep_ask nas.now) (asks_seen servers.now asks.old.items) }
+    ensures seen { asks_seen servers.now asks.new.items ≡
+        map (sweep_ask nas.now) (asks_seen servers.now asks.old.items) }
     ensures capacity { asks.new.capacity ≡ asks.old.capacity }
 {
     sweep_each_ask(asks.make_contiguous(), servers, nas);
@@ -205,7 +220,8 @@ pub(crate) fn sweep_asks(asks: &mut HeapCircularBuffer<StoredAsk>, servers: &Ser
 /// Notes a sweep of an access server in some stops.
 #[tactic(auto, using(crate::proofs::Swept::swept_steps))]
 fn sweep_each_stop(stops: &mut [StoredStop], servers: &Servers, nas: &Nas)
-    ensures seen { stops_seen servers.now stops.new ≡ map (sweep_stop nas.now) (stops_seen servers.now stops.old) }
+    ensures seen { stops_seen servers.now stops.new ≡
+        map (sweep_stop nas.now) (stops_seen servers.now stops.old) }
     ensures len { length stops.new ≡ length stops.old }
 {
     for at in 0..stops.len() {
@@ -215,7 +231,8 @@ fn sweep_each_stop(stops: &mut [StoredStop], servers: &Servers, nas: &Nas)
 
 /// Notes a sweep of an access server in the kept stops.
 pub(crate) fn sweep_stops(stops: &mut HeapCircularBuffer<StoredStop>, servers: &Servers, nas: &Nas)
-    ensures seen { stops_seen servers.now stops.new.items ≡ map (sweep_stop nas.now) (stops_seen servers.now stops.old.items) }
+    ensures seen { stops_seen servers.now stops.new.items ≡
+        map (sweep_stop nas.now) (stops_seen servers.now stops.old.items) }
     ensures capacity { stops.new.capacity ≡ stops.old.capacity }
 {
     sweep_each_stop(stops.make_contiguous(), servers, nas);
@@ -249,7 +266,8 @@ impl StoredStop {
     }
 }
 
-/// Puts equal stops after those of a ring that has room for them. It fails only where memory is refused.
+/// Puts equal stops after those of a ring that has room for them. It fails only where memory is
+/// refused.
 #[tactic(auto, using(crate::proofs::Lists::push_steps))]
 fn push_stops(
     alloc: Global,

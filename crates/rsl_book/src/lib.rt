@@ -1,12 +1,14 @@
 //! One account's running book: what it holds now, carried from event to event.
 //!
-//! A [`Book`] is stepped by one event at a time, and decides on it without a look back. All the memory that it
-//! will ever use is taken when it is made, so that no event is refused. What a step makes of it is the
-//! definition in `rsl_session`'s `specs/BookStep.antt`, whose laws join it to the session rule.
+//! A [`Book`] is stepped by one event at a time, and decides on it without a look back. All the
+//! memory that it will ever use is taken when it is made, so that no event is refused. What a step
+//! makes of it is the definition in `rsl_session`'s `specs/BookStep.antt`, whose laws join it to
+//! the session rule.
 //!
-//! Inside, the links stand in the order in which they opened, the last asks and stops in rings, and each access
-//! server once in a table: whatever is at one names its place there. Orders of the links lead from a session to
-//! its link, from a bundle to its links, and to the links that were touched longest ago.
+//! Inside, the links stand in the order in which they opened, the last asks and stops in rings, and
+//! each access server once in a table: whatever is at one names its place there. Orders of the
+//! links lead from a session to its link, from a bundle to its links, and to the links that were
+//! touched longest ago.
 #![tactic(auto)]
 
 mod book;

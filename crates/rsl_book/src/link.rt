@@ -73,7 +73,8 @@ impl Link {
     /// Whether it is the same as one of another book.
     #[tactic(auto, unfolding(crate::specs::Seen::link_seen))]
     pub(crate) fn is_same(&self, servers: &Servers, other: &Link, others: &Servers) -> bool
-        ensures { IsTrue result ↔ (link_seen servers.now self.now ≡ link_seen others.now other.now) }
+        ensures { IsTrue result ↔ (link_seen servers.now self.now ≡
+            link_seen others.now other.now) }
     {
         servers.at(self.nas).is_same(others.at(other.nas))
             && self.hold == other.hold

@@ -1,10 +1,13 @@
-ghost use Rattle.std.specs.Prelude.{◌≡◌, ℕ, IfOk, ◌+◌, ◌-◌, ◌<◌, ◌≤◌, [], ◌∷◌, ◌++◌, Option, Some, None, map, filter, not, find, nat_le, count_by, take, drop, length, vec_capacity, if◌then◌else◌, IfSome, IfNone};
+ghost use Rattle.std.specs.Prelude.{◌≡◌, ℕ, IfOk, ◌+◌, ◌-◌, ◌<◌, ◌≤◌, [], ◌∷◌, ◌++◌, Option, Some};
+ghost use Rattle.std.specs.Prelude.{None, map, filter, not, find, nat_le, count_by, take, drop};
+ghost use Rattle.std.specs.Prelude.{length, vec_capacity, if◌then◌else◌, IfSome, IfNone};
 ghost use Rattle.std.specs.List.{list_all};
 ghost use Rattle.std.specs.Int.{div_ceil};
 ghost use Rattle.rsl_accounts.specs.Limits.{RulesFit};
 ghost use Rattle.rsl_session.specs.Places.{places_of};
 ghost use Rattle.rsl_session.specs.Same.{same_nas};
-ghost use Rattle.rsl_session.specs.Book.{BookLink, bundles_in, is_live_at, is_reservation, is_stale_at};
+ghost use Rattle.rsl_session.specs.Book.{BookLink, bundles_in, is_live_at, is_reservation};
+ghost use Rattle.rsl_session.specs.Book.{is_stale_at};
 ghost use Rattle.rsl_session.specs.BookLinks.{lapses_at, is_link_of, can_be_taken, can_yield};
 ghost use Rattle.rsl_book.specs.Seen.{server_at, links_seen, link_seen, bundle_with};
 ghost use Rattle.rsl_book.specs.First.{IsFirst, change_at};
@@ -61,7 +64,8 @@ impl Links {
         })
     }
 
-    /// Whether one more link, at an access server of the table and with this bundle, takes a place more.
+    /// Whether one more link, at an access server of the table and with this bundle, takes a place
+    /// more.
     pub(crate) fn adds_a_place(
         &self,
         servers: &Servers,
@@ -70,7 +74,11 @@ impl Links {
     ) -> bool
         requires place { IsPlace servers.now nas }
         requires counted { AreCounted servers.now self.now }
-        ensures { places_of self.now.ports (bundles_in (links_seen servers.now self.now.list.items) ++ bundle_with (server_at servers.now nas) bundle.now ∷ []) ≡ places_of self.now.ports (bundles_in (links_seen servers.now self.now.list.items)) + (if result then 1 else 0) }
+        ensures { places_of self.now.ports (bundles_in
+            (links_seen servers.now self.now.list.items)
+            ++ bundle_with (server_at servers.now nas) bundle.now ∷ []) ≡
+            places_of self.now.ports (bundles_in (links_seen servers.now self.now.list.items)) +
+            (if result then 1 else 0) }
     {
         match bundle {
             None => true,
@@ -82,7 +90,11 @@ impl Links {
     pub(crate) fn frees_a_place(&self, servers: &Servers, at: usize) -> bool
         requires counted { AreCounted servers.now self.now }
         requires within { at < length self.now.list.items }
-        ensures { places_of self.now.ports (bundles_in (links_seen servers.now self.now.list.items)) ≡ places_of self.now.ports (bundles_in (links_seen servers.now (take at self.now.list.items ++ drop (at + 1) self.now.list.items))) + (if result then 1 else 0) }
+        ensures { places_of self.now.ports (bundles_in
+            (links_seen servers.now self.now.list.items)) ≡
+            places_of self.now.ports (bundles_in (links_seen servers.now
+            (take at self.now.list.items ++ drop (at + 1) self.now.list.items)))
+            + (if result then 1 else 0) }
     {
         let link = self.list.index(at);
         match &link.bundle {
@@ -95,7 +107,10 @@ impl Links {
     fn joins_a_place(&self, servers: &Servers, at: usize, bundle: &Option<Octets>) -> bool
         requires counted { AreCounted servers.now self.now }
         requires within { at < length self.now.list.items }
-        ensures { (now : ℕ) → places_of self.now.ports (bundles_in (links_seen servers.now (change_at at (touched_link now bundle.now) self.now.list.items))) + (if result then 1 else 0) ≡ places_of self.now.ports (bundles_in (links_seen servers.now self.now.list.items)) }
+        ensures { (now : ℕ) → places_of self.now.ports (bundles_in (links_seen servers.now
+            (change_at at (touched_link now bundle.now) self.now.list.items)))
+            + (if result then 1 else 0) ≡ places_of self.now.ports (bundles_in
+            (links_seen servers.now self.now.list.items)) }
     {
         let link = self.list.index(at);
         match &link.bundle {
@@ -109,7 +124,8 @@ impl Links {
         requires within { at < length self.old.list.items }
         requires counted { AreCounted servers.now self.old }
         ensures counted { AreCounted servers.now self.new }
-        ensures links { self.new.list.items ≡ take at self.old.list.items ++ drop (at + 1) self.old.list.items }
+        ensures links { self.new.list.items ≡ take at self.old.list.items
+            ++ drop (at + 1) self.old.list.items }
         ensures fewer { self.new.places ≤ self.old.places }
         ensures ports { self.new.ports ≡ self.old.ports }
         ensures room { self.new.list.room ≡ self.old.list.room }
@@ -146,7 +162,8 @@ impl Links {
         requires within { at < length self.old.list.items }
         requires counted { AreCounted servers.now self.old }
         ensures counted { AreCounted servers.now self.new }
-        ensures links { self.new.list.items ≡ change_at at (touched_link now bundle) self.old.list.items }
+        ensures links { self.new.list.items ≡ change_at at
+            (touched_link now bundle) self.old.list.items }
         ensures fewer { self.new.places ≤ self.old.places }
         ensures ports { self.new.ports ≡ self.old.ports }
         ensures room { self.new.list.room ≡ self.old.list.room }
@@ -173,7 +190,9 @@ impl Links {
         requires fit { RulesFit rules.now }
         requires counted { AreCounted servers.now self.old }
         ensures counted { AreCounted servers.now self.new }
-        ensures links { links_seen servers.now self.new.list.items ≡ filter (λ (link : BookLink). not (lapses_at rules.now now link)) (links_seen servers.now self.old.list.items) }
+        ensures links { links_seen servers.now self.new.list.items ≡
+            filter (λ (link : BookLink). not (lapses_at rules.now now link))
+            (links_seen servers.now self.old.list.items) }
         ensures fewer { self.new.places ≤ self.old.places }
         ensures ports { self.new.ports ≡ self.old.ports }
         ensures room { self.new.list.room ≡ self.old.list.room }
@@ -187,7 +206,10 @@ impl Links {
     pub(crate) fn stop(&mut self, servers: &Servers, nas: &Nas, id: &Octets)
         requires counted { AreCounted servers.now self.old }
         ensures counted { AreCounted servers.now self.new }
-        ensures links { links_seen servers.now self.new.list.items ≡ filter (λ (link : BookLink). not (is_link_of (record { nas = nas.now; id = id.now }) link)) (links_seen servers.now self.old.list.items) }
+        ensures links { links_seen servers.now self.new.list.items ≡
+            filter (λ (link : BookLink). not (is_link_of
+            (record { nas = nas.now; id = id.now }) link))
+            (links_seen servers.now self.old.list.items) }
         ensures fewer { self.new.places ≤ self.old.places }
         ensures ports { self.new.ports ≡ self.old.ports }
         ensures room { self.new.list.room ≡ self.old.list.room }
@@ -201,7 +223,9 @@ impl Links {
     pub(crate) fn sweep(&mut self, servers: &Servers, nas: &Nas)
         requires counted { AreCounted servers.now self.old }
         ensures counted { AreCounted servers.now self.new }
-        ensures links { links_seen servers.now self.new.list.items ≡ filter (λ (link : BookLink). not (same_nas link.nas nas.now)) (links_seen servers.now self.old.list.items) }
+        ensures links { links_seen servers.now self.new.list.items ≡
+            filter (λ (link : BookLink). not (same_nas link.nas nas.now))
+            (links_seen servers.now self.old.list.items) }
         ensures fewer { self.new.places ≤ self.old.places }
         ensures ports { self.new.ports ≡ self.old.ports }
         ensures room { self.new.list.room ≡ self.old.list.room }
@@ -218,8 +242,11 @@ impl Links {
     /// The link that is bound to the session of this id at an access server.
     pub(crate) fn bound_to(&self, servers: &Servers, nas: &Nas, id: &Octets) -> Option<usize>
         requires { AreCounted servers.now self.now }
-        ensures found { IfSome result (λ at. IsFirst (is_link_of (record { nas = nas.now; id = id.now })) (links_seen servers.now self.now.list.items) at) }
-        ensures missed { IfNone result (find (is_link_of (record { nas = nas.now; id = id.now })) (links_seen servers.now self.now.list.items) ≡ None) }
+        ensures found { IfSome result (λ at. IsFirst (is_link_of
+            (record { nas = nas.now; id = id.now }))
+            (links_seen servers.now self.now.list.items) at) }
+        ensures missed { IfNone result (find (is_link_of (record { nas = nas.now; id = id.now }))
+            (links_seen servers.now self.now.list.items) ≡ None) }
     {
         match servers.find(nas) {
             None => None,
@@ -235,8 +262,10 @@ impl Links {
         nas: &Nas,
         class: Option<u64>,
     ) -> Option<usize>
-        ensures found { IfSome result (λ at. IsFirst (can_be_taken nas.now class) (links_seen servers.now self.now.list.items) at) }
-        ensures missed { IfNone result (find (can_be_taken nas.now class) (links_seen servers.now self.now.list.items) ≡ None) }
+        ensures found { IfSome result (λ at. IsFirst (can_be_taken nas.now class)
+            (links_seen servers.now self.now.list.items) at) }
+        ensures missed { IfNone result (find (can_be_taken nas.now class)
+            (links_seen servers.now self.now.list.items) ≡ None) }
     {
         for at in 0..self.list.len() {
             if self.list.index(at).can_be_taken(servers, nas, class) {
@@ -248,8 +277,12 @@ impl Links {
 
     /// The link that can yield at this clock: the bound link touched longest ago, if it is stale.
     pub(crate) fn yielding(&self, servers: &Servers, rules: &Rules, now: u64) -> Option<usize>
-        ensures found { IfSome result (λ at. IsFirst (can_yield rules.now now (links_seen servers.now self.now.list.items)) (links_seen servers.now self.now.list.items) at) }
-        ensures missed { IfNone result (find (can_yield rules.now now (links_seen servers.now self.now.list.items)) (links_seen servers.now self.now.list.items) ≡ None) }
+        ensures found { IfSome result (λ at. IsFirst (can_yield rules.now now
+            (links_seen servers.now self.now.list.items))
+            (links_seen servers.now self.now.list.items) at) }
+        ensures missed { IfNone result (find (can_yield rules.now now
+            (links_seen servers.now self.now.list.items))
+            (links_seen servers.now self.now.list.items) ≡ None) }
     {
         match self.list.oldest() {
             None => None,
@@ -281,7 +314,8 @@ impl Links {
     /// How many of the links are reserved.
     #[tactic(auto, using(crate::proofs::Lists::count_steps), unfolding(crate::specs::Seen::links_seen))]
     pub(crate) fn reserved(&self, servers: &Servers) -> usize
-        ensures { result ≡ count_by (λ (link : BookLink). is_reservation link.holder) (links_seen servers.now self.now.list.items) }
+        ensures { result ≡ count_by (λ (link : BookLink). is_reservation link.holder)
+            (links_seen servers.now self.now.list.items) }
     {
         let links = self.list.as_slice();
         let mut reserved = 0;
@@ -296,7 +330,8 @@ impl Links {
     /// How many of the links are live at this clock.
     #[tactic(auto, using(crate::proofs::Lists::count_steps), unfolding(crate::specs::Seen::links_seen))]
     pub(crate) fn live(&self, servers: &Servers, rules: &Rules, now: u64) -> usize
-        ensures { result ≡ count_by (is_live_at rules.now now) (links_seen servers.now self.now.list.items) }
+        ensures { result ≡ count_by (is_live_at rules.now now)
+            (links_seen servers.now self.now.list.items) }
     {
         let links = self.list.as_slice();
         let mut live = 0;
@@ -311,7 +346,8 @@ impl Links {
     /// How many of the links are stale at this clock.
     #[tactic(auto, using(crate::proofs::Lists::count_steps), unfolding(crate::specs::Seen::links_seen))]
     pub(crate) fn stale(&self, servers: &Servers, rules: &Rules, now: u64) -> usize
-        ensures { result ≡ count_by (is_stale_at rules.now now) (links_seen servers.now self.now.list.items) }
+        ensures { result ≡ count_by (is_stale_at rules.now now)
+            (links_seen servers.now self.now.list.items) }
     {
         let links = self.list.as_slice();
         let mut stale = 0;

@@ -1,13 +1,15 @@
 //! The links of a book, with the orders by which those that stand longest are found.
 
-ghost use Rattle.std.specs.Prelude.{◌≡◌, ℕ, ◌+◌, ◌<◌, ◌≤◌, [], ◌∷◌, ◌++◌, IfOk, IfSome, IfNone, count_by, drop, false, get_or, length, take, true};
+ghost use Rattle.std.specs.Prelude.{◌≡◌, ℕ, ◌+◌, ◌<◌, ◌≤◌, [], ◌∷◌, ◌++◌, IfOk, IfSome, IfNone};
+ghost use Rattle.std.specs.Prelude.{count_by, drop, false, get_or, length, take, true};
 ghost use Rattle.std.specs.List.{list_any};
 ghost use Rattle.rsl_accounts.specs.Limits.{RulesFit};
 ghost use Rattle.rsl_session.specs.BookLinks.{lapses_at};
 ghost use Rattle.rsl_book.specs.Changed.{bound_link, joined_link, renewed_link, touched_link};
 ghost use Rattle.rsl_book.specs.First.{IsFirst, change_at};
 ghost use Rattle.rsl_book.specs.Order.{IsOrderOf, is_by_touch, is_of, is_session, link_at};
-ghost use Rattle.rsl_book.specs.LinkList.{AreClosed, AreOrders, AreOrdersBut, AreRoomy, IsOldest, is_held, is_member};
+ghost use Rattle.rsl_book.specs.LinkList.{AreClosed, AreOrders, AreOrdersBut, AreRoomy, IsOldest};
+ghost use Rattle.rsl_book.specs.LinkList.{is_held, is_member};
 ghost use Rattle.rsl_book.specs.Named.{named_by_links};
 ghost use Rattle.rsl_book.specs.Seen.{link_seen};
 
@@ -83,8 +85,8 @@ impl Orders {
 
 /// The links of a book, in the order in which they opened.
 ///
-/// The clock never falls, so the link that is touched goes to the end of its order, and those that lapse, or
-/// could yield, stand at the front.
+/// The clock never falls, so the link that is touched goes to the end of its order, and those that
+/// lapse, or could yield, stand at the front.
 #[derive(Drop)]
 pub(crate) struct LinkList {
     links: Vec<Link>,
@@ -254,8 +256,10 @@ impl LinkList {
     pub(crate) fn lapsed(&self, servers: &Servers, rules: &Rules, now: u64) -> Option<usize>
         requires { RulesFit rules.now }
         ensures within { IfSome result (λ at. at < length self.now.items) }
-        ensures found { IfSome result (λ at. lapses_at rules.now now (link_seen servers.now (link_at self.now.items at)) ≡ true) }
-        ensures missed { IfNone result ((at : ℕ) → at < length self.now.items → lapses_at rules.now now (link_seen servers.now (link_at self.now.items at)) ≡ false) }
+        ensures found { IfSome result (λ at. lapses_at rules.now now (link_seen servers.now
+            (link_at self.now.items at)) ≡ true) }
+        ensures missed { IfNone result ((at : ℕ) → at < length self.now.items →
+            lapses_at rules.now now (link_seen servers.now (link_at self.now.items at)) ≡ false) }
     {
         let links = self.links.as_slice();
         let reserved = self.orders.reserved.as_slice();
@@ -271,7 +275,8 @@ impl LinkList {
     /// The bound link that was touched longest ago, and of these the first.
     pub(crate) fn oldest(&self) -> Option<usize>
         ensures found { IfSome result (λ at. IsOldest self.now.items at) }
-        ensures missed { IfNone result ((at : ℕ) → at < length self.now.items → is_session (link_at self.now.items at).hold ≡ false) }
+        ensures missed { IfNone result ((at : ℕ) → at < length self.now.items →
+            is_session (link_at self.now.items at).hold ≡ false) }
     {
         if self.orders.bound.is_empty() {
             return None;
@@ -306,8 +311,11 @@ fn first_lapsed(
     requires touch { is_by_touch kind ≡ true }
     requires order { IsOrderOf kind links.now order.now }
     ensures within { IfSome result (λ at. at < length links.now) }
-    ensures found { IfSome result (λ at. lapses_at rules.now now (link_seen servers.now (link_at links.now at)) ≡ true) }
-    ensures missed { IfNone result ((at : ℕ) → at < length links.now → is_of kind (link_at links.now at) ≡ true → lapses_at rules.now now (link_seen servers.now (link_at links.now at)) ≡ false) }
+    ensures found { IfSome result (λ at. lapses_at rules.now now (link_seen servers.now
+        (link_at links.now at)) ≡ true) }
+    ensures missed { IfNone result ((at : ℕ) → at < length links.now →
+        is_of kind (link_at links.now at) ≡ true →
+        lapses_at rules.now now (link_seen servers.now (link_at links.now at)) ≡ false) }
 {
     if order.is_empty() {
         return None;

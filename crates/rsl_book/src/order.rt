@@ -1,11 +1,15 @@
-//! Orders of a book's links: lists of their positions, so that a link is found without a look at each.
+//! Orders of a book's links: lists of their positions, so that a link is found without a look at
+//! each.
 
 ghost use Rattle.std.specs.Prelude.{◌≡◌, ◌<◌, ◌≤◌, ◌∷◌, map, length, vec_capacity};
-ghost use Rattle.rsl_book.specs.Order.{IsSearchable, IsSplit, IsOrderBut, IsOrderOf, entry_at, is_before, is_of, key_of, mark_of, moved_up, number_of, octets_of};
+ghost use Rattle.rsl_book.specs.Order.{IsSearchable, IsSplit, IsOrderBut, IsOrderOf, entry_at};
+ghost use Rattle.rsl_book.specs.Order.{is_before, is_of, key_of, mark_of, moved_up, number_of};
+ghost use Rattle.rsl_book.specs.Order.{octets_of};
 
 use crate::link::{Hold, Link};
 
-/// Which links an order lists, and by what it goes. Links that are alike in this stand as they opened.
+/// Which links an order lists, and by what it goes. Links that are alike in this stand as they
+/// opened.
 #[derive(Clone, Copy)]
 pub(crate) enum Kind {
     /// The reserved links, by their last touch.
@@ -14,8 +18,8 @@ pub(crate) enum Kind {
     Bound,
     /// The bound links, by their sessions: the place of the access server, and the Acct-Session-Id.
     Sessions,
-    /// All links, by their bundles: the place of the access server, and the Acct-Multi-Session-Id. Those that
-    /// are in none come first.
+    /// All links, by their bundles: the place of the access server, and the Acct-Multi-Session-Id.
+    /// Those that are in none come first.
     Bundles,
 }
 
@@ -73,7 +77,8 @@ impl Kind {
         octets: &[u8],
         other: usize,
     ) -> bool
-        ensures { result ≡ is_before (key_of self link.now, at) (number ∷ mark ∷ octets.now, other) }
+        ensures { result ≡ is_before (key_of self link.now, at)
+            (number ∷ mark ∷ octets.now, other) }
     {
         (self.number(link), self.mark(link), self.octets(link), at)
             .cmp(&(number, mark, octets, other))
@@ -91,7 +96,8 @@ impl Kind {
         at: usize,
     ) -> usize
         requires { IsSearchable self links.now order.now }
-        ensures { IsSplit (entry_at self links.now) order.now (number ∷ mark ∷ octets.now, at) result }
+        ensures { IsSplit (entry_at self links.now) order.now
+            (number ∷ mark ∷ octets.now, at) result }
     {
         let mut low = 0;
         let mut high = order.len();

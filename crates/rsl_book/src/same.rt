@@ -18,7 +18,8 @@ pub(crate) fn has_same_links(
     other_links: &[Link],
     other_servers: &Servers,
 ) -> bool
-    ensures { IsTrue result ↔ (links_seen servers.now links.now ≡ links_seen other_servers.now other_links.now) }
+    ensures { IsTrue result ↔ (links_seen servers.now links.now ≡
+        links_seen other_servers.now other_links.now) }
 {
     if links.len() != other_links.len() {
         return false;
@@ -41,7 +42,9 @@ fn is_same_ask_at(
 ) -> bool
     requires within { at < length asks.now.items }
     requires other_within { at < length other_asks.now.items }
-    ensures { (one other : StoredAsk) → IsTrue result ↔ (ask_seen servers.now (get_or asks.now.items at one) ≡ ask_seen other_servers.now (get_or other_asks.now.items at other)) }
+    ensures { (one other : StoredAsk) → IsTrue result ↔
+        (ask_seen servers.now (get_or asks.now.items at one) ≡
+        ask_seen other_servers.now (get_or other_asks.now.items at other)) }
 {
     match (asks.get(at), other_asks.get(at)) {
         (Some(ask), Some(other)) => ask.is_same(servers, other, other_servers),
@@ -57,7 +60,8 @@ pub(crate) fn has_same_asks(
     other_asks: &HeapCircularBuffer<StoredAsk>,
     other_servers: &Servers,
 ) -> bool
-    ensures { IsTrue result ↔ (asks_seen servers.now asks.now.items ≡ asks_seen other_servers.now other_asks.now.items) }
+    ensures { IsTrue result ↔ (asks_seen servers.now asks.now.items ≡
+        asks_seen other_servers.now other_asks.now.items) }
 {
     if asks.len() != other_asks.len() {
         return false;
@@ -80,7 +84,9 @@ fn is_same_stop_at(
 ) -> bool
     requires within { at < length stops.now.items }
     requires other_within { at < length other_stops.now.items }
-    ensures { (one other : StoredStop) → IsTrue result ↔ (stop_seen servers.now (get_or stops.now.items at one) ≡ stop_seen other_servers.now (get_or other_stops.now.items at other)) }
+    ensures { (one other : StoredStop) → IsTrue result ↔
+        (stop_seen servers.now (get_or stops.now.items at one) ≡
+        stop_seen other_servers.now (get_or other_stops.now.items at other)) }
 {
     match (stops.get(at), other_stops.get(at)) {
         (Some(stop), Some(other)) => stop.is_same(servers, other, other_servers),
@@ -96,7 +102,8 @@ pub(crate) fn has_same_stops(
     other_stops: &HeapCircularBuffer<StoredStop>,
     other_servers: &Servers,
 ) -> bool
-    ensures { IsTrue result ↔ (stops_seen servers.now stops.now.items ≡ stops_seen other_servers.now other_stops.now.items) }
+    ensures { IsTrue result ↔ (stops_seen servers.now stops.now.items ≡
+        stops_seen other_servers.now other_stops.now.items) }
 {
     if stops.len() != other_stops.len() {
         return false;

@@ -104,7 +104,8 @@ impl Servers {
     pub(crate) fn find(&self, nas: &Nas) -> Option<usize>
         ensures found { IfSome result (λ at. server_at self.now at ≡ nas.now) }
         ensures place { IfSome result (λ at. IsPlace self.now at) }
-        ensures missed { IfNone result ((at : ℕ) → at < length self.now → server_at self.now at ≢ nas.now) }
+        ensures missed { IfNone result ((at : ℕ) → at < length self.now →
+            server_at self.now at ≢ nas.now) }
     {
         for at in 0..self.table.len() {
             if self.at(at).is_same(nas) {

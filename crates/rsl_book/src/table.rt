@@ -74,8 +74,8 @@ fn free_place(
     at
 }
 
-/// Where an access server stands in the table; one that does not stand there yet is put where nothing is
-/// named.
+/// Where an access server stands in the table; one that does not stand there yet is put where
+/// nothing is named.
 pub(crate) fn place_for(
     servers: &mut Servers,
     links: &LinkList,
@@ -87,9 +87,11 @@ pub(crate) fn place_for(
     ensures stands { server_at servers.new result ≡ nas }
     ensures place { IsPlace servers.new result }
     ensures placed { ArePlaced servers.old links.now.items → ArePlaced servers.new links.now.items }
-    ensures links { links_seen servers.new links.now.items ≡ links_seen servers.old links.now.items }
+    ensures links { links_seen servers.new links.now.items ≡
+        links_seen servers.old links.now.items }
     ensures asks { asks_seen servers.new asks.now.items ≡ asks_seen servers.old asks.now.items }
-    ensures stops { stops_seen servers.new stops.now.items ≡ stops_seen servers.old stops.now.items }
+    ensures stops { stops_seen servers.new stops.now.items ≡
+        stops_seen servers.old stops.now.items }
     ensures len { length servers.new ≡ length servers.old }
 {
     match servers.find(&nas) {
