@@ -74,7 +74,7 @@ pub fn pap_ok(value: &[u8], secret: &[u8], request_auth: &[u8; 16], password: &[
     is_followed_by_nuls(&buffer[..value.len()], password)
 }
 
-// How many octets a password of so many has with its NULs.
+// How many octets a password of n octets has with its NULs.
 fn padded_len(len: usize) -> usize
     requires { len ≤ 128 }
     ensures { result ≡ len + nuls_after len }

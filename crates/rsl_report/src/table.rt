@@ -17,7 +17,7 @@ const HEADER: &str = "name                   places     held reserved     live  
 /// space and then the number, right in 8 characters; what is longer than its column stands whole.
 ///
 /// `WriteFault` comes where the writer failed, and nothing is said of how much was written then. A line
-/// is several small writes, so a writer that pays for each of them is better given behind a buffer. The
+/// is several small writes, so a writer that pays for each of them is better given through a buffer. The
 /// writer isn't flushed.
 #[tactic(auto, using(crate::proofs::TableLaws::one_more, crate::proofs::TableLaws::all_more))]
 pub fn write_table<W: Write>(

@@ -1,5 +1,5 @@
 -- What a run answers, told by books that began new: each step is answered as one step of its own
--- account's book decides, behind the account's own events before it.
+-- account's book decides, after the account's own events before it.
 use Rattle.std.specs.Prelude.{◌≡◌, ℕ, List, [], ◌∷◌, slice_get, Result, Ok, Err}
 use Rattle.std.specs.Option.{option_map_or}
 use Rattle.rsl_accounts.specs.Configuration.{Configuration, client_number}

@@ -1,0 +1,4 @@
+pub mod Faults
+pub mod Receipts
+pub mod Segments
+pub mod Settled
