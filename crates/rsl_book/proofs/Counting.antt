@@ -5,7 +5,7 @@ use Rattle.std.specs.List.{remove}
 use Rattle.std.proofs.lemmas.Bool.{cases_lt}
 use Rattle.std.proofs.lemmas.List.{take_all}
 use Rattle.std.proofs.lemmas.List.Sums.{count_by_more_no, count_by_more_yes, sum_by-remove}
-use Rattle.rsl_book.specs.Order.{Entry, IsOrder}
+use Rattle.rsl_book.specs.Order.{Rank, IsOrder}
 use Rattle.rsl_book.proofs.Orders.{removed}
 
 abbrev count_upto : (ℕ → Bool) → ℕ → ℕ
@@ -13,7 +13,7 @@ count_upto q zero = 0
 count_upto q (suc n) = count_upto q n + cond (q n) 1 0
 
 -- over the positions in any order
-over_order : (entry : ℕ → Entry) (q : ℕ → Bool) (n : ℕ) (order : List ℕ) → IsOrder (λ x. x < n) entry order → count_by q order ≡ count_upto q n
+over_order : (entry : ℕ → Rank) (q : ℕ → Bool) (n : ℕ) (order : List ℕ) → IsOrder (λ x. x < n) entry order → count_by q order ≡ count_upto q n
 over_order entry q zero [] o = refl
 over_order entry q zero (x ∷ xs) o = absurd (let none = o.each 0 (omega arith) in omega (arith, none))
 over_order entry q (suc n) order o =
@@ -54,7 +54,7 @@ together q order a b in_turn before inside after (suc i) within =
       ]
     ]
 
-pub counted_between : {A : Type 0} (p : A → Bool) (d : A) (xs : List A) (entry : ℕ → Entry) (order : List ℕ) (a b : ℕ) → IsOrder (λ x. x < length xs) entry order → a ≤ b → b ≤ length order
+pub counted_between : {A : Type 0} (p : A → Bool) (d : A) (xs : List A) (entry : ℕ → Rank) (order : List ℕ) (a b : ℕ) → IsOrder (λ x. x < length xs) entry order → a ≤ b → b ≤ length order
     → ((k : ℕ) → k < a → k < length order → p (get_or xs (get_or order k 0) d) ≡ false)
     → ((k : ℕ) → a ≤ k → k < b → k < length order → p (get_or xs (get_or order k 0) d) ≡ true)
     → ((k : ℕ) → b ≤ k → k < length order → p (get_or xs (get_or order k 0) d) ≡ false)

@@ -10,8 +10,8 @@ use Rattle.rsl_book.specs.declared.order.Kind.TheVariants.{Reserved, Bound, Sess
 use Rattle.rsl_book.specs.declared.list.Orders.{Orders}
 use Rattle.rsl_book.specs.Changed.{bound_link, joined_link, renewed_link}
 use Rattle.std.specs.Prelude.{Option}
-use Rattle.rsl_book.specs.LinkList.{AreClosed, AreOrders, AreOrdersBut, AreRoomy}
-use Rattle.rsl_book.specs.Order.{Entry, entry_at, is_before, is_of, key_of, link_at, no_link, moved_up, IsSearchable, IsSplit, IsListed, IsOrderBut, IsOrderOf}
+use Rattle.rsl_book.specs.LinkList.{AreClosed, AreOrders, AreOrdersBut, HaveOrdersRoom}
+use Rattle.rsl_book.specs.Order.{Rank, rank_at, is_before, is_of, order_key, link_at, no_link, moved_up, IsSearchable, IsSplit, IsListed, IsOrderBut, IsOrderOf}
 use Rattle.rsl_book.proofs.Before.{neither, moved_before}
 use Rattle.rsl_book.proofs.Orders.{apart, stands_at, removed, inserted, same_order, mapped, few, Came}
 
@@ -19,8 +19,8 @@ pub link_here : (links : List Link) (at : ℕ) (link : Link) → at < length lin
 link_here links at link within is = is ∙ get_or_default links at link no_link within
 
 pub entry_here : (kind : Kind) (links : List Link) (at : ℕ) (link : Link) → at < length links → link ≡ get_or links at link
-    → (key_of kind link, at) ≡ entry_at kind links at
-entry_here kind links at link within is = ap (λ (one : Link). (key_of kind one, at)) (link_here links at link within is)
+    → (order_key kind link, at) ≡ rank_at kind links at
+entry_here kind links at link within is = ap (λ (one : Link). (order_key kind one, at)) (link_here links at link within is)
 
 pub searchable : (kind : Kind) (links : List Link) (but : ℕ) (order : List ℕ) → IsOrderBut kind links but order → IsSearchable kind links order
 searchable kind links but order o = record { within = λ k inside. (o.each k inside).within; rises = o.rises }
@@ -57,14 +57,14 @@ not_there kind links order at o other_kind =
 
 -- where the link at a position stands
 pub there : (kind : Kind) (links : List Link) (order view : List ℕ) (at place : ℕ) → at < length links → IsOrderOf kind links order → is_of kind (link_at links at) ≡ true → view ≡ order
-    → IsSplit (entry_at kind links) view (entry_at kind links at) place → (place < length order) × (get_or order place 0 ≡ at)
+    → IsSplit (rank_at kind links) view (rank_at kind links at) place → (place < length order) × (get_or order place 0 ≡ at)
 there kind links order view at place within o here same split =
-    stands_at order o at place (subst (λ (xs : List ℕ). IsSplit (entry_at kind links) xs (entry_at kind links at) place) same split)
+    stands_at order o at place (subst (λ (xs : List ℕ). IsSplit (rank_at kind links) xs (rank_at kind links at) place) same split)
     (o.all at (record { within = within; other = omega (arith, within); of_kind = here }))
 
 -- a link is put in, or is of another kind
 pub entered : (kind : Kind) (links : List Link) (order : List ℕ) (at place : ℕ) → at < length links → IsOrderBut kind links at order → is_of kind (link_at links at) ≡ true
-    → IsSplit (entry_at kind links) order (entry_at kind links at) place → IsOrderOf kind links (insert order place at)
+    → IsSplit (rank_at kind links) order (rank_at kind links at) place → IsOrderOf kind links (insert order place at)
 entered kind links order at place within o here split =
     inserted order o (IsListed kind links (length links)) place at split
     (record { within = within; other = omega (arith, within); of_kind = here })
@@ -75,11 +75,11 @@ entered kind links order at place within o here split =
       | inr other ↦ inr (record { within = l.within; other = other; of_kind = l.of_kind })
     ])
   where
-    after : (y : ℕ) → IsListed kind links at y → is_before (entry_at kind links y) (entry_at kind links at) ≡ false → is_before (entry_at kind links at) (entry_at kind links y) ≡ true
-    after y l not_before = by_cases (is_before (entry_at kind links at) (entry_at kind links y)) refl where
-      by_cases : (b : Bool) → is_before (entry_at kind links at) (entry_at kind links y) ≡ b → is_before (entry_at kind links at) (entry_at kind links y) ≡ true
+    after : (y : ℕ) → IsListed kind links at y → is_before (rank_at kind links y) (rank_at kind links at) ≡ false → is_before (rank_at kind links at) (rank_at kind links y) ≡ true
+    after y l not_before = by_cases (is_before (rank_at kind links at) (rank_at kind links y)) refl where
+      by_cases : (b : Bool) → is_before (rank_at kind links at) (rank_at kind links y) ≡ b → is_before (rank_at kind links at) (rank_at kind links y) ≡ true
       by_cases true e = e
-      by_cases false e = absurd (l.other (neither (entry_at kind links y) (entry_at kind links at) not_before e).1)
+      by_cases false e = absurd (l.other (neither (rank_at kind links y) (rank_at kind links at) not_before e).1)
 
 pub not_entered : (kind : Kind) (links : List Link) (order : List ℕ) (at : ℕ) → IsOrderBut kind links at order → is_of kind (link_at links at) ≡ false → IsOrderOf kind links order
 not_entered kind links order at o other_kind =
@@ -95,7 +95,7 @@ changed_but kind links others at order long same o =
     same_order order o
     (λ x l. record { within = (let w = l.within in omega (arith, w, long)); other = l.other; of_kind = ap (λ (one : Link). is_of kind one) (same x l.other) ∙ l.of_kind })
     (λ x l. record { within = (let w = l.within in omega (arith, w, long)); other = l.other; of_kind = sym (ap (λ (one : Link). is_of kind one) (same x l.other)) ∙ l.of_kind })
-    (λ x l. ap (λ (one : Link). (key_of kind one, x)) (same x l.other))
+    (λ x l. ap (λ (one : Link). (order_key kind one, x)) (same x l.other))
 
 -- one link more, which the order leaves out
 pub grown : (kind : Kind) (links : List Link) (link : Link) (order : List ℕ) → IsOrderOf kind links order → IsOrderBut kind (links ++ link ∷ []) (length links) order
@@ -109,7 +109,7 @@ grown kind links link order o =
     let ne = l.other in
     let within : x < length links = omega (arith, w, long, ne) in
     record { within = within; other = l.other; of_kind = sym (ap (λ (one : Link). is_of kind one) (same x within)) ∙ l.of_kind })
-    (λ x l. ap (λ (one : Link). (key_of kind one, x)) (same x l.within))
+    (λ x l. ap (λ (one : Link). (order_key kind one, x)) (same x l.within))
 
 -- the link that an order leaves out is gone from among the others
 up_below : (gone x : ℕ) → x < gone → moved_up gone x ≡ x
@@ -123,8 +123,8 @@ closed kind links at order within o =
     mapped order (moved_up at) o
     (λ x l. record { within = inside x l; other = (let w = inside x l in omega (arith, w)); of_kind = ap (λ (one : Link). is_of kind one) (same x l) ∙ l.of_kind })
     (λ x y one two before.
-    subst (λ (e : Entry). is_before e (entry_at kind (remove links at) (moved_up at y)) ≡ true) (sym (entry x one))
-    (subst (λ (e : Entry). is_before (key_of kind (link_at links x), moved_up at x) e ≡ true) (sym (entry y two))
+    subst (λ (e : Rank). is_before e (rank_at kind (remove links at) (moved_up at y)) ≡ true) (sym (entry x one))
+    (subst (λ (e : Rank). is_before (order_key kind (link_at links x), moved_up at x) e ≡ true) (sym (entry y two))
     (moved_before _ _ x y (moved_up at x) (moved_up at y) (λ less. order_kept x y one.other two.other less) before)))
     (λ y l. came y l)
   where
@@ -151,8 +151,8 @@ closed kind links at order within o =
               )
         ]
 
-    entry : (x : ℕ) → IsListed kind links at x → entry_at kind (remove links at) (moved_up at x) ≡ (key_of kind (link_at links x), moved_up at x)
-    entry x l = ap (λ (one : Link). (key_of kind one, moved_up at x)) (same x l)
+    entry : (x : ℕ) → IsListed kind links at x → rank_at kind (remove links at) (moved_up at x) ≡ (order_key kind (link_at links x), moved_up at x)
+    entry x l = ap (λ (one : Link). (order_key kind one, moved_up at x)) (same x l)
 
     order_kept : (x y : ℕ) → x ≢ at → y ≢ at → x < y → moved_up at x < moved_up at y
     order_kept x y one two less =
@@ -181,7 +181,7 @@ closed kind links at order within o =
         ]
 
 -- a link is changed, and not in what its order goes by
-pub kept_order : (kind : Kind) (links : List Link) (at : ℕ) (link : Link) (order : List ℕ) → at < length links → key_of kind link ≡ key_of kind (link_at links at) → is_of kind link ≡ is_of kind (link_at links at)
+pub kept_order : (kind : Kind) (links : List Link) (at : ℕ) (link : Link) (order : List ℕ) → at < length links → order_key kind link ≡ order_key kind (link_at links at) → is_of kind link ≡ is_of kind (link_at links at)
     → IsOrderOf kind links order → IsOrderOf kind (set links at link) order
 kept_order kind links at link order within same_key same_kind o =
     let long : length (set links at link) ≡ length links = length-set links at link in
@@ -196,18 +196,18 @@ kept_order kind links at link order within same_key same_kind o =
       | inr other ↦ ap (λ (one : Link). is_of kind one) (get_or-set_other links at x link no_link other)
     ]
 
-    keys : (x : ℕ) → key_of kind (link_at (set links at link) x) ≡ key_of kind (link_at links x)
+    keys : (x : ℕ) → order_key kind (link_at (set links at link) x) ≡ order_key kind (link_at links x)
     keys x = elim (cases_eq x at) [
-      | inl same ↦ ap (λ n. key_of kind (link_at (set links at link) n)) same ∙ ap (λ (one : Link). key_of kind one) (get_or-set_same links at link no_link within) ∙ same_key ∙ ap (λ n. key_of kind (link_at links n)) (sym same)
-      | inr other ↦ ap (λ (one : Link). key_of kind one) (get_or-set_other links at x link no_link other)
+      | inl same ↦ ap (λ n. order_key kind (link_at (set links at link) n)) same ∙ ap (λ (one : Link). order_key kind one) (get_or-set_same links at link no_link within) ∙ same_key ∙ ap (λ n. order_key kind (link_at links n)) (sym same)
+      | inr other ↦ ap (λ (one : Link). order_key kind one) (get_or-set_other links at x link no_link other)
     ]
 
-pub kept_by : (kind : Kind) (f : Link → Link) → ((x : Link) → key_of kind (f x) ≡ key_of kind x) → ((x : Link) → is_of kind (f x) ≡ is_of kind x) → (links : List Link) (at : ℕ) (x y : Link) (order : List ℕ)
+pub kept_by : (kind : Kind) (f : Link → Link) → ((x : Link) → order_key kind (f x) ≡ order_key kind x) → ((x : Link) → is_of kind (f x) ≡ is_of kind x) → (links : List Link) (at : ℕ) (x y : Link) (order : List ℕ)
     → at < length links → x ≡ get_or links at x → y ≡ f x → IsOrderOf kind links order → IsOrderOf kind (set links at y) order
 kept_by kind f same_key same_kind links at x y order within is changed o =
     let here = link_here links at x within is in
     kept_order kind links at y order within
-    (ap (λ (one : Link). key_of kind one) changed ∙ same_key x ∙ ap (λ (one : Link). key_of kind one) here)
+    (ap (λ (one : Link). order_key kind one) changed ∙ same_key x ∙ ap (λ (one : Link). order_key kind one) here)
     (ap (λ (one : Link). is_of kind one) changed ∙ same_kind x ∙ ap (λ (one : Link). is_of kind one) here) o
 
 pub renewed_sessions : (now : ℕ) (links : List Link) (at : ℕ) (x y : Link) (order : List ℕ) → at < length links → x ≡ get_or links at x → y ≡ renewed_link now x → IsOrderOf Sessions links order → IsOrderOf Sessions (set links at y) order
@@ -280,7 +280,7 @@ no_orders links orders none one two three four =
 pub orders_of : (links others : List Link) (at : ℕ) (orders : Orders) → links ≡ others → AreOrdersBut links at orders → AreOrdersBut others at orders
 orders_of links others at orders same are = subst (λ (xs : List Link). AreOrdersBut xs at orders) same are
 
-pub roomy_for : (most few : ℕ) (orders : Orders) → few ≤ most → AreRoomy most orders → AreRoomy few orders
+pub roomy_for : (most few : ℕ) (orders : Orders) → few ≤ most → HaveOrdersRoom most orders → HaveOrdersRoom few orders
 roomy_for most few orders less roomy =
     record {
       reserved = let room = roomy.reserved in omega (arith, less, room);

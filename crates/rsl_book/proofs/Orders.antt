@@ -6,29 +6,29 @@ use Rattle.std.proofs.lemmas.List.{length-map, get_or-map, take_all, drop_all}
 use Rattle.std.proofs.lemmas.List.Edits.{get_or-insert_at, get_or-insert_below, get_or-insert_above, get_or-remove_below, get_or-remove_above, length-insert, length-remove, map_over_more}
 use Rattle.rsl_book.specs.declared.link.Link.{Link}
 use Rattle.rsl_book.specs.declared.order.Kind.{Kind}
-use Rattle.rsl_book.specs.Order.{Entry, entry_at, is_before, IsSearchable, IsSplit, IsOrder, Stands}
+use Rattle.rsl_book.specs.Order.{Rank, rank_at, is_before, IsSearchable, IsSplit, IsOrder, Stands}
 use Rattle.rsl_book.proofs.Before.{not_self, chain}
 
 -- the halves of a search
-pub low_part : (kind : Kind) (links : List Link) (order : List ℕ) → IsSearchable kind links order → (target : Entry) (middle : ℕ) → middle < length order → is_before (entry_at kind links (get_or order middle 0)) target ≡ true
-    → (k : ℕ) → k < middle + 1 → is_before (entry_at kind links (get_or order k 0)) target ≡ true
+pub low_part : (kind : Kind) (links : List Link) (order : List ℕ) → IsSearchable kind links order → (target : Rank) (middle : ℕ) → middle < length order → is_before (rank_at kind links (get_or order middle 0)) target ≡ true
+    → (k : ℕ) → k < middle + 1 → is_before (rank_at kind links (get_or order k 0)) target ≡ true
 low_part kind links order o target middle within low k upto =
     elim (cases_eq k middle) [
-      | inl same ↦ ap (λ n. is_before (entry_at kind links (get_or order n 0)) target) same ∙ low
-      | inr other ↦ chain (entry_at kind links (get_or order k 0)) (entry_at kind links (get_or order middle 0)) target (o.rises k middle (omega (arith, other)) within) low
+      | inl same ↦ ap (λ n. is_before (rank_at kind links (get_or order n 0)) target) same ∙ low
+      | inr other ↦ chain (rank_at kind links (get_or order k 0)) (rank_at kind links (get_or order middle 0)) target (o.rises k middle (omega (arith, other)) within) low
     ]
 
-pub high_part : (kind : Kind) (links : List Link) (order : List ℕ) → IsSearchable kind links order → (target : Entry) (middle : ℕ) → is_before (entry_at kind links (get_or order middle 0)) target ≡ false
-    → (k : ℕ) → middle ≤ k → k < length order → is_before (entry_at kind links (get_or order k 0)) target ≡ false
+pub high_part : (kind : Kind) (links : List Link) (order : List ℕ) → IsSearchable kind links order → (target : Rank) (middle : ℕ) → is_before (rank_at kind links (get_or order middle 0)) target ≡ false
+    → (k : ℕ) → middle ≤ k → k < length order → is_before (rank_at kind links (get_or order k 0)) target ≡ false
 high_part kind links order o target middle high k from within =
     elim (cases_eq k middle) [
-      | inl same ↦ ap (λ n. is_before (entry_at kind links (get_or order n 0)) target) same ∙ high
-      | inr other ↦ by_cases (is_before (entry_at kind links (get_or order k 0)) target) refl (omega (arith, other))
+      | inl same ↦ ap (λ n. is_before (rank_at kind links (get_or order n 0)) target) same ∙ high
+      | inr other ↦ by_cases (is_before (rank_at kind links (get_or order k 0)) target) refl (omega (arith, other))
     ]
   where
-    by_cases : (b : Bool) → is_before (entry_at kind links (get_or order k 0)) target ≡ b → middle < k → is_before (entry_at kind links (get_or order k 0)) target ≡ false
+    by_cases : (b : Bool) → is_before (rank_at kind links (get_or order k 0)) target ≡ b → middle < k → is_before (rank_at kind links (get_or order k 0)) target ≡ false
     by_cases true e past =
-        absurd (false≢true (sym high ∙ chain (entry_at kind links (get_or order middle 0)) (entry_at kind links (get_or order k 0)) target (o.rises middle k past within) e))
+        absurd (false≢true (sym high ∙ chain (rank_at kind links (get_or order middle 0)) (rank_at kind links (get_or order k 0)) target (o.rises middle k past within) e))
     by_cases false e past = e
 
 read_less : (order : List ℕ) (at k : ℕ) → at < length order → k < length (remove order at)
@@ -56,7 +56,7 @@ read_more order at k x within inside =
       ]
     ]
 
-module _ {listed : ℕ → Type 0} {entry : ℕ → Entry} (order : List ℕ) (o : IsOrder listed entry order) where
+module _ {listed : ℕ → Type 0} {entry : ℕ → Rank} (order : List ℕ) (o : IsOrder listed entry order) where
   -- two places hold different numbers
   pub apart : (j k : ℕ) → j < k → k < length order → get_or order j 0 ≢ get_or order k 0
   apart j k past within same =
@@ -181,7 +181,7 @@ module _ {listed : ℕ → Type 0} {entry : ℕ → Entry} (order : List ℕ) (o
       both a b one two h = rw (one, two) h
 
 -- an order of the same numbers, whose entries are the same
-pub same_order : {listed P : ℕ → Type 0} {entry other : ℕ → Entry} (order : List ℕ) → IsOrder listed entry order
+pub same_order : {listed P : ℕ → Type 0} {entry other : ℕ → Rank} (order : List ℕ) → IsOrder listed entry order
     → ((x : ℕ) → listed x → P x) → ((x : ℕ) → P x → listed x) → ((x : ℕ) → listed x → other x ≡ entry x) → IsOrder P other order
 same_order order o into from same =
     record {
@@ -197,7 +197,7 @@ pub record Came (listed : ℕ → Type 0) (becomes : ℕ → ℕ) (y : ℕ) : Ty
   pub listed_there : listed from
   pub is : becomes from ≡ y
 
-pub mapped : {listed P : ℕ → Type 0} {entry other : ℕ → Entry} (order : List ℕ) (f : ℕ → ℕ) → IsOrder listed entry order
+pub mapped : {listed P : ℕ → Type 0} {entry other : ℕ → Rank} (order : List ℕ) (f : ℕ → ℕ) → IsOrder listed entry order
     → ((x : ℕ) → listed x → P (f x))
     → ((x y : ℕ) → listed x → listed y → is_before (entry x) (entry y) ≡ true → is_before (other (f x)) (other (f y)) ≡ true)
     → ((y : ℕ) → P y → Came listed f y) → IsOrder P other (map f order)

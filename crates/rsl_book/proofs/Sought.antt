@@ -13,34 +13,34 @@ use Rattle.rsl_book.specs.declared.order.Kind.TheVariants.{Sessions, Bundles}
 use Rattle.rsl_book.specs.First.{IsFirst}
 use Rattle.rsl_book.specs.LinkList.{is_bundle_id, is_held, is_id, is_member}
 use Rattle.rsl_book.specs.Named.{named_by_links}
-use Rattle.rsl_book.specs.Order.{Entry, IsOrderOf, IsSplit, entry_at, id_of, id_of_bundle, is_before, is_of, is_session, key_of, link_at, mark_of_bundle, no_link}
+use Rattle.rsl_book.specs.Order.{Rank, IsOrderOf, IsSplit, rank_at, id_of, id_of_bundle, is_before, is_of, holds_session, order_key, link_at, mark_of_bundle, no_link}
 use Rattle.rsl_book.proofs.Before.{alike_or_before, first_of_key, heads, later_target, lower_before, lower_first, lower_head}
 use Rattle.rsl_book.proofs.Counting.{counted_between}
 use Rattle.rsl_book.proofs.Orders.{same_order}
 use Rattle.rsl_book.proofs.Yielding.{any_none, any_nowhere}
 
 -- what a held link, and a member of a bundle, goes by
-held_key : (nas : ℕ) (id : List ℕ) (link : Link) → is_held nas id link ≡ true → (is_of Sessions link ≡ true) × (key_of Sessions link ≡ nas ∷ 0 ∷ id)
+held_key : (nas : ℕ) (id : List ℕ) (link : Link) → is_held nas id link ≡ true → (is_of Sessions link ≡ true) × (order_key Sessions link ≡ nas ∷ 0 ∷ id)
 unfolding is_held
 held_key nas id link held =
     let parts = and_parts (link.nas == nas) (is_id id link.hold) held in
     let own = by_hold link.hold parts.1 in
     (own.0, ap (λ n. n ∷ 0 ∷ id_of link.hold) (eqb-true link.nas nas parts.0) ∙ ap (λ octets. nas ∷ 0 ∷ octets) own.1)
   where
-    by_hold : (hold : Hold) → is_id id hold ≡ true → (is_session hold ≡ true) × (id_of hold ≡ id)
+    by_hold : (hold : Hold) → is_id id hold ≡ true → (holds_session hold ≡ true) × (id_of hold ≡ id)
     by_hold (Number number) is = absurd (false≢true is)
     by_hold (Session own) is = (refl, (bytes_eq-Decides own id).0 is)
 
-key_held : (nas : ℕ) (id : List ℕ) (link : Link) → is_of Sessions link ≡ true → key_of Sessions link ≡ nas ∷ 0 ∷ id → is_held nas id link ≡ true
+key_held : (nas : ℕ) (id : List ℕ) (link : Link) → is_of Sessions link ≡ true → order_key Sessions link ≡ nas ∷ 0 ∷ id → is_held nas id link ≡ true
 unfolding is_held
 key_held nas id link bound key =
     and_from _ _ (eq-eqb link.nas nas (ap (λ xs. get_or xs 0 0) key)) (by_hold link.hold bound (ap (λ xs. drop 2 xs) key))
   where
-    by_hold : (hold : Hold) → is_session hold ≡ true → id_of hold ≡ id → is_id id hold ≡ true
+    by_hold : (hold : Hold) → holds_session hold ≡ true → id_of hold ≡ id → is_id id hold ≡ true
     by_hold (Number number) is same = absurd (false≢true is)
     by_hold (Session own) is same = (bytes_eq-Decides own id).1 same
 
-member_key : (nas : ℕ) (id : List ℕ) (link : Link) → is_member nas id link ≡ true → key_of Bundles link ≡ nas ∷ 1 ∷ id
+member_key : (nas : ℕ) (id : List ℕ) (link : Link) → is_member nas id link ≡ true → order_key Bundles link ≡ nas ∷ 1 ∷ id
 unfolding is_member
 member_key nas id link member =
     let parts = and_parts (link.nas == nas) (is_bundle_id id link.bundle) member in
@@ -50,7 +50,7 @@ member_key nas id link member =
     by_bundle None is = absurd (false≢true is)
     by_bundle (Some own) is = ap (λ octets. nas ∷ 1 ∷ octets) ((bytes_eq-Decides own id).0 is)
 
-key_member : (nas : ℕ) (id : List ℕ) (link : Link) → key_of Bundles link ≡ nas ∷ 1 ∷ id → is_member nas id link ≡ true
+key_member : (nas : ℕ) (id : List ℕ) (link : Link) → order_key Bundles link ≡ nas ∷ 1 ∷ id → is_member nas id link ≡ true
 unfolding is_member
 key_member nas id link key =
     and_from _ _ (eq-eqb link.nas nas (ap (λ xs. get_or xs 0 0) key)) (by_bundle link.bundle (ap (λ xs. get_or xs 1 0) key) (ap (λ xs. drop 2 xs) key))
@@ -62,7 +62,7 @@ key_member nas id link key =
 pub read_link : (links : List Link) (at : ℕ) (d : Link) → at < length links → get_or links at d ≡ link_at links at
 read_link links at d within = get_or_default links at d no_link within
 
-module _ (links : List Link) (order : List ℕ) (o : IsOrderOf Sessions links order) (nas : ℕ) (id : List ℕ) (place : ℕ) (split : IsSplit (entry_at Sessions links) order (nas ∷ 0 ∷ id, 0) place) where
+module _ (links : List Link) (order : List ℕ) (o : IsOrderOf Sessions links order) (nas : ℕ) (id : List ℕ) (place : ℕ) (split : IsSplit (rank_at Sessions links) order (nas ∷ 0 ∷ id, 0) place) where
   -- where a link of the session is, the first of them stands at the split
   held_there : (x : ℕ) → x < length links → is_held nas id (link_at links x) ≡ true
       → (place < length order) × ((is_held nas id (link_at links (get_or order place 0)) ≡ true) × (get_or order place 0 ≤ x))
@@ -70,9 +70,9 @@ module _ (links : List Link) (order : List ℕ) (o : IsOrderOf Sessions links or
       let key = held_key nas id (link_at links x) held in
       let s = o.all x (record { within = within; other = omega (arith, within); of_kind = key.0 }) in
       let w = s.within in
-      let own : entry_at Sessions links (get_or order s.at 0) ≡ (nas ∷ 0 ∷ id, x) = ap (entry_at Sessions links) s.is ∙ ap (λ (k : List ℕ). (k, x)) key.1 in
+      let own : rank_at Sessions links (get_or order s.at 0) ≡ (nas ∷ 0 ∷ id, x) = ap (rank_at Sessions links) s.is ∙ ap (λ (k : List ℕ). (k, x)) key.1 in
       elim (cases_lt s.at place) [
-        | inl low ↦ absurd (false≢true (sym (first_of_key (nas ∷ 0 ∷ id) x) ∙ subst (λ (e : Entry). is_before e (nas ∷ 0 ∷ id, 0) ≡ true) own (split.before s.at low)))
+        | inl low ↦ absurd (false≢true (sym (first_of_key (nas ∷ 0 ∷ id) x) ∙ subst (λ (e : Rank). is_before e (nas ∷ 0 ∷ id, 0) ≡ true) own (split.before s.at low)))
         | inr high ↦ elim (cases_eq s.at place) [
           | inl same ↦ (
               let is : get_or order place 0 ≡ x = sym (ap (λ n. get_or order n 0) same) ∙ s.is in
@@ -80,9 +80,9 @@ module _ (links : List Link) (order : List ℕ) (o : IsOrderOf Sessions links or
               )
           | inr other ↦ (
               let inside : place < length order = omega (arith, w, high, other) in
-              let rise : is_before (entry_at Sessions links (get_or order place 0)) (nas ∷ 0 ∷ id, x) ≡ true =
-              subst (λ (e : Entry). is_before (entry_at Sessions links (get_or order place 0)) e ≡ true) own (o.rises place s.at (omega (arith, high, other)) w) in
-              elim (alike_or_before (key_of Sessions (link_at links (get_or order place 0))) (nas ∷ 0 ∷ id) (get_or order place 0) x rise) [
+              let rise : is_before (rank_at Sessions links (get_or order place 0)) (nas ∷ 0 ∷ id, x) ≡ true =
+              subst (λ (e : Rank). is_before (rank_at Sessions links (get_or order place 0)) e ≡ true) own (o.rises place s.at (omega (arith, high, other)) w) in
+              elim (alike_or_before (order_key Sessions (link_at links (get_or order place 0))) (nas ∷ 0 ∷ id) (get_or order place 0) x rise) [
                 | inl same ↦ (
                     let less = lower_first (nas ∷ 0 ∷ id) (get_or order place 0) x (subst (λ (k : List ℕ). is_before (k, get_or order place 0) (nas ∷ 0 ∷ id, x) ≡ true) same rise) in
                     (inside, (key_held nas id (link_at links (get_or order place 0)) (o.each place inside).of_kind same, omega (arith, less)))
@@ -131,34 +131,34 @@ not_below nas m octets x before =
     ]
 
 module _ (links : List Link) (order : List ℕ) (o : IsOrderOf Bundles links order) where
-  module _ (nas : ℕ) (id : List ℕ) (first end : ℕ) (from : IsSplit (entry_at Bundles links) order (nas ∷ 1 ∷ id, 0) first) (to : IsSplit (entry_at Bundles links) order (nas ∷ 1 ∷ id, length links) end) where
+  module _ (nas : ℕ) (id : List ℕ) (first end : ℕ) (from : IsSplit (rank_at Bundles links) order (nas ∷ 1 ∷ id, 0) first) (to : IsSplit (rank_at Bundles links) order (nas ∷ 1 ∷ id, length links) end) where
     pub in_turn : first ≤ end
     in_turn = elim (cases_lt end first) [
       | inl low ↦ absurd (
           let inside : end < length order = let w = from.within in omega (arith, low, w) in
-          false≢true (sym (to.after end (omega arith) inside) ∙ later_target (key_of Bundles (link_at links (get_or order end 0))) (nas ∷ 1 ∷ id) (get_or order end 0) 0 (length links) (omega arith) (from.before end low)))
+          false≢true (sym (to.after end (omega arith) inside) ∙ later_target (order_key Bundles (link_at links (get_or order end 0))) (nas ∷ 1 ∷ id) (get_or order end 0) 0 (length links) (omega arith) (from.before end low)))
       | inr high ↦ high
     ]
 
     pub members_between : end - first ≡ count_by (is_member nas id) links
     members_between =
-        counted_between (is_member nas id) no_link links (entry_at Bundles links) order first end
+        counted_between (is_member nas id) no_link links (rank_at Bundles links) order first end
         (same_order order o (λ x l. l.within) (λ x within. record { within = within; other = omega (arith, within); of_kind = refl }) (λ x l. refl))
         in_turn to.within
         (λ k low within. not_member (get_or order k 0) (is_member nas id (link_at links (get_or order k 0))) refl
         (λ key. sym (first_of_key (nas ∷ 1 ∷ id) (get_or order k 0)) ∙ subst (λ (t : List ℕ). is_before (t, get_or order k 0) (nas ∷ 1 ∷ id, 0) ≡ true) key (from.before k low)))
-        (λ k high low within. elim (alike_or_before (key_of Bundles (link_at links (get_or order k 0))) (nas ∷ 1 ∷ id) (get_or order k 0) (length links) (to.before k low)) [
+        (λ k high low within. elim (alike_or_before (order_key Bundles (link_at links (get_or order k 0))) (nas ∷ 1 ∷ id) (get_or order k 0) (length links) (to.before k low)) [
           | inl same ↦ key_member nas id (link_at links (get_or order k 0)) same
           | inr before ↦ absurd (false≢true (sym (from.after k high within) ∙ before))
         ])
         (λ k high within. not_member (get_or order k 0) (is_member nas id (link_at links (get_or order k 0))) refl
         (λ key. sym (to.after k high within) ∙ subst (λ (t : List ℕ). is_before (t, get_or order k 0) (nas ∷ 1 ∷ id, length links) ≡ true) (sym key) (lower_before (nas ∷ 1 ∷ id) (get_or order k 0) (length links) (o.each k within).within)))
       where
-        not_member : (x : ℕ) (b : Bool) → is_member nas id (link_at links x) ≡ b → (key_of Bundles (link_at links x) ≡ nas ∷ 1 ∷ id → false ≡ true) → is_member nas id (link_at links x) ≡ false
+        not_member : (x : ℕ) (b : Bool) → is_member nas id (link_at links x) ≡ b → (order_key Bundles (link_at links x) ≡ nas ∷ 1 ∷ id → false ≡ true) → is_member nas id (link_at links x) ≡ false
         not_member x false e other = e
         not_member x true e other = absurd (false≢true (other (member_key nas id (link_at links x) e)))
 
-  module _ (nas place : ℕ) (split : IsSplit (entry_at Bundles links) order (nas ∷ 0 ∷ [], 0) place) where
+  module _ (nas place : ℕ) (split : IsSplit (rank_at Bundles links) order (nas ∷ 0 ∷ [], 0) place) where
     -- where a link names the place, the one at the split does
     named_there : (x : ℕ) → x < length links → (link_at links x).nas ≡ nas → (place < length order) × ((link_at links (get_or order place 0)).nas ≡ nas)
     named_there x within is =
@@ -166,16 +166,16 @@ module _ (links : List Link) (order : List ℕ) (o : IsOrderOf Bundles links ord
         let w = s.within in
         let mark = mark_of_bundle (link_at links x).bundle in
         let octets = id_of_bundle (link_at links x).bundle in
-        let own : entry_at Bundles links (get_or order s.at 0) ≡ (nas ∷ mark ∷ octets, x) = ap (entry_at Bundles links) s.is ∙ ap (λ (n : ℕ). (n ∷ mark ∷ octets, x)) is in
+        let own : rank_at Bundles links (get_or order s.at 0) ≡ (nas ∷ mark ∷ octets, x) = ap (rank_at Bundles links) s.is ∙ ap (λ (n : ℕ). (n ∷ mark ∷ octets, x)) is in
         elim (cases_lt s.at place) [
-          | inl low ↦ absurd (false≢true (not_below nas mark octets x (subst (λ (e : Entry). is_before e (nas ∷ 0 ∷ [], 0) ≡ true) own (split.before s.at low))))
+          | inl low ↦ absurd (false≢true (not_below nas mark octets x (subst (λ (e : Rank). is_before e (nas ∷ 0 ∷ [], 0) ≡ true) own (split.before s.at low))))
           | inr high ↦ elim (cases_eq s.at place) [
             | inl same ↦ (omega (arith, w, same), ap (λ n. (link_at links n).nas) (sym (ap (λ n. get_or order n 0) same) ∙ s.is) ∙ is)
             | inr other ↦ (
                 let inside : place < length order = omega (arith, w, high, other) in
                 let front = link_at links (get_or order place 0) in
-                let rise : is_before (entry_at Bundles links (get_or order place 0)) (nas ∷ mark ∷ octets, x) ≡ true =
-                subst (λ (e : Entry). is_before (entry_at Bundles links (get_or order place 0)) e ≡ true) own (o.rises place s.at (omega (arith, high, other)) w) in
+                let rise : is_before (rank_at Bundles links (get_or order place 0)) (nas ∷ mark ∷ octets, x) ≡ true =
+                subst (λ (e : Rank). is_before (rank_at Bundles links (get_or order place 0)) e ≡ true) own (o.rises place s.at (omega (arith, high, other)) w) in
                 elim (heads front.nas nas (mark_of_bundle front.bundle ∷ id_of_bundle front.bundle) (mark ∷ octets) (get_or order place 0) x rise) [
                   | inl low ↦ absurd (false≢true (sym (split.after place (omega arith) inside) ∙ lower_head front.nas nas (mark_of_bundle front.bundle ∷ id_of_bundle front.bundle) (0 ∷ []) (get_or order place 0) 0 low))
                   | inr same ↦ (inside, same.0)

@@ -10,17 +10,17 @@ use Rattle.rsl_book.specs.declared.link.Hold.{Hold}
 use Rattle.rsl_book.specs.declared.link.Hold.TheVariants.{Number, Session}
 use Rattle.rsl_book.specs.declared.order.Kind.{Kind}
 use Rattle.rsl_book.specs.declared.order.Kind.TheVariants.{Reserved, Bound, Sessions, Bundles}
-use Rattle.rsl_book.specs.Order.{entry_at, is_before, is_by_touch, is_number, is_of, is_session, link_at, IsOrderOf}
+use Rattle.rsl_book.specs.Order.{rank_at, is_before, is_by_touch, holds_number, is_of, holds_session, link_at, IsOrderOf}
 use Rattle.rsl_book.specs.LinkList.{IsOldest}
 use Rattle.rsl_book.specs.Seen.{holder_at, link_seen, server_at}
 use Rattle.rsl_book.proofs.Before.{touched_order}
 
-numbers_alike : (rules : Rules) (n m : Nas) (a b : Hold) → is_number a ≡ true → is_number b ≡ true → time_of rules (holder_at n a) ≡ time_of rules (holder_at m b)
+numbers_alike : (rules : Rules) (n m : Nas) (a b : Hold) → holds_number a ≡ true → holds_number b ≡ true → time_of rules (holder_at n a) ≡ time_of rules (holder_at m b)
 numbers_alike rules n m (Number a) (Number b) one two = refl
 numbers_alike rules n m (Number a) (Session b) one two = absurd (false≢true two)
 numbers_alike rules n m (Session a) b one two = absurd (false≢true one)
 
-sessions_alike : (rules : Rules) (n m : Nas) (a b : Hold) → is_session a ≡ true → is_session b ≡ true → time_of rules (holder_at n a) ≡ time_of rules (holder_at m b)
+sessions_alike : (rules : Rules) (n m : Nas) (a b : Hold) → holds_session a ≡ true → holds_session b ≡ true → time_of rules (holder_at n a) ≡ time_of rules (holder_at m b)
 sessions_alike rules n m (Session a) (Session b) one two = refl
 sessions_alike rules n m (Session a) (Number b) one two = absurd (false≢true two)
 sessions_alike rules n m (Number a) b one two = absurd (false≢true one)
@@ -45,7 +45,7 @@ later_stays servers rules now kind is f x one two later none =
     let time = time_kept rules kind is (server_at servers f.nas) (server_at servers x.nas) f x one two in
     stays _ f.touched x.touched now later (sym (ap (λ t. nat_le t (now - f.touched)) time) ∙ none)
 
-by_touch : (kind : Kind) → is_by_touch kind ≡ true → (links : List Link) (a b : ℕ) → is_before (entry_at kind links a) (entry_at kind links b) ≡ true
+by_touch : (kind : Kind) → is_by_touch kind ≡ true → (links : List Link) (a b : ℕ) → is_before (rank_at kind links a) (rank_at kind links b) ≡ true
     → is_before ((link_at links a).touched ∷ 0 ∷ [], a) ((link_at links b).touched ∷ 0 ∷ [], b) ≡ true
 by_touch Reserved is links a b h = h
 by_touch Bound is links a b h = h
@@ -61,7 +61,7 @@ first_touched kind is links order o x within here =
     elim (cases_eq s.at zero) [
       | inl same ↦ inl (sym s.is ∙ ap (λ n. get_or order n 0) same)
       | inr other ↦ inr (touched_order (link_at links (get_or order 0 0)).touched (link_at links x).touched (get_or order 0 0) x
-          (by_touch kind is links (get_or order 0 0) x (subst (λ n. is_before (entry_at kind links (get_or order 0 0)) (entry_at kind links n) ≡ true) s.is (o.rises zero s.at (omega (arith, other)) s.within))))
+          (by_touch kind is links (get_or order 0 0) x (subst (λ n. is_before (rank_at kind links (get_or order 0 0)) (rank_at kind links n) ≡ true) s.is (o.rises zero s.at (omega (arith, other)) s.within))))
     ]
 
 pub none_lapses : (servers : List Nas) (rules : Rules) (now : ℕ) (kind : Kind) → is_by_touch kind ≡ true → (links : List Link) (order : List ℕ) → IsOrderOf kind links order → 0 < length order

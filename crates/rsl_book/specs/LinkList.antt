@@ -10,7 +10,7 @@ use Rattle.rsl_book.specs.declared.link.Link.{Link}
 use Rattle.rsl_book.specs.declared.list.LinkList.TheInside.{Inside}
 use Rattle.rsl_book.specs.declared.list.Orders.{Orders}
 use Rattle.rsl_book.specs.declared.order.Kind.TheVariants.{Reserved, Bound, Sessions, Bundles}
-use Rattle.rsl_book.specs.Order.{IsOrderBut, is_session, link_at, moved_up}
+use Rattle.rsl_book.specs.Order.{IsOrderBut, holds_session, link_at, moved_up}
 
 pub record RoomyList : Type 0 where
   pub items : List Link
@@ -30,7 +30,7 @@ abbrev pub AreOrders : List Link → Orders → Type 0
 AreOrders links orders = AreOrdersBut links (length links) orders
 
 -- each order has room for so many positions
-pub record AreRoomy (most : ℕ) (orders : Orders) : Type 0 where
+pub record HaveOrdersRoom (most : ℕ) (orders : Orders) : Type 0 where
   pub reserved : most ≤ vec_capacity orders.reserved
   pub bound : most ≤ vec_capacity orders.bound
   pub sessions : most ≤ vec_capacity orders.sessions
@@ -45,7 +45,7 @@ pub record AreClosed (gone : ℕ) (old new : Orders) : Type 0 where
 
 pub record IsRanked (list : Inside) : Type 0 where
   pub orders : AreOrders list.links.items list.orders
-  pub room : AreRoomy (vec_capacity list.links) list.orders
+  pub room : HaveOrdersRoom (vec_capacity list.links) list.orders
 
 -- whether a link is bound to the session of this id, or in the bundle of this id, at the access
 -- server of a place
@@ -66,8 +66,8 @@ is_member nas id link = link.nas == nas && is_bundle_id id link.bundle
 -- the bound link that was touched longest ago, and of these the first
 pub record IsOldest (links : List Link) (at : ℕ) : Type 0 where
   pub within : at < length links
-  pub bound : is_session (link_at links at).hold ≡ true
-  pub oldest : (x : ℕ) → x < length links → is_session (link_at links x).hold ≡ true
+  pub bound : holds_session (link_at links at).hold ≡ true
+  pub oldest : (x : ℕ) → x < length links → holds_session (link_at links x).hold ≡ true
       → (link_at links at).touched ≤ (link_at links x).touched
-  pub first : (x : ℕ) → x < at → is_session (link_at links x).hold ≡ true
+  pub first : (x : ℕ) → x < at → holds_session (link_at links x).hold ≡ true
       → (link_at links at).touched < (link_at links x).touched

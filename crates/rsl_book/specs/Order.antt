@@ -12,17 +12,17 @@ use Rattle.rsl_book.specs.declared.order.Kind.{Kind}
 use Rattle.rsl_book.specs.declared.order.Kind.TheVariants.{Reserved, Bound, Sessions, Bundles}
 
 -- what an order goes by: numbers, and then the position
-abbrev pub Entry : Type 0
-Entry = List ℕ × ℕ
+abbrev pub Rank : Type 0
+Rank = List ℕ × ℕ
 
-abbrev pub entry_cmp : Entry → Entry → Ordering
-entry_cmp one other = ordering_then (slice_cmp nat_cmp one.0 other.0) (nat_cmp one.1 other.1)
+abbrev pub rank_cmp : Rank → Rank → Ordering
+rank_cmp one other = ordering_then (slice_cmp nat_cmp one.0 other.0) (nat_cmp one.1 other.1)
 
-unfoldable pub is_before : Entry → Entry → Bool
-is_before one other = is_lt (entry_cmp one other)
+unfoldable pub is_before : Rank → Rank → Bool
+is_before one other = is_lt (rank_cmp one other)
 
 -- the places of an order that stand before an entry come first
-pub record IsSplit (entry : ℕ → Entry) (order : List ℕ) (target : Entry) (at : ℕ) : Type 0 where
+pub record IsSplit (entry : ℕ → Rank) (order : List ℕ) (target : Rank) (at : ℕ) : Type 0 where
   pub within : at ≤ length order
   pub before : (k : ℕ) → k < at → is_before (entry (get_or order k 0)) target ≡ true
   pub after : (k : ℕ) → at ≤ k → k < length order
@@ -35,7 +35,7 @@ pub record Stands (order : List ℕ) (x : ℕ) : Type 0 where
   pub is : get_or order at 0 ≡ x
 
 -- a list has exactly the numbers that are listed, each before those that come after it
-pub record IsOrder (listed : ℕ → Type 0) (entry : ℕ → Entry) (order : List ℕ) : Type 0 where
+pub record IsOrder (listed : ℕ → Type 0) (entry : ℕ → Rank) (order : List ℕ) : Type 0 where
   pub each : (k : ℕ) → k < length order → listed (get_or order k 0)
   pub rises : (j k : ℕ) → j < k → k < length order
       → is_before (entry (get_or order j 0)) (entry (get_or order k 0)) ≡ true
@@ -48,13 +48,13 @@ no_link = record { nas = 0; hold = Number 0; bundle = None; touched = 0 }
 abbrev pub link_at : List Link → ℕ → Link
 link_at links at = get_or links at no_link
 
-abbrev pub is_session : Hold → Bool
-is_session (Number number) = false
-is_session (Session id) = true
+abbrev pub holds_session : Hold → Bool
+holds_session (Number number) = false
+holds_session (Session id) = true
 
-abbrev pub is_number : Hold → Bool
-is_number (Number number) = true
-is_number (Session id) = false
+abbrev pub holds_number : Hold → Bool
+holds_number (Number number) = true
+holds_number (Session id) = false
 
 abbrev pub id_of : Hold → List ℕ
 id_of (Number number) = []
@@ -70,40 +70,40 @@ id_of_bundle (Some id) = id
 
 -- the links of a kind, and what their order goes by: a number, a mark, and octets
 abbrev pub is_of : Kind → Link → Bool
-is_of Reserved link = is_number link.hold
-is_of Bound link = is_session link.hold
-is_of Sessions link = is_session link.hold
+is_of Reserved link = holds_number link.hold
+is_of Bound link = holds_session link.hold
+is_of Sessions link = holds_session link.hold
 is_of Bundles link = true
 
-abbrev pub number_of : Kind → Link → ℕ
-number_of Reserved link = link.touched
-number_of Bound link = link.touched
-number_of Sessions link = link.nas
-number_of Bundles link = link.nas
+abbrev pub order_number : Kind → Link → ℕ
+order_number Reserved link = link.touched
+order_number Bound link = link.touched
+order_number Sessions link = link.nas
+order_number Bundles link = link.nas
 
-abbrev pub mark_of : Kind → Link → ℕ
-mark_of Reserved link = 0
-mark_of Bound link = 0
-mark_of Sessions link = 0
-mark_of Bundles link = mark_of_bundle link.bundle
+abbrev pub order_mark : Kind → Link → ℕ
+order_mark Reserved link = 0
+order_mark Bound link = 0
+order_mark Sessions link = 0
+order_mark Bundles link = mark_of_bundle link.bundle
 
-abbrev pub octets_of : Kind → Link → List ℕ
-octets_of Reserved link = []
-octets_of Bound link = []
-octets_of Sessions link = id_of link.hold
-octets_of Bundles link = id_of_bundle link.bundle
+abbrev pub order_octets : Kind → Link → List ℕ
+order_octets Reserved link = []
+order_octets Bound link = []
+order_octets Sessions link = id_of link.hold
+order_octets Bundles link = id_of_bundle link.bundle
 
-abbrev pub key_of : Kind → Link → List ℕ
-key_of kind link = number_of kind link ∷ mark_of kind link ∷ octets_of kind link
+abbrev pub order_key : Kind → Link → List ℕ
+order_key kind link = order_number kind link ∷ order_mark kind link ∷ order_octets kind link
 
-abbrev pub entry_at : Kind → List Link → ℕ → Entry
-entry_at kind links at = (key_of kind (link_at links at), at)
+abbrev pub rank_at : Kind → List Link → ℕ → Rank
+rank_at kind links at = (order_key kind (link_at links at), at)
 
 -- positions of links, each before those that come after it
 pub record IsSearchable (kind : Kind) (links : List Link) (order : List ℕ) : Type 0 where
   pub within : (k : ℕ) → k < length order → get_or order k 0 < length links
   pub rises : (j k : ℕ) → j < k → k < length order
-      → is_before (entry_at kind links (get_or order j 0)) (entry_at kind links (get_or order k 0))
+      → is_before (rank_at kind links (get_or order j 0)) (rank_at kind links (get_or order k 0))
       ≡ true
 
 -- the positions of the links of a kind, but for one
@@ -114,7 +114,7 @@ pub record IsListed (kind : Kind) (links : List Link) (but at : ℕ) : Type 0 wh
 
 -- an order of the links of a kind, but for one; and of all of them
 abbrev pub IsOrderBut : Kind → List Link → ℕ → List ℕ → Type 0
-IsOrderBut kind links but order = IsOrder (IsListed kind links but) (entry_at kind links) order
+IsOrderBut kind links but order = IsOrder (IsListed kind links but) (rank_at kind links) order
 
 abbrev pub IsOrderOf : Kind → List Link → List ℕ → Type 0
 IsOrderOf kind links order = IsOrderBut kind links (length links) order

@@ -7,8 +7,8 @@ ghost use Rattle.rsl_accounts.specs.Limits.{RulesFit};
 ghost use Rattle.rsl_session.specs.BookLinks.{lapses_at};
 ghost use Rattle.rsl_book.specs.Changed.{bound_link, joined_link, renewed_link, touched_link};
 ghost use Rattle.rsl_book.specs.First.{IsFirst, change_at};
-ghost use Rattle.rsl_book.specs.Order.{IsOrderOf, is_by_touch, is_of, is_session, link_at};
-ghost use Rattle.rsl_book.specs.LinkList.{AreClosed, AreOrders, AreOrdersBut, AreRoomy, IsOldest};
+ghost use Rattle.rsl_book.specs.Order.{IsOrderOf, is_by_touch, is_of, holds_session, link_at};
+ghost use Rattle.rsl_book.specs.LinkList.{AreClosed, AreOrders, AreOrdersBut, HaveOrdersRoom, IsOldest};
 ghost use Rattle.rsl_book.specs.LinkList.{is_held, is_member};
 ghost use Rattle.rsl_book.specs.Named.{named_by_links};
 ghost use Rattle.rsl_book.specs.Seen.{link_seen};
@@ -34,7 +34,7 @@ impl Orders {
     /// Orders of no links, with room for so many. It fails only where memory is refused.
     fn new(alloc: Global, room: usize) -> Result<Orders, NoMemory>
         ensures empty { IfOk result (λ orders. AreOrders [] orders) }
-        ensures room { IfOk result (λ orders. AreRoomy room orders) }
+        ensures room { IfOk result (λ orders. HaveOrdersRoom room orders) }
     {
         Ok(Orders {
             reserved: Vec::with_capacity(alloc, room)?,
@@ -49,7 +49,7 @@ impl Orders {
         requires within { at < length links.now }
         requires orders { AreOrders links.now self.old }
         ensures orders { AreOrdersBut links.now at self.new }
-        ensures room { (most : ℕ) → AreRoomy most self.old → AreRoomy most self.new }
+        ensures room { (most : ℕ) → HaveOrdersRoom most self.old → HaveOrdersRoom most self.new }
     {
         Kind::Reserved.withdraw(&mut self.reserved, links, at);
         Kind::Bound.withdraw(&mut self.bound, links, at);
@@ -61,9 +61,9 @@ impl Orders {
     fn enter(&mut self, links: &[Link], at: usize)
         requires within { at < length links.now }
         requires orders { AreOrdersBut links.now at self.old }
-        requires room { AreRoomy (length links.now) self.old }
+        requires room { HaveOrdersRoom (length links.now) self.old }
         ensures orders { AreOrders links.now self.new }
-        ensures room { (most : ℕ) → AreRoomy most self.old → AreRoomy most self.new }
+        ensures room { (most : ℕ) → HaveOrdersRoom most self.old → HaveOrdersRoom most self.new }
     {
         Kind::Reserved.enter(&mut self.reserved, links, at);
         Kind::Bound.enter(&mut self.bound, links, at);
@@ -74,7 +74,7 @@ impl Orders {
     /// Moves the positions after one whose link is gone.
     fn close_up(&mut self, gone: usize)
         ensures closed { AreClosed gone self.old self.new }
-        ensures room { (most : ℕ) → AreRoomy most self.old → AreRoomy most self.new }
+        ensures room { (most : ℕ) → HaveOrdersRoom most self.old → HaveOrdersRoom most self.new }
     {
         close_up(&mut self.reserved, gone);
         close_up(&mut self.bound, gone);
@@ -276,7 +276,7 @@ impl LinkList {
     pub(crate) fn oldest(&self) -> Option<usize>
         ensures found { IfSome result (λ at. IsOldest self.now.items at) }
         ensures missed { IfNone result ((at : ℕ) → at < length self.now.items →
-            is_session (link_at self.now.items at).hold ≡ false) }
+            holds_session (link_at self.now.items at).hold ≡ false) }
     {
         if self.orders.bound.is_empty() {
             return None;

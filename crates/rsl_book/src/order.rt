@@ -2,9 +2,9 @@
 //! each.
 
 ghost use Rattle.std.specs.Prelude.{◌≡◌, ◌<◌, ◌≤◌, ◌∷◌, map, length, vec_capacity};
-ghost use Rattle.rsl_book.specs.Order.{IsSearchable, IsSplit, IsOrderBut, IsOrderOf, entry_at};
-ghost use Rattle.rsl_book.specs.Order.{is_before, is_of, key_of, mark_of, moved_up, number_of};
-ghost use Rattle.rsl_book.specs.Order.{octets_of};
+ghost use Rattle.rsl_book.specs.Order.{IsSearchable, IsSplit, IsOrderBut, IsOrderOf, rank_at};
+ghost use Rattle.rsl_book.specs.Order.{is_before, is_of, order_key, order_mark, moved_up, order_number};
+ghost use Rattle.rsl_book.specs.Order.{order_octets};
 
 use crate::link::{Hold, Link};
 
@@ -37,7 +37,7 @@ impl Kind {
 
     /// The number that a link of this kind goes by first.
     fn number(self, link: &Link) -> u64
-        ensures { result ≡ number_of self link.now }
+        ensures { result ≡ order_number self link.now }
     {
         match self {
             Kind::Reserved | Kind::Bound => link.touched,
@@ -47,7 +47,7 @@ impl Kind {
 
     /// The mark that a link of this kind goes by then: 1 for one in a bundle.
     fn mark(self, link: &Link) -> u64
-        ensures { result ≡ mark_of self link.now }
+        ensures { result ≡ order_mark self link.now }
     {
         match (self, &link.bundle) {
             (Kind::Bundles, Some(_)) => 1,
@@ -57,7 +57,7 @@ impl Kind {
 
     /// The octets that a link of this kind goes by at last.
     fn octets(self, link: &Link) -> &[u8]
-        ensures { result.now ≡ octets_of self link.now }
+        ensures { result.now ≡ order_octets self link.now }
     {
         match (self, &link.hold, &link.bundle) {
             (Kind::Sessions, Hold::Session(id), _) => id.as_slice(),
@@ -77,7 +77,7 @@ impl Kind {
         octets: &[u8],
         other: usize,
     ) -> bool
-        ensures { result ≡ is_before (key_of self link.now, at)
+        ensures { result ≡ is_before (order_key self link.now, at)
             (number ∷ mark ∷ octets.now, other) }
     {
         (self.number(link), self.mark(link), self.octets(link), at)
@@ -96,7 +96,7 @@ impl Kind {
         at: usize,
     ) -> usize
         requires { IsSearchable self links.now order.now }
-        ensures { IsSplit (entry_at self links.now) order.now
+        ensures { IsSplit (rank_at self links.now) order.now
             (number ∷ mark ∷ octets.now, at) result }
     {
         let mut low = 0;
@@ -117,7 +117,7 @@ impl Kind {
     fn count_before_link(self, order: &[usize], links: &[Link], at: usize) -> usize
         requires within { at < length links.now }
         requires order { IsSearchable self links.now order.now }
-        ensures { IsSplit (entry_at self links.now) order.now (entry_at self links.now at) result }
+        ensures { IsSplit (rank_at self links.now) order.now (rank_at self links.now at) result }
     {
         let link = &links[at];
         self.count_before(

@@ -15,8 +15,8 @@ ghost use Rattle.rsl_event.specs.Draft.{with_more};
 ghost use Rattle.rsl_event.specs.Request.{proxy_states, proxy_len};
 
 use crate::codes::{
-    CLASS, FRAMED_PROTOCOL, IDLE_TIMEOUT, PORT_LIMIT, PROXY_STATE, REPLY_MESSAGE, SERVICE_TYPE,
-    SESSION_TIMEOUT,
+    CLASS, CLASS_LEN, FRAMED_PROTOCOL, IDLE_TIMEOUT, PORT_LIMIT, PROXY_STATE, REPLY_MESSAGE,
+    SERVICE_TYPE, SESSION_TIMEOUT,
 };
 use rsl_accounts::Entry;
 use rsl_wire::{Attrs, Draft};
@@ -76,12 +76,12 @@ fn push_class(draft: &mut Draft, boot: u64, number: u64)
 /// |---|---|
 /// | 0 to 7 | the boot number |
 /// | 8 to 15 | the accept number |
-pub fn class_octets(boot: u64, number: u64) -> [u8; 16]
+pub fn class_octets(boot: u64, number: u64) -> [u8; CLASS_LEN]
     ensures octets { result ≡ class_octets boot number }
     // An access server that sends it back in accounting is understood.
     ensures read { class_number boot result ≡ Some number }
 {
-    let mut value = [0u8; 16];
+    let mut value = [0u8; CLASS_LEN];
     value[..8].copy_from_slice(&boot.to_be_bytes());
     value[8..].copy_from_slice(&number.to_be_bytes());
     value

@@ -6,7 +6,7 @@ use Rattle.rsl_script.specs.Script.{Contents, script_of}
 use Rattle.rsl_script.specs.declared.fault.ScriptFault.TheVariants.{Line as wrong_line}
 use Rattle.rsl_replay.specs.Printing.{printed}
 use Rattle.rsl_replay.specs.Report.{report_after}
-use Rattle.rsl_steps.specs.Run.{AreAnswers, taken}
+use Rattle.rsl_steps.specs.Run.{AreAnswers, steps_taken}
 use Rattle.rsl_replay.specs.Stepping.{steps_of_lines}
 use Rattle.rsl_replay.specs.declared.fault.ReplayFault.{ReplayFault}
 use Rattle.rsl_replay.specs.declared.fault.ReplayFault.TheVariants.{Line, TooLong, Config, InputOutput, NoMemory}
@@ -35,7 +35,7 @@ pub record IsReplayed (text written : List ℕ) : Type 0 where
       answers
   pub lines_and_report : written ≡ printed config script.events answers
       ++ report_after config replay_boot
-      (taken [] (steps_of_lines config replay_boot script.events) answers)
+      (steps_taken [] (steps_of_lines config replay_boot script.events) answers)
 
 -- a right script whose configuration has the fault
 pub record IsRefused (text : List ℕ) (fault : ConfigFault) : Type 0 where

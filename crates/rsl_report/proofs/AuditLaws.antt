@@ -18,13 +18,13 @@ use Rattle.rsl_session.specs.BookStep.{book_after, step}
 use Rattle.rsl_session.specs.Rule.{decision_of, outcome_of, past_of}
 use Rattle.rsl_session.proofs.Callers.{IsRuled-past_of, books_are, joins}
 use Rattle.rsl_shard.specs.Moves.{IsOwn, IsTaken, event_to, own_in}
-use Rattle.rsl_shard.specs.Replay.{book_at, book_from, book_of_entry, books_after, decision_by, moved_from, new_books, replay, stepped}
+use Rattle.rsl_shard.specs.Replay.{book_at, book_from, book_of_entry, books_after, decision_by, moved_from, new_books, replay, step_by}
 use Rattle.rsl_shard.specs.Setup.{Setup, setup_of}
 use Rattle.rsl_shard.specs.declared.line.Line.{Line}
 use Rattle.rsl_shard.specs.declared.moved.Move.{Move}
 use Rattle.rsl_shard.specs.declared.moved.Move.TheVariants.{Own, Sweep, Tick, Stray}
 use Rattle.rsl_shard.proofs.Callers.{account_is, book_placed, moved_book, new_book_at}
-use Rattle.rsl_report.specs.Replayed.{replayed, ruled}
+use Rattle.rsl_report.specs.Replayed.{books_by_replay, rule_decision}
 
 -- ---- the books
 
@@ -42,8 +42,8 @@ replay-append setup opening (x ∷ xs) ys = replay-append setup (books_after set
 
 -- the books after one line more
 pub replayed-more : (config : Configuration) (shard : ℕ) (before : List Line) (line : Line)
-    → replayed config shard (before ++ line ∷ []) ≡ books_after (setup_of config shard) (replayed config shard before) line.moved
-unfolding replayed replay
+    → books_by_replay config shard (before ++ line ∷ []) ≡ books_after (setup_of config shard) (books_by_replay config shard before) line.moved
+unfolding books_by_replay replay
 replayed-more config shard before line = replay-append (setup_of config shard) (new_books config shard) before (line ∷ [])
 
 -- a book of an account after its own events among lines
@@ -51,12 +51,12 @@ book_past : (account : ℕ) → List Line → RuledBook → RuledBook
 book_past account lines ruled = record { rules = ruled.rules; book = book_after ruled.rules ruled.book (own_in account lines) }
 
 book_past-first : (account : ℕ) (line : Line) (lines : List Line) (ruled : RuledBook)
-    → book_past account lines (stepped (event_to account line.moved) ruled) ≡ book_past account (line ∷ lines) ruled
+    → book_past account lines (step_by (event_to account line.moved) ruled) ≡ book_past account (line ∷ lines) ruled
 unfolding book_past book_after own_in
 book_past-first account line lines ruled = by (event_to account line.moved)
   where
     by : (o : Option Event)
-        → book_past account lines (stepped o ruled)
+        → book_past account lines (step_by o ruled)
         ≡ (let it : RuledBook = record { rules = ruled.rules; book = book_after ruled.rules ruled.book (cons_option o (own_in account lines)) } in it)
     by None = refl
     by (Some event) = refl
@@ -67,7 +67,7 @@ book_past-none account None = refl
 book_past-none account (Some ruled) = refl
 
 book_past-more : (account : ℕ) (line : Line) (lines : List Line) (o : Option RuledBook)
-    → option_map (book_past account lines) (option_map (stepped (event_to account line.moved)) o) ≡ option_map (book_past account (line ∷ lines)) o
+    → option_map (book_past account lines) (option_map (step_by (event_to account line.moved)) o) ≡ option_map (book_past account (line ∷ lines)) o
 book_past-more account line lines None = refl
 book_past-more account line lines (Some ruled) = ap (λ (book : RuledBook). Some book) (book_past-first account line lines ruled)
 
@@ -92,8 +92,8 @@ book_at-new config shard account less is =
 
 -- what the books decide on a move that the shard takes is what the rule decides
 pub decided_as_ruled : (config : Configuration) (shard : ℕ) (before : List Line) (moved : Move) → shard < config.settings.shards → IsTaken (setup_of config shard) moved
-    → decision_by (setup_of config shard) (replayed config shard before) moved ≡ ruled config before moved
-unfolding replayed book_past
+    → decision_by (setup_of config shard) (books_by_replay config shard before) moved ≡ rule_decision config before moved
+unfolding books_by_replay book_past
 decided_as_ruled config shard before (Own account event) less own =
     ap (λ (o : Option RuledBook). option_map_or (λ (ruled : RuledBook). (step ruled.rules ruled.book event).1) o Done)
     (book_at-replay (setup_of config shard) (new_books config shard) before account

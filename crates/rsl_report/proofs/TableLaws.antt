@@ -12,7 +12,7 @@ use Rattle.std.proofs.lemmas.List.{flat_map_more, take_all, take_more}
 use Rattle.std.proofs.lemmas.List.Elements.{recursion_from_All}
 use Rattle.std.proofs.lemmas.List.Folds.{flat_map-map}
 use Rattle.rsl_accounts.specs.Limits.{IsName}
-use Rattle.rsl_report.specs.Table.{column, header, left, line}
+use Rattle.rsl_report.specs.Table.{column, header, name_column, line}
 
 -- the line of titles
 pub titles : codes "name                   places     held reserved     live    stale     over\n" ≡ header
@@ -32,7 +32,7 @@ chars_of (octet ∷ text) h =
     let first : ◌≡◌ {A = ℕ} (cond (is_char_start octet) 1 0) 1 = ap (λ t. cond (t || nat_le 192 octet) 1 0) (lt-ltb octet 128 low) in
     omega (arith, char_count-cons octet text, first, chars_of text h.1)
 
-padded_left : (text : List ℕ) → IsName text → padded (format_spec 32 1 0 20 18446744073709551615) text ≡ left text
+padded_left : (text : List ℕ) → IsName text → padded (format_spec 32 1 0 20 18446744073709551615) text ≡ name_column text
 unfolding padded
 padded_left text name =
     let whole : take_chars 18446744073709551615 text ≡ text = take_chars_all 18446744073709551615 text (omega (arith, name.length)) in
@@ -43,7 +43,7 @@ padded_left text name =
     ∙ ap (λ (spaces : List ℕ). text ++ spaces) (repeat_ascii (20 - length text) 32 (omega arith))
 
 -- a name with the options of its column
-pub name_text : (name : List ℕ) → IsName name → styled_text (format_spec 32 1 0 20 18446744073709551615) name ≡ left name
+pub name_text : (name : List ℕ) → IsName name → styled_text (format_spec 32 1 0 20 18446744073709551615) name ≡ name_column name
 name_text name is = padded_left name is
 
 -- what is written of one element more
@@ -59,13 +59,13 @@ pub all_more : {X : Type 0} (f : X → List ℕ) (old now : Option (List ℕ)) (
     → Appends old now (front ++ flat_map f (take i xs)) → Appends old now (front ++ flat_map f xs)
 all_more f old now front xs i past so_far = subst (λ ys. Appends old now (front ++ flat_map f ys)) (take_all i xs past) so_far
 
-line_is : (name numbers : List ℕ) → left name ++ flat_map (λ n. column (decimal n)) numbers ++ 10 ∷ [] ≡ line name (map decimal numbers)
+line_is : (name numbers : List ℕ) → name_column name ++ flat_map (λ n. column (decimal n)) numbers ++ 10 ∷ [] ≡ line name (map decimal numbers)
 unfolding line
-line_is name numbers = ap (λ (columns : List ℕ). left name ++ columns ++ 10 ∷ []) (sym (flat_map-map column decimal numbers))
+line_is name numbers = ap (λ (columns : List ℕ). name_column name ++ columns ++ 10 ∷ []) (sym (flat_map-map column decimal numbers))
 
 -- a line, after its line feed
 pub line_done : (old now new : Option (List ℕ)) (name : List ℕ) (numbers : List ℕ) (i : ℕ) → length numbers ≤ i
-    → Appends old now (left name ++ flat_map (λ n. column (decimal n)) (take i numbers)) → Appends now new (10 ∷ []) → Appends old new (line name (map decimal numbers))
+    → Appends old now (name_column name ++ flat_map (λ n. column (decimal n)) (take i numbers)) → Appends now new (10 ∷ []) → Appends old new (line name (map decimal numbers))
 line_done old now new name numbers i past so_far feed =
     subst (Appends old new) (line_is name numbers)
-    (Appends-trans old now new _ (10 ∷ []) (all_more (λ n. column (decimal n)) old now (left name) numbers i past so_far) feed)
+    (Appends-trans old now new _ (10 ∷ []) (all_more (λ n. column (decimal n)) old now (name_column name) numbers i past so_far) feed)

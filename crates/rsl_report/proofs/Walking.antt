@@ -14,7 +14,7 @@ use Rattle.rsl_shard.specs.declared.line.Line.{Line}
 use Rattle.rsl_shard.specs.declared.moved.Move.{Move}
 use Rattle.rsl_report.proofs.AuditLaws.{decided_as_ruled, replayed-more}
 use Rattle.rsl_report.specs.Audit.{AreJoined, AreRight, BeginsNew, IsFaultAt, IsFaultOfLines, IsFaultOfSegment, IsFaultOfSegments, IsFirstFault, IsFirstWrong, IsRecord, IsRight, Joins, account_of, lines_of}
-use Rattle.rsl_report.specs.Replayed.{replayed, ruled}
+use Rattle.rsl_report.specs.Replayed.{books_by_replay, rule_decision}
 use Rattle.rsl_report.specs.Walk.{IsFaultOfBeginning, IsFaultOfLine, IsReplay}
 use Rattle.rsl_report.specs.declared.audit_fault.AuditFault.{AuditFault}
 use Rattle.rsl_report.specs.declared.audit_fault.AuditFault.TheVariants.{NotFromEmpty, Gap, WrongDecision, NoMemory}
@@ -23,8 +23,8 @@ use Rattle.rsl_shard.specs.declared.segment.Segment.{Segment}
 
 -- ---- a first segment
 
-pub new_replayed : (config : Configuration) (shard : ℕ) → new_books config shard ≡ replayed config shard []
-unfolding replayed replay
+pub new_replayed : (config : Configuration) (shard : ℕ) → new_books config shard ≡ books_by_replay config shard []
+unfolding books_by_replay replay
 new_replayed config shard = refl
 
 pub begins : (config : Configuration) (first : Segment) (books : BooksSeen) → first.shard < config.settings.shards → first.first ≡ 0
@@ -63,7 +63,7 @@ not_taken config shard before old line is other right = other (subst (λ (setup 
 
 -- the decision of the books is the rule's
 ruled_so : (config : Configuration) (shard : ℕ) (before : List Line) (old : Replay) (moved : Move) (decision : Decision) → IsReplay config shard before old
-    → IsTaken old.books.setup moved → decision ≡ decision_by old.books.setup old.books.books moved → decision ≡ ruled config before moved
+    → IsTaken old.books.setup moved → decision ≡ decision_by old.books.setup old.books.books moved → decision ≡ rule_decision config before moved
 ruled_so config shard before old moved decision is taken decided =
     decided
     ∙ ap (λ (setup : Setup). decision_by setup old.books.books moved) is.setup

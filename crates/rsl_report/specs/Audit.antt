@@ -6,7 +6,7 @@
 use Rattle.std.specs.Prelude.{◌≡◌, ℕ, ◌+◌, ◌^◌, ◌<◌, ⊤, List, [], ◌∷◌, ◌++◌, length, slice_get, take, Option, Some, None}
 use Rattle.std.specs.List.{flat_map}
 use Rattle.rsl_accounts.specs.Configuration.{Configuration}
-use Rattle.rsl_report.specs.Replayed.{replayed, ruled}
+use Rattle.rsl_report.specs.Replayed.{books_by_replay, rule_decision}
 use Rattle.rsl_report.specs.declared.audit_fault.AuditFault.{AuditFault}
 use Rattle.rsl_report.specs.declared.audit_fault.AuditFault.TheVariants.{NotFromEmpty, Gap, WrongDecision, NoMemory}
 use Rattle.rsl_shard.specs.declared.segment.Segment.{Segment}
@@ -22,7 +22,7 @@ use Rattle.rsl_shard.specs.declared.moved.Move.TheVariants.{Own}
 pub record IsRight (config : Configuration) (shard : ℕ) (before : List Line) (line : Line)
     : Type 0 where
   pub taken : IsTaken (setup_of config shard) line.moved
-  pub ruled : line.decision ≡ ruled config before line.moved
+  pub ruled : line.decision ≡ rule_decision config before line.moved
 
 -- each of some lines after others is right
 unfoldable pub AreRight : Configuration → (shard : ℕ) → (before : List Line) → List Line → Type 0
@@ -36,7 +36,7 @@ pub record Joins (config : Configuration) (shard : ℕ) (before : List Line) (se
   pub of_shard : segment.shard ≡ shard
   pub first : segment.first ≡ length before
   pub count : length before + length segment.lines.items < 2 ^ 64
-  pub opening : segment.opening.items ≡ replayed config shard before
+  pub opening : segment.opening.items ≡ books_by_replay config shard before
 
 -- the segments go on where the lines before them end, one after another, and their lines are right
 unfoldable pub AreJoined : Configuration → (shard : ℕ) → (before : List Line) → List Segment
@@ -50,7 +50,7 @@ AreJoined config shard before (segment ∷ segments) =
 pub record BeginsNew (config : Configuration) (segment : Segment) : Type 0 where
   pub shard : segment.shard < config.settings.shards
   pub first : segment.first ≡ 0
-  pub opening : segment.opening.items ≡ replayed config segment.shard []
+  pub opening : segment.opening.items ≡ books_by_replay config segment.shard []
 
 -- a record that was kept right; one without segments is
 abbrev pub IsRecord : Configuration → List Segment → Type 0

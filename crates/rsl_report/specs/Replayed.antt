@@ -18,14 +18,14 @@ use Rattle.rsl_shard.specs.declared.moved.Move.TheVariants.{Own}
 use Rattle.std.specs.Prelude.{ℕ}
 
 -- the books of a shard after lines, which began new
-unfoldable pub replayed : Configuration → (shard : ℕ) → List Line → List RuledBook
-replayed config shard lines = replay (setup_of config shard) (new_books config shard) lines
+unfoldable pub books_by_replay : Configuration → (shard : ℕ) → List Line → List RuledBook
+books_by_replay config shard lines = replay (setup_of config shard) (new_books config shard) lines
 
 -- the decision of the rule on a move after some lines; what is no account's own is done
-abbrev pub ruled : Configuration → (before : List Line) → Move → Decision
-ruled config before (Own account event) =
+abbrev pub rule_decision : Configuration → (before : List Line) → Move → Decision
+rule_decision config before (Own account event) =
     option_map_or
     (λ entry. decision_of
     (outcome_of entry.rules (past_of entry.rules (own_in account before)) event))
     (slice_get config.accounts account) Done
-ruled config before _ = Done
+rule_decision config before _ = Done

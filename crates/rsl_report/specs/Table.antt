@@ -11,8 +11,8 @@ abbrev pub spaces_to : (width : ℕ) → (text : List ℕ) → List ℕ
 spaces_to width text = replicate (width - length text) 32
 
 -- a text left in 20 characters
-abbrev pub left : List ℕ → List ℕ
-left text = text ++ spaces_to 20 text
+abbrev pub name_column : List ℕ → List ℕ
+name_column text = text ++ spaces_to 20 text
 
 -- a space, and a text right in 8 characters
 abbrev pub column : List ℕ → List ℕ
@@ -20,7 +20,7 @@ column text = 32 ∷ spaces_to 8 text ++ text
 
 -- a first text, the texts of the columns after it, and a line feed
 unfoldable pub line : (first : List ℕ) → (others : List (List ℕ)) → List ℕ
-line first others = left first ++ flat_map column others ++ 10 ∷ []
+line first others = name_column first ++ flat_map column others ++ 10 ∷ []
 
 abbrev pub header : List ℕ
 header =

@@ -16,7 +16,7 @@ pub record IsReplay (config : Configuration) (shard : ℕ) (before : List Line) 
   pub within : shard < config.settings.shards
   pub of_shard : replay.shard ≡ shard
   pub setup : replay.books.setup ≡ setup_of config shard
-  pub books : replay.books.books ≡ replayed config shard before
+  pub books : replay.books.books ≡ books_by_replay config shard before
   pub lines : replay.lines ≡ length before
 
 -- a fault of how a first segment begins

@@ -2,7 +2,7 @@ ghost use Rattle.std.specs.Prelude.{◌≡◌, ◌<◌, ◌++◌, ◌∷◌, [],
 ghost use Rattle.std.specs.List.{flat_map};
 ghost use Rattle.std.specs.Io.KnownBytes.{Appends};
 ghost use Rattle.rsl_accounts.specs.Limits.{IsName};
-ghost use Rattle.rsl_report.specs.Table.{column, header, left, line, row_line, table};
+ghost use Rattle.rsl_report.specs.Table.{column, header, name_column, line, row_line, table};
 
 use crate::fault::WriteFault;
 use rsl_accounts::Config;
@@ -26,7 +26,9 @@ pub fn write_table<W: Write>(
     writer: &mut W,
 ) -> Result<(), WriteFault>
     requires { All (λ row. row.account < length config.now.accounts) rows.now }
-    ensures { OnOk result (Appends (W.contents writer.old) (W.contents writer.new) (table config.now rows.now)) }
+    ensures { OnOk result
+        (Appends (W.contents writer.old) (W.contents writer.new)
+        (table config.now rows.now)) }
 {
     writer.write_all(HEADER.as_bytes())?;
     for row in rows {
@@ -38,7 +40,9 @@ pub fn write_table<W: Write>(
 /// Writes the line of a row.
 fn write_row<W: Write>(config: &Config, row: &Row, writer: &mut W) -> Result<(), WriteFault>
     requires { row.now.account < length config.now.accounts }
-    ensures { OnOk result (Appends (W.contents writer.old) (W.contents writer.new) (row_line config.now row.now)) }
+    ensures { OnOk result
+        (Appends (W.contents writer.old) (W.contents writer.new)
+        (row_line config.now row.now)) }
 {
     let numbers = [
         row.places as u64,
@@ -55,7 +59,9 @@ fn write_row<W: Write>(config: &Config, row: &Row, writer: &mut W) -> Result<(),
 #[tactic(auto, using(crate::proofs::TableLaws::one_more, crate::proofs::TableLaws::line_done))]
 fn write_line<W: Write>(name: &str, numbers: &[u64], writer: &mut W) -> Result<(), WriteFault>
     requires { IsName name.now }
-    ensures { OnOk result (Appends (W.contents writer.old) (W.contents writer.new) (line name.now (map decimal numbers.now))) }
+    ensures { OnOk result
+        (Appends (W.contents writer.old) (W.contents writer.new)
+        (line name.now (map decimal numbers.now))) }
 {
     write_name(name, writer)?;
     for number in numbers {
@@ -68,7 +74,9 @@ fn write_line<W: Write>(name: &str, numbers: &[u64], writer: &mut W) -> Result<(
 /// Writes a name, left in 20 characters.
 fn write_name<W: Write>(name: &str, writer: &mut W) -> Result<(), WriteFault>
     requires { IsName name.now }
-    ensures { OnOk result (Appends (W.contents writer.old) (W.contents writer.new) (left name.now)) }
+    ensures { OnOk result
+        (Appends (W.contents writer.old) (W.contents writer.new)
+        (name_column name.now)) }
 {
     write!(writer, "{name:<20}")?;
     Ok(())
@@ -76,7 +84,9 @@ fn write_name<W: Write>(name: &str, writer: &mut W) -> Result<(), WriteFault>
 
 /// Writes a number of a column: a space, and the number right in 8 characters.
 fn write_number<W: Write>(number: u64, writer: &mut W) -> Result<(), WriteFault>
-    ensures { OnOk result (Appends (W.contents writer.old) (W.contents writer.new) (column (decimal number))) }
+    ensures { OnOk result
+        (Appends (W.contents writer.old) (W.contents writer.new)
+        (column (decimal number))) }
 {
     write!(writer, " {number:>8}")?;
     Ok(())

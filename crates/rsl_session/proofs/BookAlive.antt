@@ -32,7 +32,7 @@ use Rattle.rsl_session.proofs.BookKnown.{is_known, known_in, held_before_known}
 use Rattle.rsl_session.proofs.BookKept.{asks_same, stops_same, accepts_same, over_same, over_more}
 use Rattle.rsl_session.proofs.BookTests.{link_of_is, chosen_is, bundles_are}
 use Rattle.rsl_session.proofs.BookGrown.{views_opened, views_changed, all_left}
-use Rattle.rsl_session.proofs.BookAt.{book_at, settled, links_same}
+use Rattle.rsl_session.proofs.BookAt.{book_come, settled, links_same}
 
 -- an alive at a moment
 abbrev pub alive_at : ℕ → Nas → List ℕ → Option (List ℕ) → Option ℕ → Event
@@ -46,12 +46,12 @@ settled_alive : (rules : Rules) (moment : ℕ) (nas : Nas) (id : List ℕ) (bund
     → links ≡ map (link_view (did (alive_at moment nas id bundle class) outcome ∷ past))
     (held_links rules (did (alive_at moment nas id bundle class) outcome ∷ past))
     → over ≡ over_count (did (alive_at moment nas id bundle class) outcome ∷ past)
-    → record (book_at rules past (alive_at moment nas id bundle class)) { links = links; over = over } ≡ book_of rules (did (alive_at moment nas id bundle class) outcome ∷ past)
-unfolding book_at
+    → record (book_come rules past (alive_at moment nas id bundle class)) { links = links; over = over } ≡ book_of rules (did (alive_at moment nas id bundle class) outcome ∷ past)
+unfolding book_come
 settled_alive rules moment nas id bundle class past outcome links over undecided unnumbered is_links is_over =
     let entry : PastEvent = did (alive_at moment nas id bundle class) outcome in
     settled rules (alive_at moment nas id bundle class) past outcome
-    (record (book_at rules past (alive_at moment nas id bundle class)) { links = links; over = over })
+    (record (book_come rules past (alive_at moment nas id bundle class)) { links = links; over = over })
     refl is_links (sym (accepts_same entry past unnumbered)) (sym (asks_same entry past refl undecided)) (sym (stops_same entry past refl refl)) is_over
 
 session_here : Nas → List ℕ → Session
@@ -60,8 +60,8 @@ session_here nas id = record { nas = nas; id = id }
 -- what each outcome of an alive makes of the book
 ignored : (rules : Rules) (moment : ℕ) (nas : Nas) (id : List ℕ) (bundle : Option (List ℕ)) (class : Option ℕ)
     (past : Past) → IsRuled rules past
-    → book_at rules past (alive_at moment nas id bundle class) ≡ book_of rules (did (alive_at moment nas id bundle class) Ignored ∷ past)
-unfolding book_at opens touches gives_way ended_by yields fresh_decision number_of
+    → book_come rules past (alive_at moment nas id bundle class) ≡ book_of rules (did (alive_at moment nas id bundle class) Ignored ∷ past)
+unfolding book_come opens touches gives_way ended_by yields fresh_decision number_of
 ignored rules moment nas id bundle class past ruled =
     let entry : PastEvent = did (alive_at moment nas id bundle class) Ignored in
     settled_alive rules moment nas id bundle class past Ignored _ _ refl refl
@@ -70,8 +70,8 @@ ignored rules moment nas id bundle class past ruled =
 
 overflowed : (rules : Rules) (moment : ℕ) (nas : Nas) (id : List ℕ) (bundle : Option (List ℕ))
     (class : Option ℕ) (past : Past) → IsRuled rules past
-    → record (book_at rules past (alive_at moment nas id bundle class)) { over = min (over_count past + 1) (2 ^ 64 - 1) } ≡ book_of rules (did (alive_at moment nas id bundle class) Over ∷ past)
-unfolding book_at opens touches gives_way ended_by yields fresh_decision number_of
+    → record (book_come rules past (alive_at moment nas id bundle class)) { over = min (over_count past + 1) (2 ^ 64 - 1) } ≡ book_of rules (did (alive_at moment nas id bundle class) Over ∷ past)
+unfolding book_come opens touches gives_way ended_by yields fresh_decision number_of
 overflowed rules moment nas id bundle class past ruled =
     let entry : PastEvent = did (alive_at moment nas id bundle class) Over in
     settled_alive rules moment nas id bundle class past Over _ _ refl refl
@@ -80,11 +80,11 @@ overflowed rules moment nas id bundle class past ruled =
 
 opened : (rules : Rules) (moment : ℕ) (nas : Nas) (id : List ℕ) (bundle : Option (List ℕ)) (class : Option ℕ)
     (past : Past) → IsRuled rules past
-    → record (book_at rules past (alive_at moment nas id bundle class)) {
+    → record (book_come rules past (alive_at moment nas id bundle class)) {
       links = map (link_view past) (held_before rules past (alive_at moment nas id bundle class))
           ++ record { nas = nas; holder = Bound (record { nas = nas; id = id }); bundle = bundle_of (Alive nas id bundle class); touched = clock_at past (alive_at moment nas id bundle class) } ∷ [];
     } ≡ book_of rules (did (alive_at moment nas id bundle class) Opened ∷ past)
-unfolding book_at opens touches gives_way ended_by yields fresh_decision number_of nas_of session_of
+unfolding book_come opens touches gives_way ended_by yields fresh_decision number_of nas_of session_of
 opened rules moment nas id bundle class past ruled =
     let event : Event = alive_at moment nas id bundle class in
     let entry : PastEvent = did event Opened in
@@ -97,11 +97,11 @@ opened rules moment nas id bundle class past ruled =
 renewed : (rules : Rules) (moment : ℕ) (nas : Nas) (id : List ℕ) (bundle : Option (List ℕ)) (class : Option ℕ)
     (past : Past) (link : ℕ) → IsRuled rules past
     → link_of rules past (alive_at moment nas id bundle class) (record { nas = nas; id = id }) ≡ Some link
-    → record (book_at rules past (alive_at moment nas id bundle class)) {
+    → record (book_come rules past (alive_at moment nas id bundle class)) {
       links = change_first (is_link_of (record { nas = nas; id = id })) (touch (clock_at past (alive_at moment nas id bundle class)) (bundle_of (Alive nas id bundle class)))
           (map (link_view past) (held_before rules past (alive_at moment nas id bundle class)));
     } ≡ book_of rules (did (alive_at moment nas id bundle class) (Renewed link) ∷ past)
-unfolding book_at opens touches gives_way ended_by yields fresh_decision number_of link_of
+unfolding book_come opens touches gives_way ended_by yields fresh_decision number_of link_of
 renewed rules moment nas id bundle class past link ruled found =
     let event : Event = alive_at moment nas id bundle class in
     let entry : PastEvent = did event (Renewed link) in
@@ -125,12 +125,12 @@ chosen_is_reserved past nas class link chosen = none (session_at link past)
 took : (rules : Rules) (moment : ℕ) (nas : Nas) (id : List ℕ) (bundle : Option (List ℕ)) (class : Option ℕ)
     (past : Past) (link : ℕ) → IsRuled rules past
     → reservation_of rules past (alive_at moment nas id bundle class) nas class ≡ Some link
-    → record (book_at rules past (alive_at moment nas id bundle class)) {
+    → record (book_come rules past (alive_at moment nas id bundle class)) {
       links = change_first (can_be_taken nas class)
           (take_for (record { nas = nas; id = id }) (clock_at past (alive_at moment nas id bundle class)) (bundle_of (Alive nas id bundle class)))
           (map (link_view past) (held_before rules past (alive_at moment nas id bundle class)));
     } ≡ book_of rules (did (alive_at moment nas id bundle class) (Took link) ∷ past)
-unfolding book_at opens touches gives_way ended_by yields fresh_decision number_of reservation_of session_of
+unfolding book_come opens touches gives_way ended_by yields fresh_decision number_of reservation_of session_of
 took rules moment nas id bundle class past link ruled found =
     let event : Event = alive_at moment nas id bundle class in
     let entry : PastEvent = did event (Took link) in
@@ -147,11 +147,11 @@ pub alive_joins : (rules : Rules) (moment : ℕ) (nas : Nas) (id : List ℕ) (bu
     (class : Option ℕ) (past : Past) → IsRuled rules past
     → (found : Option ℕ) → link_of rules past (alive_at moment nas id bundle class)
     (record { nas = nas; id = id }) ≡ found
-    → alive rules (book_at rules past (alive_at moment nas id bundle class)) (record { nas = nas; id = id })
+    → alive rules (book_come rules past (alive_at moment nas id bundle class)) (record { nas = nas; id = id })
     (bundle_of (Alive nas id bundle class)) class
     (option_map (link_view past) found)
     ≡ book_of rules (did (alive_at moment nas id bundle class) (alive_outcome rules past (alive_at moment nas id bundle class) (record { nas = nas; id = id }) class found) ∷ past)
-unfolding book_at open_link is_closed has_room reservation_of
+unfolding book_come open_link is_closed has_room reservation_of
 alive_joins rules moment nas id bundle class past ruled (Some link) found = renewed rules moment nas id bundle class past link ruled found
 alive_joins rules moment nas id bundle class past ruled None found =
     by_closed (is_closed rules past event session) where
@@ -163,14 +163,14 @@ alive_joins rules moment nas id bundle class past ruled None found =
 
       by_room : (room : Bool)
           → cond room
-          (record (book_at rules past event) { links = map (link_view past) (held_before rules past event) ++ record { nas = nas; holder = Bound session; bundle = bundle_of event.act; touched = clock_at past event } ∷ [] })
-          (record (book_at rules past event) { over = min (over_count past + 1) (2 ^ 64 - 1) })
+          (record (book_come rules past event) { links = map (link_view past) (held_before rules past event) ++ record { nas = nas; holder = Bound session; bundle = bundle_of event.act; touched = clock_at past event } ∷ [] })
+          (record (book_come rules past event) { over = min (over_count past + 1) (2 ^ 64 - 1) })
           ≡ book_of rules (did event (cond room Opened Over) ∷ past)
       by_room true = opened rules moment nas id bundle class past ruled
       by_room false = overflowed rules moment nas id bundle class past ruled
 
       by_reservation : (taken : Option ℕ) → reservation_of rules past event nas class ≡ taken
-          → bind rules (book_at rules past event) session (bundle_of event.act) class (option_map (link_view past) taken)
+          → bind rules (book_come rules past event) session (bundle_of event.act) class (option_map (link_view past) taken)
           ≡ book_of rules (did event (unbound_outcome rules past event taken) ∷ past)
       by_reservation (Some link) is = took rules moment nas id bundle class past link ruled is
       by_reservation None is = rw (bundles_are past (held_before rules past event)) (by_room (has_room rules past event))
@@ -182,8 +182,8 @@ alive_joins rules moment nas id bundle class past ruled None found =
           (held_before rules past event) (held_before_known rules past event ruled)
 
       by_closed : (closed : Bool)
-          → cond closed (book_at rules past event)
-          (bind rules (book_at rules past event) session (bundle_of event.act) class (find (can_be_taken nas class) (map (link_view past) (held_before rules past event))))
+          → cond closed (book_come rules past event)
+          (bind rules (book_come rules past event) session (bundle_of event.act) class (find (can_be_taken nas class) (map (link_view past) (held_before rules past event))))
           ≡ book_of rules (did event (cond closed Ignored (unbound_outcome rules past event (reservation_of rules past event nas class))) ∷ past)
       by_closed true = ignored rules moment nas id bundle class past ruled
       by_closed false = rw reservation (by_reservation (reservation_of rules past event nas class) refl)

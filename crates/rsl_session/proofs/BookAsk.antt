@@ -32,7 +32,7 @@ use Rattle.rsl_session.proofs.BookKnown.{is_known, held_before_known, held_befor
 use Rattle.rsl_session.proofs.BookKept.{asks_same, asks_more, stops_same, accepts_same, accepts_more, over_same}
 use Rattle.rsl_session.proofs.BookTests.{fits_is, is_yielding, yield_is, yielding_is}
 use Rattle.rsl_session.proofs.BookGrown.{views_opened, all_left}
-use Rattle.rsl_session.proofs.BookAt.{book_at, settled, links_same}
+use Rattle.rsl_session.proofs.BookAt.{book_come, settled, links_same}
 
 -- an ask at a moment
 abbrev pub ask_at : ℕ → Key → Nas → Event
@@ -41,33 +41,33 @@ ask_at moment key nas = record { moment = moment; act = Ask key nas }
 -- what each outcome of an ask makes of the book
 repeated : (rules : Rules) (moment : ℕ) (key : Key) (nas : Nas) (past : Past) (decision : Decision)
     → IsRuled rules past
-    → book_at rules past (ask_at moment key nas) ≡ book_of rules (did (ask_at moment key nas) (Repeated decision) ∷ past)
-unfolding book_at opens touches gives_way ended_by yields fresh_decision number_of
+    → book_come rules past (ask_at moment key nas) ≡ book_of rules (did (ask_at moment key nas) (Repeated decision) ∷ past)
+unfolding book_come opens touches gives_way ended_by yields fresh_decision number_of
 repeated rules moment key nas past decision ruled =
     let event : Event = ask_at moment key nas in
     let entry : PastEvent = did event (Repeated decision) in
-    settled rules event past (Repeated decision) (book_at rules past event) refl
+    settled rules event past (Repeated decision) (book_come rules past event) refl
     (links_same rules entry past ruled refl (λ link. refl) (λ link. refl))
     (sym (accepts_same entry past refl)) (sym (asks_same entry past refl refl)) (sym (stops_same entry past refl refl)) (sym (over_same entry past refl))
 
 refused : (rules : Rules) (moment : ℕ) (key : Key) (nas : Nas) (past : Past) → IsRuled rules past
-    → keep_ask (book_at rules past (ask_at moment key nas)) key nas LimitReject ≡ book_of rules (did (ask_at moment key nas) Refused ∷ past)
-unfolding book_at keep_ask opens touches gives_way ended_by yields fresh_decision number_of clock_at
+    → keep_ask (book_come rules past (ask_at moment key nas)) key nas LimitReject ≡ book_of rules (did (ask_at moment key nas) Refused ∷ past)
+unfolding book_come keep_ask opens touches gives_way ended_by yields fresh_decision number_of clock_at
 refused rules moment key nas past ruled =
     let event : Event = ask_at moment key nas in
     let entry : PastEvent = did event Refused in
-    settled rules event past Refused (keep_ask (book_at rules past event) key nas LimitReject) refl
+    settled rules event past Refused (keep_ask (book_come rules past event) key nas LimitReject) refl
     (links_same rules entry past ruled refl (λ link. refl) (λ link. refl))
     (sym (accepts_same entry past refl)) (asks_more moment Refused past key nas LimitReject refl) (sym (stops_same entry past refl refl)) (sym (over_same entry past refl))
 
 accepted : (rules : Rules) (moment : ℕ) (key : Key) (nas : Nas) (past : Past) → IsRuled rules past
-    → (accept_beside (map (link_view past) (held_before rules past (ask_at moment key nas))) (book_at rules past (ask_at moment key nas)) key nas).0
+    → (accept_beside (map (link_view past) (held_before rules past (ask_at moment key nas))) (book_come rules past (ask_at moment key nas)) key nas).0
     ≡ book_of rules (did (ask_at moment key nas) (Accepted (accepts past)) ∷ past)
-unfolding book_at accept_beside keep_ask opens touches gives_way ended_by yields fresh_decision number_of clock_at nas_of bundle_of
+unfolding book_come accept_beside keep_ask opens touches gives_way ended_by yields fresh_decision number_of clock_at nas_of bundle_of
 accepted rules moment key nas past ruled =
     let event : Event = ask_at moment key nas in
     let entry : PastEvent = did event (Accepted (accepts past)) in
-    settled rules event past (Accepted (accepts past)) (accept_beside (map (link_view past) (held_before rules past event)) (book_at rules past event) key nas).0 refl
+    settled rules event past (Accepted (accepts past)) (accept_beside (map (link_view past) (held_before rules past event)) (book_come rules past event) key nas).0 refl
     (sym (views_opened rules entry past ruled refl (λ link within. ne_eqb link (suc (length past)) (λ same. omega (arith, within, same)))
     ∙ ap (λ left. map (link_view past) left ++ link_view (entry ∷ past) (suc (length past)) ∷ []) (all_left rules entry past (λ link. refl))
     ∙ ap (λ view. map (link_view past) (held_before rules past event) ++ view ∷ []) (view_accepted rules event past (accepts past) nas ruled refl refl)))
@@ -88,13 +88,13 @@ without_yielding rules event past link ruled found =
 
 accepted_in_place : (rules : Rules) (moment : ℕ) (key : Key) (nas : Nas) (past : Past) (link : ℕ)
     → IsRuled rules past
-    → (accept_beside (map (link_view past) (held_without rules past (ask_at moment key nas) link)) (book_at rules past (ask_at moment key nas)) key nas).0
+    → (accept_beside (map (link_view past) (held_without rules past (ask_at moment key nas) link)) (book_come rules past (ask_at moment key nas)) key nas).0
     ≡ book_of rules (did (ask_at moment key nas) (AcceptedInPlace (accepts past) link) ∷ past)
-unfolding book_at accept_beside keep_ask held_without opens touches gives_way ended_by yields fresh_decision number_of clock_at nas_of bundle_of
+unfolding book_come accept_beside keep_ask held_without opens touches gives_way ended_by yields fresh_decision number_of clock_at nas_of bundle_of
 accepted_in_place rules moment key nas past link ruled =
     let event : Event = ask_at moment key nas in
     let entry : PastEvent = did event (AcceptedInPlace (accepts past) link) in
-    settled rules event past (AcceptedInPlace (accepts past) link) (accept_beside (map (link_view past) (held_without rules past event link)) (book_at rules past event) key nas).0 refl
+    settled rules event past (AcceptedInPlace (accepts past) link) (accept_beside (map (link_view past) (held_without rules past event link)) (book_come rules past event) key nas).0 refl
     (sym (views_opened rules entry past ruled refl (λ other within. ne_eqb other (suc (length past)) (λ same. omega (arith, within, same)))
     ∙ ap (λ view. map (link_view past) (held_without rules past event link) ++ view ∷ []) (view_accepted_in_place rules event past (accepts past) link nas ruled refl refl)))
     (sym (accepts_more entry past refl)) (asks_more moment (AcceptedInPlace (accepts past) link) past key nas (Accept (accepts past)) refl)
@@ -103,16 +103,16 @@ accepted_in_place rules moment key nas past link ruled =
 -- an ask, by each of its cases
 pub ask_joins : (rules : Rules) (moment : ℕ) (key : Key) (nas : Nas) (past : Past) → IsRuled rules past
     → (found : Option KeptAsk)
-    → ask rules (book_at rules past (ask_at moment key nas)) key nas found
+    → ask rules (book_come rules past (ask_at moment key nas)) key nas found
     ≡ (book_of rules (did (ask_at moment key nas) (ask_outcome rules past (ask_at moment key nas) found) ∷ past), decision_of (ask_outcome rules past (ask_at moment key nas) found))
-unfolding book_at fresh_ask fresh_outcome has_a_place has_a_place_without refuse accept_beside
+unfolding book_come fresh_ask fresh_outcome has_a_place has_a_place_without refuse accept_beside
 ask_joins rules moment key nas past ruled (Some kept) = ap (λ book. (book, kept.decision)) (repeated rules moment key nas past kept.decision ruled)
 ask_joins rules moment key nas past ruled None = numbered (nat_lt (accepts past) (2 ^ 64 - 1)) where
   event : Event
   event = ask_at moment key nas
 
   book : Book
-  book = book_at rules past event
+  book = book_come rules past event
 
   after : Outcome → Book × Decision
   after outcome = (book_of rules (did event outcome ∷ past), decision_of outcome)

@@ -38,8 +38,8 @@ book_same a b clock links accepts asks stops over =
     same
 
 -- the book of a past that has come to an event
-unfoldable pub book_at : Rules → Past → Event → Book
-book_at rules past event =
+unfoldable pub book_come : Rules → Past → Event → Book
+book_come rules past event =
     record {
       clock = clock_at past event;
       links = map (link_view past) (held_before rules past event);
@@ -50,8 +50,8 @@ book_at rules past event =
     }
 
 pub come : (rules : Rules) (past : Past) (event : Event)
-    → come_to rules (book_of rules past) event.moment ≡ book_at rules past event
-unfolding come_to book_of book_at clock_at held_before
+    → come_to rules (book_of rules past) event.moment ≡ book_come rules past event
+unfolding come_to book_of book_come clock_at held_before
 come rules past event =
     book_same _ _ refl
     (filter_view (link_view past) any_link (λ link. not (lapses_at rules (max (clock past) event.moment) link)) (λ link. not (lapses rules past event link))

@@ -36,7 +36,7 @@ use Rattle.rsl_session.proofs.BookKnown.{is_known, held_before_known}
 use Rattle.rsl_session.proofs.BookKept.{asks_same, asks_swept, stops_same, stops_more, stops_swept, accepts_same, over_same}
 use Rattle.rsl_session.proofs.BookTests.{at_is, link_of_is, bundles_are}
 use Rattle.rsl_session.proofs.BookGrown.{views_quiet}
-use Rattle.rsl_session.proofs.BookAt.{book_at, book_same, come, settled, links_same}
+use Rattle.rsl_session.proofs.BookAt.{book_come, book_same, come, settled, links_same}
 use Rattle.rsl_session.proofs.BookAsk.{ask_joins}
 use Rattle.rsl_session.proofs.BookAlive.{alive_joins}
 
@@ -55,34 +55,34 @@ left_by_act rules event past p q ruled is ends =
     ∙ sym (views_quiet rules (did event Passed) past ruled refl (λ link within. refl))
 
 stop_joins : (rules : Rules) (moment : ℕ) (nas : Nas) (id : List ℕ) (past : Past) → IsRuled rules past
-    → stop (book_at rules past (record { moment = moment; act = Stop nas id }))
+    → stop (book_come rules past (record { moment = moment; act = Stop nas id }))
     (record { nas = nas; id = id }) ≡ book_of rules (did (record { moment = moment; act = Stop nas id }) Passed ∷ past)
-unfolding book_at stop clock_at gives_way ended_by yields fresh_decision number_of
+unfolding book_come stop clock_at gives_way ended_by yields fresh_decision number_of
 stop_joins rules moment nas id past ruled =
     let event : Event = record { moment = moment; act = Stop nas id } in
     let entry : PastEvent = did event Passed in
     let session : Session = record { nas = nas; id = id } in
-    settled rules event past Passed (stop (book_at rules past event) session) refl
+    settled rules event past Passed (stop (book_come rules past event) session) refl
     (left_by_act rules event past (is_link_of session) (is_bound_to past session) ruled (λ link known. link_of_is past session link) (λ link. or_false (is_bound_to past session link)))
     (sym (accepts_same entry past refl)) (sym (asks_same entry past refl refl)) (stops_more moment Passed past nas id) (sym (over_same entry past refl))
 
 sweep_joins : (rules : Rules) (moment : ℕ) (nas : Nas) (past : Past) → IsRuled rules past
-    → sweep (book_at rules past (record { moment = moment; act = Sweep nas })) nas ≡ book_of rules (did (record { moment = moment; act = Sweep nas }) Passed ∷ past)
-unfolding book_at sweep clock_at gives_way ended_by yields fresh_decision number_of
+    → sweep (book_come rules past (record { moment = moment; act = Sweep nas })) nas ≡ book_of rules (did (record { moment = moment; act = Sweep nas }) Passed ∷ past)
+unfolding book_come sweep clock_at gives_way ended_by yields fresh_decision number_of
 sweep_joins rules moment nas past ruled =
     let event : Event = record { moment = moment; act = Sweep nas } in
     let entry : PastEvent = did event Passed in
-    settled rules event past Passed (sweep (book_at rules past event) nas) refl
+    settled rules event past Passed (sweep (book_come rules past event) nas) refl
     (left_by_act rules event past (λ (link : BookLink). same_nas link.nas nas) (is_at past nas) ruled (λ link known. at_is past nas link known) (λ link. or_false (is_at past nas link)))
     (sym (accepts_same entry past refl)) (asks_swept moment Passed past nas) (stops_swept moment Passed past nas) (sym (over_same entry past refl))
 
 tick_joins : (rules : Rules) (moment : ℕ) (past : Past) → IsRuled rules past
-    → book_at rules past (record { moment = moment; act = Tick }) ≡ book_of rules (did (record { moment = moment; act = Tick }) Passed ∷ past)
-unfolding book_at opens touches gives_way ended_by yields fresh_decision number_of
+    → book_come rules past (record { moment = moment; act = Tick }) ≡ book_of rules (did (record { moment = moment; act = Tick }) Passed ∷ past)
+unfolding book_come opens touches gives_way ended_by yields fresh_decision number_of
 tick_joins rules moment past ruled =
     let event : Event = record { moment = moment; act = Tick } in
     let entry : PastEvent = did event Passed in
-    settled rules event past Passed (book_at rules past event) refl
+    settled rules event past Passed (book_come rules past event) refl
     (links_same rules entry past ruled refl (λ link. refl) (λ link. refl))
     (sym (accepts_same entry past refl)) (sym (asks_same entry past refl refl)) (sym (stops_same entry past refl refl)) (sym (over_same entry past refl))
 
@@ -105,12 +105,12 @@ alive_done rules past event session class None = by_closed (is_closed rules past
   by_closed false = unbound_done rules past event _
 
 act_joins : (rules : Rules) (past : Past) (moment : ℕ) (act : Act) → IsRuled rules past
-    → act_on rules (book_at rules past (record { moment = moment; act = act })) act
+    → act_on rules (book_come rules past (record { moment = moment; act = act })) act
     ≡ (
       book_of rules (did (record { moment = moment; act = act }) (outcome_by rules past (record { moment = moment; act = act }) act) ∷ past),
       decision_of (outcome_by rules past (record { moment = moment; act = act }) act),
     )
-unfolding book_at repeated_ask link_of
+unfolding book_come repeated_ask link_of
 act_joins rules past moment (Ask key nas) ruled =
     ask_joins rules moment key nas past ruled (repeated_ask rules past (record { moment = moment; act = Ask key nas }) key)
 act_joins rules past moment (Alive nas id bundle class) ruled =

@@ -18,35 +18,35 @@ use Rattle.rsl_session.specs.BookStep.{step, book_after, decided_by}
 use Rattle.rsl_session.specs.BookOf.{book_of}
 
 -- the book of a past, stepped by an event, and the book of the past with the event
-abbrev pub stepped : Rules → Past → Event → Book
-stepped rules past event = (step rules (book_of rules past) event).0
+abbrev pub book_by_step : Rules → Past → Event → Book
+book_by_step rules past event = (step rules (book_of rules past) event).0
 
-abbrev pub looked_back : Rules → Past → Event → Book
-looked_back rules past event = book_of rules (entry_of rules past event ∷ past)
+abbrev pub book_by_past : Rules → Past → Event → Book
+book_by_past rules past event = book_of rules (entry_of rules past event ∷ past)
 
 abbrev pub ClockLaw : Type 0
 ClockLaw = (rules : Rules) (past : Past) (event : Event) → IsRuled rules past
-    → (stepped rules past event).clock ≡ (looked_back rules past event).clock
+    → (book_by_step rules past event).clock ≡ (book_by_past rules past event).clock
 
 abbrev pub LinksLaw : Type 0
 LinksLaw = (rules : Rules) (past : Past) (event : Event) → IsRuled rules past
-    → (stepped rules past event).links ≡ (looked_back rules past event).links
+    → (book_by_step rules past event).links ≡ (book_by_past rules past event).links
 
 abbrev pub AcceptNumberLaw : Type 0
 AcceptNumberLaw = (rules : Rules) (past : Past) (event : Event) → IsRuled rules past
-    → (stepped rules past event).accepts ≡ (looked_back rules past event).accepts
+    → (book_by_step rules past event).accepts ≡ (book_by_past rules past event).accepts
 
 abbrev pub KeptAsksLaw : Type 0
 KeptAsksLaw = (rules : Rules) (past : Past) (event : Event) → IsRuled rules past
-    → (stepped rules past event).asks ≡ (looked_back rules past event).asks
+    → (book_by_step rules past event).asks ≡ (book_by_past rules past event).asks
 
 abbrev pub KeptStopsLaw : Type 0
 KeptStopsLaw = (rules : Rules) (past : Past) (event : Event) → IsRuled rules past
-    → (stepped rules past event).stops ≡ (looked_back rules past event).stops
+    → (book_by_step rules past event).stops ≡ (book_by_past rules past event).stops
 
 abbrev pub OverLaw : Type 0
 OverLaw = (rules : Rules) (past : Past) (event : Event) → IsRuled rules past
-    → (stepped rules past event).over ≡ (looked_back rules past event).over
+    → (book_by_step rules past event).over ≡ (book_by_past rules past event).over
 
 abbrev pub DecisionLaw : Type 0
 DecisionLaw = (rules : Rules) (past : Past) (event : Event) → IsRuled rules past

@@ -11,11 +11,11 @@ use Rattle.rsl_accounts.specs.Configuration.{Configuration}
 use Rattle.rsl_accounts.specs.declared.entry.Entry.{Entry}
 use Rattle.rsl_event.specs.declared.event.Event.{Event}
 use Rattle.rsl_shard.specs.Moves.{event_to}
-use Rattle.rsl_shard.specs.Opening.{opening_of, renewed}
-use Rattle.rsl_shard.specs.Replay.{AreBooks, HaveStepped, book_of_entry, books_after, decision_by, moved_from, new_books, new_books_from, replay, stepped}
+use Rattle.rsl_shard.specs.Opening.{opening_of, as_new}
+use Rattle.rsl_shard.specs.Replay.{AreBooks, HaveStepped, book_of_entry, books_after, decision_by, moved_from, new_books, new_books_from, replay, step_by}
 use Rattle.rsl_shard.specs.declared.opening.Opening.{Opening}
 use Rattle.rsl_shard.specs.declared.opening.Opening.TheVariants.{New, Kept}
-use Rattle.rsl_shard.specs.Seen.{IsKept, ShardSeen, books_of, new_shard, total_of, with_line}
+use Rattle.rsl_shard.specs.Seen.{IsShard, ShardSeen, books_of, new_shard, total_of, with_line}
 use Rattle.rsl_shard.specs.Journal.{IsJournal}
 use Rattle.rsl_shard.specs.Setup.{Setup, setup_of}
 use Rattle.rsl_shard.specs.declared.line.Line.{Line}
@@ -80,22 +80,22 @@ one_line_more setup opening lines moved decision journal taken decided = record 
         ∙ ap (λ (one : Line). decision_by setup (replay setup opening (take n (lines ++ new ∷ []))) one.moved) there.1
 
 -- what a move makes of books has their rules: so the books that they were when they were new stay the same
-renewed_stepped : (event : Option Event) (ruled : RuledBook) → renewed (stepped event ruled) ≡ renewed ruled
+renewed_stepped : (event : Option Event) (ruled : RuledBook) → as_new (step_by event ruled) ≡ as_new ruled
 renewed_stepped None ruled = refl
 renewed_stepped (Some event) ruled = refl
 
-renewed_moved : (first shards : ℕ) (moved : Move) (books : List RuledBook) → map renewed (moved_from first shards moved books) ≡ map renewed books
+renewed_moved : (first shards : ℕ) (moved : Move) (books : List RuledBook) → map as_new (moved_from first shards moved books) ≡ map as_new books
 unfolding moved_from
 renewed_moved first shards moved [] = refl
 renewed_moved first shards moved (ruled ∷ books) =
-    ap (λ (book : RuledBook). book ∷ map renewed (moved_from (first + shards) shards moved books)) (renewed_stepped (event_to first moved) ruled)
-    ∙ ap (λ (rest : List RuledBook). renewed ruled ∷ rest) (renewed_moved (first + shards) shards moved books)
+    ap (λ (book : RuledBook). book ∷ map as_new (moved_from (first + shards) shards moved books)) (renewed_stepped (event_to first moved) ruled)
+    ∙ ap (λ (rest : List RuledBook). as_new ruled ∷ rest) (renewed_moved (first + shards) shards moved books)
 
 opening_stays : (opening : Opening) (setup : Setup) (books : List RuledBook) (moved : Move) → opening_of opening (books_after setup books moved) ≡ opening_of opening books
 opening_stays New setup books moved = renewed_moved setup.shard setup.shards moved books
 opening_stays (Kept kept) setup books moved = refl
 
-renewed_from : (shards shard number : ℕ) (entries : List Entry) → map renewed (new_books_from shards shard number entries) ≡ new_books_from shards shard number entries
+renewed_from : (shards shard number : ℕ) (entries : List Entry) → map as_new (new_books_from shards shard number entries) ≡ new_books_from shards shard number entries
 unfolding new_books_from
 renewed_from shards shard number [] = refl
 renewed_from shards shard number (entry ∷ entries) = by (number % shards == shard) (renewed_from shards shard (number + 1) entries)
@@ -103,14 +103,14 @@ renewed_from shards shard number (entry ∷ entries) = by (number % shards == sh
     rest : List RuledBook
     rest = new_books_from shards shard (number + 1) entries
 
-    by : (test : Bool) → map renewed rest ≡ rest → map renewed (cond test (book_of_entry entry ∷ rest) rest) ≡ cond test (book_of_entry entry ∷ rest) rest
+    by : (test : Bool) → map as_new rest ≡ rest → map as_new (cond test (book_of_entry entry ∷ rest) rest) ≡ cond test (book_of_entry entry ∷ rest) rest
     by true same = ap (λ (books : List RuledBook). book_of_entry entry ∷ books) same
     by false same = same
 
 -- the new books of a shard are those of which they are the new books
 pub renewed_new : (config : Configuration) (shard : ℕ) (books : List RuledBook) → books ≡ new_books config shard → opening_of New books ≡ books
 renewed_new config shard books are =
-    ap (map renewed) are ∙ renewed_from config.settings.shards shard 0 config.accounts ∙ sym are
+    ap (map as_new) are ∙ renewed_from config.settings.shards shard 0 config.accounts ∙ sym are
 
 -- what is seen of a shard after one move more
 pub seen_on : (old new : Inside) (moved : Move) (decision : Decision) → new.books.setup ≡ old.books.setup
@@ -140,7 +140,7 @@ pub moved_on : (old new : Inside) (moved : Move) (decision : Decision) → HasJo
     → new.lines.items ≡ old.lines.items ++ record { moved = moved; decision = decision } ∷ [] → HasJournal new
 moved_on old new moved decision has taken room decided setup books sound opening first lines = record {
   replayed = replayed;
-  kept = subst IsKept (sym seen) (record {
+  kept = subst IsShard (sym seen) (record {
     journal = one_line_more old.books.setup begins old.lines.items moved decision has.kept.journal taken
         (decided ∙ ap (λ (all : List RuledBook). decision_by old.books.setup all moved) has.replayed);
     books = subst (λ (shard : ShardSeen). AreBooks shard.setup (books_of shard)) seen (subst (λ (all : List RuledBook). AreBooks new.books.setup all) replayed sound);

@@ -15,7 +15,7 @@ use Rattle.rsl_event.specs.declared.event.Event.{Event}
 use Rattle.rsl_session.specs.Book.{Book}
 use Rattle.rsl_session.specs.BookStep.{step}
 use Rattle.rsl_shard.specs.Moves.{IsOfShard, event_to}
-use Rattle.rsl_shard.specs.Replay.{AreBooks, HaveStepped, book_at, book_from, books_after, decision_by, moved_from, stepped}
+use Rattle.rsl_shard.specs.Replay.{AreBooks, HaveStepped, book_at, book_from, books_after, decision_by, moved_from, step_by}
 use Rattle.rsl_shard.specs.Setup.{Setup}
 use Rattle.rsl_shard.specs.declared.moved.Move.{Move}
 use Rattle.rsl_shard.specs.declared.moved.Move.TheVariants.{Own}
@@ -27,59 +27,59 @@ unfolding moved_from
 moved_past first shards account event [] less = refl
 moved_past first shards account event (ruled ∷ books) less =
     let other : (account == first) ≡ false = differs account first (λ (same : account ≡ first). omega (arith, same, less)) in
-    ap (λ (test : Bool). stepped (cond test (Some event) None) ruled ∷ moved_from (first + shards) shards (Own account event) books) other
+    ap (λ (test : Bool). step_by (cond test (Some event) None) ruled ∷ moved_from (first + shards) shards (Own account event) books) other
     ∙ ap (λ (rest : List RuledBook). ruled ∷ rest) (moved_past (first + shards) shards account event books (omega (arith, less)))
 
 -- an own move steps the book at its account's place
 pub moved_own : (first shards account place : ℕ) (event : Event) (books : List RuledBook) (ruled : RuledBook) → 0 < shards → account ≡ first + place * shards
-    → slice_get books place ≡ Some ruled → moved_from first shards (Own account event) books ≡ set books place (stepped (Some event) ruled)
+    → slice_get books place ≡ Some ruled → moved_from first shards (Own account event) books ≡ set books place (step_by (Some event) ruled)
 unfolding moved_from
 moved_own first shards account place event [] ruled some at is = cc
 moved_own first shards account zero event (here ∷ books) ruled some at is =
     let same : (account == first) ≡ true = eq-eqb account first (omega (arith, at)) in
     let this : here ≡ ruled = cc in
-    ap (λ (test : Bool). stepped (cond test (Some event) None) here ∷ moved_from (first + shards) shards (Own account event) books) same
-    ∙ ap (λ (rest : List RuledBook). stepped (Some event) here ∷ rest) (moved_past (first + shards) shards account event books (omega (arith, at, some)))
-    ∙ ap (λ (book : RuledBook). stepped (Some event) book ∷ books) this
+    ap (λ (test : Bool). step_by (cond test (Some event) None) here ∷ moved_from (first + shards) shards (Own account event) books) same
+    ∙ ap (λ (rest : List RuledBook). step_by (Some event) here ∷ rest) (moved_past (first + shards) shards account event books (omega (arith, at, some)))
+    ∙ ap (λ (book : RuledBook). step_by (Some event) book ∷ books) this
 moved_own first shards account (suc place) event (here ∷ books) ruled some at is =
     let long : suc place * shards ≡ place * shards + shards = suc-mul place shards in
     let other : (account == first) ≡ false = differs account first (λ (same : account ≡ first). omega (arith, same, at, long, some)) in
-    ap (λ (test : Bool). stepped (cond test (Some event) None) here ∷ moved_from (first + shards) shards (Own account event) books) other
+    ap (λ (test : Bool). step_by (cond test (Some event) None) here ∷ moved_from (first + shards) shards (Own account event) books) other
     ∙ ap (λ (rest : List RuledBook). here ∷ rest) (moved_own (first + shards) shards account place event books ruled some (omega (arith, at, long)) is)
 
 -- a move that is the same event to each account steps each book by it
 pub moved_each : (first shards : ℕ) (moved : Move) (event : Event) (books : List RuledBook) → ((account : ℕ) → event_to account moved ≡ Some event)
-    → moved_from first shards moved books ≡ map (stepped (Some event)) books
+    → moved_from first shards moved books ≡ map (step_by (Some event)) books
 unfolding moved_from
 moved_each first shards moved event [] each = refl
 moved_each first shards moved event (ruled ∷ books) each =
-    ap (λ (o : Option Event). stepped o ruled ∷ moved_from (first + shards) shards moved books) (each first)
-    ∙ ap (λ (rest : List RuledBook). stepped (Some event) ruled ∷ rest) (moved_each (first + shards) shards moved event books each)
+    ap (λ (o : Option Event). step_by o ruled ∷ moved_from (first + shards) shards moved books) (each first)
+    ∙ ap (λ (rest : List RuledBook). step_by (Some event) ruled ∷ rest) (moved_each (first + shards) shards moved event books each)
 
 -- a move that is nothing to each account changes no book
 pub moved_none : (first shards : ℕ) (moved : Move) (books : List RuledBook) → ((account : ℕ) → event_to account moved ≡ None) → moved_from first shards moved books ≡ books
 unfolding moved_from
 moved_none first shards moved [] each = refl
 moved_none first shards moved (ruled ∷ books) each =
-    ap (λ (o : Option Event). stepped o ruled ∷ moved_from (first + shards) shards moved books) (each first)
+    ap (λ (o : Option Event). step_by o ruled ∷ moved_from (first + shards) shards moved books) (each first)
     ∙ ap (λ (rest : List RuledBook). ruled ∷ rest) (moved_none (first + shards) shards moved books each)
 
 -- a move steps the book of an account by what it is to the account
 moved_first : (first shards account : ℕ) (moved : Move) (ruled : RuledBook) (books : List RuledBook) (b : Bool) → (first == account) ≡ b
-    → book_from (first + shards) shards (moved_from (first + shards) shards moved books) account ≡ option_map (stepped (event_to account moved)) (book_from (first + shards) shards books account)
-    → cond b (Some (stepped (event_to first moved) ruled)) (book_from (first + shards) shards (moved_from (first + shards) shards moved books) account)
-    ≡ option_map (stepped (event_to account moved)) (cond b (Some ruled) (book_from (first + shards) shards books account))
-moved_first first shards account moved ruled books true is rest = ap (λ (number : ℕ). Some (stepped (event_to number moved) ruled)) (eqb-true first account is)
+    → book_from (first + shards) shards (moved_from (first + shards) shards moved books) account ≡ option_map (step_by (event_to account moved)) (book_from (first + shards) shards books account)
+    → cond b (Some (step_by (event_to first moved) ruled)) (book_from (first + shards) shards (moved_from (first + shards) shards moved books) account)
+    ≡ option_map (step_by (event_to account moved)) (cond b (Some ruled) (book_from (first + shards) shards books account))
+moved_first first shards account moved ruled books true is rest = ap (λ (number : ℕ). Some (step_by (event_to number moved) ruled)) (eqb-true first account is)
 moved_first first shards account moved ruled books false is rest = rest
 
 pub moved_book : (first shards account : ℕ) (moved : Move) (books : List RuledBook)
-    → book_from first shards (moved_from first shards moved books) account ≡ option_map (stepped (event_to account moved)) (book_from first shards books account)
+    → book_from first shards (moved_from first shards moved books) account ≡ option_map (step_by (event_to account moved)) (book_from first shards books account)
 unfolding book_from moved_from
 moved_book first shards account moved [] = refl
 moved_book first shards account moved (ruled ∷ books) =
     moved_first first shards account moved ruled books (first == account) refl (moved_book (first + shards) shards account moved books)
 
-stepped_by_none : (o : Option RuledBook) → option_map (stepped None) o ≡ o
+stepped_by_none : (o : Option RuledBook) → option_map (step_by None) o ≡ o
 stepped_by_none None = refl
 stepped_by_none (Some ruled) = refl
 
@@ -88,7 +88,7 @@ have_stepped setup moved old = record {
   each = λ account. moved_book setup.shard setup.shards account moved old;
   others = λ account nothing.
       moved_book setup.shard setup.shards account moved old
-      ∙ ap (λ (event : Option Event). option_map (stepped event) (book_at setup old account)) nothing ∙ stepped_by_none (book_at setup old account);
+      ∙ ap (λ (event : Option Event). option_map (step_by event) (book_at setup old account)) nothing ∙ stepped_by_none (book_at setup old account);
 }
 
 -- the book of an account stands at its place
@@ -115,7 +115,7 @@ book_elsewhere first shards account (ruled ∷ books) other =
 
 -- a book that was stepped by an event
 pub stepped_is : (event : Event) (ruled new : RuledBook) (decision : Decision) → (new.book, decision) ≡ step ruled.rules ruled.book event → new.rules ≡ ruled.rules
-    → new ≡ stepped (Some event) ruled
+    → new ≡ step_by (Some event) ruled
 stepped_is event ruled new decision by same =
     let first : new.book ≡ (step ruled.rules ruled.book event).0 = ap (λ (next : Book × Decision). next.0) by in
     let change : RuledBook = record { rules = ruled.rules; book = new.book } in
@@ -124,18 +124,18 @@ stepped_is event ruled new decision by same =
 
 -- books that are stepped one by one: the first are, and the rest is as it was
 pub one_more : (event : Event) (books all : List RuledBook) (place : ℕ) (d new : RuledBook) → place < length all → place < length books
-    → books ≡ map (stepped (Some event)) (take place all) ++ drop place all
+    → books ≡ map (step_by (Some event)) (take place all) ++ drop place all
     → (decision : Decision) → (new.book, decision) ≡ step (get_or books place d).rules (get_or books place d).book event → new.rules ≡ (get_or books place d).rules
-    → set books place new ≡ map (stepped (Some event)) (take (place + 1) all) ++ drop (place + 1) all
+    → set books place new ≡ map (step_by (Some event)) (take (place + 1) all) ++ drop (place + 1) all
 one_more event books all place d new within inside so_far decision by same =
     ap (set books place) (stepped_is event (get_or books place d) new decision by same)
-    ∙ map_over_more (stepped (Some event)) all books place (get_or books place d) within so_far (get_or_default books place d (get_or books place d) inside)
+    ∙ map_over_more (step_by (Some event)) all books place (get_or books place d) within so_far (get_or_default books place d (get_or books place d) inside)
 
 pub each_done : (event : Event) (all : List RuledBook) (place : ℕ) → length all ≤ place
-    → map (stepped (Some event)) (take place all) ++ drop place all ≡ map (stepped (Some event)) all
+    → map (step_by (Some event)) (take place all) ++ drop place all ≡ map (step_by (Some event)) all
 each_done event all place past =
-    ap (λ (books : List RuledBook). map (stepped (Some event)) books ++ drop place all) (take_all place all past)
-    ∙ ap (λ (books : List RuledBook). map (stepped (Some event)) all ++ books) (drop_all place all past) ∙ append-nil (map (stepped (Some event)) all)
+    ap (λ (books : List RuledBook). map (step_by (Some event)) books ++ drop place all) (take_all place all past)
+    ∙ ap (λ (books : List RuledBook). map (step_by (Some event)) all ++ books) (drop_all place all past) ∙ append-nil (map (step_by (Some event)) all)
 
 pub ruleset each_steps = (each_done)
 
@@ -179,10 +179,10 @@ at_place books place P within said = by (slice_get books place) refl
     by (Some ruled) is = (ruled, is, subst (λ (o : Option RuledBook). IfSome o P) is said)
 
 pub own_books : (setup : Setup) (books new : List RuledBook) (account place : ℕ) (event : Event) → 0 < setup.shards → account ≡ setup.shard + place * setup.shards
-    → place < length books → IfSome (slice_get books place) (λ (ruled : RuledBook). new ≡ set books place (stepped (Some event) ruled))
+    → place < length books → IfSome (slice_get books place) (λ (ruled : RuledBook). new ≡ set books place (step_by (Some event) ruled))
     → new ≡ books_after setup books (Own account event)
 own_books setup books new account place event some at within said =
-    let found = at_place books place (λ (ruled : RuledBook). new ≡ set books place (stepped (Some event) ruled)) within said in
+    let found = at_place books place (λ (ruled : RuledBook). new ≡ set books place (step_by (Some event) ruled)) within said in
     found.2 ∙ sym (moved_own setup.shard setup.shards account place event books found.0 some at found.1)
 
 pub own_decision : (setup : Setup) (books : List RuledBook) (decision : Decision) (account place : ℕ) (event : Event) → 0 < setup.shards

@@ -7,10 +7,10 @@ use Rattle.rsl_shard.specs.declared.opening.Opening.{Opening}
 use Rattle.rsl_shard.specs.declared.opening.Opening.TheVariants.{New, Kept}
 
 -- the new book of the account whose book this is
-abbrev pub renewed : RuledBook → RuledBook
-renewed ruled = record { rules = ruled.rules; book = new_book }
+abbrev pub as_new : RuledBook → RuledBook
+as_new ruled = record { rules = ruled.rules; book = new_book }
 
 -- the books that a journal began with, where they have become these
 abbrev pub opening_of : Opening → (become : List RuledBook) → List RuledBook
-opening_of New become = map renewed become
+opening_of New become = map as_new become
 opening_of (Kept books) become = books.items

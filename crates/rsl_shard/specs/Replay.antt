@@ -21,16 +21,16 @@ use Rattle.rsl_shard.specs.declared.moved.Move.{Move}
 use Rattle.rsl_shard.specs.declared.moved.Move.TheVariants.{Own}
 
 -- a book after an event, if there is one
-abbrev pub stepped : Option Event → RuledBook → RuledBook
-stepped None ruled = ruled
-stepped (Some event) ruled =
+abbrev pub step_by : Option Event → RuledBook → RuledBook
+step_by None ruled = ruled
+step_by (Some event) ruled =
     record { rules = ruled.rules; book = (step ruled.rules ruled.book event).0 }
 
 -- the books of the account `first` and of those that follow it in its shard, after a move
 unfoldable pub moved_from : (first shards : ℕ) → Move → List RuledBook → List RuledBook
 moved_from first shards moved [] = []
 moved_from first shards moved (ruled ∷ books) =
-    stepped (event_to first moved) ruled ∷ moved_from (first + shards) shards moved books
+    step_by (event_to first moved) ruled ∷ moved_from (first + shards) shards moved books
 
 -- the book of an account among those of `first` and of the accounts that follow it in its shard
 unfoldable pub book_from : (first shards : ℕ) → List RuledBook → (account : ℕ) → Option RuledBook
@@ -50,7 +50,7 @@ books_after setup books moved = moved_from setup.shard setup.shards moved books
 pub record HaveStepped (setup : Setup) (moved : Move) (old new : List RuledBook) : Type 0 where
   -- each account's book is stepped by what the move is to the account
   pub each : (account : ℕ) → book_at setup new account
-      ≡ option_map (stepped (event_to account moved)) (book_at setup old account)
+      ≡ option_map (step_by (event_to account moved)) (book_at setup old account)
   -- and it is as it was where that is nothing, as an own move of another account is
   pub others : (account : ℕ) → event_to account moved ≡ None
       → book_at setup new account ≡ book_at setup old account

@@ -51,7 +51,7 @@ cut_off shard =
 
 -- What is kept of every shard: its journal is one, its books are those of its accounts and none
 -- holds more than its limit, and its lines number less than 2^64.
-pub record IsKept (shard : ShardSeen) : Type 0 where
+pub record IsShard (shard : ShardSeen) : Type 0 where
   pub journal : IsJournal shard.setup shard.opening shard.lines
   pub books : AreBooks shard.setup (books_of shard)
   pub total : total_of shard < 2 ^ 64

@@ -24,7 +24,7 @@ ghost use Rattle.rsl_event.specs.Prepared.{IsOfOneAccount};
 ghost use Rattle.rsl_event.specs.declared.event.Act.TheVariants.{Sweep, Tick};
 ghost use Rattle.rsl_session.specs.BookStep.{step};
 ghost use Rattle.rsl_shard.specs.Moves.{IsOfShard, IsOwn, IsTaken};
-ghost use Rattle.rsl_shard.specs.Opening.{renewed};
+ghost use Rattle.rsl_shard.specs.Opening.{as_new};
 ghost use Rattle.rsl_shard.specs.Replay.{
   AreBooks,
   book_at,
@@ -32,7 +32,7 @@ ghost use Rattle.rsl_shard.specs.Replay.{
   decision_by,
   new_books,
   new_books_seen,
-  stepped,
+  step_by,
 };
 ghost use Rattle.rsl_shard.specs.Rows.{rows_from, rows_of};
 ghost use Rattle.rsl_shard.specs.declared.moved.Move.TheVariants as moves;
@@ -86,7 +86,7 @@ fn step_at(books: &mut [Book], place: usize, event: Event) -> Decision
     requires place { place < length books.old }
     requires limit { All IsWithinLimit books.old }
     ensures books { IfSome (slice_get books.old place) (λ book.
-        books.new ≡ set books.old place (stepped (Some event) book)) }
+        books.new ≡ set books.old place (step_by (Some event) book)) }
     ensures decision { IfSome (slice_get books.old place) (λ book.
         result ≡ (step book.rules book.book event).1) }
     ensures limit { All IsWithinLimit books.new }
@@ -100,7 +100,7 @@ fn step_at(books: &mut [Book], place: usize, event: Event) -> Decision
 fn sweep_each(books: &mut [Book], moment: u64, nas: &Nas)
     requires { All IsWithinLimit books.old }
     ensures books { books.new ≡
-        map (stepped (Some (record { moment = moment; act = Sweep nas.now }))) books.old }
+        map (step_by (Some (record { moment = moment; act = Sweep nas.now }))) books.old }
     ensures limit { All IsWithinLimit books.new }
     ensures len { length books.new ≡ length books.old }
 {
@@ -114,7 +114,7 @@ fn sweep_each(books: &mut [Book], moment: u64, nas: &Nas)
 fn tick_each(books: &mut [Book], moment: u64)
     requires { All IsWithinLimit books.old }
     ensures books { books.new ≡
-        map (stepped (Some (record { moment = moment; act = Tick }))) books.old }
+        map (step_by (Some (record { moment = moment; act = Tick }))) books.old }
     ensures limit { All IsWithinLimit books.new }
     ensures len { length books.new ≡ length books.old }
 {
@@ -154,7 +154,7 @@ fn copies_of(alloc: Global, books: &[Book]) -> Result<Vec<Book>, NoMemory>
 /// New books of the same accounts.
 #[tactic(auto, using(crate::proofs::Moving::copy_steps, std::proofs::lemmas::List::map_push))]
 fn new_again(alloc: Global, books: &[Book]) -> Result<Vec<Book>, NoMemory>
-    ensures { IfOk result (λ made. made.items ≡ map renewed books.now) }
+    ensures { IfOk result (λ made. made.items ≡ map as_new books.now) }
 {
     let mut made = Vec::with_capacity(alloc, books.len())?;
     for book in books {
@@ -338,8 +338,8 @@ impl Books {
     }
 
     /// New books of the same accounts. It fails only where memory is refused.
-    pub(crate) fn renewed(&self, alloc: Global) -> Result<Vec<Book>, NoMemory>
-        ensures { IfOk result (λ made. made.items ≡ map renewed self.now.books) }
+    pub(crate) fn as_new(&self, alloc: Global) -> Result<Vec<Book>, NoMemory>
+        ensures { IfOk result (λ made. made.items ≡ map as_new self.now.books) }
     {
         new_again(alloc, &self.list)
     }

@@ -17,7 +17,7 @@ ghost use Rattle.std.specs.Prelude.{
 ghost use Rattle.rsl_shard.specs.Moves.{IsOfShard, IsTaken};
 ghost use Rattle.rsl_shard.specs.Replay.{HaveStepped, book_at, decision_by};
 ghost use Rattle.rsl_shard.specs.Rows.{rows_of};
-ghost use Rattle.rsl_shard.specs.Seen.{IsKept, books_of, cut_off, new_shard, total_of, with_line};
+ghost use Rattle.rsl_shard.specs.Seen.{IsShard, books_of, cut_off, new_shard, total_of, with_line};
 
 use crate::books::Books;
 use crate::line::Line;
@@ -93,7 +93,7 @@ impl Shard {
         ensures books { IfOk result (λ _.
             HaveStepped self.old.setup moved (books_of self.old) (books_of self.new)) }
         ensures err { OnErr result (self.new ≡ self.old) }
-        ensures kept { IsKept self.new }
+        ensures kept { IsShard self.new }
     {
         self.lines.reserve(1)?;
         let decision = self.books.step(alloc, &moved)?;
@@ -132,14 +132,14 @@ impl Shard {
     /// present journal.
     pub fn total(&self) -> u64
         ensures total { result ≡ total_of self.now }
-        ensures kept { IsKept self.now }
+        ensures kept { IsShard self.now }
     {
         self.first + self.lines.len() as u64
     }
 
     /// What is kept of a shard, whatever it has come to.
     fn is_kept(&self)
-        ensures { IsKept self.now }
+        ensures { IsShard self.now }
     {
         let _ = &self.lines;
     }
@@ -153,7 +153,7 @@ impl Shard {
         ensures lines { IfOk result (λ segment. segment.lines.items ≡ self.old.lines) }
         ensures cut { IfOk result (λ _. self.new ≡ cut_off self.old) }
         ensures err { OnErr result (self.new ≡ self.old) }
-        ensures kept { IsKept self.new }
+        ensures kept { IsShard self.new }
     {
         let next = self.books.copies(alloc)?;
         let opening = self.opening.hand_out(alloc, &self.books, next)?;

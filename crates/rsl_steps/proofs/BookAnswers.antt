@@ -20,7 +20,7 @@ use Rattle.rsl_session.specs.BookStep.{book_after, step}
 use Rattle.rsl_session.specs.Past.{Past}
 use Rattle.rsl_session.specs.Rule.{IsRuled, entry_of, past_from, past_of}
 use Rattle.rsl_wire.specs.Packet.{packet_of}
-use Rattle.rsl_steps.specs.Books.{answer_by_book, answer_with_book, book_at, decision_by_book}
+use Rattle.rsl_steps.specs.Books.{answer_by_book, answer_with_book, account_book, decision_by_book}
 use Rattle.rsl_steps.specs.Own.{own}
 use Rattle.rsl_steps.specs.Run.{answer_after, answer_by, decision_after, decision_on, octets_by}
 use Rattle.rsl_steps.specs.declared.step.Answer.TheVariants as answers
@@ -62,7 +62,7 @@ module _ (decides : DecisionLaw) (are_of : BooksAreThoseOfThePast) where
     where
       by : (o : Option Account)
           → option_map_or (λ (entry : Account). decision_after entry.rules (own config boot account before) (record { moment = moment; act = act })) o Done
-          ≡ option_map_or (λ (entry : Account). (step entry.rules (book_at config boot account before entry.rules) (record { moment = moment; act = act })).1) o Done
+          ≡ option_map_or (λ (entry : Account). (step entry.rules (account_book config boot account before entry.rules) (record { moment = moment; act = act })).1) o Done
       by None = refl
       by (Some entry) = sym (book_decides entry.rules (own config boot account before) (record { moment = moment; act = act }))
 

@@ -24,7 +24,7 @@ use Rattle.rsl_rule.specs.Laws.{EarlyTicksChangeNoDecision as ForOneAccount}
 use Rattle.rsl_wire.specs.Packet.{packet_of}
 use Rattle.rsl_steps.specs.Laws.{EarlyTicksChangeNothing, moment_of}
 use Rattle.rsl_steps.specs.Own.{event_in, event_of, is_of_shard, own, own_events}
-use Rattle.rsl_steps.specs.Run.{AreAnswers, answer_after, answer_by, decision_after, decision_on, octets_by, taken}
+use Rattle.rsl_steps.specs.Run.{AreAnswers, answer_after, answer_by, decision_after, decision_on, octets_by, steps_taken}
 use Rattle.rsl_steps.proofs.OneMore.{own-cons}
 use Rattle.rsl_steps.specs.declared.step.Answer.{Answer}
 use Rattle.rsl_steps.specs.declared.step.Answer.TheVariants as answers
@@ -243,8 +243,8 @@ module _ (early : ForOneAccount) where
       (are.0 ∙ sym (answered_early config boot shard moment before since step later rest.0), answers_early config boot shard moment before (step ∷ since) all given (rest.0, later) rest.1 are.1)
 
   -- the steps that were taken come on top of those before
-  taken-onto : (before since all : List Step) (given : List Answer) → taken (since ++ before) all given ≡ taken since all given ++ before
-  unfolding taken
+  taken-onto : (before since all : List Step) (given : List Answer) → steps_taken (since ++ before) all given ≡ steps_taken since all given ++ before
+  unfolding steps_taken
   taken-onto before since [] given = refl
   taken-onto before since (step ∷ all) [] = refl
   taken-onto before since (step ∷ all) (answers.Refused ∷ given) = taken-onto before since all given
@@ -252,8 +252,8 @@ module _ (early : ForOneAccount) where
   taken-onto before since (step ∷ all) (answers.Dropped dropped ∷ given) = taken-onto before (step ∷ since) all given
   taken-onto before since (step ∷ all) (answers.Reply word octets ∷ given) = taken-onto before (step ∷ since) all given
 
-  taken_later : (moment : ℕ) (since all : List Step) (given : List Answer) → AreStepsLater moment since → AreStepsLater moment all → AreStepsLater moment (taken since all given)
-  unfolding taken
+  taken_later : (moment : ℕ) (since all : List Step) (given : List Answer) → AreStepsLater moment since → AreStepsLater moment all → AreStepsLater moment (steps_taken since all given)
+  unfolding steps_taken
   taken_later moment since [] given later rest = later
   taken_later moment since (step ∷ all) [] later rest = later
   taken_later moment since (step ∷ all) (answers.Refused ∷ given) later rest = taken_later moment since all given later rest.1
@@ -264,7 +264,7 @@ module _ (early : ForOneAccount) where
   pub early_ticks : EarlyTicksChangeNothing
   early_ticks config boot shard moment before all given later are =
       let each : AreStepsLater moment all = recursion_from_All (λ (step : Step). moment ≤ moment_of step) all later in
-      let since : List Step = taken [] all given in (
+      let since : List Step = steps_taken [] all given in (
         answers_early config boot shard moment before [] all given tt each are,
         λ account entry there some.
             ap (λ (x : List Step). places_after entry.rules (own config boot account x)) (taken-onto (steps.Tick shard moment ∷ before) [] all given)

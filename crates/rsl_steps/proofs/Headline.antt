@@ -13,7 +13,7 @@ use Rattle.rsl_session.specs.Book.{new_book, places_in}
 use Rattle.rsl_session.specs.BookLaws.{BooksAreThoseOfThePast, BooksHoldThePlacesOfTheRule, BooksStayWithinTheLimit}
 use Rattle.rsl_session.specs.BookStep.{book_after}
 use Rattle.rsl_shard.specs.Seen.{ShardSeen}
-use Rattle.rsl_steps.specs.Books.{AreAnswersByBooks, book_at}
+use Rattle.rsl_steps.specs.Books.{AreAnswersByBooks, account_book}
 use Rattle.rsl_steps.specs.Laws.{BooksAnswerAsLookingBack, ShardsObeyTheRule}
 use Rattle.rsl_steps.specs.Own.{own}
 use Rattle.rsl_steps.specs.Ran.{AreShards, HasBookOf, IsBookOf, book_in_shard}
@@ -60,7 +60,7 @@ module _ (are_of : BooksAreThoseOfThePast) (hold : BooksHoldThePlacesOfTheRule) 
       let less : account % config.settings.shards < config.settings.shards = mod_below account config.settings.shards (omega (arith, limits.settings.a_shard)) in
       let found = there_is shards (account % config.settings.shards) (omega (arith, less, are.count)) in
       record {
-        ruled = record { rules = entry.rules; book = book_at config boot account before entry.rules };
+        ruled = record { rules = entry.rules; book = account_book config boot account before entry.rules };
         there = ap (λ (o : Option ShardSeen). book_in_shard o account) found.1
             ∙ book_in_its_shard config boot before account entry found.0 less there (are.each (account % config.settings.shards) found.0 found.1);
         book = book_is entry.rules (own config boot account before) (account_fits config account entry limits there);

@@ -10,7 +10,7 @@ use Rattle.rsl_session.specs.Book.{Book}
 use Rattle.rsl_session.specs.BookStep.{book_after, step}
 use Rattle.rsl_shard.proofs.Callers.{moved_book}
 use Rattle.rsl_shard.specs.Moves.{event_to, own_in}
-use Rattle.rsl_shard.specs.Replay.{book_at, book_from, books_after, moved_from, replay, stepped}
+use Rattle.rsl_shard.specs.Replay.{book_at, book_from, books_after, moved_from, replay, step_by}
 use Rattle.rsl_shard.specs.Setup.{Setup}
 use Rattle.rsl_shard.specs.declared.line.Line.{Line}
 use Rattle.rsl_shard.specs.declared.moved.Move.{Move}
@@ -19,13 +19,13 @@ use Rattle.rsl_shard.specs.declared.moved.Move.{Move}
 unfoldable pub after : List Event → RuledBook → RuledBook
 after events ruled = record { rules = ruled.rules; book = book_after ruled.rules ruled.book events }
 
-step_more : (o : Option Event) (events : List Event) (ruled : RuledBook) → after events (stepped o ruled) ≡ after (cons_option o events) ruled
+step_more : (o : Option Event) (events : List Event) (ruled : RuledBook) → after events (step_by o ruled) ≡ after (cons_option o events) ruled
 unfolding after book_after
 step_more None events ruled = refl
 step_more (Some event) events ruled = refl
 
 steps_more : (account : ℕ) (moved : Move) (events : List Event) (o : Option RuledBook)
-    → option_map (after events) (option_map (stepped (event_to account moved)) o) ≡ option_map (after (cons_option (event_to account moved) events)) o
+    → option_map (after events) (option_map (step_by (event_to account moved)) o) ≡ option_map (after (cons_option (event_to account moved) events)) o
 steps_more account moved events None = refl
 steps_more account moved events (Some ruled) = ap Some (step_more (event_to account moved) events ruled)
 

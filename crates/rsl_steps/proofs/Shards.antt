@@ -42,7 +42,7 @@ use Rattle.rsl_steps.specs.Moves.{move_in, move_of, moves_of}
 use Rattle.rsl_steps.specs.Own.{is_of_shard, own}
 use Rattle.rsl_steps.specs.Ran.{AreShards, HasMoved}
 use Rattle.rsl_steps.specs.Run.{octets_by}
-use Rattle.rsl_steps.specs.Taking.{AreReady, AreRoomy, IsDecided, IsMovedAt, IsNotThere, IsQuietAt, IsStepTaken, Takes, answer_to_drop}
+use Rattle.rsl_steps.specs.Taking.{AreReady, HaveShardsRoom, IsDecided, IsMovedAt, IsNotThere, IsQuietAt, IsStepTaken, Takes, answer_to_drop}
 use Rattle.rsl_steps.specs.declared.step.Answer.{Answer}
 use Rattle.rsl_steps.specs.declared.step.Answer.TheVariants as answers
 use Rattle.rsl_steps.specs.declared.step.Step.{Step}

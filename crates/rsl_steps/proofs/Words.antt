@@ -32,7 +32,7 @@ use Rattle.rsl_session.specs.Past.{Past}
 use Rattle.rsl_session.specs.Rule.{decision_of, entry_of, outcome_of, past_from, past_of, places_after}
 use Rattle.rsl_steps.specs.Laws.{EqualOwnEventsAreAnsweredAlike, Served, events_of, is_own_packet, words_of, words_to}
 use Rattle.rsl_steps.specs.Own.{event_in, event_of, is_of_shard, own, own_events}
-use Rattle.rsl_steps.specs.Run.{AreAnswers, answer_after, answer_by, decision_after, decision_on, taken}
+use Rattle.rsl_steps.specs.Run.{AreAnswers, answer_after, answer_by, decision_after, decision_on, steps_taken}
 use Rattle.rsl_steps.proofs.OneMore.{own-cons}
 use Rattle.rsl_steps.specs.declared.step.Answer.{Answer}
 use Rattle.rsl_steps.specs.declared.step.Answer.TheVariants as answers
@@ -204,8 +204,8 @@ one_told config boot account entry before step all answer given whole there is r
     ∙ rest
 
 all_told : (config : Configuration) (boot account : ℕ) (entry : Account) (before all : List Step) (given : List Answer) → slice_get config.accounts account ≡ Some entry → AreAnswers config boot before all given
-    → told entry.rules (own config boot account before) ++ words_to config boot account all given ≡ told entry.rules (own config boot account (taken before all given))
-unfolding AreAnswers taken
+    → told entry.rules (own config boot account before) ++ words_to config boot account all given ≡ told entry.rules (own config boot account (steps_taken before all given))
+unfolding AreAnswers steps_taken
 all_told config boot account entry before [] [] there are = words-nil config boot account (told entry.rules (own config boot account before))
 all_told config boot account entry before [] (answer ∷ given) there are = absurd are
 all_told config boot account entry before (step ∷ all) [] there are = absurd are

@@ -25,8 +25,8 @@ use Rattle.rsl_steps.specs.declared.step.Step.TheVariants as steps
 use Rattle.rsl_steps.specs.declared.step.Step.TheVariants.{Datagram}
 
 -- the book of an account with these rules, which began new, after its own events among the steps
-abbrev pub book_at : Configuration → (boot account : ℕ) → (before : List Step) → Rules → Book
-book_at config boot account before rules =
+abbrev pub account_book : Configuration → (boot account : ℕ) → (before : List Step) → Rules → Book
+account_book config boot account before rules =
     book_after rules new_book (own config boot account before)
 
 -- the decision on a meaning: that of a step of the account's book
@@ -34,7 +34,7 @@ abbrev pub decision_by_book : Configuration → (boot : ℕ) → (before : List 
     → Meaning → Decision
 decision_by_book config boot before moment (Own account act) =
     option_map_or
-    (λ entry. (step entry.rules (book_at config boot account before entry.rules)
+    (λ entry. (step entry.rules (account_book config boot account before entry.rules)
     (record { moment = moment; act = act })).1)
     (slice_get config.accounts account) Done
 decision_by_book config boot before moment _ = Done

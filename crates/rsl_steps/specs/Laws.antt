@@ -26,7 +26,7 @@ use Rattle.rsl_steps.specs.Books.{answer_by_book}
 use Rattle.rsl_steps.specs.Moves.{moves_of}
 use Rattle.rsl_steps.specs.Own.{event_in, own, own_events}
 use Rattle.rsl_steps.specs.Ran.{AreShards, HasBookOf}
-use Rattle.rsl_steps.specs.Run.{AreAnswers, answer_after, decision_after, taken}
+use Rattle.rsl_steps.specs.Run.{AreAnswers, answer_after, decision_after, steps_taken}
 use Rattle.rsl_steps.specs.declared.step.Answer.{Answer}
 use Rattle.rsl_steps.specs.declared.step.Answer.TheVariants.{Reply}
 use Rattle.rsl_steps.specs.declared.step.Step.{Step}
@@ -68,7 +68,7 @@ words_of served = words_to served.config served.boot served.account served.steps
 -- its own events, among the steps that were taken
 abbrev pub events_of : Served → List Event
 events_of served =
-    own served.config served.boot served.account (taken [] served.steps served.answers)
+    own served.config served.boot served.account (steps_taken [] served.steps served.answers)
 
 -- the places that it holds
 abbrev pub places_held : Served → ℕ
@@ -138,10 +138,10 @@ EarlyTicksChangeNothing =
     → All (λ step. moment ≤ moment_of step) after → AreAnswers config boot before after answers
     → AreAnswers config boot (steps.Tick shard moment ∷ before) after answers
     × ((account : ℕ) (entry : Entry) → slice_get config.accounts account ≡ Some entry
-    → own config boot account (taken [] after answers) ≢ []
-    → places_after entry.rules (own config boot account (taken (steps.Tick shard moment
+    → own config boot account (steps_taken [] after answers) ≢ []
+    → places_after entry.rules (own config boot account (steps_taken (steps.Tick shard moment
     ∷ before) after answers)) ≡ places_after entry.rules
-    (own config boot account (taken before after answers)))
+    (own config boot account (steps_taken before after answers)))
 
 -- ---- a journal
 

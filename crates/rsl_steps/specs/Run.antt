@@ -74,8 +74,8 @@ AreAnswers config boot before [] (answer ∷ rest) = ⊥
 AreAnswers config boot before (step ∷ steps) [] = ⊥
 
 -- the steps that were taken, the newest first
-unfoldable pub taken : (before : List Step) → List Step → List Answer → List Step
-taken before [] rest = before
-taken before (step ∷ steps) [] = before
-taken before (step ∷ steps) (answers.Refused ∷ rest) = taken before steps rest
-taken before (step ∷ steps) (answer ∷ rest) = taken (step ∷ before) steps rest
+unfoldable pub steps_taken : (before : List Step) → List Step → List Answer → List Step
+steps_taken before [] rest = before
+steps_taken before (step ∷ steps) [] = before
+steps_taken before (step ∷ steps) (answers.Refused ∷ rest) = steps_taken before steps rest
+steps_taken before (step ∷ steps) (answer ∷ rest) = steps_taken (step ∷ before) steps rest

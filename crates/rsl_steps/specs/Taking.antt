@@ -20,8 +20,8 @@ use Rattle.rsl_steps.specs.declared.step.Answer.TheVariants as answers
 use Rattle.rsl_steps.specs.declared.step.Step.{Step}
 
 -- each shard has room for one line more
-abbrev pub AreRoomy : List ShardSeen → Type 0
-AreRoomy shards =
+abbrev pub HaveShardsRoom : List ShardSeen → Type 0
+HaveShardsRoom shards =
     (number : ℕ) (seen : ShardSeen) → slice_get shards number ≡ Some seen
     → total_of seen < 2 ^ 64 - 1
 
@@ -30,7 +30,7 @@ pub record AreReady (config : Configuration) (shards : List ShardSeen) : Type 0 
   pub count : length shards ≡ config.settings.shards
   pub setup : (number : ℕ) (seen : ShardSeen) → slice_get shards number ≡ Some seen
       → seen.setup ≡ setup_of config number
-  pub room : AreRoomy shards
+  pub room : HaveShardsRoom shards
 
 -- one shard has made a move, which its books decided
 pub record IsMovedAt (number : ℕ) (moved : Move) (decision : Decision) (old new : List ShardSeen)

@@ -6,8 +6,8 @@ ghost use Rattle.rsl_shard.specs.declared.moved.Move.TheVariants as moves;
 ghost use Rattle.rsl_steps.specs.Books.{AreAnswersByBooks};
 ghost use Rattle.rsl_steps.specs.Own.{own};
 ghost use Rattle.rsl_steps.specs.Ran.{AreShards, HasBookOf};
-ghost use Rattle.rsl_steps.specs.Run.{AreAnswers, taken};
-ghost use Rattle.rsl_steps.specs.Taking.{AreReady, AreRoomy, IsQuietAt, Takes, answer_to_drop};
+ghost use Rattle.rsl_steps.specs.Run.{AreAnswers, steps_taken};
+ghost use Rattle.rsl_steps.specs.Taking.{AreReady, HaveShardsRoom, IsQuietAt, Takes, answer_to_drop};
 ghost use Rattle.rsl_steps.specs.declared.step.Step.{Step};
 
 use crate::deciding::{decide_meaning, move_at};
@@ -35,13 +35,13 @@ pub fn run(alloc: Global, config: &Config, boot: u64, steps: &[Step]) -> Result<
     // an account's own events in its shard, a stray in shard 0, a sweep or a tick in the shard that
     // it names.
     ensures shards { IfOk result (λ ran. AreShards config.now boot
-        (taken [] steps.now ran.answers.items) ran.shards.items) }
+        (steps_taken [] steps.now ran.answers.items) ran.shards.items) }
     // Each account's book is there, and is that of its own events: it holds the places that the
     // session rule finds by looking back over them, and at most the account's.
     ensures books { IfOk result (λ ran. (account : ℕ) (entry : Entry) →
         slice_get config.now.accounts account ≡ Some entry →
         HasBookOf config.now account entry.rules
-        (own config.now boot account (taken [] steps.now ran.answers.items)) ran.shards.items) }
+        (own config.now boot account (steps_taken [] steps.now ran.answers.items)) ran.shards.items) }
 {
     // What books answer and hold is what looking back finds, and every configuration is within its
     // limits.
@@ -129,7 +129,7 @@ fn take_datagram(
 
 /// Sweeps a shard, if it is there.
 fn take_sweep(alloc: Global, shards: &mut [Shard], shard: u32, moment: u64, nas: &Nas) -> Answer
-    requires { AreRoomy shards.old }
+    requires { HaveShardsRoom shards.old }
     ensures { IsQuietAt result shard (moves.Sweep moment nas.now) shards.old shards.new }
 {
     let Ok(nas) = nas.try_copy(alloc) else {
@@ -140,7 +140,7 @@ fn take_sweep(alloc: Global, shards: &mut [Shard], shard: u32, moment: u64, nas:
 
 /// Ticks a shard, if it is there.
 fn take_tick(alloc: Global, shards: &mut [Shard], shard: u32, moment: u64) -> Answer
-    requires { AreRoomy shards.old }
+    requires { HaveShardsRoom shards.old }
     ensures { IsQuietAt result shard (moves.Tick moment) shards.old shards.new }
 {
     move_if_there(alloc, shards, shard, Move::Tick { moment })
@@ -148,7 +148,7 @@ fn take_tick(alloc: Global, shards: &mut [Shard], shard: u32, moment: u64) -> An
 
 /// Makes a move in a shard, if it is there, that every shard takes.
 fn move_if_there(alloc: Global, shards: &mut [Shard], shard: u32, moved: Move) -> Answer
-    requires room { AreRoomy shards.old }
+    requires room { HaveShardsRoom shards.old }
     requires each { (setup : Setup) → IsTaken setup moved }
     ensures { IsQuietAt result shard moved shards.old shards.new }
 {

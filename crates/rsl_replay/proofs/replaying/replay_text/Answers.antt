@@ -7,7 +7,7 @@ use Rattle.rsl_replay.specs.Shards.{AreShardsAfter}
 use Rattle.rsl_replay.specs.Stepping.{steps_of_lines}
 use Rattle.rsl_report.specs.Table.{table}
 use Rattle.rsl_script.specs.Script.{contents}
-use Rattle.rsl_steps.specs.Run.{AreAnswers, taken}
+use Rattle.rsl_steps.specs.Run.{AreAnswers, steps_taken}
 use Rattle.rsl_steps.specs.declared.step.Step.{Step}
 
 pub returns-clause-replayed : goal.returns-clause-replayed
@@ -16,10 +16,10 @@ returns-clause-replayed c =
     let answers = c.in_ok-ran.ran.answers.items in
     let events = c.as_slice-lines.ensures.value in
     let steps = c.as_slice.ensures.value ∙ c.in_ok-steps.ensures.steps ∙ ap (steps_of_lines config replay_boot) events in
-    let before = taken [] c.as_slice.result.now answers in
+    let before = steps_taken [] c.as_slice.result.now answers in
     let after : AreShardsAfter config replay_boot before c.in_ok-ran.ran.shards.items = record { moved = c.in_ok-ran.ensures.shards; books = c.in_ok-ran.ensures.books } in
     let rows = c.in_ok-rows.ensures.rows replay_boot before (subst (AreShardsAfter config replay_boot before) (sym c.as_slice-3.ensures.value) after)
-    ∙ ap (λ (given : List Step). rows_after config replay_boot (taken [] given answers) 0 config.accounts) steps in
+    ∙ ap (λ (given : List Step). rows_after config replay_boot (steps_taken [] given answers) 0 config.accounts) steps in
     let lines = c.in_ok-lines.ensures ∙ (λ k. printed config (events k) (c.as_slice-2.ensures.value k)) in
     record {
       script = contents c.in_ok-script.script;

@@ -5,7 +5,7 @@ use Rattle.rsl_shard.specs.Seen.{ShardSeen}
 use Rattle.rsl_steps.proofs.Headline.{looked_back}
 use Rattle.rsl_steps.proofs.Shards.{shards_ready}
 use Rattle.rsl_steps.proofs.Snoc.{IsRun, run_start, run_more, taken-few}
-use Rattle.rsl_steps.specs.Run.{taken}
+use Rattle.rsl_steps.specs.Run.{steps_taken}
 use Rattle.rsl_steps.proofs.running.run.Goals as goal
 
 pub loop-step-init : goal.loop-step-init
@@ -21,7 +21,7 @@ take_step-answer-requires c =
     let steps = take i c.args.steps.now in
     let few = taken-few [] steps c.loop-step.answers.items in
     let short = length-take i c.args.steps.now in
-    rw c.as_mut_slice.ensures.value (shards_ready c.args.config.now c.args.boot (taken [] steps c.loop-step.answers.items) c.loop-step.shards.items c.loop-step.invariant.so_far.shards (omega (arith, few, short, c.loop-step-test.true)))
+    rw c.as_mut_slice.ensures.value (shards_ready c.args.config.now c.args.boot (steps_taken [] steps c.loop-step.answers.items) c.loop-step.shards.items c.loop-step.invariant.so_far.shards (omega (arith, few, short, c.loop-step-test.true)))
 
 -- what a whole slice of a list leaves in it
 whole : (new old : List ShardSeen) (len : ℕ) → length new ≡ len → take len (new ++ drop (length new) old) ≡ new

@@ -1,5 +1,5 @@
 use Rattle.std.proofs.Common.{ℕ, ◌+◌, ◌-◌, ◌/◌, ◌<◌, ◌∷◌, get_or, length, ap, sym, ◌∙◌, arith}
-use Rattle.rsl_book.specs.Order.{is_before, Entry}
+use Rattle.rsl_book.specs.Order.{is_before, Rank}
 use Rattle.rsl_book.proofs.Orders.{low_part, high_part}
 use Rattle.rsl_book.proofs.OfLinks.{entry_here}
 use Rattle.rsl_book.proofs.order.Kind.count_before.Goals as goal
@@ -16,7 +16,7 @@ loop-low-preserved-then-is_before c =
       within = omega (arith, less, top);
       inside = so_far.inside;
       before = low_part c.args.self c.args.links.now c.args.order.now c.requires (c.args.number ∷ c.args.mark ∷ c.args.octets.now, c.args.at) middle within
-          (ap (λ (e : Entry). is_before e (c.args.number ∷ c.args.mark ∷ c.args.octets.now, c.args.at)) (sym here) ∙ sym c.is_before.ensures ∙ c.if-is_before.true);
+          (ap (λ (e : Rank). is_before e (c.args.number ∷ c.args.mark ∷ c.args.octets.now, c.args.at)) (sym here) ∙ sym c.is_before.ensures ∙ c.if-is_before.true);
       after = so_far.after;
     }
 
@@ -33,5 +33,5 @@ loop-low-preserved c =
       inside = omega (arith, less, top);
       before = so_far.before;
       after = high_part c.args.self c.args.links.now c.args.order.now c.requires (c.args.number ∷ c.args.mark ∷ c.args.octets.now, c.args.at) middle
-          (ap (λ (e : Entry). is_before e (c.args.number ∷ c.args.mark ∷ c.args.octets.now, c.args.at)) (sym here) ∙ sym c.is_before.ensures ∙ c.if-is_before.false);
+          (ap (λ (e : Rank). is_before e (c.args.number ∷ c.args.mark ∷ c.args.octets.now, c.args.at)) (sym here) ∙ sym c.is_before.ensures ∙ c.if-is_before.false);
     }

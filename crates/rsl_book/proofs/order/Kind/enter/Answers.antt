@@ -2,7 +2,7 @@ use Rattle.std.proofs.Common.{◌≡◌, ℕ, ◌<◌, List, length, cond, ap, s
 use Rattle.std.specs.List.{insert}
 use Rattle.std.specs.Prelude.{vec_capacity, vec_len}
 use Rattle.rsl_book.specs.declared.link.Link.{Link}
-use Rattle.rsl_book.specs.Order.{IsOrderBut, IsOrderOf, IsSplit, entry_at, is_of}
+use Rattle.rsl_book.specs.Order.{IsOrderBut, IsOrderOf, IsSplit, rank_at, is_of}
 use Rattle.rsl_book.proofs.OfLinks.{entered, few_others, link_here, not_entered, searchable}
 use Rattle.rsl_book.proofs.order.Kind.enter.Goals as goal
 
@@ -19,7 +19,7 @@ returns-then-holds-clause-order c =
     subst (λ (order : List ℕ). IsOrderOf c.args.self c.args.links.now order) (sym items)
     (entered c.args.self c.args.links.now c.args.order.now.items c.args.at c.count_before_link-place.result c.requires.within c.requires.order
     (sym (ap (λ (one : Link). is_of c.args.self one) (link_here c.args.links.now c.args.at c.index-links-at.result c.requires.within c.index-links-at.is)) ∙ sym c.holds.ensures ∙ c.if-holds.true)
-    (subst (λ (xs : List ℕ). IsSplit (entry_at c.args.self c.args.links.now) xs (entry_at c.args.self c.args.links.now c.args.at) c.count_before_link-place.result) c.deref.ensures.value c.count_before_link-place.ensures))
+    (subst (λ (xs : List ℕ). IsSplit (rank_at c.args.self c.args.links.now) xs (rank_at c.args.self c.args.links.now c.args.at) c.count_before_link-place.result) c.deref.ensures.value c.count_before_link-place.ensures))
 
 pub returns-then-holds-clause-room : goal.returns-then-holds-clause-room
 returns-then-holds-clause-room c =

@@ -1,6 +1,6 @@
 use Rattle.std.proofs.Common.{ℕ, Some, length, map, refl, rules, sym, ap, ◌∙◌}
 use Rattle.rsl_event.specs.declared.event.Act.TheVariants.{Tick}
-use Rattle.rsl_shard.specs.Replay.{BooksSeen, books_after, stepped}
+use Rattle.rsl_shard.specs.Replay.{BooksSeen, books_after, step_by}
 use Rattle.rsl_shard.specs.declared.moved.Move.TheVariants as moves
 use Rattle.rsl_shard.proofs.Moving.{moved_each, written}
 use Rattle.rsl_shard.proofs.books.Books.tick.Goals as goal
@@ -9,6 +9,6 @@ pub returns-clause-books : goal.returns-clause-books
 returns-clause-books c =
     written c.tick_each.new.books c.self.inside.list.items c.self.inside.list.len (c.tick_each.ensures.len ∙ ap length c.deref_mut.ensures.value) (search rules)
     ∙ c.tick_each.ensures.books
-    ∙ ap (map (stepped (Some (record { moment = c.args.moment; act = Tick })))) c.deref_mut.ensures.value
+    ∙ ap (map (step_by (Some (record { moment = c.args.moment; act = Tick })))) c.deref_mut.ensures.value
     ∙ sym (moved_each c.self.inside.shard c.self.inside.shards (moves.Tick c.args.moment) (record { moment = c.args.moment; act = Tick }) c.self.inside.list.items (λ (account : ℕ). refl))
     ∙ ap (λ (seen : BooksSeen). books_after seen.setup seen.books (moves.Tick c.args.moment)) c.self.view_is
