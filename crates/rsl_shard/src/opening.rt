@@ -33,7 +33,7 @@ impl Opening {
     {
         match self {
             Opening::New => {
-                let books = present.renewed(alloc)?;
+                let books = present.as_new(alloc)?;
                 *self = Opening::Kept(next);
                 Ok(books)
             }
