@@ -2,7 +2,7 @@
 use Rattle.std.specs.Prelude.{◌≡◌, ℕ, ◌<◌, ⊤, List, length}
 use Rattle.rsl_accounts.specs.Configuration.{Configuration}
 use Rattle.rsl_report.specs.Audit.{BeginsNew, IsRight, account_of}
-use Rattle.rsl_report.specs.Replayed.{replayed}
+use Rattle.rsl_report.specs.Replayed.{books_by_replay}
 use Rattle.rsl_report.specs.declared.audit_fault.AuditFault.{AuditFault}
 use Rattle.rsl_report.specs.declared.audit_fault.AuditFault.TheVariants.{NotFromEmpty, Gap, WrongDecision, NoMemory}
 use Rattle.rsl_report.specs.declared.replay.Replay.{Replay}

@@ -6,8 +6,8 @@ use Rattle.std.proofs.lemmas.List.{drop_all, drop_more, take_all, take_more}
 use Rattle.std.proofs.lemmas.List.Elements.{All-more, All-nil, filter-append}
 use Rattle.rsl_accounts.specs.Configuration.{Configuration}
 use Rattle.rsl_book.specs.RuledBook.{RuledBook}
-use Rattle.rsl_settle.specs.Faults.{GoOn, IsBreak, IsFaultOfSegments, IsLowestAstray}
-use Rattle.rsl_settle.specs.Segments.{AreJoined, GoesOn, HasJoined, of_shard}
+use Rattle.rsl_settle.specs.Faults.{GoOn, IsBreak, IsSegmentFault, IsLowestAstray}
+use Rattle.rsl_settle.specs.Segments.{AllGoOn, GoesOn, HasJoined, of_shard}
 use Rattle.rsl_settle.specs.declared.chain.Chain.{Chain}
 use Rattle.rsl_settle.specs.declared.close_fault.CloseFault.{CloseFault}
 use Rattle.rsl_settle.specs.declared.close_fault.CloseFault.TheVariants.{MissingPass, MissingSegment, Mismatch, NoMemory}
@@ -83,17 +83,17 @@ drop_other shard segments i segment within is other = drop_by shard segments i s
 -- ---- segments, one after another
 
 joined_from : (setup setup2 : Setup) (lines lines2 : ℕ) (books books2 : List RuledBook) (segments : List Segment) → setup ≡ setup2 → lines ≡ lines2 → books ≡ books2
-    → AreJoined setup lines books segments → AreJoined setup2 lines2 books2 segments
+    → AllGoOn setup lines books segments → AllGoOn setup2 lines2 books2 segments
 joined_from setup setup2 lines lines2 books books2 segments of_setup of_lines of_books joined =
-    subst (λ (b : List RuledBook). AreJoined setup2 lines2 b segments) of_books
-    (subst (λ (n : ℕ). AreJoined setup2 n books segments) of_lines (subst (λ (s : Setup). AreJoined s lines books segments) of_setup joined))
+    subst (λ (b : List RuledBook). AllGoOn setup2 lines2 b segments) of_books
+    (subst (λ (n : ℕ). AllGoOn setup2 n books segments) of_lines (subst (λ (s : Setup). AllGoOn s lines books segments) of_setup joined))
 
 -- where one segment has gone on, those after it go on exactly where it does with them
 goes_with : (now new : Chain) (segment : Segment) (rest : List Segment) → GoesOn now.books.setup now.lines now.books.books segment
     → new.lines ≡ now.lines + length segment.lines.items → new.books.setup ≡ now.books.setup
     → new.books.books ≡ replay now.books.setup now.books.books segment.lines.items
     → GoOn new rest ↔ GoOn now (segment ∷ rest)
-unfolding AreJoined
+unfolding AllGoOn
 goes_with now new segment rest goes lines setup books = (
   λ joined. (
     goes,
@@ -151,7 +151,7 @@ pub broken_here : (shard : ℕ) (segments : List Segment) (first now : Chain) (i
     → segment ≡ get_or segments i segment → segment.shard ≡ shard → AreTaken shard segments first now i
     → IsBreak shard (GoesOn now.books.setup now.lines now.books.books segment) fault
     → (rest : List Segment) → IsBreak shard (GoOn first (of_shard shard segments ++ rest)) fault
-unfolding AreJoined
+unfolding AllGoOn
 broken_here shard segments first now i segment MissingPass within is same so_far broken rest = broken
 broken_here shard segments first now i segment (MissingSegment named) within is same so_far broken rest = (
   broken.0,
@@ -171,13 +171,13 @@ both shard given present =
     ∙ sym (filter-append (λ (s : Segment). s.shard == shard) given present)
 
 begins : (config : Configuration) (shard : ℕ) (chain : Chain) (segments : List Segment) → chain.lines ≡ 0 → chain.books ≡ new_books_seen config shard
-    → GoOn chain segments → AreJoined (setup_of config shard) 0 (new_books config shard) segments
+    → GoOn chain segments → AllGoOn (setup_of config shard) 0 (new_books config shard) segments
 begins config shard chain segments none new joined =
     joined_from chain.books.setup (setup_of config shard) chain.lines 0 chain.books.books (new_books config shard) segments
     (ap (λ (seen : BooksSeen). seen.setup) new) none (ap (λ (seen : BooksSeen). seen.books) new) joined
 
 begins_back : (config : Configuration) (shard : ℕ) (chain : Chain) (segments : List Segment) → chain.lines ≡ 0 → chain.books ≡ new_books_seen config shard
-    → AreJoined (setup_of config shard) 0 (new_books config shard) segments → GoOn chain segments
+    → AllGoOn (setup_of config shard) 0 (new_books config shard) segments → GoOn chain segments
 begins_back config shard chain segments none new joined =
     joined_from (setup_of config shard) chain.books.setup 0 chain.lines (new_books config shard) chain.books.books segments
     (sym (ap (λ (seen : BooksSeen). seen.setup) new)) (sym none) (sym (ap (λ (seen : BooksSeen). seen.books) new)) joined
@@ -188,7 +188,7 @@ all_joined : (config : Configuration) (shard : ℕ) (first middle last : Chain) 
     → ((rest : List Segment) → GoOn middle rest ↔ GoOn first (of_shard shard given ++ rest))
     → ((rest : List Segment) → GoOn last rest ↔ GoOn middle (of_shard shard present ++ rest))
     → HasJoined config (given ++ present) shard
-unfolding AreJoined
+unfolding AllGoOn
 all_joined config shard first middle last given present within none new of_given of_present = record {
   there = λ past. absurd (omega (arith, within, past));
   joined =
@@ -267,10 +267,10 @@ present_told config shard first middle given present (Err fault) none new setup 
 
 -- a number that is no shard's and that no segment has
 none_there : (config : Configuration) (segments : List Segment) (shard : ℕ) → of_shard shard segments ≡ [] → HasJoined config segments shard
-unfolding AreJoined
+unfolding AllGoOn
 none_there config segments shard none = record {
   there = λ past. none;
-  joined = subst (AreJoined (setup_of config shard) 0 (new_books config shard)) (sym none) tt;
+  joined = subst (AllGoOn (setup_of config shard) 0 (new_books config shard)) (sym none) tt;
 }
 
 pub each_joined : (config : Configuration) (segments : List Segment) (last : ℕ) → config.settings.shards ≤ last
@@ -284,7 +284,7 @@ each_joined config segments last past lower none shard = by (cases_lt shard conf
 
 pub lowest_broken : (config : Configuration) (segments : List Segment) (last lowest : ℕ) → config.settings.shards ≤ last
     → ((lower : ℕ) → lower < last → HasJoined config segments lower) → IsLowestAstray config.settings.shards segments (Some lowest)
-    → IsFaultOfSegments config segments (MissingSegment lowest)
+    → IsSegmentFault config segments (MissingSegment lowest)
 lowest_broken config segments last lowest past lower found = (
   λ (has : HasJoined config segments lowest). found.1 (has.there found.0),
   λ shard less. by shard less (cases_lt shard config.settings.shards),
@@ -297,7 +297,7 @@ lowest_broken config segments last lowest past lower found = (
 -- a break of a shard where all lower ones join
 pub first_broken : (config : Configuration) (segments : List Segment) (shard : ℕ) (fault : CloseFault)
     → ((lower : ℕ) → lower < shard → HasJoined config segments lower) → IsBreak shard (HasJoined config segments shard) fault
-    → IsFaultOfSegments config segments fault
+    → IsSegmentFault config segments fault
 first_broken config segments shard MissingPass lower broken = broken
 first_broken config segments shard (MissingSegment named) lower broken =
     subst (λ (n : ℕ). (HasJoined config segments n → ⊥) × ((less : ℕ) → less < n → HasJoined config segments less)) (sym broken.0) (broken.1, lower)

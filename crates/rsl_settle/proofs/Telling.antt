@@ -7,10 +7,10 @@ use Rattle.std.proofs.lemmas.Bool.{cases_lt, ne_eqb}
 use Rattle.std.proofs.lemmas.List.{flat_map_more, map_more, take_all}
 use Rattle.std.proofs.lemmas.List.Elements.{All-contains, All-nil, All-push, All-tail, Contains-get_or}
 use Rattle.rsl_accounts.specs.Configuration.{Configuration}
-use Rattle.rsl_settle.specs.Faults.{IsAmong, IsFaultOfPass, IsFaultOfPasses, IsFaultOfReceipts, IsFaultOfSegments, IsNumberFaultOfPass, IsNumberFaultOfPasses, IsOfNoShard, IsUnlike}
+use Rattle.rsl_settle.specs.Faults.{IsAmong, IsFaultOfPass, IsFaultOfPasses, IsFaultOfReceipts, IsSegmentFault, IsNumberFaultOfPass, IsNumberFaultOfPasses, IsOfNoShard, IsUnlike}
 use Rattle.rsl_settle.specs.Receipts.{FallsAt, FallsTo, IsItsLine, positions_of, times}
-use Rattle.rsl_settle.specs.Segments.{HasJoined, lines_of, of_shard}
-use Rattle.rsl_settle.specs.Settled.{IsFirstFault, IsMismatch, IsNoLine, IsSettled}
+use Rattle.rsl_settle.specs.Segments.{HasJoined, shard_lines, of_shard}
+use Rattle.rsl_settle.specs.Settled.{IsCloseFault, IsMismatch, IsNoLine, IsSettled}
 use Rattle.rsl_settle.specs.declared.close_fault.CloseFault.{CloseFault}
 use Rattle.rsl_settle.specs.declared.close_fault.CloseFault.TheVariants.{MissingPass, MissingSegment, Mismatch, NoMemory}
 use Rattle.rsl_settle.specs.declared.receipt.Receipt.{Receipt}
@@ -71,7 +71,7 @@ fault_of_numbers shards f xs i x fault within is found = (f x, contains_map f xs
 
 -- ---- one shard
 
-pub fault_of_shard : (segments : List Segment) (lines : List Line) (shard : ℕ) (passes : List (List Receipt)) (fault : CloseFault) → lines ≡ lines_of shard segments
+pub fault_of_shard : (segments : List Segment) (lines : List Line) (shard : ℕ) (passes : List (List Receipt)) (fault : CloseFault) → lines ≡ shard_lines shard segments
     → IsFaultOfPasses lines shard passes fault → IsFaultOfReceipts segments passes fault
 fault_of_shard segments lines shard passes MissingPass are found = found.2
 fault_of_shard segments lines shard passes (MissingSegment named) are found = found.2
@@ -91,16 +91,16 @@ fault_of_shard segments lines shard passes (Mismatch named position) are found =
             wrong = λ its.
                 unlike.1.wrong
                 (ap (λ (all : List Line). slice_get all position) are
-                ∙ ap (λ (n : ℕ). slice_get (lines_of n segments) position) (sym unlike.1.of_shard)
-                ∙ ap (slice_get (lines_of unlike.0.shard segments)) (sym unlike.1.at)
+                ∙ ap (λ (n : ℕ). slice_get (shard_lines n segments) position) (sym unlike.1.of_shard)
+                ∙ ap (slice_get (shard_lines unlike.0.shard segments)) (sym unlike.1.at)
                 ∙ its);
           },
         )
     by (inr falls) = inr (inl (found.0, found.1, subst (λ (n : ℕ). FallsTo (positions_of n found.0) position) (sym found.2.0) falls))
 fault_of_shard segments lines shard passes NoMemory are found = tt
 
-pub lines_are : (segments : List Segment) (lines : List Line) (shard : ℕ) (passes : List (List Receipt)) → lines ≡ lines_of shard segments
-    → All (All (IsAmong lines shard)) passes → All (All (IsAmong (lines_of shard segments) shard)) passes
+pub lines_are : (segments : List Segment) (lines : List Line) (shard : ℕ) (passes : List (List Receipt)) → lines ≡ shard_lines shard segments
+    → All (All (IsAmong lines shard)) passes → All (All (IsAmong (shard_lines shard segments) shard)) passes
 lines_are segments lines shard passes are told = subst (λ (all : List Line). All (All (IsAmong all shard)) passes) are told
 
 pub twice_told : (segments : List Segment) (shard position : ℕ) (passes : List (List Receipt)) (positions : List ℕ)
@@ -116,7 +116,7 @@ once_told shard passes positions are once position = subst (λ (all : List ℕ).
 -- ---- all shards
 
 pub each_line : (segments : List Segment) (shards last : ℕ) (passes : List (List Receipt)) → shards ≤ last → All (All (λ receipt. receipt.shard < shards)) passes
-    → ((lower : ℕ) → lower < last → All (All (IsAmong (lines_of lower segments) lower)) passes) → All (All (IsItsLine segments)) passes
+    → ((lower : ℕ) → lower < last → All (All (IsAmong (shard_lines lower segments) lower)) passes) → All (All (IsItsLine segments)) passes
 each_line segments shards last passes past numbers told k pass within i receipt inside =
     told (slice_index_or (slice_index_or passes k pass) i receipt).shard (omega (arith, numbers k pass within i receipt inside, past)) k pass within i receipt inside refl
 
@@ -171,7 +171,7 @@ number_told segments shards passes (Mismatch shard position) none found =
         of_shard = found.2.2;
         at = found.2.3;
         wrong = λ its.
-            let empty : lines_of found.2.0.shard segments ≡ [] = ap (flat_map (λ (s : Segment). s.lines.items)) (none found.2.0.shard found.2.1.past) in
+            let empty : shard_lines found.2.0.shard segments ≡ [] = ap (flat_map (λ (s : Segment). s.lines.items)) (none found.2.0.shard found.2.1.past) in
             let here : None ≡ Some found.2.0.line = ap (λ (all : List Line). slice_get all found.2.0.position) (sym empty) ∙ its in
             subst (λ (o : Option Line). IfSome o (λ l. ⊥)) here tt;
       },
@@ -181,14 +181,14 @@ number_told segments shards passes NoMemory none found = tt
 -- ---- the record
 
 pub fault_of_segments : (config : Configuration) (opened : ℕ) (passes : List (List Receipt)) (segments : List Segment) (fault : CloseFault) → length passes ≡ opened
-    → IsFaultOfSegments config segments fault → IsFirstFault config opened passes segments fault
+    → IsSegmentFault config segments fault → IsCloseFault config opened passes segments fault
 fault_of_segments config opened passes segments MissingPass given found = absurd found
 fault_of_segments config opened passes segments (MissingSegment shard) given found = (given, found.0, found.1)
 fault_of_segments config opened passes segments (Mismatch shard position) given found = absurd found
 fault_of_segments config opened passes segments NoMemory given found = tt
 
 fault_of_receipts : (config : Configuration) (opened : ℕ) (passes : List (List Receipt)) (segments : List Segment) (fault : CloseFault) → length passes ≡ opened
-    → ((shard : ℕ) → HasJoined config segments shard) → IsFaultOfReceipts segments passes fault → IsFirstFault config opened passes segments fault
+    → ((shard : ℕ) → HasJoined config segments shard) → IsFaultOfReceipts segments passes fault → IsCloseFault config opened passes segments fault
 fault_of_receipts config opened passes segments MissingPass given joined found = absurd found
 fault_of_receipts config opened passes segments (MissingSegment shard) given joined found = absurd found
 fault_of_receipts config opened passes segments (Mismatch shard position) given joined found = (given, joined, found)
@@ -196,7 +196,7 @@ fault_of_receipts config opened passes segments NoMemory given joined found = tt
 
 pub told_by_receipts : {T : Type 0} (config : Configuration) (opened : ℕ) (passes : List (List Receipt)) (segments : List Segment) (result : Result T CloseFault)
     → length passes ≡ opened → ((shard : ℕ) → HasJoined config segments shard) → IfErr result (IsFaultOfReceipts segments passes)
-    → IfErr result (IsFirstFault config opened passes segments)
+    → IfErr result (IsCloseFault config opened passes segments)
 told_by_receipts config opened passes segments (Ok done) given joined found = tt
 told_by_receipts config opened passes segments (Err fault) given joined found = fault_of_receipts config opened passes segments fault given joined found
 
@@ -215,7 +215,7 @@ mismatch_there config opened passes segments shard position (inr (inr twice)) se
 
 -- a record with a fault other than want of memory is not settled
 pub fault_is_there : (config : Configuration) (opened : ℕ) (passes : List (List Receipt)) (segments : List Segment) (fault : CloseFault)
-    → IsFirstFault config opened passes segments fault → (fault ≡ NoMemory → ⊥) → IsSettled config opened passes segments → ⊥
+    → IsCloseFault config opened passes segments fault → (fault ≡ NoMemory → ⊥) → IsSettled config opened passes segments → ⊥
 fault_is_there config opened passes segments MissingPass found other settled = found settled.given
 fault_is_there config opened passes segments (MissingSegment shard) found other settled = found.1 (settled.joined shard)
 fault_is_there config opened passes segments (Mismatch shard position) found other settled =
@@ -223,7 +223,7 @@ fault_is_there config opened passes segments (Mismatch shard position) found oth
 fault_is_there config opened passes segments NoMemory found other settled = other refl
 
 pub told_exactly : {T : Type 0} (config : Configuration) (opened : ℕ) (passes : List (List Receipt)) (segments : List Segment) (result : Result T CloseFault)
-    → IfErr result (IsFirstFault config opened passes segments)
+    → IfErr result (IsCloseFault config opened passes segments)
     → IfErr result (λ fault. (fault ≡ NoMemory → ⊥) → IsSettled config opened passes segments → ⊥)
 told_exactly config opened passes segments (Ok done) found = tt
 told_exactly config opened passes segments (Err fault) found = fault_is_there config opened passes segments fault found

@@ -3,7 +3,7 @@ use Rattle.std.specs.Prelude.{◌≡◌, ℕ, ◌<◌, ◌≤◌, ◌⊎◌, ⊤
 use Rattle.std.specs.List.{Contains}
 use Rattle.rsl_accounts.specs.Configuration.{Configuration}
 use Rattle.rsl_settle.specs.Receipts.{FallsTo, IsItsLine, positions_of, times}
-use Rattle.rsl_settle.specs.Segments.{AreJoined, HasJoined, of_shard}
+use Rattle.rsl_settle.specs.Segments.{AllGoOn, HasJoined, of_shard}
 use Rattle.rsl_settle.specs.Settled.{IsMismatch}
 use Rattle.rsl_settle.specs.declared.chain.Chain.{Chain}
 use Rattle.rsl_settle.specs.declared.close_fault.CloseFault.{CloseFault}
@@ -15,7 +15,7 @@ use Rattle.rsl_shard.specs.declared.segment.Segment.{Segment}
 -- segments of a shard go on where a chain has come to
 abbrev pub GoOn : Chain → List Segment → Type 0
 GoOn chain segments =
-    AreJoined chain.books.setup chain.lines chain.books.books segments
+    AllGoOn chain.books.setup chain.lines chain.books.books segments
 
 -- a fault of what has to hold of a shard's segments
 abbrev pub IsBreak : (shard : ℕ) → Type 0 → CloseFault → Type 0
@@ -32,13 +32,13 @@ IsLowestAstray shards segments (Some lowest) =
     × ((shard : ℕ) → shards ≤ shard → shard < lowest → of_shard shard segments ≡ [])
 
 -- the first shard whose segments don't join
-abbrev pub IsFaultOfSegments : Configuration → List Segment → CloseFault → Type 0
-IsFaultOfSegments config segments MissingPass = ⊥
-IsFaultOfSegments config segments (MissingSegment shard) =
+abbrev pub IsSegmentFault : Configuration → List Segment → CloseFault → Type 0
+IsSegmentFault config segments MissingPass = ⊥
+IsSegmentFault config segments (MissingSegment shard) =
     (HasJoined config segments shard → ⊥)
     × ((lower : ℕ) → lower < shard → HasJoined config segments lower)
-IsFaultOfSegments config segments (Mismatch shard position) = ⊥
-IsFaultOfSegments config segments NoMemory = ⊤
+IsSegmentFault config segments (Mismatch shard position) = ⊥
+IsSegmentFault config segments NoMemory = ⊤
 
 -- among a pass's receipts one of this position of a shard isn't the line there
 pub record IsUnlike (lines : List Line) (shard : ℕ) (receipts : List Receipt) (position : ℕ)

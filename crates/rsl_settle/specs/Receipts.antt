@@ -1,14 +1,14 @@
 -- What receipts tell of the lines of shards.
 use Rattle.std.specs.Prelude.{◌≡◌, ℕ, ◌+◌, ◌<◌, ◌≤◌, ◌==◌, List, length, map, filter, slice_get, slice_index, Some}
 use Rattle.std.specs.List.{count_by, flat_map}
-use Rattle.rsl_settle.specs.Segments.{lines_of}
+use Rattle.rsl_settle.specs.Segments.{shard_lines}
 use Rattle.rsl_settle.specs.declared.receipt.Receipt.{Receipt}
 use Rattle.rsl_shard.specs.declared.segment.Segment.{Segment}
 
 -- the receipt is the line at its position, counted over all segments of its shard
 abbrev pub IsItsLine : List Segment → Receipt → Type 0
 IsItsLine segments receipt =
-    slice_get (lines_of receipt.shard segments) receipt.position ≡ Some receipt.line
+    slice_get (shard_lines receipt.shard segments) receipt.position ≡ Some receipt.line
 
 -- the positions of a pass's receipts of a shard, in the order of its calls
 abbrev pub positions_of : (shard : ℕ) → List Receipt → List ℕ

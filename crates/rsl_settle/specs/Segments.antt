@@ -18,8 +18,8 @@ abbrev pub of_shard : (shard : ℕ) → List Segment → List Segment
 of_shard shard segments = filter (λ (segment : Segment). segment.shard == shard) segments
 
 -- all lines of a shard, in the order of its segments
-abbrev pub lines_of : (shard : ℕ) → List Segment → List Line
-lines_of shard segments =
+abbrev pub shard_lines : (shard : ℕ) → List Segment → List Line
+shard_lines shard segments =
     flat_map (λ (segment : Segment). segment.lines.items) (of_shard shard segments)
 
 -- The segment begins with these books, after so many lines, and the shard takes its moves.
@@ -30,15 +30,15 @@ pub record GoesOn (setup : Setup) (lines : ℕ) (books : List RuledBook) (segmen
     pub taken : All (λ line. IsTaken setup line.moved) segment.lines.items
 
 -- segments of a shard go on from these books, after so many lines, one after another
-unfoldable pub AreJoined : Setup → (lines : ℕ) → (books : List RuledBook) → List Segment → Type 0
-AreJoined setup lines books [] = ⊤
-AreJoined setup lines books (segment ∷ segments) =
+unfoldable pub AllGoOn : Setup → (lines : ℕ) → (books : List RuledBook) → List Segment → Type 0
+AllGoOn setup lines books [] = ⊤
+AllGoOn setup lines books (segment ∷ segments) =
     GoesOn setup lines books segment
-    × AreJoined setup (lines + length segment.lines.items)
+    × AllGoOn setup (lines + length segment.lines.items)
     (replay setup books segment.lines.items) segments
 
 -- The segments of a shard join. A number that is no shard's has none.
 pub record HasJoined (config : Configuration) (segments : List Segment) (shard : ℕ) : Type 0 where
   pub there : config.settings.shards ≤ shard → of_shard shard segments ≡ []
-  pub joined : AreJoined (setup_of config shard) 0 (new_books config shard)
+  pub joined : AllGoOn (setup_of config shard) 0 (new_books config shard)
       (of_shard shard segments)

@@ -44,13 +44,13 @@ IsMismatch segments passes shard position =
 
 -- The fault is there, and none of those that come before it: first the passes, then the segments,
 -- of these the lowest shard, and then the receipts.
-abbrev pub IsFirstFault : Configuration → (opened : ℕ) → (passes : List (List Receipt))
+abbrev pub IsCloseFault : Configuration → (opened : ℕ) → (passes : List (List Receipt))
     → List Segment → CloseFault → Type 0
-IsFirstFault config opened passes segments MissingPass = length passes ≢ opened
-IsFirstFault config opened passes segments (MissingSegment shard) =
+IsCloseFault config opened passes segments MissingPass = length passes ≢ opened
+IsCloseFault config opened passes segments (MissingSegment shard) =
     (length passes ≡ opened) × (HasJoined config segments shard → ⊥)
     × ((lower : ℕ) → lower < shard → HasJoined config segments lower)
-IsFirstFault config opened passes segments (Mismatch shard position) =
+IsCloseFault config opened passes segments (Mismatch shard position) =
     (length passes ≡ opened) × ((each : ℕ) → HasJoined config segments each)
     × IsMismatch segments passes shard position
-IsFirstFault config opened passes segments NoMemory = ⊤
+IsCloseFault config opened passes segments NoMemory = ⊤

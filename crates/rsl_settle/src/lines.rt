@@ -1,7 +1,7 @@
 ghost use Rattle.std.specs.Prelude.{◌≡◌, ◌++◌, ◌↔◌, All, IfOk, IfSome, IfNone, IsTrue, OnOk};
 ghost use Rattle.std.specs.Prelude.{Some, map, slice_get};
 ghost use Rattle.rsl_settle.specs.Faults.{IsAmong, IsUnlike};
-ghost use Rattle.rsl_settle.specs.Segments.{lines_of as all_lines};
+ghost use Rattle.rsl_settle.specs.Segments.{shard_lines as all_lines};
 ghost use Rattle.rsl_settle.specs.declared.receipt.Receipt.{Receipt as OneReceipt};
 
 use crate::receipt::Receipt;
@@ -11,7 +11,7 @@ use rsl_wire::NoMemory;
 use std::alloc::Global;
 
 /// All lines of a shard, lent, in the order of its segments.
-pub(crate) fn lines_of<'a>(
+pub(crate) fn shard_lines<'a>(
     alloc: Global,
     shard: u32,
     given: &'a [Segment],

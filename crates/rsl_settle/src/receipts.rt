@@ -10,10 +10,10 @@ ghost use Rattle.rsl_settle.specs.Faults.{
   IsNumberFaultOfPasses,
 };
 ghost use Rattle.rsl_settle.specs.Receipts.{IsItsLine, positions_of, times};
-ghost use Rattle.rsl_settle.specs.Segments.{lines_of as all_lines, of_shard};
+ghost use Rattle.rsl_settle.specs.Segments.{shard_lines as all_lines, of_shard};
 
 use crate::close_fault::CloseFault;
-use crate::lines::{lines_of, unlike};
+use crate::lines::{shard_lines, unlike};
 use crate::positions::{fallen, push_positions, twin};
 use crate::receipt::{HasReceipts, Receipt};
 use rsl_shard::{Line, Segment};
@@ -95,7 +95,7 @@ fn check_shard<P: HasReceipts>(
     ensures err { IfErr result
         (IsFaultOfReceipts (given.now ++ present.now) (map P.receipts passes.now)) }
 {
-    let lines = lines_of(alloc, shard, given, present)?;
+    let lines = shard_lines(alloc, shard, given, present)?;
     let mut positions = Vec::new(alloc);
     check_passes(shard, lines.as_slice(), passes, &mut positions)?;
     match twin(positions) {

@@ -1,5 +1,5 @@
 ghost use Rattle.std.specs.Prelude.{◌≡◌, ◌<◌, ◌++◌, [], ◌∷◌, ℕ, List, IfErr, OnOk};
-ghost use Rattle.rsl_settle.specs.Faults.{IsBreak, IsFaultOfSegments, IsLowestAstray};
+ghost use Rattle.rsl_settle.specs.Faults.{IsBreak, IsSegmentFault, IsLowestAstray};
 ghost use Rattle.rsl_settle.specs.Segments.{HasJoined};
 ghost use Rattle.rsl_shard.specs.declared.segment.Segment.{Segment as OneSegment};
 
@@ -19,7 +19,7 @@ pub(crate) fn check_segments(
 ) -> Result<(), CloseFault>
     ensures joined { OnOk result ((shard : ℕ) →
         HasJoined config.now (given.now ++ present.now) shard) }
-    ensures err { IfErr result (IsFaultOfSegments config.now (given.now ++ present.now)) }
+    ensures err { IfErr result (IsSegmentFault config.now (given.now ++ present.now)) }
 {
     for shard in 0..config.shards() {
         check_shard(alloc, config, shard, given, present)?;

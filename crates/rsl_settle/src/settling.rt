@@ -1,5 +1,5 @@
 ghost use Rattle.std.specs.Prelude.{◌≡◌, ◌≢◌, ◌++◌, ◌↔◌, IfErr, IsTrue, OnOk, map};
-ghost use Rattle.rsl_settle.specs.Settled.{IsFirstFault, IsSettled};
+ghost use Rattle.rsl_settle.specs.Settled.{IsCloseFault, IsSettled};
 
 use crate::close_fault::CloseFault;
 use crate::receipt::HasReceipts;
@@ -36,7 +36,7 @@ pub fn settle<P: HasReceipts>(
 ) -> Result<(), CloseFault>
     ensures settled { OnOk result (IsSettled config.now opened
         (map P.receipts passes.now) (given.now ++ present.now)) }
-    ensures fault { IfErr result (IsFirstFault config.now opened
+    ensures fault { IfErr result (IsCloseFault config.now opened
         (map P.receipts passes.now) (given.now ++ present.now)) }
     ensures exact { IfErr result (λ fault. fault ≢ CloseFault.NoMemory →
         IsSettled config.now opened (map P.receipts passes.now) (given.now ++ present.now) → ⊥) }

@@ -5,7 +5,7 @@ use Rattle.rsl_settle.proofs.Chains.{below_more}
 use Rattle.rsl_settle.proofs.Telling.{each_once, each_rising, number_told}
 use Rattle.rsl_settle.specs.Faults.{IsAmong}
 use Rattle.rsl_settle.specs.Receipts.{positions_of, times}
-use Rattle.rsl_settle.specs.Segments.{lines_of}
+use Rattle.rsl_settle.specs.Segments.{shard_lines}
 use Rattle.rsl_settle.specs.declared.receipt.Receipt.{Receipt}
 use Rattle.rsl_settle.proofs.receipts.check_receipts.Goals as goal
 
@@ -20,7 +20,7 @@ pub loop-shard-preserved : goal.loop-shard-preserved
 loop-shard-preserved g c =
     record {
       lines =
-          below_more (λ (n : ℕ). All (All (IsAmong (lines_of n (c.args.given.now ++ c.args.present.now)) n)) (map g.P.HasReceipts.receipts c.args.passes.now))
+          below_more (λ (n : ℕ). All (All (IsAmong (shard_lines n (c.args.given.now ++ c.args.present.now)) n)) (map g.P.HasReceipts.receipts c.args.passes.now))
           c.loop-shard.shard c.loop-shard.invariant.lines c.in_ok-check_shard.ensures.lines;
       rising =
           below_more (λ (n : ℕ). All (λ (pass : List Receipt). IsStrictlyIncreasing (positions_of n pass)) (map g.P.HasReceipts.receipts c.args.passes.now))

@@ -2,14 +2,14 @@ use Rattle.std.proofs.Common.{ℕ, ◌<◌, ◌≤◌, ◌++◌, All, map}
 use Rattle.std.specs.List.Sorted.{IsStrictlyIncreasing}
 use Rattle.rsl_settle.specs.Faults.{IsAmong}
 use Rattle.rsl_settle.specs.Receipts.{positions_of, times}
-use Rattle.rsl_settle.specs.Segments.{lines_of}
+use Rattle.rsl_settle.specs.Segments.{shard_lines}
 use Rattle.rsl_settle.proofs.receipts.check_receipts.Given as goal
 
 -- the shards so far are told
 abbrev pub invariant-loop-shard : goal.invariant-loop-shard
 invariant-loop-shard g l =
     record {
-      lines : (lower : ℕ) → lower < l.shard → All (All (IsAmong (lines_of lower (l.given ++ l.present)) lower)) (map g.P.HasReceipts.receipts l.passes);
+      lines : (lower : ℕ) → lower < l.shard → All (All (IsAmong (shard_lines lower (l.given ++ l.present)) lower)) (map g.P.HasReceipts.receipts l.passes);
       rising : (lower : ℕ) → lower < l.shard → All (λ pass. IsStrictlyIncreasing (positions_of lower pass)) (map g.P.HasReceipts.receipts l.passes);
       once : (lower : ℕ) → lower < l.shard → (position : ℕ) → times lower position (map g.P.HasReceipts.receipts l.passes) ≤ 1;
     }
