@@ -115,7 +115,7 @@ renewed_new config shard books are =
 -- what is seen of a shard after one move more
 pub seen_on : (old new : Inside) (moved : Move) (decision : Decision) → new.books.setup ≡ old.books.setup
     → new.books.books ≡ books_after old.books.setup old.books.books moved → new.opening ≡ old.opening → new.first ≡ old.first
-    → new.lines.items ≡ old.lines.items ++ record { moved = moved; decision = decision } ∷ [] → shard_seen new ≡ with_line (shard_seen old) moved decision
+    → new.journal.lines ≡ old.journal.lines ++ record { moved = moved; decision = decision } ∷ [] → shard_seen new ≡ with_line (shard_seen old) moved decision
 seen_on old new moved decision setup books opening first lines = λ i. record { setup = setup i; first = first i; opening = same i; lines = lines i }
   where
     same : opening_of new.opening new.books.books ≡ opening_of old.opening old.books.books
@@ -137,14 +137,14 @@ pub moved_on : (old new : Inside) (moved : Move) (decision : Decision) → HasJo
     → total_of (shard_seen old) < 2 ^ 64 - 1 → decision ≡ decision_by old.books.setup old.books.books moved
     → new.books.setup ≡ old.books.setup → new.books.books ≡ books_after old.books.setup old.books.books moved → AreBooks new.books.setup new.books.books
     → new.opening ≡ old.opening → new.first ≡ old.first
-    → new.lines.items ≡ old.lines.items ++ record { moved = moved; decision = decision } ∷ [] → HasJournal new
+    → new.journal.lines ≡ old.journal.lines ++ record { moved = moved; decision = decision } ∷ [] → HasJournal new
 moved_on old new moved decision has taken room decided setup books sound opening first lines = record {
   replayed = replayed;
   kept = subst IsShard (sym seen) (record {
-    journal = one_line_more old.books.setup begins old.lines.items moved decision has.kept.journal taken
+    journal = one_line_more old.books.setup begins old.journal.lines moved decision has.kept.journal taken
         (decided ∙ ap (λ (all : List RuledBook). decision_by old.books.setup all moved) has.replayed);
     books = subst (λ (shard : ShardSeen). AreBooks shard.setup (books_of shard)) seen (subst (λ (all : List RuledBook). AreBooks new.books.setup all) replayed sound);
-    total = omega (arith, room, length-append old.lines.items (line ∷ []));
+    total = omega (arith, room, length-append old.journal.lines (line ∷ []));
   });
 }
   where
@@ -160,11 +160,11 @@ moved_on old new moved decision has taken room decided setup books sound opening
     replayed : new.books.books ≡ books_of (shard_seen new)
     replayed =
         books ∙ ap (λ (all : List RuledBook). books_after old.books.setup all moved) has.replayed
-        ∙ sym (replay_more old.books.setup begins old.lines.items line)
+        ∙ sym (replay_more old.books.setup begins old.journal.lines line)
         ∙ ap (λ (shard : ShardSeen). books_of shard) (sym seen)
 
 -- what the fields of a shard are that begins: with new books, or with copies of those of a shard
-pub begun : (new : Inside) → AreBooks new.books.setup new.books.books → opening_of new.opening new.books.books ≡ new.books.books → new.lines.items ≡ [] → new.first < 2 ^ 64 → HasJournal new
+pub begun : (new : Inside) → AreBooks new.books.setup new.books.books → opening_of new.opening new.books.books ≡ new.books.books → new.journal.lines ≡ [] → new.first < 2 ^ 64 → HasJournal new
 begun new sound opening lines within = record {
   replayed = replayed;
   kept = record {
@@ -181,5 +181,5 @@ begun new sound opening lines within = record {
 
 -- what is seen of a shard that begins with new books
 pub new_seen : (config : Configuration) (shard : ℕ) (new : Inside) → new.books.setup ≡ setup_of config shard
-    → opening_of new.opening new.books.books ≡ new_books config shard → new.lines.items ≡ [] → new.first ≡ 0 → shard_seen new ≡ new_shard config shard
+    → opening_of new.opening new.books.books ≡ new_books config shard → new.journal.lines ≡ [] → new.first ≡ 0 → shard_seen new ≡ new_shard config shard
 new_seen config shard new setup opening lines first = λ i. record { setup = setup i; first = first i; opening = opening i; lines = lines i }

@@ -11,3 +11,8 @@ pub record IsJournal (setup : Setup) (opening : List RuledBook) (lines : List Li
   pub taken : All (λ line. IsTaken setup line.moved) lines
   pub decided : (n : ℕ) (line : Line) → slice_get lines n ≡ Some line
       → line.decision ≡ decision_by setup (replay setup opening (take n lines)) line.moved
+
+-- what a contract sees of the lines that a shard keeps, and for how many more there is room
+pub record JournalSeen : Type 0 where
+  pub lines : List Line
+  pub room : ℕ

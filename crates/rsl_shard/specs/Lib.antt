@@ -1,5 +1,6 @@
 pub mod BooksInside
 pub mod Journal
+pub mod JournalInside
 pub mod Moves
 pub mod Opening
 pub mod Replay

@@ -24,6 +24,11 @@ abbrev pub IsTaken : Setup → Move → Type 0
 IsTaken setup (Own account event) = IsOwn setup account event
 IsTaken setup _ = Unit {0}
 
+-- the event of an account's own move, if it is one
+abbrev pub event_in : Move → Option Event
+event_in (Own account event) = Some event
+event_in _ = None
+
 -- what a move is to an account of the shard: its own event, a sweep or a tick
 abbrev pub event_to : (account : ℕ) → Move → Option Event
 event_to account (Own other event) = if other == account then Some event else None

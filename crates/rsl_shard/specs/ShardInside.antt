@@ -9,7 +9,7 @@ shard_seen inside = record {
   setup = inside.books.setup;
   first = inside.first;
   opening = opening_of inside.opening inside.books.books;
-  lines = inside.lines.items;
+  lines = inside.journal.lines;
 }
 
 -- the books are what the journal makes of the opening

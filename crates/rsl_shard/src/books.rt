@@ -23,7 +23,7 @@ ghost use Rattle.rsl_book.specs.RuledBook.{IsWithinLimit};
 ghost use Rattle.rsl_event.specs.Prepared.{IsOfOneAccount};
 ghost use Rattle.rsl_event.specs.declared.event.Act.TheVariants.{Sweep, Tick};
 ghost use Rattle.rsl_session.specs.BookStep.{step};
-ghost use Rattle.rsl_shard.specs.Moves.{IsOfShard, IsOwn, IsTaken};
+ghost use Rattle.rsl_shard.specs.Moves.{IsOfShard, IsOwn, IsTaken, event_in};
 ghost use Rattle.rsl_shard.specs.Opening.{as_new};
 ghost use Rattle.rsl_shard.specs.Replay.{
   AreBooks,
@@ -38,6 +38,7 @@ ghost use Rattle.rsl_shard.specs.Rows.{rows_from, rows_of};
 ghost use Rattle.rsl_shard.specs.declared.moved.Move.TheVariants as moves;
 
 use crate::moved::Move;
+use crate::ready::copy_of_event;
 use crate::row::Row;
 use rsl_accounts::Config;
 use rsl_book::Book;
@@ -262,27 +263,43 @@ impl Books {
             decision ≡ decision_by self.old.setup self.old.books moved.now) }
         ensures err { OnErr result (self.new ≡ self.old) }
     {
+        let copy = copy_of_event(alloc, moved)?;
+        Ok(self.step_ready(moved, copy))
+    }
+
+    /// Steps the books by a move as `step` does, with a copy of its event if it is an account's
+    /// own.
+    pub(crate) fn step_ready(&mut self, moved: &Move, copy: Option<Event>) -> Decision
+        requires taken { IsTaken self.old.setup moved.now }
+        requires copy { copy ≡ event_in moved.now }
+        ensures setup { self.new.setup ≡ self.old.setup }
+        ensures books { self.new.books ≡
+            books_after self.old.setup self.old.books moved.now }
+        ensures decision { result ≡
+            decision_by self.old.setup self.old.books moved.now }
+    {
         match moved {
-            Move::Own { account, event } => self.own(alloc, *account, event),
-            Move::Sweep { moment, nas } => Ok(self.sweep(*moment, nas)),
-            Move::Tick { moment } => Ok(self.tick(*moment)),
-            Move::Stray { .. } => Ok(Decision::Done),
+            Move::Own { account, .. } => match copy {
+                Some(event) => self.own(*account, event),
+                None => unreachable!(),
+            },
+            Move::Sweep { moment, nas } => self.sweep(*moment, nas),
+            Move::Tick { moment } => self.tick(*moment),
+            Move::Stray { .. } => Decision::Done,
         }
     }
 
     /// Steps the book of an account by an event of its own.
-    fn own(&mut self, alloc: Global, account: u32, event: &Event) -> Result<Decision, NoMemory>
-        requires { IsOwn self.old.setup account event.now }
+    fn own(&mut self, account: u32, event: Event) -> Decision
+        requires { IsOwn self.old.setup account event }
         ensures setup { self.new.setup ≡ self.old.setup }
-        ensures books { IfOk result (λ _. self.new.books ≡
-            books_after self.old.setup self.old.books (moves.Own account event.now)) }
-        ensures decision { IfOk result (λ decision. decision ≡
-            decision_by self.old.setup self.old.books (moves.Own account event.now)) }
-        ensures err { OnErr result (self.new ≡ self.old) }
+        ensures books { self.new.books ≡
+            books_after self.old.setup self.old.books (moves.Own account event) }
+        ensures decision { result ≡
+            decision_by self.old.setup self.old.books (moves.Own account event) }
     {
-        let event = event.try_copy(alloc)?;
         let place = self.place_of(account);
-        Ok(step_at(&mut self.list, place, event))
+        step_at(&mut self.list, place, event)
     }
 
     /// Sweeps each book.

@@ -6,16 +6,21 @@
 #![tactic(auto)]
 
 mod books;
+mod journal;
 mod line;
 mod moved;
 mod opening;
+mod ready;
 mod row;
 mod segment;
 mod shard;
+mod spare;
 
 pub use books::Books;
 pub use line::Line;
 pub use moved::Move;
+pub use ready::Ready;
 pub use row::Row;
 pub use segment::Segment;
 pub use shard::Shard;
+pub use spare::Spare;

@@ -20,18 +20,20 @@ ghost use Rattle.rsl_shard.specs.Rows.{rows_of};
 ghost use Rattle.rsl_shard.specs.Seen.{IsShard, books_of, cut_off, new_shard, total_of, with_line};
 
 use crate::books::Books;
+use crate::journal::Journal;
 use crate::line::Line;
 use crate::moved::Move;
 use crate::opening::Opening;
+use crate::ready::Ready;
 use crate::row::Row;
 use crate::segment::Segment;
+use crate::spare::Spare;
 use rsl_accounts::Config;
 use rsl_book::Book;
 use rsl_event::Decision;
 use rsl_wire::NoMemory;
 use std::alloc::Global;
 use std::marker::Model;
-use std::mem::replace;
 
 /// The books of the accounts of one shard, with the journal of what was done to them.
 ///
@@ -43,7 +45,7 @@ use std::mem::replace;
 pub struct Shard {
     books: Books,
     opening: Opening,
-    lines: Vec<Line>,
+    journal: Journal,
     first: u64,
 }
 
@@ -68,7 +70,7 @@ impl Shard {
         Ok(Shard {
             books: Books::new(alloc, config, number)?,
             opening: Opening::New,
-            lines: Vec::new(alloc),
+            journal: Journal::new(alloc)?,
             first: 0,
         })
     }
@@ -95,10 +97,36 @@ impl Shard {
         ensures err { OnErr result (self.new ≡ self.old) }
         ensures kept { IsShard self.new }
     {
-        self.lines.reserve(1)?;
-        let decision = self.books.step(alloc, &moved)?;
+        self.is_kept();
+        let ready = Ready::new(alloc, moved)?;
+        self.step_ready(alloc, ready, &mut Spare::new(alloc))
+    }
+
+    /// Makes a move as `step` does, with what its caller took before: the copy of its event, and
+    /// room for the journal. So where there is spare room no memory is taken for the move or its
+    /// line, and none is let go; only where the chunks of the journal pass 1,024, and each time
+    /// that they double, is their list moved. Where memory is refused nothing has changed.
+    pub fn step_ready(
+        &mut self,
+        alloc: Global,
+        ready: Ready,
+        spare: &mut Spare,
+    ) -> Result<Decision, NoMemory>
+        requires takes { IsTaken self.old.setup ready }
+        requires room { total_of self.old < 2 ^ 64 - 1 }
+        ensures line { IfOk result (λ decision. self.new ≡ with_line self.old ready decision) }
+        ensures decision { IfOk result (λ decision.
+            decision ≡ decision_by self.old.setup (books_of self.old) ready) }
+        ensures books { IfOk result (λ _.
+            HaveStepped self.old.setup ready (books_of self.old) (books_of self.new)) }
+        ensures err { OnErr result (self.new ≡ self.old) }
+        ensures kept { IsShard self.new }
+    {
+        self.journal.make_room(alloc, spare)?;
+        let (moved, copy) = ready.into_parts();
+        let decision = self.books.step_ready(&moved, copy);
         self.books.are_sound();
-        self.lines.push_reserved(Line { moved, decision });
+        self.journal.push(Line { moved, decision });
         self.is_kept();
         Ok(decision)
     }
@@ -125,7 +153,7 @@ impl Shard {
     pub fn moves(&self) -> usize
         ensures { result ≡ length self.now.lines }
     {
-        self.lines.len()
+        self.journal.len()
     }
 
     /// The number of lines of all segments so far: those that were handed out, and those of the
@@ -134,14 +162,14 @@ impl Shard {
         ensures total { result ≡ total_of self.now }
         ensures kept { IsShard self.now }
     {
-        self.first + self.lines.len() as u64
+        self.first + self.journal.len() as u64
     }
 
     /// What is kept of a shard, whatever it has come to.
     fn is_kept(&self)
         ensures { IsShard self.now }
     {
-        let _ = &self.lines;
+        let _ = &self.journal;
     }
 
     /// Hands out the journal with the books that it began with, and goes on from equal books, with
@@ -155,15 +183,16 @@ impl Shard {
         ensures err { OnErr result (self.new ≡ self.old) }
         ensures kept { IsShard self.new }
     {
+        let room = self.journal.room_for_all(alloc)?;
         let next = self.books.copies(alloc)?;
         let opening = self.opening.hand_out(alloc, &self.books, next)?;
         let first = self.first;
-        let more = self.lines.len() as u64;
+        let more = self.journal.len() as u64;
         let segment = Segment {
             shard: self.books.shard(),
             first,
             opening,
-            lines: replace(&mut self.lines, Vec::new(alloc)),
+            lines: self.journal.hand_out(room),
         };
         self.first = first + more;
         self.is_kept();

@@ -1,6 +1,5 @@
 use Rattle.std.proofs.Common.{◌≡◌, ◌+◌, ◌*◌, ◌<◌, List, length, arith, rules, sym, ap, subst, ◌∙◌}
 use Rattle.rsl_book.specs.RuledBook.{RuledBook}
-use Rattle.rsl_event.specs.declared.event.Event.{Event}
 use Rattle.rsl_shard.specs.BooksInside.{setup_inside}
 use Rattle.rsl_shard.specs.Replay.{BooksSeen, books_after, decision_by}
 use Rattle.rsl_shard.specs.declared.moved.Move.TheVariants as moves
@@ -16,11 +15,10 @@ returns-clause-books c =
     let within : c.place_of-place.result < length c.deref_mut.result.now =
     subst (λ (all : List RuledBook). c.place_of-place.result < length all) (sym c.deref_mut.ensures.value) inside in
     written c.step_at.new.books c.self.inside.list.items c.self.inside.list.len (c.step_at.ensures.len ∙ ap length c.deref_mut.ensures.value) (search rules)
-    ∙ own_books (setup_inside c.self.inside) c.deref_mut.result.now c.step_at.new.books c.args.account c.place_of-place.result c.in_ok-event.event
+    ∙ own_books (setup_inside c.self.inside) c.deref_mut.result.now c.step_at.new.books c.args.account c.place_of-place.result c.args.event
     (omega arith) at within c.step_at.ensures.books
-    ∙ ap (λ (event : Event). books_after (setup_inside c.self.inside) c.deref_mut.result.now (moves.Own c.args.account event)) c.in_ok-event.ensures.copy
-    ∙ ap (λ (all : List RuledBook). books_after (setup_inside c.self.inside) all (moves.Own c.args.account c.args.event.now)) c.deref_mut.ensures.value
-    ∙ ap (λ (seen : BooksSeen). books_after seen.setup seen.books (moves.Own c.args.account c.args.event.now)) c.self.view_is
+    ∙ ap (λ (all : List RuledBook). books_after (setup_inside c.self.inside) all (moves.Own c.args.account c.args.event)) c.deref_mut.ensures.value
+    ∙ ap (λ (seen : BooksSeen). books_after seen.setup seen.books (moves.Own c.args.account c.args.event)) c.self.view_is
 
 pub returns-clause-decision : goal.returns-clause-decision
 returns-clause-decision c =
@@ -30,8 +28,7 @@ returns-clause-decision c =
     subst (λ (seen : BooksSeen). c.place_of-place.result < length seen.books) (sym c.self.view_is) c.place_of-place.ensures.within in
     let within : c.place_of-place.result < length c.deref_mut.result.now =
     subst (λ (all : List RuledBook). c.place_of-place.result < length all) (sym c.deref_mut.ensures.value) inside in
-    own_decision (setup_inside c.self.inside) c.deref_mut.result.now c.step_at.result c.args.account c.place_of-place.result c.in_ok-event.event
+    own_decision (setup_inside c.self.inside) c.deref_mut.result.now c.step_at.result c.args.account c.place_of-place.result c.args.event
     (omega arith) at within c.step_at.ensures.decision
-    ∙ ap (λ (event : Event). decision_by (setup_inside c.self.inside) c.deref_mut.result.now (moves.Own c.args.account event)) c.in_ok-event.ensures.copy
-    ∙ ap (λ (all : List RuledBook). decision_by (setup_inside c.self.inside) all (moves.Own c.args.account c.args.event.now)) c.deref_mut.ensures.value
-    ∙ ap (λ (seen : BooksSeen). decision_by seen.setup seen.books (moves.Own c.args.account c.args.event.now)) c.self.view_is
+    ∙ ap (λ (all : List RuledBook). decision_by (setup_inside c.self.inside) all (moves.Own c.args.account c.args.event)) c.deref_mut.ensures.value
+    ∙ ap (λ (seen : BooksSeen). decision_by seen.setup seen.books (moves.Own c.args.account c.args.event)) c.self.view_is

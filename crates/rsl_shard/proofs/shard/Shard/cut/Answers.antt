@@ -10,7 +10,7 @@ use Rattle.rsl_shard.proofs.shard.Shard.cut.Goals as goal
 
 pub invariant_of-self : goal.invariant_of-self
 invariant_of-self c =
-    subst (λ (opening : Opening). let inside : Inside = record { books = c.self.inside.books; opening = opening; lines = c.self.inside.lines; first = c.self.inside.first } in HasJournal inside)
+    subst (λ (opening : Opening). let inside : Inside = record { books = c.self.inside.books; opening = opening; journal = c.self.inside.journal; first = c.self.inside.first } in HasJournal inside)
     (sym c.in_err-opening.ensures.err) c.self.invariant
 
 pub invariant_of-self-2 : goal.invariant_of-self-2
@@ -20,5 +20,5 @@ invariant_of-self-2 c =
     let within : c.self.inside.first + c.len-more.result < 2 ^ 64 = search rules in
     let opening : opening_of c.hand_out.new.self c.self.inside.books.books ≡ c.self.inside.books.books =
     ap (λ (opening : Opening). opening_of opening c.self.inside.books.books) c.in_ok-opening.ensures.next ∙ c.in_ok-next.ensures in
-    begun (record { books = c.self.inside.books; opening = c.hand_out.new.self; lines = c.replace.new.dest; first = c.self.inside.first + c.len-more.result })
-    sound opening (ap (λ vec. vec.items) c.replace.ensures.after ∙ c.new.ensures.items) within
+    begun (record { books = c.self.inside.books; opening = c.hand_out.new.self; journal = c.hand_out-2.new.self; first = c.self.inside.first + c.len-more.result })
+    sound opening c.hand_out-2.ensures.empty within

@@ -2,7 +2,7 @@ use Rattle.std.proofs.Common.{ℕ, ap, sym}
 use Rattle.rsl_shard.specs.Moves.{event_to}
 use Rattle.rsl_shard.specs.declared.moved.Move.{Move}
 use Rattle.rsl_shard.proofs.Moving.{moved_none}
-use Rattle.rsl_shard.proofs.books.Books.step.Goals as goal
+use Rattle.rsl_shard.proofs.books.Books.step_ready.Goals as goal
 
 pub returns-in-Stray-clause-books : goal.returns-in-Stray-clause-books
 returns-in-Stray-clause-books c =

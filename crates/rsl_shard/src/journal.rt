@@ -1,0 +1,151 @@
+ghost use Rattle.std.specs.Prelude.{
+  ◌≡◌,
+  ◌+◌,
+  ◌^◌,
+  ◌<◌,
+  ◌≤◌,
+  IfOk,
+  OnErr,
+  OnOk,
+  [],
+  ◌∷◌,
+  ◌++◌,
+  length,
+  vec_capacity,
+  vec_items,
+  vec_len,
+};
+ghost use Rattle.std.specs.List.{flat_map};
+
+use crate::line::Line;
+use crate::spare::{CHUNK, Spare};
+use rsl_wire::NoMemory;
+use std::alloc::Global;
+use std::marker::Model;
+use std::mem::replace;
+
+/// For how many chunks there is room at first: for a million lines.
+const CHUNKS: usize = 1024;
+
+/// The lines of a journal, in chunks: so a line more moves none of those that stand.
+///
+/// A contract sees the lines, and for how many more there is room in the last chunk.
+#[derive(Drop)]
+pub(crate) struct Journal {
+    /// The chunks that are full.
+    full: Vec<Vec<Line>>,
+    /// The chunk in which there may be room.
+    last: Vec<Line>,
+    /// How many lines stand in the chunks that are full.
+    earlier: usize,
+}
+
+impl Model for Journal {
+    ghost use Rattle.rsl_shard.specs.Journal.{JournalSeen};
+
+    ghost Value = { JournalSeen };
+
+    ghost use Rattle.rsl_shard.specs.JournalInside.{journal_seen, IsCounted};
+
+    ghost view = { journal_seen };
+
+    ghost invariant = { IsCounted };
+}
+
+/// Moves a chunk's lines behind what is there. There is room for them.
+fn move_behind(all: &mut Vec<Line>, chunk: &mut Vec<Line>)
+    requires { vec_len all.old + vec_len chunk.old ≤ vec_capacity all.old }
+    ensures items { all.new.items ≡ all.old.items ++ chunk.old.items }
+    ensures emptied { chunk.new.items ≡ [] }
+    ensures len { vec_len all.new ≡ vec_len all.old + vec_len chunk.old }
+    ensures capacity { vec_capacity all.old ≤ vec_capacity all.new }
+{
+    match all.append(chunk) {
+        Ok(()) => (),
+        Err(_) => unreachable!(),
+    }
+}
+
+/// Moves the lines of chunks, in their order, behind what is there. There is room for them.
+fn join(all: &mut Vec<Line>, chunks: &mut [Vec<Line>])
+    requires { vec_len all.old + length (flat_map vec_items chunks.old) ≤ vec_capacity all.old }
+    ensures items { all.new.items ≡ all.old.items ++ flat_map vec_items chunks.old }
+    ensures capacity { vec_capacity all.old ≤ vec_capacity all.new }
+{
+    for at in 0..chunks.len() {
+        move_behind(all, &mut chunks[at]);
+    }
+}
+
+impl Journal {
+    /// No lines. It fails only where memory is refused.
+    pub(crate) fn new(alloc: Global) -> Result<Journal, NoMemory>
+        ensures { IfOk result (λ journal. journal.lines ≡ []) }
+    {
+        Ok(Journal {
+            full: Vec::with_capacity(alloc, CHUNKS)?,
+            last: Vec::new(alloc),
+            earlier: 0,
+        })
+    }
+
+    /// The number of lines.
+    pub(crate) fn len(&self) -> usize
+        requires { length self.now.lines < 2 ^ 64 }
+        ensures { result ≡ length self.now.lines }
+    {
+        self.earlier + self.last.len()
+    }
+
+    /// Sees to it that there is room for a line. Where the last chunk is full, the spare room
+    /// becomes the next one, and is taken here if there is none. Where memory is refused the lines
+    /// are as they were.
+    pub(crate) fn make_room(&mut self, alloc: Global, spare: &mut Spare) -> Result<(), NoMemory>
+        requires { length self.old.lines < 2 ^ 64 }
+        ensures lines { self.new.lines ≡ self.old.lines }
+        ensures room { OnOk result (0 < self.new.room) }
+    {
+        if self.last.len() == self.last.capacity() {
+            self.full.reserve(1)?;
+            spare.fill(alloc)?;
+            self.earlier += self.last.len();
+            let full = replace(&mut self.last, spare.take(alloc));
+            if !full.is_empty() {
+                self.full.push_reserved(full);
+            }
+        }
+        Ok(())
+    }
+
+    /// Puts a line after the others. There is room for it.
+    pub(crate) fn push(&mut self, line: Line)
+        requires { 0 < self.old.room }
+        ensures { self.new.lines ≡ self.old.lines ++ line ∷ [] }
+    {
+        self.last.push_reserved(line);
+    }
+
+    /// Room for all the lines. It fails only where memory is refused.
+    pub(crate) fn room_for_all(&self, alloc: Global) -> Result<Vec<Line>, NoMemory>
+        requires { length self.now.lines < 2 ^ 64 }
+        ensures empty { IfOk result (λ room. room.items ≡ []) }
+        ensures room { IfOk result (λ room. length self.now.lines ≤ vec_capacity room) }
+    {
+        Ok(Vec::with_capacity(alloc, self.len())?)
+    }
+
+    /// Hands out the lines, in room for all of them, and goes on with none.
+    pub(crate) fn hand_out(&mut self, room: Vec<Line>) -> Vec<Line>
+        requires empty { room.items ≡ [] }
+        requires room { length self.old.lines ≤ vec_capacity room }
+        ensures lines { result.items ≡ self.old.lines }
+        ensures empty { self.new.lines ≡ [] }
+    {
+        let mut all = room;
+        join(&mut all, &mut self.full);
+        move_behind(&mut all, &mut self.last);
+        self.full.clear();
+        self.earlier = 0;
+        all
+    }
+}

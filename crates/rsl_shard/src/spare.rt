@@ -1,0 +1,55 @@
+ghost use Rattle.std.specs.Prelude.{◌≡◌, ℕ, ◌≤◌, OnErr, OnOk, [], vec_capacity, vec_len};
+
+use crate::line::Line;
+use rsl_wire::NoMemory;
+use std::alloc::Global;
+use std::marker::Model;
+use std::mem::replace;
+
+/// How many lines stand in a chunk of a journal.
+pub(crate) const CHUNK: usize = 1024;
+
+/// Room for lines of a journal, which is taken before the step that needs it.
+///
+/// A contract sees for how many lines there is room.
+#[derive(Drop)]
+pub struct Spare {
+    lines: Vec<Line>,
+}
+
+impl Model for Spare {
+    ghost use Rattle.std.specs.Prelude.{◌≡◌, ℕ, vec_capacity, vec_len};
+
+    ghost Value = { ℕ };
+
+    ghost view = { λ spare. vec_capacity spare.lines };
+
+    ghost invariant = { λ spare. vec_len spare.lines ≡ 0 };
+}
+
+impl Spare {
+    /// No room yet.
+    pub fn new(alloc: Global) -> Spare {
+        Spare {
+            lines: Vec::new(alloc),
+        }
+    }
+
+    /// Takes room for 1,024 lines, where there is none. It fails only where memory is refused, and
+    /// then nothing has changed.
+    pub fn fill(&mut self, alloc: Global) -> Result<(), NoMemory>
+        ensures room { OnOk result (1024 ≤ self.new) }
+        ensures err { OnErr result (self.new ≡ self.old) }
+    {
+        self.lines.reserve(CHUNK)?;
+        Ok(())
+    }
+
+    /// Gives the room away.
+    pub(crate) fn take(&mut self, alloc: Global) -> Vec<Line>
+        ensures items { result.items ≡ [] }
+        ensures room { vec_capacity result ≡ self.old }
+    {
+        replace(&mut self.lines, Vec::new(alloc))
+    }
+}
