@@ -36,8 +36,7 @@ use Rattle.rsl_shard.specs.declared.moved.Move.{Move}
 use Rattle.rsl_shard.specs.declared.moved.Move.TheVariants as moves
 use Rattle.rsl_wire.specs.Packet.{Fields, packet_of}
 use Rattle.rsl_wire.specs.declared.packet.WireFault.{WireFault}
-use Rattle.rsl_steps.specs.Books.{answer_by_book, answer_with_book, decision_by_book}
-use Rattle.rsl_steps.specs.Books.{book_at as own_book}
+use Rattle.rsl_steps.specs.Books.{account_book, answer_by_book, answer_with_book, decision_by_book}
 use Rattle.rsl_steps.specs.Moves.{move_in, move_of, moves_of}
 use Rattle.rsl_steps.specs.Own.{is_of_shard, own}
 use Rattle.rsl_steps.specs.Ran.{AreShards, HasMoved}
@@ -134,7 +133,7 @@ same_book entry one other same = λ i. Some (record { rules = entry.rules; book 
 pub book_in_its_shard : (config : Configuration) (boot : ℕ) (before : List Step) (account : ℕ) (entry : Account) (seen : ShardSeen)
     → account % config.settings.shards < config.settings.shards → slice_get config.accounts account ≡ Some entry
     → HasMoved config boot before (account % config.settings.shards) seen
-    → book_at seen.setup (books_of seen) account ≡ Some (record { rules = entry.rules; book = own_book config boot account before entry.rules })
+    → book_at seen.setup (books_of seen) account ≡ Some (record { rules = entry.rules; book = account_book config boot account before entry.rules })
 book_in_its_shard config boot before account entry seen less there has =
     (λ i. book_at (has.setup i) (replay (has.setup i) (has.opening i) seen.lines) account)
     ∙ book_after_lines config (account % config.settings.shards) account entry seen.lines less there refl
@@ -154,7 +153,7 @@ decided_own config boot before moment account act decision old new are within it
     it.decided
     ∙ ap (stepped_by (record { moment = moment; act = act }))
     (book_in_its_shard config boot before account found.0 it.seen (omega (arith, at, are.count)) found.1 (are.each (account % config.settings.shards) it.seen it.there))
-    ∙ sym (ap (λ (o : Option Account). option_map_or (λ (entry : Account). (step entry.rules (own_book config boot account before entry.rules) (record { moment = moment; act = act })).1) o Done) found.1)
+    ∙ sym (ap (λ (o : Option Account). option_map_or (λ (entry : Account). (step entry.rules (account_book config boot account before entry.rules) (record { moment = moment; act = act })).1) o Done) found.1)
 
 -- ---- one datagram
 

@@ -41,7 +41,8 @@ pub fn run(alloc: Global, config: &Config, boot: u64, steps: &[Step]) -> Result<
     ensures books { IfOk result (λ ran. (account : ℕ) (entry : Entry) →
         slice_get config.now.accounts account ≡ Some entry →
         HasBookOf config.now account entry.rules
-        (own config.now boot account (steps_taken [] steps.now ran.answers.items)) ran.shards.items) }
+        (own config.now boot account (steps_taken [] steps.now ran.answers.items))
+        ran.shards.items) }
 {
     // What books answer and hold is what looking back finds, and every configuration is within its
     // limits.
