@@ -10,54 +10,64 @@ mod record;
 use record::record_of;
 use rsl_accounts::Config;
 use rsl_report::audit;
+use std::env;
 use std::io::Read;
 use std::process::ExitCode;
-use std::{env, io};
 
 /// The most octets of an account file that are read.
 const MAX_FILE_LEN: u64 = 16_777_216;
 
+const USAGE: &str = "usage: audit_time WORK LINES";
+
 fn main(rt: HostRuntime) -> ExitCode {
     match worked(&rt) {
         Ok(()) => ExitCode::SUCCESS,
-        Err(error) => {
-            let _ = eprintln!(rt; "{error}");
+        Err(why) => {
+            let _ = eprintln!(rt; "{why}");
             ExitCode::FAILURE
         }
     }
 }
 
-/// Does what the arguments say.
-fn worked(rt: &HostRuntime) -> io::Result<()> {
-    let mut words = env::args(rt)?;
+/// Does what the arguments say, or says why not.
+fn worked(rt: &HostRuntime) -> Result<(), &'static str> {
+    let Ok(mut words) = env::args(rt) else {
+        return Err("no memory");
+    };
     let _ = words.next();
     let (Some(work), Some(lines)) = (words.next(), words.next()) else {
-        return Err(usage());
+        return Err(USAGE);
     };
     let Ok(lines) = lines.parse() else {
-        return Err(usage());
+        return Err(USAGE);
     };
-    let config = config_of(rt)?;
+    let Some(config) = config_of(rt) else {
+        return Err("a bad account file");
+    };
     let Ok(segments) = record_of(rt.alloc(), &config, lines) else {
-        return Err(io::Error::other("no memory"));
+        return Err("no memory");
     };
-    match work.as_str() {
+    let printed = match work.as_str() {
         "making" => println!(rt; "made {} segments", segments.len()),
         "audit" => println!(rt; "{:?}", audit(rt.alloc(), &config, segments.as_slice())),
-        _ => Err(usage()),
+        _ => return Err(USAGE),
+    };
+    match printed {
+        Ok(()) => Ok(()),
+        Err(_) => Err("no output"),
     }
-}
-
-fn usage() -> io::Error {
-    io::Error::other("usage: audit_time WORK LINES")
 }
 
 /// The configuration that standard input has.
-fn config_of(rt: &HostRuntime) -> io::Result<Config> {
+fn config_of(rt: &HostRuntime) -> Option<Config> {
     let mut text = Vec::new(rt.alloc());
-    rt.stdin().take(MAX_FILE_LEN).read_to_end(&mut text)?;
-    match Config::read(rt.alloc(), text.as_slice()) {
-        Ok(config) => Ok(config),
-        Err(_) => Err(io::Error::other("a bad account file")),
+    if rt
+        .stdin()
+        .take(MAX_FILE_LEN)
+        .read_to_end(&mut text)
+        .is_err()
+    {
+        return None;
     }
+    Config::read(rt.alloc(), text.as_slice()).ok()
 }

@@ -17,3 +17,4 @@ pub mod Yielding
 pub mod Counting
 pub mod Sought
 pub mod Placed
+mod Marks

@@ -25,6 +25,20 @@ entry_here kind links at link within is = ap (λ (one : Link). (order_key kind o
 pub searchable : (kind : Kind) (links : List Link) (but : ℕ) (order : List ℕ) → IsOrderBut kind links but order → IsSearchable kind links order
 searchable kind links but order o = record { within = λ k inside. (o.each k inside).within; rises = o.rises }
 
+-- what an order lists at a place
+pub listed_here : (order : List ℕ) (k place : ℕ) → k < length order → place ≡ get_or order k place → place ≡ get_or order k 0
+listed_here order k place inside is = is ∙ get_or_default order k place 0 inside
+
+pub listed_within : (kind : Kind) (links : List Link) (order : List ℕ) → IsSearchable kind links order → (k place : ℕ) → k < length order → place ≡ get_or order k place → place < length links
+listed_within kind links order o k place inside is =
+    subst (λ n. n < length links) (sym (listed_here order k place inside is)) (o.within k inside)
+
+pub listed_entry : (kind : Kind) (links : List Link) (order : List ℕ) → IsSearchable kind links order → (k place : ℕ) (link : Link) → k < length order → place ≡ get_or order k place → link ≡ get_or links place link
+    → (order_key kind link, place) ≡ rank_at kind links (get_or order k 0)
+listed_entry kind links order o k place link inside is here =
+    entry_here kind links place link (listed_within kind links order o k place inside is) here
+    ∙ ap (rank_at kind links) (listed_here order k place inside is)
+
 pub few_others : (kind : Kind) (links : List Link) (at : ℕ) (order : List ℕ) → at < length links → IsOrderBut kind links at order → length order < length links
 few_others kind links at order within o =
     let most = few (length links) (at ∷ order) below distinct in
@@ -234,9 +248,6 @@ joined_others bundle links at x y orders within is changed are = (
 )
 
 -- the order of a view of links
-pub order_in : (kind : Kind) (links view : List Link) (order shown : List ℕ) → view ≡ links → shown ≡ order → IsOrderOf kind links order → IsOrderOf kind view shown
-order_in kind links view order shown same alike o = subst (λ (xs : List Link). IsOrderOf kind xs shown) (sym same) (subst (IsOrderOf kind links) (sym alike) o)
-
 pub no_order : (kind : Kind) (links : List Link) (order : List ℕ) → links ≡ [] → order ≡ [] → IsOrderOf kind links order
 no_order kind links order none empty =
     record {

@@ -2,7 +2,7 @@
 use Rattle.std.proofs.Common.{◌≡◌, ◌≢◌, ℕ, zero, suc, ◌+◌, ◌-◌, ◌<◌, ◌≤◌, List, [], ◌∷◌, ◌++◌, take, drop, set, get_or, length, map, Bool, true, false, refl, ap, sym, ◌∙◌, subst, arith, append-nil, ◌⊎◌, inl, inr}
 use Rattle.std.specs.List.{insert, remove}
 use Rattle.std.proofs.lemmas.Bool.{false≢true, cases_lt, cases_eq}
-use Rattle.std.proofs.lemmas.List.{length-map, get_or-map, take_all, drop_all}
+use Rattle.std.proofs.lemmas.List.{length-drop, length-map, get_or-map, drop_all, drop_at, take_all, take_at}
 use Rattle.std.proofs.lemmas.List.Edits.{get_or-insert_at, get_or-insert_below, get_or-insert_above, get_or-remove_below, get_or-remove_above, length-insert, length-remove, map_over_more}
 use Rattle.rsl_book.specs.declared.link.Link.{Link}
 use Rattle.rsl_book.specs.declared.order.Kind.{Kind}
@@ -30,6 +30,25 @@ high_part kind links order o target middle high k from within =
     by_cases true e past =
         absurd (false≢true (sym high ∙ chain (rank_at kind links (get_or order middle 0)) (rank_at kind links (get_or order k 0)) target (o.rises middle k past within) e))
     by_cases false e past = e
+
+-- a number put before the others, after they were turned to the left and before they are turned back
+pub turned_in : (xs : List ℕ) (place at long : ℕ) → long ≡ length xs + 1 → place ≤ length xs
+    → drop (long - place) (at ∷ (drop place xs ++ take place xs)) ++ take (long - place) (at ∷ (drop place xs ++ take place xs)) ≡ insert xs place at
+turned_in xs place at long one within =
+    let after = length-drop place xs in
+    let head : length (at ∷ drop place xs) ≡ long - place = omega (arith, after, one, within) in
+    ap (λ ys. ys ++ take (long - place) (at ∷ (drop place xs ++ take place xs))) (drop_at (at ∷ drop place xs) (take place xs) (long - place) head)
+    ∙ ap (λ ys. take place xs ++ ys) (take_at (at ∷ drop place xs) (take place xs) (long - place) head)
+
+-- where the last stands before an entry, all do
+pub split_at_end : (kind : Kind) (links : List Link) (order : List ℕ) → IsSearchable kind links order → (target : Rank) (end : ℕ) → end ≡ length order → 0 < end
+    → is_before (rank_at kind links (get_or order (end - 1) 0)) target ≡ true → IsSplit (rank_at kind links) order target end
+split_at_end kind links order o target end long some low =
+    record {
+      within = omega (arith, long);
+      before = λ k less. low_part kind links order o target (end - 1) (omega (arith, long, some)) low k (omega (arith, less, some));
+      after = λ k past inside. absurd (omega (arith, long, past, inside));
+    }
 
 read_less : (order : List ℕ) (at k : ℕ) → at < length order → k < length (remove order at)
     → ((k < at) × (get_or (remove order at) k 0 ≡ get_or order k 0)) ⊎ ((at ≤ k) × ((k + 1 < length order) × (get_or (remove order at) k 0 ≡ get_or order (k + 1) 0)))

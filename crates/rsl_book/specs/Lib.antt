@@ -8,3 +8,4 @@ pub mod Order
 pub mod LinkList
 pub mod Steps
 pub mod Sound
+pub mod Marks

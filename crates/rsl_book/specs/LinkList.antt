@@ -3,6 +3,7 @@
 -- bound, by their last touch, of those that are bound, by their sessions, and of all, by their
 -- bundles.
 use Rattle.std.specs.Prelude.{◌≡◌, ℕ, ◌<◌, ◌≤◌, ◌==◌, ◌&&◌, List, Bool, true, false, Option, None, Some, vec_capacity, length, map}
+use Rattle.std.specs.VecDeque.{deque_capacity}
 use Rattle.rsl_session.specs.Same.{same_octets}
 use Rattle.rsl_book.specs.declared.link.Hold.{Hold}
 use Rattle.rsl_book.specs.declared.link.Hold.TheVariants.{Number, Session}
@@ -31,10 +32,10 @@ AreOrders links orders = AreOrdersBut links (length links) orders
 
 -- each order has room for so many positions
 pub record HaveOrdersRoom (most : ℕ) (orders : Orders) : Type 0 where
-  pub reserved : most ≤ vec_capacity orders.reserved
-  pub bound : most ≤ vec_capacity orders.bound
-  pub sessions : most ≤ vec_capacity orders.sessions
-  pub bundles : most ≤ vec_capacity orders.bundles
+  pub reserved : most ≤ deque_capacity orders.reserved
+  pub bound : most ≤ deque_capacity orders.bound
+  pub sessions : most ≤ deque_capacity orders.sessions
+  pub bundles : most ≤ deque_capacity orders.bundles
 
 -- the orders close up after the position of a link that is gone
 pub record AreClosed (gone : ℕ) (old new : Orders) : Type 0 where

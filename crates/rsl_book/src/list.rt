@@ -19,15 +19,16 @@ use crate::servers::Servers;
 use rsl_accounts::Rules;
 use rsl_wire::{NoMemory, Octets};
 use std::alloc::Global;
+use std::collections::VecDeque;
 use std::marker::Model;
 
 /// The orders of a book's links.
 #[derive(Drop)]
 struct Orders {
-    reserved: Vec<usize>,
-    bound: Vec<usize>,
-    sessions: Vec<usize>,
-    bundles: Vec<usize>,
+    reserved: VecDeque<usize>,
+    bound: VecDeque<usize>,
+    sessions: VecDeque<usize>,
+    bundles: VecDeque<usize>,
 }
 
 impl Orders {
@@ -37,10 +38,10 @@ impl Orders {
         ensures room { IfOk result (λ orders. HaveOrdersRoom room orders) }
     {
         Ok(Orders {
-            reserved: Vec::with_capacity(alloc, room)?,
-            bound: Vec::with_capacity(alloc, room)?,
-            sessions: Vec::with_capacity(alloc, room)?,
-            bundles: Vec::with_capacity(alloc, room)?,
+            reserved: VecDeque::with_capacity(alloc, room)?,
+            bound: VecDeque::with_capacity(alloc, room)?,
+            sessions: VecDeque::with_capacity(alloc, room)?,
+            bundles: VecDeque::with_capacity(alloc, room)?,
         })
     }
 
@@ -215,7 +216,7 @@ impl LinkList {
         ensures missed { IfNone result (list_any (is_held nas id.now) self.now.items ≡ false) }
     {
         let links = self.links.as_slice();
-        let order = self.orders.sessions.as_slice();
+        let order = &self.orders.sessions;
         let place = Kind::Sessions.count_before(order, links, nas as u64, 0, id, 0);
         if place == order.len() {
             return None;
@@ -233,7 +234,7 @@ impl LinkList {
         ensures { result ≡ count_by (is_member nas id.now) self.now.items }
     {
         let links = self.links.as_slice();
-        let order = self.orders.bundles.as_slice();
+        let order = &self.orders.bundles;
         let first = Kind::Bundles.count_before(order, links, nas as u64, 1, id, 0);
         let end = Kind::Bundles.count_before(order, links, nas as u64, 1, id, links.len());
         end - first
@@ -244,7 +245,7 @@ impl LinkList {
         ensures { result ≡ named_by_links self.now.items nas }
     {
         let links = self.links.as_slice();
-        let order = self.orders.bundles.as_slice();
+        let order = &self.orders.bundles;
         let place = Kind::Bundles.count_before(order, links, nas as u64, 0, &[], 0);
         if place == order.len() {
             return false;
@@ -262,11 +263,11 @@ impl LinkList {
             lapses_at rules.now now (link_seen servers.now (link_at self.now.items at)) ≡ false) }
     {
         let links = self.links.as_slice();
-        let reserved = self.orders.reserved.as_slice();
+        let reserved = &self.orders.reserved;
         match first_lapsed(Kind::Reserved, reserved, links, servers, rules, now) {
             Some(at) => Some(at),
             None => {
-                let bound = self.orders.bound.as_slice();
+                let bound = &self.orders.bound;
                 first_lapsed(Kind::Bound, bound, links, servers, rules, now)
             }
         }
@@ -301,7 +302,7 @@ impl LinkList {
 /// The link of an order that lapses at this clock, if one does: then the first does.
 fn first_lapsed(
     kind: Kind,
-    order: &[usize],
+    order: &VecDeque<usize>,
     links: &[Link],
     servers: &Servers,
     rules: &Rules,
@@ -309,7 +310,7 @@ fn first_lapsed(
 ) -> Option<usize>
     requires fit { RulesFit rules.now }
     requires touch { is_by_touch kind ≡ true }
-    requires order { IsOrderOf kind links.now order.now }
+    requires order { IsOrderOf kind links.now order.now.items }
     ensures within { IfSome result (λ at. at < length links.now) }
     ensures found { IfSome result (λ at. lapses_at rules.now now (link_seen servers.now
         (link_at links.now at)) ≡ true) }

@@ -1,12 +1,15 @@
 //! Orders of a book's links: lists of their positions, so that a link is found without a look at
 //! each.
 
-ghost use Rattle.std.specs.Prelude.{◌≡◌, ◌<◌, ◌≤◌, ◌∷◌, map, length, vec_capacity};
+ghost use Rattle.std.specs.Prelude.{◌≡◌, ◌<◌, ◌≤◌, ◌∷◌, get_or, length, map, true};
+ghost use Rattle.std.specs.List.{insert};
+ghost use Rattle.std.specs.VecDeque.{deque_capacity};
 ghost use Rattle.rsl_book.specs.Order.{IsSearchable, IsSplit, IsOrderBut, IsOrderOf, rank_at};
-ghost use Rattle.rsl_book.specs.Order.{is_before, is_of, order_key, order_mark, moved_up, order_number};
-ghost use Rattle.rsl_book.specs.Order.{order_octets};
+ghost use Rattle.rsl_book.specs.Order.{is_before, is_of, link_at, order_key, order_mark, moved_up};
+ghost use Rattle.rsl_book.specs.Order.{order_number, order_octets};
 
 use crate::link::{Hold, Link};
+use std::collections::VecDeque;
 
 /// Which links an order lists, and by what it goes. Links that are alike in this stand as they
 /// opened.
@@ -88,15 +91,15 @@ impl Kind {
     /// How many links of an order stand before what goes by these.
     pub(crate) fn count_before(
         self,
-        order: &[usize],
+        order: &VecDeque<usize>,
         links: &[Link],
         number: u64,
         mark: u64,
         octets: &[u8],
         at: usize,
     ) -> usize
-        requires { IsSearchable self links.now order.now }
-        ensures { IsSplit (rank_at self links.now) order.now
+        requires { IsSearchable self links.now order.now.items }
+        ensures { IsSplit (rank_at self links.now) order.now.items
             (number ∷ mark ∷ octets.now, at) result }
     {
         let mut low = 0;
@@ -113,49 +116,79 @@ impl Kind {
         low
     }
 
-    /// How many links of an order stand before the link at a position.
-    fn count_before_link(self, order: &[usize], links: &[Link], at: usize) -> usize
+    /// How many links of an order stand before the link at a position. The link that is touched
+    /// goes to the end of an order by touch, so that place is tried first.
+    fn count_before_link(self, order: &VecDeque<usize>, links: &[Link], at: usize) -> usize
         requires within { at < length links.now }
-        requires order { IsSearchable self links.now order.now }
-        ensures { IsSplit (rank_at self links.now) order.now (rank_at self links.now at) result }
+        requires order { IsSearchable self links.now order.now.items }
+        ensures { IsSplit (rank_at self links.now) order.now.items (rank_at self links.now at)
+            result }
     {
         let link = &links[at];
-        self.count_before(
-            order,
-            links,
-            self.number(link),
-            self.mark(link),
-            self.octets(link),
-            at,
-        )
+        let (number, mark, octets) = (self.number(link), self.mark(link), self.octets(link));
+        let end = order.len();
+        if end > 0 {
+            let last = order[end - 1];
+            if self.is_before(&links[last], last, number, mark, octets, at) {
+                return end;
+            }
+        }
+        self.count_before(order, links, number, mark, octets, at)
+    }
+
+    /// Where the link at a position stands in the order of its kind. Links are mostly touched in
+    /// turn, so the first of an order is tried first.
+    fn place_of(self, order: &VecDeque<usize>, links: &[Link], at: usize) -> usize
+        requires within { at < length links.now }
+        requires order { IsOrderOf self links.now order.now.items }
+        requires kind { is_of self (link_at links.now at) ≡ true }
+        ensures within { result < length order.now.items }
+        ensures stands { get_or order.now.items result 0 ≡ at }
+    {
+        if order.len() > 0 && order[0] == at {
+            return 0;
+        }
+        self.count_before_link(order, links, at)
     }
 
     /// Takes the link at a position out of an order, if it is of its kind.
-    pub(crate) fn withdraw(self, order: &mut Vec<usize>, links: &[Link], at: usize)
+    pub(crate) fn withdraw(self, order: &mut VecDeque<usize>, links: &[Link], at: usize)
         requires within { at < length links.now }
         requires order { IsOrderOf self links.now order.old.items }
         ensures order { IsOrderBut self links.now at order.new.items }
-        ensures room { vec_capacity order.new ≡ vec_capacity order.old }
+        ensures room { deque_capacity order.new ≡ deque_capacity order.old }
     {
         if self.holds(&links[at]) {
-            let place = self.count_before_link(order, links, at);
+            let place = self.place_of(order, links, at);
             let _ = order.remove(place);
         }
     }
 
     /// Puts the link at a position into an order of links of its kind.
-    pub(crate) fn enter(self, order: &mut Vec<usize>, links: &[Link], at: usize)
+    pub(crate) fn enter(self, order: &mut VecDeque<usize>, links: &[Link], at: usize)
         requires within { at < length links.now }
         requires order { IsOrderBut self links.now at order.old.items }
-        requires room { length links.now ≤ vec_capacity order.old }
+        requires room { length links.now ≤ deque_capacity order.old }
         ensures order { IsOrderOf self links.now order.new.items }
-        ensures room { vec_capacity order.new ≡ vec_capacity order.old }
+        ensures room { deque_capacity order.new ≡ deque_capacity order.old }
     {
         if self.holds(&links[at]) {
             let place = self.count_before_link(order, links, at);
-            let _ = order.insert(place, at);
+            insert_reserved(order, place, at);
         }
     }
+}
+
+/// Puts a position into a place of an order that has room for it.
+fn insert_reserved(order: &mut VecDeque<usize>, place: usize, at: usize)
+    requires within { place ≤ length order.old.items }
+    requires room { length order.old.items < deque_capacity order.old }
+    ensures items { order.new.items ≡ insert order.old.items place at }
+    ensures room { deque_capacity order.new ≡ deque_capacity order.old }
+{
+    order.rotate_left(place);
+    order.push_front_reserved(at);
+    order.rotate_right(place);
 }
 
 /// Where a position moves once the link at another is gone.
@@ -167,9 +200,9 @@ fn moved_up(gone: usize, at: usize) -> usize
 
 /// Moves the positions of an order after one whose link is gone.
 #[tactic(auto, using(crate::proofs::Orders::all_moved))]
-pub(crate) fn close_up(order: &mut Vec<usize>, gone: usize)
+pub(crate) fn close_up(order: &mut VecDeque<usize>, gone: usize)
     ensures moved { order.new.items ≡ map (moved_up gone) order.old.items }
-    ensures room { vec_capacity order.new ≡ vec_capacity order.old }
+    ensures room { deque_capacity order.new ≡ deque_capacity order.old }
 {
     for place in 0..order.len() {
         order[place] = moved_up(gone, order[place]);

@@ -1,4 +1,5 @@
 ghost use Rattle.std.specs.Prelude.{◌≡◌, ◌≢◌, ℕ, ◌<◌, IfOk, IfNone, IfSome, length, set};
+ghost use Rattle.rsl_book.specs.Marks.{mark_of, mark_with};
 ghost use Rattle.rsl_book.specs.Named.{IsPlace};
 ghost use Rattle.rsl_book.specs.Seen.{server_at, unnamed};
 ghost use Rattle.rsl_session.specs.Same.{same_nas};
@@ -9,8 +10,11 @@ use std::alloc::Global;
 use std::marker::Model;
 
 /// The access servers that a book names. All its room is taken at once.
+///
+/// Beside each stands its mark, so that most others are told apart from it with one test.
 #[derive(Drop)]
 pub(crate) struct Servers {
+    marks: Vec<u32>,
     table: Vec<Nas>,
     beyond: Nas,
 }
@@ -24,8 +28,33 @@ impl Model for Servers {
     ghost view = { λ s. s.table.items };
 
     ghost use Rattle.rsl_event.specs.declared.nas.NasName.TheVariants.{Unnamed};
+    ghost use Rattle.rsl_book.specs.Marks.{marks_of};
 
-    ghost invariant = { λ s. s.beyond ≡ record { client = 0; name = Unnamed } };
+    ghost invariant = { λ s. (s.beyond ≡ record { client = 0; name = Unnamed }) ×
+        (s.marks.items ≡ marks_of s.table.items) };
+}
+
+/// The mark of octets behind what a mark was made of.
+#[tactic(auto, using(crate::proofs::Marks::mark_steps))]
+fn mark_with(start: u32, octets: &[u8]) -> u32
+    ensures { result ≡ mark_with start octets.now }
+{
+    let mut mark = start;
+    for octet in octets {
+        mark = mark.wrapping_mul(31).wrapping_add(*octet as u32);
+    }
+    mark
+}
+
+/// The mark of an access server.
+fn mark_of(nas: &Nas) -> u32
+    ensures { result ≡ mark_of nas.now }
+{
+    match &nas.name {
+        NasName::Identifier(name) => mark_with(nas.client, name.as_slice()),
+        NasName::Address(address) => mark_with(nas.client, address.as_slice()),
+        NasName::Unnamed => mark_with(nas.client, &[]),
+    }
 }
 
 /// The access server that stands where none does.
@@ -43,11 +72,15 @@ impl Servers {
     pub(crate) fn new(alloc: Global, room: usize) -> Result<Servers, NoMemory>
         ensures { IfOk result (λ servers. length servers ≡ room) }
     {
+        let mut marks = Vec::with_capacity(alloc, room)?;
         let mut table = Vec::with_capacity(alloc, room)?;
         while table.len() < room {
-            table.push(nobody())?;
+            let nas = nobody();
+            marks.push(mark_of(&nas))?;
+            table.push(nas)?;
         }
         Ok(Servers {
+            marks,
             table,
             beyond: nobody(),
         })
@@ -63,6 +96,7 @@ impl Servers {
             table.push(nas.try_copy(alloc)?)?;
         }
         Ok(Servers {
+            marks: Vec::from_slice(alloc, &self.marks)?,
             table,
             beyond: nobody(),
         })
@@ -107,8 +141,9 @@ impl Servers {
         ensures missed { IfNone result ((at : ℕ) → at < length self.now →
             server_at self.now at ≢ nas.now) }
     {
+        let mark = mark_of(nas);
         for at in 0..self.table.len() {
-            if self.at(at).is_same(nas) {
+            if self.marks[at] == mark && self.at(at).is_same(nas) {
                 return Some(at);
             }
         }
@@ -120,6 +155,7 @@ impl Servers {
         requires { at < length self.old }
         ensures { self.new ≡ set self.old at nas }
     {
+        self.marks[at] = mark_of(&nas);
         self.table[at] = nas;
     }
 }

@@ -9,6 +9,13 @@ use Rattle.rsl_book.proofs.Found.{set_is_change}
 use Rattle.rsl_book.proofs.OfLinks.{bound_bundles, set_but}
 use Rattle.rsl_book.proofs.list.LinkList.bind.Goals as goal
 
+pub enter-requires-2-clause-order : goal.enter-requires-2-clause-order
+enter-requires-2-clause-order c =
+    let inside = c.self.inside in
+    subst (λ (xs : List Link). IsOrderBut Bound xs c.args.at c.withdraw-2.new.order.items) (sym c.deref-5.ensures.value)
+    (set_but Bound inside.links.items c.args.at c.bind.new.self c.withdraw-2.new.order.items
+    (subst (λ (xs : List Link). IsOrderBut Bound xs c.args.at c.withdraw-2.new.order.items) c.deref-2.ensures.value c.withdraw-2.ensures.order))
+
 pub enter-requires-3-clause-order : goal.enter-requires-3-clause-order
 enter-requires-3-clause-order c =
     let inside = c.self.inside in

@@ -6,9 +6,9 @@ abbrev pub invariant-loop-low : goal.invariant-loop-low
 invariant-loop-low l =
     record {
       within : l.low ≤ l.high;
-      inside : l.high ≤ length l.order;
-      before : (k : ℕ) → k < l.low → is_before (rank_at l.self l.links (get_or l.order k 0)) (l.number ∷ l.mark ∷ l.octets, l.at) ≡ true;
-      after : (k : ℕ) → l.high ≤ k → k < length l.order → is_before (rank_at l.self l.links (get_or l.order k 0)) (l.number ∷ l.mark ∷ l.octets, l.at) ≡ false;
+      inside : l.high ≤ length l.order.items;
+      before : (k : ℕ) → k < l.low → is_before (rank_at l.self l.links (get_or l.order.items k 0)) (l.number ∷ l.mark ∷ l.octets, l.at) ≡ true;
+      after : (k : ℕ) → l.high ≤ k → k < length l.order.items → is_before (rank_at l.self l.links (get_or l.order.items k 0)) (l.number ∷ l.mark ∷ l.octets, l.at) ≡ false;
     }
 
 abbrev pub decreases-loop-low : goal.decreases-loop-low

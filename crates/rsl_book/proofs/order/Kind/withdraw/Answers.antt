@@ -1,29 +1,26 @@
-use Rattle.std.proofs.Common.{◌≡◌, ℕ, ◌<◌, List, length, sym, ◌∙◌, ap, subst, rules}
-use Rattle.std.specs.Prelude.{vec_len}
+use Rattle.std.proofs.Common.{◌≡◌, ℕ, List, length, sym, ◌∙◌, ap, subst, arith, rules}
+use Rattle.std.specs.Prelude.{Option, Some}
+use Rattle.std.specs.Option.{OnSome}
+use Rattle.std.specs.VecDeque.{deque_len}
 use Rattle.rsl_book.specs.declared.link.Link.{Link}
 use Rattle.rsl_book.specs.Order.{IsOrderBut, is_of}
-use Rattle.rsl_book.proofs.OfLinks.{link_here, not_there, searchable, there, withdrawn}
+use Rattle.rsl_book.proofs.OfLinks.{link_here, not_there, withdrawn}
 use Rattle.rsl_book.proofs.order.Kind.withdraw.Goals as goal
 
-pub count_before_link-place-requires-clause-order : goal.count_before_link-place-requires-clause-order
-count_before_link-place-requires-clause-order c =
-    searchable c.args.self c.args.links.now (length c.args.links.now) c.deref.result.now (subst (λ (order : List ℕ). IsOrderBut c.args.self c.args.links.now (length c.args.links.now) order) (sym c.deref.ensures.value) c.requires.order)
+some_is : (taken : Option ℕ) (x : ℕ) (P : Type 0) → taken ≡ Some x → OnSome taken P → P
+some_is taken x P is then = subst (λ (one : Option ℕ). OnSome one P) is then
 
-pub remove-requires : goal.remove-requires
-remove-requires c =
-    let long : vec_len c.args.order.now ≡ length c.args.order.now.items = search rules in
-    let stands = there c.args.self c.args.links.now c.args.order.now.items c.deref.result.now c.args.at c.count_before_link-place.result c.requires.within c.requires.order
-    (sym (ap (λ (one : Link). is_of c.args.self one) (link_here c.args.links.now c.args.at c.index-links-at.result c.requires.within c.index-links-at.is)) ∙ sym c.holds.ensures ∙ c.if-holds.true)
-    c.deref.ensures.value c.count_before_link-place.ensures in
-    subst (λ n. c.count_before_link-place.result < n) (sym long) stands.0
+pub place_of-place-requires-clause-kind : goal.place_of-place-requires-clause-kind
+place_of-place-requires-clause-kind c =
+    sym (ap (λ (one : Link). is_of c.args.self one) (link_here c.args.links.now c.args.at c.index-links-at.result c.requires.within c.index-links-at.is)) ∙ sym c.holds.ensures ∙ c.if-holds.true
 
 pub returns-then-holds-clause-order : goal.returns-then-holds-clause-order
 returns-then-holds-clause-order c =
-    let stands = there c.args.self c.args.links.now c.args.order.now.items c.deref.result.now c.args.at c.count_before_link-place.result c.requires.within c.requires.order
-    (sym (ap (λ (one : Link). is_of c.args.self one) (link_here c.args.links.now c.args.at c.index-links-at.result c.requires.within c.index-links-at.is)) ∙ sym c.holds.ensures ∙ c.if-holds.true)
-    c.deref.ensures.value c.count_before_link-place.ensures in
-    subst (λ (order : List ℕ). IsOrderBut c.args.self c.args.links.now c.args.at order) (sym c.remove.ensures.items)
-    (withdrawn c.args.self c.args.links.now c.args.order.now.items c.args.at c.count_before_link-place.result c.requires.order stands.0 stands.1)
+    let long : deque_len c.args.order.now ≡ length c.args.order.now.items = search rules in
+    let inside = c.place_of-place.ensures.within in
+    let removed = some_is c.remove.result _ _ (c.remove.ensures.succeeds 0 (omega (arith, long, inside))) c.remove.ensures.items in
+    subst (λ (order : List ℕ). IsOrderBut c.args.self c.args.links.now c.args.at order) (sym removed)
+    (withdrawn c.args.self c.args.links.now c.args.order.now.items c.args.at c.place_of-place.result c.requires.order c.place_of-place.ensures.within c.place_of-place.ensures.stands)
 
 pub returns-else-holds-clause-order : goal.returns-else-holds-clause-order
 returns-else-holds-clause-order c =

@@ -1,9 +1,14 @@
-use Rattle.std.proofs.Common.{◌-◌, ◌≤◌}
+use Rattle.std.proofs.Common.{◌≡◌, ◌-◌, ◌≤◌}
 use Rattle.std.specs.Prelude.{vec_len}
+use Rattle.rsl_book.specs.Marks.{marks_of}
 use Rattle.rsl_book.proofs.servers.Servers.new.Given as goal
 
-abbrev pub invariant-loop-table : goal.invariant-loop-table
-invariant-loop-table l = vec_len l.table ≤ l.room
+abbrev pub invariant-loop-nas : goal.invariant-loop-nas
+invariant-loop-nas l =
+    record {
+      few : vec_len l.table ≤ l.room;
+      marks : l.marks.items ≡ marks_of l.table.items;
+    }
 
-abbrev pub decreases-loop-table : goal.decreases-loop-table
-decreases-loop-table l = l.room - vec_len l.table
+abbrev pub decreases-loop-nas : goal.decreases-loop-nas
+decreases-loop-nas l = l.room - vec_len l.table
