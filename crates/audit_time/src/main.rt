@@ -10,64 +10,54 @@ mod record;
 use record::record_of;
 use rsl_accounts::Config;
 use rsl_report::audit;
-use std::env;
 use std::io::Read;
 use std::process::ExitCode;
+use std::{env, io};
 
 /// The most octets of an account file that are read.
 const MAX_FILE_LEN: u64 = 16_777_216;
 
-const USAGE: &str = "usage: audit_time WORK LINES";
-
 fn main(rt: HostRuntime) -> ExitCode {
     match worked(&rt) {
         Ok(()) => ExitCode::SUCCESS,
-        Err(why) => {
-            let _ = eprintln!(rt; "{why}");
+        Err(error) => {
+            let _ = eprintln!(rt; "{error}");
             ExitCode::FAILURE
         }
     }
 }
 
-/// Does what the arguments say, or says why not.
-fn worked(rt: &HostRuntime) -> Result<(), &'static str> {
-    let Ok(mut words) = env::args(rt) else {
-        return Err("no memory");
-    };
+/// Does what the arguments say.
+fn worked(rt: &HostRuntime) -> io::Result<()> {
+    let mut words = env::args(rt)?;
     let _ = words.next();
     let (Some(work), Some(lines)) = (words.next(), words.next()) else {
-        return Err(USAGE);
+        return Err(usage());
     };
     let Ok(lines) = lines.parse() else {
-        return Err(USAGE);
+        return Err(usage());
     };
-    let Some(config) = config_of(rt) else {
-        return Err("a bad account file");
-    };
+    let config = config_of(rt)?;
     let Ok(segments) = record_of(rt.alloc(), &config, lines) else {
-        return Err("no memory");
+        return Err(io::Error::other("no memory"));
     };
-    let printed = match work.as_str() {
+    match work.as_str() {
         "making" => println!(rt; "made {} segments", segments.len()),
         "audit" => println!(rt; "{:?}", audit(rt.alloc(), &config, segments.as_slice())),
-        _ => return Err(USAGE),
-    };
-    match printed {
-        Ok(()) => Ok(()),
-        Err(_) => Err("no output"),
+        _ => Err(usage()),
     }
 }
 
+fn usage() -> io::Error {
+    io::Error::other("usage: audit_time WORK LINES")
+}
+
 /// The configuration that standard input has.
-fn config_of(rt: &HostRuntime) -> Option<Config> {
+fn config_of(rt: &HostRuntime) -> io::Result<Config> {
     let mut text = Vec::new(rt.alloc());
-    if rt
-        .stdin()
-        .take(MAX_FILE_LEN)
-        .read_to_end(&mut text)
-        .is_err()
-    {
-        return None;
+    rt.stdin().take(MAX_FILE_LEN).read_to_end(&mut text)?;
+    match Config::read(rt.alloc(), text.as_slice()) {
+        Ok(config) => Ok(config),
+        Err(_) => Err(io::Error::other("a bad account file")),
     }
-    Config::read(rt.alloc(), text.as_slice()).ok()
 }

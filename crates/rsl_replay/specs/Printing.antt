@@ -65,5 +65,5 @@ printed_from config number (line ∷ lines) answers =
     ++ printed_from config (number + 1) lines (drop (step_count config line) answers)
 
 -- the text that is printed
-abbrev pub printed : Configuration → List EventLine → List Answer → List ℕ
-printed config lines answers = printed_from config 1 lines answers
+abbrev pub printed_lines : Configuration → List EventLine → List Answer → List ℕ
+printed_lines config lines answers = printed_from config 1 lines answers

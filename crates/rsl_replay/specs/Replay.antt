@@ -4,7 +4,7 @@ use Rattle.rsl_accounts.specs.Configuration.{Configuration, configuration_of}
 use Rattle.rsl_accounts.specs.declared.fault.ConfigFault.{ConfigFault}
 use Rattle.rsl_script.specs.Script.{Contents, script_of}
 use Rattle.rsl_script.specs.declared.fault.ScriptFault.TheVariants.{Line as wrong_line}
-use Rattle.rsl_replay.specs.Printing.{printed}
+use Rattle.rsl_replay.specs.Printing.{printed_lines}
 use Rattle.rsl_replay.specs.Report.{report_after}
 use Rattle.rsl_steps.specs.Run.{AreAnswers, steps_taken}
 use Rattle.rsl_replay.specs.Stepping.{steps_of_lines}
@@ -33,7 +33,7 @@ pub record IsReplayed (text written : List ℕ) : Type 0 where
   pub made : configuration_of script.settings script.clients script.accounts ≡ Ok config
   pub answered : AreAnswers config replay_boot [] (steps_of_lines config replay_boot script.events)
       answers
-  pub lines_and_report : written ≡ printed config script.events answers
+  pub lines_and_report : written ≡ printed_lines config script.events answers
       ++ report_after config replay_boot
       (steps_taken [] (steps_of_lines config replay_boot script.events) answers)
 

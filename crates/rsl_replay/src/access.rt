@@ -33,11 +33,12 @@ pub(crate) fn access_octets(
     ensures { IfOk result (λ octets. octets.items ≡
         access_octets request.now is_signed secret.now) }
 {
-    let value = password_value(alloc, request, secret)?;
+    let request_auth = authenticator(request);
+    let value = password_value(alloc, request, &request_auth, secret)?;
     let mut draft = Draft::new(alloc, request.id)?;
     push_signature_if(is_signed, &mut draft);
     push_request(&mut draft, request, value.as_slice());
-    Ok(finish(draft, is_signed, &authenticator(request), secret))
+    Ok(finish(draft, is_signed, &request_auth, secret))
 }
 
 /// The Request Authenticator.
@@ -49,47 +50,46 @@ fn authenticator(request: &AccessRequest) -> [u8; 16]
     hasher.finalize()
 }
 
-/// The value of the attribute that shows that the password is known.
+/// The value of the attribute that shows that the password is known, in a packet with this Request
+/// Authenticator, which is that of the request.
 fn password_value(
     alloc: Global,
     request: &AccessRequest,
+    request_auth: &[u8; 16],
     secret: &[u8],
 ) -> Result<Vec<u8>, NoMemory>
+    requires { request_auth.now ≡ md5 request.now.text }
     ensures value { IfOk result (λ value.
         value.items ≡ password_value request.now.method request.now secret.now) }
     ensures short { IfOk result (λ value. length value.items ≤ 128) }
 {
     match request.method {
-        Method::Pap => user_password(alloc, request, secret),
-        Method::Chap => Ok(Vec::from_slice(alloc, &chap_password(request))?),
+        Method::Pap => user_password(alloc, request, request_auth, secret),
+        Method::Chap => Ok(Vec::from_slice(alloc, &chap_password(request, request_auth))?),
     }
 }
 
 /// The User-Password (RFC 2865 section 5.2).
-fn user_password(alloc: Global, request: &AccessRequest, secret: &[u8]) -> Result<Vec<u8>, NoMemory>
+fn user_password(
+    alloc: Global,
+    request: &AccessRequest,
+    request_auth: &[u8; 16],
+    secret: &[u8],
+) -> Result<Vec<u8>, NoMemory>
     ensures value { IfOk result (λ value.
-        value.items ≡ hidden request.now.password secret.now (md5 request.now.text)) }
+        value.items ≡ hidden request.now.password secret.now request_auth.now) }
     ensures short { IfOk result (λ value. length value.items ≤ 128) }
 {
-    hide(
-        alloc,
-        request.password.expose(),
-        secret,
-        &authenticator(request),
-    )
+    hide(alloc, request.password.expose(), secret, request_auth)
 }
 
 /// The CHAP-Password: the CHAP Ident is the Identifier, and the challenge is the Request
 /// Authenticator (RFC 2865 section 5.3).
-fn chap_password(request: &AccessRequest) -> [u8; CHAP_PASSWORD_LEN]
+fn chap_password(request: &AccessRequest, request_auth: &[u8; 16]) -> [u8; CHAP_PASSWORD_LEN]
     ensures { result ≡ request.now.id ∷
-        chap_response request.now.id request.now.password (md5 request.now.text) }
+        chap_response request.now.id request.now.password request_auth.now }
 {
-    let response = chap_response(
-        request.id,
-        request.password.expose(),
-        &authenticator(request),
-    );
+    let response = chap_response(request.id, request.password.expose(), request_auth);
     let mut value = [request.id; CHAP_PASSWORD_LEN];
     value[1..].copy_from_slice(&response);
     value

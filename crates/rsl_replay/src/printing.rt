@@ -9,7 +9,7 @@ ghost use Rattle.std.specs.Prelude.{
   sum_by,
 };
 ghost use Rattle.std.specs.List.{list_any};
-ghost use Rattle.rsl_replay.specs.Printing.{answer_word, is_refused, line_text, printed, word_of};
+ghost use Rattle.rsl_replay.specs.Printing.{answer_word, is_refused, line_text, printed_lines, word_of};
 ghost use Rattle.rsl_replay.specs.Stepping.{step_count};
 
 use crate::stepping::step_count;
@@ -29,7 +29,8 @@ pub fn lines_of(
     answers: &[Answer],
 ) -> Result<String, AllocError>
     requires { length answers.now ≡ sum_by (step_count config.now) lines.now }
-    ensures { IfOk result (λ text. string_bytes text ≡ printed config.now lines.now answers.now) }
+    ensures { IfOk result (λ text.
+        string_bytes text ≡ printed_lines config.now lines.now answers.now) }
 {
     let mut text = String::new(alloc);
     let mut rest = answers;

@@ -1,7 +1,8 @@
 use std::io;
 use thiserror::Error;
 
-/// A writer failed: a write or flush of it was an error, or it took no octet where there was one to take.
+/// A writer failed: a write or flush of it was an error, or it took no octet where there was one to
+/// take.
 #[derive(Clone, Copy, Debug, PartialEq, Eq, Error)]
 #[error("write fault")]
 pub struct WriteFault;

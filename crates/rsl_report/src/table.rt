@@ -12,13 +12,14 @@ use std::io::Write;
 /// The line of titles, with its line feed.
 const HEADER: &str = "name                   places     held reserved     live    stale     over\n";
 
-/// Writes a report: a line of titles, and then a line for each row, in the order given. Each line ends in a
-/// line feed. The account's name stands left in 20 characters, and each of the six numbers after it is a
-/// space and then the number, right in 8 characters; what is longer than its column stands whole.
+/// Writes a report: a line of titles, and then a line for each row, in the order given. Each line
+/// ends in a line feed. The account's name stands left in 20 characters, and each of the six
+/// numbers after it is a space and then the number, right in 8 characters; what is longer than its
+/// column stands whole.
 ///
-/// `WriteFault` comes where the writer failed, and nothing is said of how much was written then. A line
-/// is several small writes, so a writer that pays for each of them is better given through a buffer. The
-/// writer isn't flushed.
+/// `WriteFault` comes where the writer failed, and nothing is said of how much was written then. A
+/// line is several small writes, so a writer that pays for each of them is better given through a
+/// buffer. The writer isn't flushed.
 #[tactic(auto, using(crate::proofs::TableLaws::one_more, crate::proofs::TableLaws::all_more))]
 pub fn write_table<W: Write>(
     config: &Config,

@@ -1,5 +1,5 @@
--- The values that a word may write. (`address_of`, the octets of an IPv4 address, is a definition of
--- `rsl_accounts`.)
+-- The values that a word may write. (`address_of`, the octets of an IPv4 address, is a definition
+-- of `rsl_accounts`.)
 use Rattle.std.specs.Prelude.{ℕ, ◌≤◌, ◌^◌, ◌&&◌, nat_lt, nat_le, Bool, if◌then◌else◌, List, [], ◌∷◌, length, take, drop, codes, bytes_eq, Option, None, Some, option_map, option_and_then}
 use Rattle.std.specs.Result.{result_ok}
 use Rattle.std.specs.Str.{all_ascii_digits}

@@ -16,6 +16,9 @@ use rsl_accounts::{Secret, address_of};
 use rsl_wire::NoMemory;
 use std::alloc::Global;
 
+/// The octets that a line without its moment mostly fits, for which room is taken at once.
+const USUAL_LEN: usize = 48;
+
 /// What the words `CLIENT NAS NAME PASSWORD ID` after a moment say.
 #[tactic(auto, unfolding(crate::specs::Access::read_access))]
 pub(crate) fn read_access(
@@ -66,7 +69,8 @@ fn text_without_moment(alloc: Global, method: Method, words: &[&str]) -> Result<
     ensures { IfOk result (λ text.
         text ≡ text_without_moment method (map (λ word. word.now) words.now)) }
 {
-    let mut text = String::from_str(alloc, method.word())?;
+    let mut text = String::with_capacity(alloc, USUAL_LEN)?;
+    text.push_str(method.word())?;
     for word in words {
         text.push_str(" ")?;
         text.push_str(word)?;

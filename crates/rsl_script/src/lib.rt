@@ -10,7 +10,7 @@
 //! | words of a line | says |
 //! |---|---|
 //! | `set NAME VALUE` | a setting has this value; the last line of a name counts |
-//! | `client ADDRESS SECRET [signed]` | there is this client; with `signed` it must sign its requests |
+//! | `client ADDRESS SECRET [signed]` | there is this client; `signed`: it must sign its requests |
 //! | `account NAME PASSWORD PLACES [PORTS] [live=N] [grace=N]` | there is this account |
 //! | `ask MOMENT CLIENT NAS NAME PASSWORD ID`, `chap` the same | an Access-Request comes |
 //! | `start MOMENT CLIENT NAS NAME SESSION [multi=M] [class=N]` | an Accounting-Request comes |

@@ -5,11 +5,16 @@ use rsl_wire::NoMemory;
 use std::alloc::Global;
 use std::str;
 
+/// The words that a line mostly has at most, for which room is taken at once.
+const USUAL_WORDS: usize = 8;
+
 /// The words of a line, which is cut at each space. It fails only where memory is refused.
 pub(crate) fn line_words(alloc: Global, line: &str) -> Result<Vec<&str>, NoMemory>
     ensures { IfOk result (λ words. map (λ word. word.now) words.items ≡ line_words line.now) }
 {
-    Ok(line.split(' ').collect(alloc)?)
+    let mut words = Vec::with_capacity(alloc, USUAL_WORDS)?;
+    words.extend(line.split(' '))?;
+    Ok(words)
 }
 
 /// The line as a text, where each octet is a visible character of ASCII or a space.

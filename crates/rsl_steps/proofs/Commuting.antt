@@ -11,7 +11,7 @@ use Rattle.rsl_event.specs.declared.meaning.Dropped.{Dropped}
 use Rattle.rsl_event.specs.declared.meaning.Meaning.{Meaning}
 use Rattle.rsl_event.specs.declared.meaning.Meaning.TheVariants.{Bare, Reject, Own, Restart, Stray}
 use Rattle.rsl_steps.specs.Laws.{PacketsOfTwoAccountsCommute, is_own_packet}
-use Rattle.rsl_steps.specs.Own.{event_in, event_of, own_events}
+use Rattle.rsl_steps.specs.Own.{own_event, event_of, own_events}
 use Rattle.rsl_steps.specs.declared.step.Step.{Step}
 use Rattle.rsl_steps.specs.declared.step.Step.TheVariants as steps
 use Rattle.rsl_steps.specs.declared.step.Step.TheVariants.{Datagram}
@@ -20,7 +20,7 @@ no : IsTrue false → ⊥
 no h = cc
 
 -- an account's own meaning is nothing to another
-not_both : (one other moment : ℕ) (r : Result Meaning Dropped) → one ≢ other → IsTrue (is_some (event_in one moment r)) → event_in other moment r ≡ None
+not_both : (one other moment : ℕ) (r : Result Meaning Dropped) → one ≢ other → IsTrue (is_some (own_event one moment r)) → own_event other moment r ≡ None
 not_both one other moment (Err dropped) differ own = absurd (no own)
 not_both one other moment (Ok Bare) differ own = absurd (no own)
 not_both one other moment (Ok Reject) differ own = absurd (no own)

@@ -23,7 +23,7 @@ use Rattle.rsl_session.specs.Rule.{decision_of, decisions, decisions_from, entry
 use Rattle.rsl_rule.specs.Laws.{EarlyTicksChangeNoDecision as ForOneAccount}
 use Rattle.rsl_wire.specs.Packet.{packet_of}
 use Rattle.rsl_steps.specs.Laws.{EarlyTicksChangeNothing, moment_of}
-use Rattle.rsl_steps.specs.Own.{event_in, event_of, is_of_shard, own, own_events}
+use Rattle.rsl_steps.specs.Own.{own_event, event_of, is_of_shard, own, own_events}
 use Rattle.rsl_steps.specs.Run.{AreAnswers, answer_after, answer_by, decision_after, decision_on, octets_by, steps_taken}
 use Rattle.rsl_steps.proofs.OneMore.{own-cons}
 use Rattle.rsl_steps.specs.declared.step.Answer.{Answer}
@@ -134,7 +134,7 @@ module _ (early : ForOneAccount) where
   has_moment_if true moment event same = same
   has_moment_if false moment event same = tt
 
-  event_in_moment : (account moment : ℕ) (r : Result Meaning Dropped) → HasMoment moment (event_in account moment r)
+  event_in_moment : (account moment : ℕ) (r : Result Meaning Dropped) → HasMoment moment (own_event account moment r)
   event_in_moment account moment (Err dropped) = tt
   event_in_moment account moment (Ok Bare) = tt
   event_in_moment account moment (Ok Reject) = tt

@@ -15,7 +15,7 @@ use Rattle.rsl_shard.specs.declared.line.Line.{Line}
 use Rattle.rsl_shard.specs.declared.moved.Move.{Move}
 use Rattle.rsl_shard.specs.declared.moved.Move.TheVariants as moves
 use Rattle.rsl_steps.specs.Moves.{move_in, move_of, moves_of}
-use Rattle.rsl_steps.specs.Own.{event_in, event_of, is_of_shard, own, own_events}
+use Rattle.rsl_steps.specs.Own.{own_event, event_of, is_of_shard, own, own_events}
 use Rattle.rsl_steps.specs.declared.step.Step.{Step}
 use Rattle.rsl_steps.specs.declared.step.Step.TheVariants as steps
 use Rattle.rsl_steps.specs.declared.step.Step.TheVariants.{Datagram}
@@ -26,7 +26,7 @@ event_to_option account None = None
 event_to_option account (Some moved) = event_to account moved
 
 of_own : (config : Configuration) (account other moment : ℕ) (act : Act)
-    → event_to_option account (move_in config (account % config.settings.shards) moment (Ok (Own other act))) ≡ event_in account moment (Ok (Own other act))
+    → event_to_option account (move_in config (account % config.settings.shards) moment (Ok (Own other act))) ≡ own_event account moment (Ok (Own other act))
 of_own config account other moment act = by (other == account) (is_of_shard config other (account % config.settings.shards)) refl refl
   where
     by : (same of_shard : Bool) → (other == account) ≡ same → is_of_shard config other (account % config.settings.shards) ≡ of_shard
@@ -46,7 +46,7 @@ of_stray shard account moved none true = none
 of_stray shard account moved none false = refl
 
 of_meaning : (config : Configuration) (account moment : ℕ) (r : Result Meaning Dropped)
-    → event_to_option account (move_in config (account % config.settings.shards) moment r) ≡ event_in account moment r
+    → event_to_option account (move_in config (account % config.settings.shards) moment r) ≡ own_event account moment r
 of_meaning config account moment (Err dropped) = refl
 of_meaning config account moment (Ok Bare) = refl
 of_meaning config account moment (Ok Reject) = refl

@@ -16,7 +16,7 @@ use Rattle.rsl_event.specs.declared.meaning.Dropped.{Dropped}
 use Rattle.rsl_event.specs.declared.meaning.Meaning.{Meaning}
 use Rattle.rsl_event.specs.declared.meaning.Port.{Port}
 use Rattle.rsl_steps.specs.Laws.{Coming, Packet, Restart, Time, TheNumberOfShardsDoesNotMatter, steps_to, with_shards}
-use Rattle.rsl_steps.specs.Own.{event_in, event_of, is_of_shard, own_events}
+use Rattle.rsl_steps.specs.Own.{own_event, event_of, is_of_shard, own_events}
 use Rattle.rsl_steps.specs.declared.step.Step.{Step}
 use Rattle.rsl_steps.specs.declared.step.Step.TheVariants as steps
 use Rattle.rsl_steps.specs.declared.step.Step.TheVariants.{Datagram}
@@ -69,7 +69,7 @@ to_shards config boot account numbers step event is some le =
 one_packet : (config : Configuration) (boot account shards moment : ℕ) (port : Port) (source : Source) (octets : List ℕ)
     → own_events config boot account (Datagram moment port source octets ∷ []) ≡ own_events (with_shards config shards) boot account (Datagram moment port source octets ∷ [])
 unfolding own_events
-one_packet config boot account shards moment port source octets = ap (λ (r : Result Meaning Dropped). cons_option (event_in account moment r) []) (same_meaning config shards boot port source octets)
+one_packet config boot account shards moment port source octets = ap (λ (r : Result Meaning Dropped). cons_option (own_event account moment r) []) (same_meaning config shards boot port source octets)
 
 one_coming : (config : Configuration) (boot account shards numbers : ℕ) (coming : Coming) → 0 < config.settings.shards → 0 < shards → config.settings.shards ≤ numbers → shards ≤ numbers
     → own_events config boot account (steps_to numbers coming) ≡ own_events (with_shards config shards) boot account (steps_to numbers coming)

@@ -31,7 +31,7 @@ use Rattle.rsl_event.specs.declared.words.Said.TheVariants as words
 use Rattle.rsl_session.specs.Past.{Past}
 use Rattle.rsl_session.specs.Rule.{decision_of, entry_of, outcome_of, past_from, past_of, places_after}
 use Rattle.rsl_steps.specs.Laws.{EqualOwnEventsAreAnsweredAlike, Served, events_of, is_own_packet, words_of, words_to}
-use Rattle.rsl_steps.specs.Own.{event_in, event_of, is_of_shard, own, own_events}
+use Rattle.rsl_steps.specs.Own.{own_event, event_of, is_of_shard, own, own_events}
 use Rattle.rsl_steps.specs.Run.{AreAnswers, answer_after, answer_by, decision_after, decision_on, steps_taken}
 use Rattle.rsl_steps.proofs.OneMore.{own-cons}
 use Rattle.rsl_steps.specs.declared.step.Answer.{Answer}
@@ -111,7 +111,7 @@ told_by config boot account step (answers.Reply word octets) = cond (is_own_pack
 told_by config boot account step _ = None
 
 abbrev told_in : (account moment : ℕ) → Result Meaning Dropped → Answer → Option Said
-told_in account moment r (answers.Reply word octets) = cond (is_some (event_in account moment r)) (Some word) None
+told_in account moment r (answers.Reply word octets) = cond (is_some (own_event account moment r)) (Some word) None
 told_in account moment r _ = None
 
 told_same : (config : Configuration) (boot account moment : ℕ) (port : Port) (source : Source) (octets : List ℕ) (answer : Answer)
@@ -136,7 +136,7 @@ word_found acts.Tick one other own same = absurd own
 
 datagram_told : (config : Configuration) (boot account : ℕ) (entry : Account) (before : List Step) (moment : ℕ) (port : Port) (source : Source) (octets : List ℕ) → slice_get config.accounts account ≡ Some entry
     → (r : Result Meaning Dropped) → meaning config boot port source octets ≡ r
-    → word_after entry.rules (own config boot account before) (event_in account moment r) ≡ told_in account moment r (answer_by config boot before moment source octets r)
+    → word_after entry.rules (own config boot account before) (own_event account moment r) ≡ told_in account moment r (answer_by config boot before moment source octets r)
 datagram_told config boot account entry before moment port source octets there (Err dropped) is = refl
 datagram_told config boot account entry before moment port source octets there (Ok Bare) is = refl
 datagram_told config boot account entry before moment port source octets there (Ok Reject) is = refl

@@ -24,7 +24,7 @@ use Rattle.rsl_shard.specs.declared.line.Line.{Line}
 use Rattle.rsl_shard.specs.declared.moved.Move.{Move}
 use Rattle.rsl_steps.specs.Books.{answer_by_book}
 use Rattle.rsl_steps.specs.Moves.{moves_of}
-use Rattle.rsl_steps.specs.Own.{event_in, own, own_events}
+use Rattle.rsl_steps.specs.Own.{own, own_event, own_events}
 use Rattle.rsl_steps.specs.Ran.{AreShards, HasBookOf}
 use Rattle.rsl_steps.specs.Run.{AreAnswers, answer_after, decision_after, steps_taken}
 use Rattle.rsl_steps.specs.declared.step.Answer.{Answer}
@@ -38,7 +38,7 @@ use Rattle.rsl_steps.specs.declared.step.Step.TheVariants.{Datagram}
 -- whether a step is an account's own packet
 abbrev pub is_own_packet : Configuration → (boot account : ℕ) → Step → Bool
 is_own_packet config boot account (Datagram moment port source octets) =
-    is_some (event_in account moment (meaning config boot port source octets))
+    is_some (own_event account moment (meaning config boot port source octets))
 is_own_packet config boot account _ = false
 
 -- the words of the replies to an account's own packets, in order

@@ -12,10 +12,10 @@ use Rattle.rsl_steps.specs.declared.step.Step.TheVariants.{Datagram}
 use Rattle.rsl_event.specs.declared.event.Act.TheVariants as acts
 
 -- a meaning is an account's own event, or none of its
-abbrev pub event_in : (account moment : ℕ) → Result Meaning Dropped → Option Event
-event_in account moment (Ok (Own other act)) =
+abbrev pub own_event : (account moment : ℕ) → Result Meaning Dropped → Option Event
+own_event account moment (Ok (Own other act)) =
     if other == account then Some (record { moment = moment; act = act }) else None
-event_in account moment _ = None
+own_event account moment _ = None
 
 -- whether the account is of the shard
 abbrev pub is_of_shard : Configuration → (account shard : ℕ) → Bool
@@ -24,7 +24,7 @@ is_of_shard config account shard = account % config.settings.shards == shard
 -- what a step is to an account: its own packet, or a sweep or a tick of its shard
 abbrev pub event_of : Configuration → (boot account : ℕ) → Step → Option Event
 event_of config boot account (Datagram moment port source octets) =
-    event_in account moment (meaning config boot port source octets)
+    own_event account moment (meaning config boot port source octets)
 event_of config boot account (steps.Sweep shard moment nas) =
     if is_of_shard config account shard
     then Some (record { moment = moment; act = acts.Sweep nas })

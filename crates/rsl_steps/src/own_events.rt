@@ -1,6 +1,6 @@
 ghost use Rattle.std.specs.Prelude.{◌≡◌, ◌<◌, length, IfOk, Ok};
 ghost use Rattle.rsl_event.specs.Meaning.{meaning};
-ghost use Rattle.rsl_steps.specs.Own.{event_in, event_of, own_events};
+ghost use Rattle.rsl_steps.specs.Own.{event_of, own_event, own_events};
 
 use crate::step::Step;
 use rsl_accounts::Config;
@@ -85,7 +85,7 @@ fn event_in(
     octets: &[u8],
 ) -> Result<Option<Event>, NoMemory>
     ensures { IfOk result (λ event. event ≡
-        event_in account moment (meaning config.now boot port source octets.now)) }
+        own_event account moment (meaning config.now boot port source octets.now)) }
 {
     match prepare(alloc, config, boot, port, source, octets) {
         Ok(prepared) => own_event(alloc, account, moment, &prepared.meaning),
@@ -101,7 +101,7 @@ fn own_event(
     moment: u64,
     meaning: &Meaning,
 ) -> Result<Option<Event>, NoMemory>
-    ensures { IfOk result (λ event. event ≡ event_in account moment (Ok meaning.now)) }
+    ensures { IfOk result (λ event. event ≡ own_event account moment (Ok meaning.now)) }
 {
     match meaning {
         Meaning::Own {

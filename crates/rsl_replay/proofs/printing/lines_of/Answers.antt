@@ -1,6 +1,6 @@
 use Rattle.std.proofs.Common.{◌∙◌, ◌+◌, ◌++◌, ap, ℕ, take, drop, arith}
 use Rattle.std.specs.String.{string_bytes}
-use Rattle.rsl_replay.specs.Printing.{line_text, printed}
+use Rattle.rsl_replay.specs.Printing.{line_text, printed_lines}
 use Rattle.rsl_replay.specs.declared.word.Word.{Word}
 use Rattle.rsl_replay.proofs.PrintingLaws.{left_has, left_more, left_none}
 use Rattle.rsl_replay.proofs.printing.lines_of.Goals as goal
@@ -12,7 +12,7 @@ split_at-requires c =
 
 pub loop-index-preserved : goal.loop-index-preserved
 loop-index-preserved c =
-    let all = printed c.args.config.now c.args.lines.now c.args.answers.now in
+    let all = printed_lines c.args.config.now c.args.lines.now c.args.answers.now in
     let rest = c.loop-index.rest.now in
     let before = string_bytes c.loop-index.text in
     let count = c.step_count.ensures.count in

@@ -1,6 +1,6 @@
 use Rattle.std.proofs.Common.{◌++◌, List, [], ap, subst, sym, ◌∙◌}
 use Rattle.rsl_replay.proofs.replaying.replay_text.Goals as goal
-use Rattle.rsl_replay.specs.Printing.{printed}
+use Rattle.rsl_replay.specs.Printing.{printed_lines}
 use Rattle.rsl_replay.specs.Replay.{replay_boot}
 use Rattle.rsl_replay.specs.Report.{rows_after}
 use Rattle.rsl_replay.specs.Shards.{AreShardsAfter}
@@ -20,7 +20,7 @@ returns-clause-replayed c =
     let after : AreShardsAfter config replay_boot before c.in_ok-ran.ran.shards.items = record { moved = c.in_ok-ran.ensures.shards; books = c.in_ok-ran.ensures.books } in
     let rows = c.in_ok-rows.ensures.rows replay_boot before (subst (AreShardsAfter config replay_boot before) (sym c.as_slice-3.ensures.value) after)
     ∙ ap (λ (given : List Step). rows_after config replay_boot (steps_taken [] given answers) 0 config.accounts) steps in
-    let lines = c.in_ok-lines.ensures ∙ (λ k. printed config (events k) (c.as_slice-2.ensures.value k)) in
+    let lines = c.in_ok-lines.ensures ∙ (λ k. printed_lines config (events k) (c.as_slice-2.ensures.value k)) in
     record {
       script = contents c.in_ok-script.script;
       config = config;
