@@ -1,0 +1,55 @@
+-- What a service makes of a datagram, and of the passing of time, for the pass of who calls it.
+use Rattle.std.specs.Prelude.{◌≡◌, ℕ, ◌%◌, List}
+use Rattle.rsl_event.specs.Answer.{answer, said}
+use Rattle.rsl_event.specs.declared.event.Decision.{Decision}
+use Rattle.rsl_event.specs.declared.event.Decision.TheVariants.{Done}
+use Rattle.rsl_event.specs.declared.meaning.Meaning.{Meaning}
+use Rattle.rsl_event.specs.declared.meaning.Meaning.TheVariants.{Own, Restart, Stray}
+use Rattle.rsl_event.specs.declared.meaning.Prepared.{Prepared}
+use Rattle.rsl_shard.specs.declared.moved.Move.{Move}
+use Rattle.rsl_shard.specs.declared.moved.Move.TheVariants as moves
+use Rattle.rsl_wire.specs.Seen.{fields_of}
+use Rattle.rsl_service.specs.Receipts.{IsNoted, AreNoted}
+use Rattle.rsl_service.specs.Service.{ServiceSeen}
+use Rattle.rsl_service.specs.declared.answered.Answered.{Answered}
+use Rattle.rsl_service.specs.declared.fault.ApplyFault.{ApplyFault}
+use Rattle.rsl_service.specs.declared.fault.ApplyFault.TheVariants as faults
+use Rattle.rsl_settle.specs.declared.receipt.Receipt.{Receipt}
+
+-- the word and the octets that answer a datagram on which this was decided
+pub record IsAnswered (service : ServiceSeen) (prepared : Prepared) (decision : Decision)
+    (answered : Answered) : Type 0 where
+  pub word : answered.said ≡ said prepared.meaning decision
+  pub octets : answered.octets.items ≡ answer service.config service.boot prepared.client
+      (fields_of prepared.packet) prepared.meaning decision
+
+-- What is an account's own moves its shard, a stray shard 0. A restart sweeps every shard. What is
+-- no ask is merely done; everything else moves none.
+abbrev pub IsDecided : ServiceSeen → (moment : ℕ) → Meaning → Decision → (old new : List Receipt)
+    → Type 0
+IsDecided service moment (Own account act) decision old new =
+    IsNoted (account % service.config.settings.shards)
+    (moves.Own account (record { moment = moment; act = act })) decision old new
+IsDecided service moment (Stray note) decision old new =
+    IsNoted 0 (moves.Stray moment note) decision old new
+IsDecided service moment (Restart nas) decision old new =
+    (decision ≡ Done) × AreNoted service.config.settings.shards (moves.Sweep moment nas) old new
+IsDecided service moment _ decision old new = (decision ≡ Done) × (new ≡ old)
+
+-- a datagram has made its moves, and is answered as they were decided
+pub record IsApplied (service : ServiceSeen) (moment : ℕ) (prepared : Prepared)
+    (answered : Answered) (old new : List Receipt) : Type 0 where
+  pub decision : Decision
+  pub decided : IsDecided service moment prepared.meaning decision old new
+  pub answer : IsAnswered service prepared decision answered
+
+-- how many shards had made their moves when a fault came
+abbrev pub swept_before : ApplyFault → ℕ
+swept_before (faults.NoMemory swept) = swept
+swept_before (faults.Spent swept) = swept
+
+-- a restart may have swept some shards, from 0 on, when a fault comes; everything else made no move
+abbrev pub IsStopped : (moment : ℕ) → Meaning → ApplyFault → (old new : List Receipt) → Type 0
+IsStopped moment (Restart nas) fault old new =
+    AreNoted (swept_before fault) (moves.Sweep moment nas) old new
+IsStopped moment _ fault old new = (swept_before fault ≡ 0) × (new ≡ old)

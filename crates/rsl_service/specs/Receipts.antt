@@ -1,0 +1,37 @@
+-- The receipts of a pass: one for each move that its holder made, in the order of the calls.
+use Rattle.std.specs.Prelude.{◌≡◌, ℕ, ◌==◌, List, [], ◌∷◌, ◌++◌, zero, suc, count_by}
+use Rattle.rsl_event.specs.declared.event.Decision.{Decision}
+use Rattle.rsl_shard.specs.declared.moved.Move.{Move}
+use Rattle.rsl_shard.specs.declared.moved.Move.TheVariants as moves
+use Rattle.rsl_settle.specs.declared.receipt.Receipt.{Receipt}
+
+-- how many of the receipts are of a shard
+unfoldable pub count_of : (shard : ℕ) → List Receipt → ℕ
+count_of shard receipts = count_by (λ (receipt : Receipt). receipt.shard == shard) receipts
+
+-- one receipt more, of this shard, with this move and this decision
+pub record IsNoted (shard : ℕ) (moved : Move) (decision : Decision) (old new : List Receipt)
+    : Type 0 where
+  pub position : ℕ
+  pub noted : new ≡ old ++ record {
+    shard = shard;
+    position = position;
+    line = record { moved = moved; decision = decision };
+  } ∷ []
+
+-- a receipt more of this shard, with this move and some decision
+pub record HasOneMore (shard : ℕ) (moved : Move) (old new : List Receipt) : Type 0 where
+  pub decision : Decision
+  pub noted : IsNoted shard moved decision old new
+
+-- a receipt more of each of the first shards, in their order, with this move: those of the shards
+-- before the last, and then that of the last
+unfoldable pub AreNoted : (shards : ℕ) → Move → (old new : List Receipt) → Type 0
+AreNoted zero moved old new = new ≡ old
+AreNoted (suc shard) moved old new =
+    (before : List Receipt) × AreNoted shard moved old before × HasOneMore shard moved before new
+
+-- a move that every shard takes: of no account
+abbrev pub IsOfAll : Move → Type 0
+IsOfAll (moves.Own account event) = ⊥
+IsOfAll _ = Unit {0}

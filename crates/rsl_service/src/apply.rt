@@ -1,0 +1,65 @@
+ghost use Rattle.std.specs.Prelude.{IfErr, IfOk};
+ghost use Rattle.rsl_event.specs.Prepared.{HasOwnAct, IsPrepared};
+ghost use Rattle.rsl_shard.specs.declared.moved.Move.TheVariants as moves;
+ghost use Rattle.rsl_service.specs.Applied.{IsApplied, IsStopped, swept_before};
+ghost use Rattle.rsl_service.specs.Receipts.{AreNoted};
+
+use crate::answered::Answered;
+use crate::fault::ApplyFault;
+use crate::gate::Gate;
+use crate::pass::Pass;
+use crate::service::Service;
+use crate::tally::Tally;
+use rsl_event::{Prepared, reply, room, said};
+use rsl_shard::Move;
+use rsl_wire::NoMemory;
+use std::alloc::Global;
+use std::sync::Wait;
+
+impl<L0: Tally, L1: Tally, L2: Tally, L3: Tally, G: Gate> Service<L0, L1, L2, L3, G> {
+    /// What a datagram is answered, with the moves that it makes at this moment.
+    ///
+    /// An account's own moves its shard, and a stray shard 0. A restart sweeps the shards in turn,
+    /// and is answered after the last. A reject takes no lock. On a fault nothing is answered.
+    #[tactic(auto, using(crate::proofs::Noting::none_stopped))]
+    pub fn apply<R: Wait>(
+        &self,
+        rt: &R,
+        alloc: Global,
+        pass: &mut Pass<L0, L1, L2, L3>,
+        moment: u64,
+        prepared: Prepared<'_>,
+    ) -> Result<Answered, ApplyFault>
+        requires prepared { IsPrepared self.now.config prepared }
+        requires act { HasOwnAct prepared.meaning }
+        ensures applied { IfOk result (λ answered.
+            IsApplied self.now moment prepared.entry answered pass.old pass.new) }
+        ensures err { IfErr result (λ fault.
+            IsStopped moment prepared.entry.meaning fault pass.old pass.new) }
+    {
+        let draft = match room(alloc, &prepared) {
+            Ok(draft) => draft,
+            Err(NoMemory) => return Err(ApplyFault::NoMemory { swept: 0 }),
+        };
+        let decision = self.decide(rt, alloc, pass, moment, &prepared.meaning)?;
+        let said = said(&prepared.meaning, decision);
+        let octets = reply(&prepared, &self.config, self.boot, decision, draft);
+        Ok(Answered { said, octets })
+    }
+
+    /// Makes a tick of this moment in each shard in turn.
+    pub fn expire<R: Wait>(
+        &self,
+        rt: &R,
+        alloc: Global,
+        pass: &mut Pass<L0, L1, L2, L3>,
+        moment: u64,
+    ) -> Result<(), ApplyFault>
+        ensures ticked { IfOk result (λ _.
+            AreNoted self.now.config.settings.shards (moves.Tick moment) pass.old pass.new) }
+        ensures err { IfErr result (λ fault.
+            AreNoted (swept_before fault) (moves.Tick moment) pass.old pass.new) }
+    {
+        self.step_each(rt, alloc, pass, &Move::Tick { moment })
+    }
+}

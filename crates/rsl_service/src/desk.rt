@@ -1,0 +1,98 @@
+ghost use Rattle.std.specs.Prelude.{◌≡◌, ◌+◌, ◌<◌, IfOk, OnErr, OnOk};
+ghost use Rattle.rsl_shard.specs.Moves.{IsTaken};
+ghost use Rattle.rsl_shard.specs.Seen.{total_of};
+ghost use Rattle.rsl_shard.specs.Setup.{setup_of};
+ghost use Rattle.rsl_shard.specs.Journal.{IsJournal};
+
+use crate::fault::StepFault;
+use crate::gate::Gate;
+use crate::tally::Tally;
+use rsl_accounts::Config;
+use rsl_event::Decision;
+use rsl_shard::{Ready, Segment, Shard, Spare};
+use rsl_wire::NoMemory;
+use std::alloc::Global;
+use std::sync::ledger::{Blank, Book, Share};
+
+/// A shard with the ledger of its lines, as they stand behind the shard's lock.
+///
+/// Its type keeps that it is the shard for which the ledger stands, and that the ledger's total is
+/// the number of the shard's lines, with those that were handed out.
+#[derive(Drop)]
+pub(crate) struct Desk<L: Tally> {
+    shard: Shard,
+    lines: Book<L>,
+    ghost counted: { lines.total ≡ total_of shard },
+    ghost numbered: { shard.setup ≡ L.setup },
+}
+
+/// What came of a step: where its line stands, and what was decided.
+#[derive(Debug, Clone, Copy, PartialEq, Eq, Drop)]
+pub(crate) struct Made {
+    /// The line's position, counted over all segments.
+    pub(crate) position: u64,
+    /// The decision on the move.
+    pub(crate) decision: Decision,
+}
+
+impl<L: Tally> Desk<L> {
+    /// A shard of new books behind its ledger, with the share that has all of the ledger's parts.
+    /// It fails only where memory is refused.
+    pub(crate) fn new(
+        alloc: Global,
+        config: &Config,
+        number: u32,
+        blank: Blank,
+    ) -> Result<(Desk<L>, Share<L>), NoMemory>
+        requires there { number < config.now.settings.shards }
+        requires setup { L.setup ≡ setup_of config.now number }
+        requires name { blank.name ≡ L.name }
+        requires parts { blank.parts ≡ L.parts }
+        ensures parts { IfOk result (λ made. made.1.parts ≡ L.parts) }
+        ensures amount { IfOk result (λ made. made.1.amount ≡ 0) }
+    {
+        let shard = Shard::new(alloc, config, number)?;
+        let (lines, share) = blank.open::<L>();
+        Ok((Desk { shard, lines }, share))
+    }
+
+    /// Hands out the journal, and goes on from equal books. It fails only where memory is refused,
+    /// and then nothing has changed.
+    pub(crate) fn cut(&mut self, alloc: Global) -> Result<Segment, NoMemory>
+        ensures shard { IfOk result (λ segment. segment.shard ≡ L.setup.shard) }
+        ensures journal { IfOk result (λ segment.
+            IsJournal L.setup segment.opening.items segment.lines.items) }
+    {
+        let _total = self.shard.total();
+        self.shard.cut(alloc)
+    }
+
+    /// Makes a move in the shard, counts its line in the share, and then calls the gate. Where it
+    /// fails, nothing has changed but the spare room: `Spent` comes before the step's own want of
+    /// memory.
+    pub(crate) fn make<G: Gate>(
+        &mut self,
+        alloc: Global,
+        gate: &G,
+        number: u32,
+        mine: &mut Share<L>,
+        ready: Ready,
+        spare: &mut Spare,
+    ) -> Result<Made, StepFault>
+        requires takes { IsTaken L.setup ready }
+        requires part { 0 < mine.old.parts }
+        ensures parts { mine.new.parts ≡ mine.old.parts }
+        ensures counted { OnOk result (mine.new.amount ≡ mine.old.amount + 1) }
+        ensures err { OnErr result (mine.new ≡ mine.old) }
+    {
+        let Desk { shard, lines } = self;
+        let position = shard.total();
+        if position == u64::MAX {
+            return Err(StepFault::Spent);
+        }
+        let decision = shard.step_ready(alloc, ready, spare)?;
+        lines.add(mine, 1);
+        gate.at(number);
+        Ok(Made { position, decision })
+    }
+}

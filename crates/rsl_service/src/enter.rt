@@ -1,0 +1,111 @@
+ghost use Rattle.std.specs.Prelude.{◌≡◌, ℕ, ◌+◌, ◌<◌, IfOk, OnErr, OnOk, [], ◌∷◌, ◌++◌, vec_len, vec_capacity};
+ghost use Rattle.rsl_shard.specs.Moves.{IsTaken};
+ghost use Rattle.rsl_service.specs.Receipts.{IsNoted, count_of};
+
+use crate::desk::{Desk, Made};
+use crate::fault::StepFault;
+use crate::gate::Gate;
+use crate::moves::copy_of;
+use crate::tally::Tally;
+use rsl_event::Decision;
+use rsl_settle::Receipt;
+use rsl_shard::{Line, Move, Ready, Spare};
+use std::alloc::Global;
+use std::sync::ledger::Share;
+use std::sync::{Mutex, Wait};
+
+/// Makes a move in a shard, and notes it as the last of the receipts. What the step needs is taken
+/// before the lock: copies of the move and of its event, and room for a receipt and for lines of the
+/// journal. Where it fails, nothing has changed but the room.
+pub(crate) fn enter<L: Tally, G: Gate, R: Wait>(
+    rt: &R,
+    alloc: Global,
+    desk: &Mutex<Desk<L>>,
+    gate: &G,
+    shard: u32,
+    mine: &mut Share<L>,
+    receipts: &mut Vec<Receipt>,
+    spare: &mut Spare,
+    moved: Move,
+) -> Result<Decision, StepFault>
+    requires takes { IsTaken L.setup moved }
+    requires part { 0 < mine.old.parts }
+    ensures noted { IfOk result (λ decision.
+        IsNoted shard moved decision receipts.old.items receipts.new.items) }
+    ensures parts { mine.new.parts ≡ mine.old.parts }
+    ensures counted { mine.new.amount + count_of shard receipts.old.items
+        ≡ mine.old.amount + count_of shard receipts.new.items }
+    ensures others { (other : ℕ) → (other ≡ shard → ⊥) →
+        count_of other receipts.new.items ≡ count_of other receipts.old.items }
+    ensures err { OnErr result (receipts.new.items ≡ receipts.old.items) }
+{
+    let (copy, ready) = take_room(alloc, receipts, spare, moved)?;
+    let made = make_under_lock(rt, alloc, desk, gate, shard, mine, ready, spare)?;
+    let line = Line {
+        moved: copy,
+        decision: made.decision,
+    };
+    let position = made.position;
+    note(
+        receipts,
+        Receipt {
+            shard,
+            position,
+            line,
+        },
+    );
+    Ok(made.decision)
+}
+
+/// What a step and its receipt need: room, a copy of the move for the receipt, and the move with
+/// what its step takes over. Where it fails, nothing has changed but the room.
+fn take_room(
+    alloc: Global,
+    receipts: &mut Vec<Receipt>,
+    spare: &mut Spare,
+    moved: Move,
+) -> Result<(Move, Ready), StepFault>
+    ensures copy { IfOk result (λ taken. taken.0 ≡ moved) }
+    ensures ready { IfOk result (λ taken. taken.1 ≡ moved) }
+    ensures receipts { receipts.new.items ≡ receipts.old.items }
+    ensures room { OnOk result (vec_len receipts.new < vec_capacity receipts.new) }
+{
+    receipts.reserve(1)?;
+    spare.fill(alloc)?;
+    let copy = copy_of(alloc, &moved)?;
+    let ready = Ready::new(alloc, moved)?;
+    Ok((copy, ready))
+}
+
+/// Puts a receipt after those of a pass, for which there is room.
+#[tactic(auto, using(crate::proofs::Counting::counts))]
+fn note(receipts: &mut Vec<Receipt>, receipt: Receipt)
+    requires room { vec_len receipts.old < vec_capacity receipts.old }
+    ensures noted { receipts.new.items ≡ receipts.old.items ++ receipt ∷ [] }
+    ensures counted { count_of receipt.shard receipts.new.items
+        ≡ count_of receipt.shard receipts.old.items + 1 }
+    ensures others { (other : ℕ) → (other ≡ receipt.shard → ⊥) →
+        count_of other receipts.new.items ≡ count_of other receipts.old.items }
+{
+    receipts.push_reserved(receipt);
+}
+
+/// All that is done under a shard's lock.
+fn make_under_lock<L: Tally, G: Gate, R: Wait>(
+    rt: &R,
+    alloc: Global,
+    desk: &Mutex<Desk<L>>,
+    gate: &G,
+    shard: u32,
+    mine: &mut Share<L>,
+    ready: Ready,
+    spare: &mut Spare,
+) -> Result<Made, StepFault>
+    requires takes { IsTaken L.setup ready }
+    requires part { 0 < mine.old.parts }
+    ensures parts { mine.new.parts ≡ mine.old.parts }
+    ensures counted { OnOk result (mine.new.amount ≡ mine.old.amount + 1) }
+    ensures err { OnErr result (mine.new ≡ mine.old) }
+{
+    desk.lock(rt).make(alloc, gate, shard, mine, ready, spare)
+}

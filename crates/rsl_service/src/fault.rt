@@ -1,0 +1,74 @@
+ghost use Rattle.std.specs.Prelude.{◌≡◌};
+ghost use Rattle.rsl_service.specs.Applied.{swept_before};
+
+use rsl_wire::NoMemory;
+use std::alloc::AllocError;
+
+/// Why a step was not made.
+#[derive(Debug, Clone, Copy, PartialEq, Eq, Drop)]
+pub(crate) enum StepFault {
+    /// Memory was refused.
+    NoMemory,
+    /// The shard has made 2^64 - 1 moves.
+    Spent,
+}
+
+impl From<NoMemory> for StepFault {
+    fn from(_: NoMemory) -> StepFault {
+        StepFault::NoMemory
+    }
+}
+
+impl From<AllocError> for StepFault {
+    fn from(_: AllocError) -> StepFault {
+        StepFault::NoMemory
+    }
+}
+
+/// Why a pass was not opened.
+#[derive(Debug, Clone, Copy, PartialEq, Eq, Drop)]
+pub enum PassFault {
+    /// 1,024 passes were opened.
+    TooMany,
+    /// Memory was refused.
+    NoMemory,
+}
+
+/// Why a journal was not handed out.
+#[derive(Debug, Clone, Copy, PartialEq, Eq, Drop)]
+pub enum CutFault {
+    /// The configuration has no shard of this number.
+    NoShard,
+    /// Memory was refused. The journal is as it was.
+    NoMemory,
+}
+
+/// Why a datagram was not answered, or a tick not made in every shard.
+///
+/// The moves of so many shards, from shard 0 on, had been made by then, and stand: those of a
+/// restart or of a tick, each with its receipt. All else is as it was.
+#[derive(Debug, Clone, Copy, PartialEq, Eq, Drop)]
+pub enum ApplyFault {
+    /// Memory was refused.
+    NoMemory {
+        /// The number of shards that had made their moves.
+        swept: u32,
+    },
+    /// A shard has made 2^64 - 1 moves.
+    Spent {
+        /// The number of shards that had made their moves.
+        swept: u32,
+    },
+}
+
+impl StepFault {
+    /// The fault, where so many shards had made their moves before it.
+    pub(crate) fn after(self, swept: u32) -> ApplyFault
+        ensures { swept_before result ≡ swept }
+    {
+        match self {
+            StepFault::NoMemory => ApplyFault::NoMemory { swept },
+            StepFault::Spent => ApplyFault::Spent { swept },
+        }
+    }
+}

@@ -1,0 +1,163 @@
+ghost use Rattle.std.specs.Prelude.{◌≡◌, ◌<◌, ◌≤◌, [], IfErr, IfOk, nat_lt, is_some};
+ghost use Rattle.rsl_shard.specs.Setup.{setup_of};
+ghost use Rattle.rsl_shard.specs.Journal.{IsJournal};
+ghost use Rattle.rsl_service.specs.Service.{IsLedgerOf};
+ghost use Rattle.rsl_service.specs.declared.fault.CutFault.TheVariants as faults;
+
+use crate::desk::Desk;
+use crate::fault::{CutFault, PassFault};
+use crate::gate::Gate;
+use crate::left::Left;
+use crate::pass::Pass;
+use crate::service::Service;
+use crate::tally::Tally;
+use rsl_accounts::Config;
+use rsl_shard::Segment;
+use rsl_wire::NoMemory;
+use std::alloc::Global;
+use std::sync::ledger::{Blank, Share};
+use std::sync::{Mutex, Wait};
+
+/// The four ledgers of a service, before it is made.
+#[derive(Drop)]
+pub struct Blanks {
+    /// That of shard 0.
+    pub blank0: Blank,
+    /// That of shard 1.
+    pub blank1: Blank,
+    /// That of shard 2.
+    pub blank2: Blank,
+    /// That of shard 3.
+    pub blank3: Blank,
+}
+
+/// The lock of a shard, if the configuration has that shard, and its ledger's only share.
+fn desk_if_there<L: Tally>(
+    alloc: Global,
+    config: &Config,
+    number: u32,
+    blank: Blank,
+) -> Result<(Option<Mutex<Desk<L>>>, Share<L>), NoMemory>
+    requires setup { L.setup ≡ setup_of config.now number }
+    requires name { blank.name ≡ L.name }
+    requires parts { blank.parts ≡ L.parts }
+    ensures there { IfOk result (λ made.
+        is_some made.0 ≡ nat_lt number config.now.settings.shards) }
+    ensures parts { IfOk result (λ made. made.1.parts ≡ L.parts) }
+    ensures amount { IfOk result (λ made. made.1.amount ≡ 0) }
+{
+    if number >= config.shards() {
+        let (_lines, share) = blank.open::<L>();
+        return Ok((None, share));
+    }
+    let (desk, share) = Desk::new(alloc, config, number, blank)?;
+    Ok((Some(Mutex::new(desk)), share))
+}
+
+impl<L0: Tally, L1: Tally, L2: Tally, L3: Tally, G: Gate + Drop> Service<L0, L1, L2, L3, G> {
+    /// A service whose shards have new books, and which has opened no pass. It fails only where
+    /// memory is refused.
+    ///
+    /// Each blank has 1,025 parts, and becomes the ledger of its shard.
+    pub fn new(
+        alloc: Global,
+        blanks: Blanks,
+        config: Config,
+        boot: u64,
+        gate: G,
+    ) -> Result<Service<L0, L1, L2, L3, G>, NoMemory>
+        requires ledger0 { IsLedgerOf config 0
+            blanks.blank0.name blanks.blank0.parts L0.name L0.parts L0.setup }
+        requires ledger1 { IsLedgerOf config 1
+            blanks.blank1.name blanks.blank1.parts L1.name L1.parts L1.setup }
+        requires ledger2 { IsLedgerOf config 2
+            blanks.blank2.name blanks.blank2.parts L2.name L2.parts L2.setup }
+        requires ledger3 { IsLedgerOf config 3
+            blanks.blank3.name blanks.blank3.parts L3.name L3.parts L3.setup }
+        ensures { IfOk result (λ service. service ≡ record { config = config; boot = boot }) }
+    {
+        let Blanks {
+            blank0,
+            blank1,
+            blank2,
+            blank3,
+        } = blanks;
+        let _shards = config.shards();
+        let (desk0, share0) = Desk::new(alloc, &config, 0, blank0)?;
+        let (desk1, share1) = desk_if_there(alloc, &config, 1, blank1)?;
+        let (desk2, share2) = desk_if_there(alloc, &config, 2, blank2)?;
+        let (desk3, share3) = desk_if_there(alloc, &config, 3, blank3)?;
+        let left = Left::new(share0, share1, share2, share3);
+        Ok(Service {
+            config,
+            boot,
+            gate,
+            desk0: Mutex::new(desk0),
+            desk1,
+            desk2,
+            desk3,
+            left: Mutex::new(left),
+        })
+    }
+}
+
+impl<L0: Tally, L1: Tally, L2: Tally, L3: Tally, G: Gate> Service<L0, L1, L2, L3, G> {
+    /// A new pass, with no receipts. It fails where 1,024 were opened, and else where memory is
+    /// refused.
+    pub fn open_pass<R: Wait>(
+        &self,
+        rt: &R,
+        alloc: Global,
+    ) -> Result<Pass<L0, L1, L2, L3>, PassFault>
+        ensures { IfOk result (λ pass. pass ≡ []) }
+    {
+        self.left.lock(rt).open(alloc)
+    }
+
+    /// Hands out the journal of a shard, which goes on from equal books. Where it fails, the
+    /// journal is as it was.
+    pub fn cut<R: Wait>(&self, rt: &R, alloc: Global, shard: u32) -> Result<Segment, CutFault>
+        ensures shard { IfOk result (λ segment. segment.shard ≡ shard) }
+        ensures journal { IfOk result (λ segment.
+            IsJournal (setup_of self.now.config shard) segment.opening.items segment.lines.items) }
+        ensures missing { IfErr result (λ fault.
+            fault ≡ faults.NoShard → self.now.config.settings.shards ≤ shard) }
+        ensures there { IfErr result (λ fault.
+            fault ≡ faults.NoMemory → shard < self.now.config.settings.shards) }
+    {
+        let _shards = self.config.shards();
+        match shard {
+            0 => cut_under_lock(rt, alloc, &self.desk0),
+            1 => match &self.desk1 {
+                Some(desk) => cut_under_lock(rt, alloc, desk),
+                None => Err(CutFault::NoShard),
+            },
+            2 => match &self.desk2 {
+                Some(desk) => cut_under_lock(rt, alloc, desk),
+                None => Err(CutFault::NoShard),
+            },
+            3 => match &self.desk3 {
+                Some(desk) => cut_under_lock(rt, alloc, desk),
+                None => Err(CutFault::NoShard),
+            },
+            _ => Err(CutFault::NoShard),
+        }
+    }
+}
+
+/// Hands out the journal of a shard under its lock.
+fn cut_under_lock<L: Tally, R: Wait>(
+    rt: &R,
+    alloc: Global,
+    desk: &Mutex<Desk<L>>,
+) -> Result<Segment, CutFault>
+    ensures shard { IfOk result (λ segment. segment.shard ≡ L.setup.shard) }
+    ensures journal { IfOk result (λ segment.
+        IsJournal L.setup segment.opening.items segment.lines.items) }
+    ensures err { IfErr result (λ fault. fault ≡ faults.NoMemory) }
+{
+    match desk.lock(rt).cut(alloc) {
+        Ok(segment) => Ok(segment),
+        Err(NoMemory) => Err(CutFault::NoMemory),
+    }
+}

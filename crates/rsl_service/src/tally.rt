@@ -1,0 +1,16 @@
+ghost use Rattle.rsl_shard.specs.Setup.{Setup};
+
+use std::marker::Brand;
+use std::sync::ledger::Ledger;
+
+/// A ledger that counts the lines of one shard.
+///
+/// Its type alone says of which shard, so that a share of one shard's ledger is never taken for
+/// that of another, and so that the moves that a shard takes are known before its lock is.
+pub trait Tally: Ledger {
+    ghost setup: { Setup };
+}
+
+impl Tally for Brand {
+    ghost setup = { record { shard = 0; shards = 0; accounts = 0 } };
+}
