@@ -54,6 +54,13 @@ pub length-seen : (servers : List Nas) (links : List Link) → length (links_see
 unfolding links_seen
 length-seen servers links = length-map links (link_seen servers)
 
+-- a position within the links that are seen is one within the links
+pub within_seen : (book : Inside) (value : RuledBook) (at : ℕ) → book_seen book ≡ value → at < length value.book.links → at < length book.links.list.items
+within_seen book value at is within =
+    let long = ap (λ (one : RuledBook). length one.book.links) is in
+    let seen = length-seen book.servers book.links.list.items in
+    omega (arith, long, seen, within)
+
 -- as many links as the places have ports, at most
 pub few_links : (servers : List Nas) (links : Links) (limit ports : ℕ) → AreCounted servers links → links.places ≤ limit → links.ports ≡ ports → length links.list.items ≤ limit * ports
 few_links servers links limit ports counted within same =

@@ -32,12 +32,15 @@ high_part kind links order o target middle high k from within =
     by_cases false e past = e
 
 -- a number put before the others, after they were turned to the left and before they are turned back
-pub turned_in : (xs : List ℕ) (place at long : ℕ) → long ≡ length xs + 1 → place ≤ length xs
-    → drop (long - place) (at ∷ (drop place xs ++ take place xs)) ++ take (long - place) (at ∷ (drop place xs ++ take place xs)) ≡ insert xs place at
-turned_in xs place at long one within =
-    let after = length-drop place xs in
-    let head : length (at ∷ drop place xs) ≡ long - place = omega (arith, after, one, within) in
-    ap (λ ys. ys ++ take (long - place) (at ∷ (drop place xs ++ take place xs))) (drop_at (at ∷ drop place xs) (take place xs) (long - place) head)
+pub turned_in : (xs turned more after : List ℕ) (place at long : ℕ) → turned ≡ drop place xs ++ take place xs → more ≡ at ∷ turned
+    → after ≡ drop (long - place) more ++ take (long - place) more → long ≡ length xs + 1 → place ≤ length xs → after ≡ insert xs place at
+turned_in xs turned more after place at long left put right one within =
+    let rest = length-drop place xs in
+    let head : length (at ∷ drop place xs) ≡ long - place = omega (arith, rest, one, within) in
+    let all : more ≡ (at ∷ drop place xs) ++ take place xs = put ∙ ap (λ ys. at ∷ ys) left in
+    right
+    ∙ ap (λ ys. drop (long - place) ys ++ take (long - place) ys) all
+    ∙ ap (λ ys. ys ++ take (long - place) ((at ∷ drop place xs) ++ take place xs)) (drop_at (at ∷ drop place xs) (take place xs) (long - place) head)
     ∙ ap (λ ys. take place xs ++ ys) (take_at (at ∷ drop place xs) (take place xs) (long - place) head)
 
 -- where the last stands before an entry, all do

@@ -25,6 +25,7 @@ use Rattle.rsl_book.specs.Order.{link_at, no_link}
 use Rattle.rsl_book.specs.Seen.{bundle_with, holder_at, link_seen, links_seen, server_at}
 use Rattle.rsl_book.proofs.Found.{length-change_at}
 use Rattle.rsl_book.proofs.Lists.{find_none}
+use Rattle.rsl_book.proofs.OfLinks.{link_here}
 use Rattle.rsl_book.proofs.Yielding.{any_none, any_nowhere}
 
 -- links that end, open or change
@@ -149,6 +150,13 @@ members_seen servers id place (link ∷ links) is placed =
     ∙ ap (λ b. cond b 1 0 + count_by (is_member place id) links) (sym (member_seen servers id place link is (placed zero (omega arith))))
     ∙ ap (λ n. cond (is_bundle named (link_seen servers link).bundle) 1 0 + n) (members_seen servers id place links is (λ x within. placed (suc x) (omega (arith, within))))
     ∙ sym (sum_by-cons (λ b. cond (is_bundle named b) 1 0) (link_seen servers link).bundle (map (λ (one : BookLink). one.bundle) (map (link_seen servers) links)))
+
+-- those that share a bundle with the link at a position
+pub members_at : (servers : List Nas) (links : List Link) (at members : ℕ) (link : Link) (id octets : List ℕ) → at < length links → link ≡ get_or links at link → octets ≡ id → ArePlaced servers links
+    → members ≡ count_by (is_member link.nas octets) links → members ≡ count_by (is_bundle (record { nas = server_at servers link.nas; id = id })) (bundles_in (links_seen servers links))
+members_at servers links at members link id octets within is same placed counts =
+    counts ∙ ap (λ (own : List ℕ). count_by (is_member link.nas own) links) same
+    ∙ members_seen servers id link.nas links (subst (λ (one : Link). IsPlace servers one.nas) (sym (link_here links at link within is)) (placed at within)) placed
 
 -- the first link of a session, as it is seen
 none_before : (q : Link → Bool) (xs : List Link) (at i : ℕ) → list_any q (take at xs) ≡ false → i < at → i < length xs → q (link_at xs i) ≡ false

@@ -12,6 +12,8 @@ use Rattle.rsl_session.specs.BookLinks.{can_yield, lapses_at}
 use Rattle.rsl_book.specs.declared.link.Link.{Link}
 use Rattle.rsl_book.specs.declared.link.Hold.{Hold}
 use Rattle.rsl_book.specs.declared.link.Hold.TheVariants.{Number, Session}
+use Rattle.rsl_book.specs.declared.links.Links.{Links}
+use Rattle.rsl_book.specs.Counted.{AreCounted}
 use Rattle.rsl_book.specs.First.{IsFirst}
 use Rattle.rsl_book.specs.LinkList.{IsOldest}
 use Rattle.rsl_book.specs.Order.{holds_session, link_at, no_link}
@@ -84,19 +86,34 @@ ended_all ends (x ∷ xs) none = by_cases (ends x) none (ended_all ends xs) wher
 pub fewer_found : (servers : List Nas) (ends : BookLink → Bool) (links : List Link) (at : ℕ) → IsFirst ends (links_seen servers links) at → at < length links
 fewer_found servers ends links at first = let long = length_seen servers links in let front = first.within in omega (arith, long, front)
 
+-- what is left of some links once those that end are taken out one by one
+pub record AreLeft (ends : BookLink → Bool) (servers : List Nas) (old now : Links) : Type 0 where
+  pub left : filter (λ (link : BookLink). not (ends link)) (links_seen servers now.list.items)
+      ≡ filter (λ (link : BookLink). not (ends link)) (links_seen servers old.list.items)
+  pub counted : AreCounted servers now
+  pub fewer : now.places ≤ old.places
+  pub ports : now.ports ≡ old.ports
+  pub room : now.list.room ≡ old.list.room
+
+pub one_less : {ends : BookLink → Bool} {servers : List Nas} {old now next : Links} → AreLeft ends servers old now
+    → filter (λ (link : BookLink). not (ends link)) (links_seen servers next.list.items) ≡ filter (λ (link : BookLink). not (ends link)) (links_seen servers now.list.items)
+    → AreCounted servers next → next.places ≤ now.places → next.ports ≡ now.ports → next.list.room ≡ now.list.room → AreLeft ends servers old next
+one_less so_far left counted fewer ports room =
+    record {
+      left = left ∙ so_far.left;
+      counted = counted;
+      fewer = (let before = so_far.fewer in omega (arith, fewer, before));
+      ports = ports ∙ so_far.ports;
+      room = room ∙ so_far.room;
+    }
+
 -- a link that lapses is taken out, and in the end none does
 pub lapse_step : (servers : List Nas) (rules : Rules) (now : ℕ) (links left : List Link) (at : ℕ) → at < length links → lapses_at rules now (link_seen servers (link_at links at)) ≡ true
     → left ≡ take at links ++ drop (at + 1) links
     → filter (λ (link : BookLink). not (lapses_at rules now link)) (links_seen servers left) ≡ filter (λ (link : BookLink). not (lapses_at rules now link)) (links_seen servers links)
-unfolding without_at
 lapse_step servers rules now links left at within lapses is =
-    let long = length_seen servers links in
-    let gone = filter_less (λ (link : BookLink). not (lapses_at rules now link)) (links_seen servers links) at (omega (arith, within, long))
-    (λ d. ap (λ (link : BookLink). not (lapses_at rules now link)) (read_seen servers links at d within) ∙ ap not lapses) in
-    let one = seen_without servers links at in
-    ap (λ xs. filter (λ (link : BookLink). not (lapses_at rules now link)) (links_seen servers xs)) is
-    ∙ ap (filter (λ (link : BookLink). not (lapses_at rules now link))) one
-    ∙ rw add-one gone
+    ended_step servers (lapses_at rules now) links left at within
+    (λ d. ap (lapses_at rules now) (read_seen servers links at d within) ∙ lapses) is
 
 pub lapse_end : (servers : List Nas) (rules : Rules) (now : ℕ) (links : List Link) → ((at : ℕ) → at < length links → lapses_at rules now (link_seen servers (link_at links at)) ≡ false)
     → filter (λ (link : BookLink). not (lapses_at rules now link)) (links_seen servers links) ≡ links_seen servers links

@@ -412,12 +412,11 @@ impl Book {
         ensures rules { self.new.rules ≡ self.old.rules }
     {
         self.stays_within_limit();
-        if self.frees_a_place(at) {
-            self.end_link(at);
-            self.accept(key, nas)
-        } else {
-            self.refuse(key, nas)
+        if !self.frees_a_place(at) {
+            return self.refuse(key, nas);
         }
+        self.end_link(at);
+        self.accept(key, nas)
     }
 
     /// A fresh ask for which there is an accept number.

@@ -70,6 +70,7 @@ impl Kind {
     }
 
     /// Whether a link at a position stands before what goes by these.
+    #[inline(always)]
     #[tactic(auto, unfolding(crate::specs::Order::is_before))]
     fn is_before(
         self,
@@ -89,6 +90,7 @@ impl Kind {
     }
 
     /// How many links of an order stand before what goes by these.
+    #[inline(always)]
     pub(crate) fn count_before(
         self,
         order: &VecDeque<usize>,

@@ -25,130 +25,7 @@ use Rattle.rsl_session.specs.Book.{Book, BookLink, Bound, bundles_in, places_in}
 use Rattle.rsl_session.specs.BookLinks.{lapses_at, is_link_of, can_be_taken, can_yield, fits_beside, touch, take_for, change_first, without_first}
 use Rattle.rsl_session.specs.BookStep.{come_to, keep_ask, refuse, accept_beside, ask_for_place, fresh_ask, ask, open_link, bind, alive, stop, sweep, act_on, step}
 use Rattle.rsl_session.proofs.Sameness.{bundle_cases, same_bundle-refl}
-use Rattle.rsl_session.proofs.Counting.{fewer, places_of-le, places_of_alone, places_of_more}
-
--- how many of some links are in a bundle, how often a bundle stands in a list, and the links without one
-members : Bundle → List (Option Bundle) → ℕ
-members bundle xs = count_by (is_bundle bundle) xs
-
-members-cons : (bundle : Bundle) (x : Option Bundle) (xs : List (Option Bundle))
-    → members bundle (x ∷ xs) ≡ cond (is_bundle bundle x) 1 0 + members bundle xs
-unfolding members
-members-cons bundle x xs = sum_by-cons (λ one. cond (is_bundle bundle one) 1 0) x xs
-
-times : Bundle → List Bundle → ℕ
-times bundle bundles = count_by (same_bundle bundle) bundles
-
-times-cons : (bundle other : Bundle) (bundles : List Bundle)
-    → times bundle (other ∷ bundles) ≡ cond (same_bundle bundle other) 1 0 + times bundle bundles
-unfolding times
-times-cons bundle other bundles = sum_by-cons (λ x. cond (same_bundle bundle x) 1 0) other bundles
-
-times-nil : (bundle : Bundle) → times bundle [] ≡ 0
-unfolding times
-times-nil bundle = refl
-
-alone : List (Option Bundle) → ℕ
-alone xs = count_by is_none xs
-
-alone-cons : (x : Option Bundle) (xs : List (Option Bundle))
-    → alone (x ∷ xs) ≡ cond (is_none x) 1 0 + alone xs
-unfolding alone
-alone-cons x xs = sum_by-cons (λ (one : Option Bundle). cond (is_none one) 1 0) x xs
-
--- the links that are in some bundles
-inside : List (Option Bundle) → List Bundle → ℕ
-inside xs bundles = sum_by (λ bundle. members bundle xs) bundles
-
-inside-cons : (xs : List (Option Bundle)) (bundle : Bundle) (bundles : List Bundle)
-    → inside xs (bundle ∷ bundles) ≡ members bundle xs + inside xs bundles
-unfolding inside
-inside-cons xs bundle bundles = sum_by-cons (λ one. members one xs) bundle bundles
-
-inside-nil : (xs : List (Option Bundle)) → inside xs [] ≡ 0
-unfolding inside
-inside-nil xs = refl
-
-inside_more : (x : Option Bundle) (xs : List (Option Bundle)) (bundles : List Bundle)
-    → inside xs bundles ≤ inside (x ∷ xs) bundles
-inside_more x xs [] = omega (arith, inside-nil xs, inside-nil (x ∷ xs))
-inside_more x xs (bundle ∷ bundles) =
-    omega (arith, inside-cons xs bundle bundles, inside-cons (x ∷ xs) bundle bundles, members-cons bundle x xs, inside_more x xs bundles)
-
-inside_own : (bundle : Bundle) (xs : List (Option Bundle)) (bundles : List Bundle)
-    → inside xs bundles + times bundle bundles ≤ inside (Some bundle ∷ xs) bundles
-inside_own bundle xs [] = omega (arith, times-nil bundle, inside-nil xs, inside-nil (Some bundle ∷ xs))
-inside_own bundle xs (other ∷ bundles) =
-    let here : members other (Some bundle ∷ xs) ≡ cond (same_bundle bundle other) 1 0 + members other xs = members-cons other (Some bundle) xs in
-    omega (arith, inside-cons xs other bundles, inside-cons (Some bundle ∷ xs) other bundles, here, times-cons bundle other bundles, inside_own bundle xs bundles)
-
--- a bundle of a link is among the bundles
-stands : (bundle : Bundle) (xs : List (Option Bundle)) → list_any (is_bundle bundle) xs ≡ true
-    → 1 ≤ times bundle (each_bundle xs)
-unfolding each_bundle
-stands bundle [] has = cc
-stands bundle (None ∷ xs) has = stands bundle xs has
-stands bundle (Some other ∷ xs) has =
-    elim (bundle_cases bundle other) [
-      | inl same ↦
-          let P : Bundle → Type 0 = λ o. (seen : Bool) → list_any (is_bundle o) xs ≡ seen → 1 ≤ times bundle (cond seen (each_bundle xs) (o ∷ each_bundle xs)) in
-          subst P same (own bundle xs (stands bundle xs)) (list_any (is_bundle other) xs) refl
-      | inr differ ↦
-          let rest : 1 ≤ times bundle (each_bundle xs) = stands bundle xs (rw differ.1 at has) in
-          by_seen bundle other xs rest (list_any (is_bundle other) xs)
-    ] where
-      own : (bundle : Bundle) (xs : List (Option Bundle))
-          → (list_any (is_bundle bundle) xs ≡ true → 1 ≤ times bundle (each_bundle xs))
-          → (seen : Bool) → list_any (is_bundle bundle) xs ≡ seen
-          → 1 ≤ times bundle (cond seen (each_bundle xs) (bundle ∷ each_bundle xs))
-      own bundle xs rest true is = rest is
-      own bundle xs rest false is =
-          let here : times bundle (bundle ∷ each_bundle xs) ≡ 1 + times bundle (each_bundle xs) = rw (same_bundle-refl bundle) at (times-cons bundle bundle (each_bundle xs)) in
-          omega (arith, here)
-
-      by_seen : (bundle other : Bundle) (xs : List (Option Bundle)) → 1 ≤ times bundle (each_bundle xs)
-          → (seen : Bool) → 1 ≤ times bundle (cond seen (each_bundle xs) (other ∷ each_bundle xs))
-      by_seen bundle other xs rest true = rest
-      by_seen bundle other xs rest false = omega (arith, times-cons bundle other (each_bundle xs))
-
--- each link is without a bundle or in one of the bundles
-all_counted : (xs : List (Option Bundle)) → length xs ≤ alone xs + inside xs (each_bundle xs)
-unfolding each_bundle
-all_counted [] = omega arith
-all_counted (None ∷ xs) = omega (arith, alone-cons None xs, inside_more None xs (each_bundle xs), all_counted xs)
-all_counted (Some bundle ∷ xs) = by_seen bundle xs (all_counted xs) (list_any (is_bundle bundle) xs) refl where
-  by_seen : (bundle : Bundle) (xs : List (Option Bundle)) → length xs ≤ alone xs + inside xs (each_bundle xs)
-      → (seen : Bool) → list_any (is_bundle bundle) xs ≡ seen
-      → suc (length xs) ≤ alone (Some bundle ∷ xs) + inside (Some bundle ∷ xs)
-      (cond seen (each_bundle xs) (bundle ∷ each_bundle xs))
-  by_seen bundle xs rest true is = omega (arith, rest, alone-cons (Some bundle) xs, inside_own bundle xs (each_bundle xs), stands bundle xs is)
-  by_seen bundle xs rest false is =
-      let here : members bundle (Some bundle ∷ xs) ≡ 1 + members bundle xs = rw (same_bundle-refl bundle) at (members-cons bundle (Some bundle) xs) in
-      omega (arith, rest, alone-cons (Some bundle) xs, inside-cons (Some bundle ∷ xs) bundle (each_bundle xs), here, inside_more (Some bundle) xs (each_bundle xs))
-
--- so many links fit on the ports of so many places
-scaled : (f g : Bundle → ℕ) (ports : ℕ) → ((bundle : Bundle) → f bundle ≤ g bundle * ports)
-    → (bundles : List Bundle) → sum_by f bundles ≤ sum_by g bundles * ports
-scaled f g ports each [] = omega arith
-scaled f g ports each (bundle ∷ bundles) =
-    total (sum_by f (bundle ∷ bundles)) (f bundle) (sum_by f bundles) (sum_by g (bundle ∷ bundles)) (g bundle) (sum_by g bundles) ports
-    (sum_by-cons f bundle bundles) (sum_by-cons g bundle bundles) (each bundle) (scaled f g ports each bundles) where
-      total : (a b c d e h p : ℕ) → a ≡ b + c → d ≡ e + h → b ≤ e * p → c ≤ h * p → a ≤ d * p
-      total a b c d e h p first second here rest = rw second (omega arith)
-
-once_each : (n ports : ℕ) → 0 < ports → n ≤ n * ports
-once_each n zero some = elim some [ ]
-once_each n (suc ports) some = omega arith
-
-pub ports_hold : (ports : ℕ) (xs : List (Option Bundle)) → 0 < ports → length xs ≤ places_of ports xs * ports
-unfolding places_of alone inside members
-ports_hold ports xs some =
-    let shares : sum_by (λ bundle. count_by (is_bundle bundle) xs) (each_bundle xs) ≤ sum_by (λ bundle. div_ceil (count_by (is_bundle bundle) xs) ports) (each_bundle xs) * ports =
-    scaled (λ bundle. count_by (is_bundle bundle) xs) (λ bundle. div_ceil (count_by (is_bundle bundle) xs) ports) ports (λ bundle. (div_ceil_times (count_by (is_bundle bundle) xs) ports some).0) (each_bundle xs) in
-    total (length xs) (count_by is_none xs) (sum_by (λ bundle. count_by (is_bundle bundle) xs) (each_bundle xs)) (sum_by (λ bundle. div_ceil (count_by (is_bundle bundle) xs) ports) (each_bundle xs)) ports
-    (all_counted xs) shares (once_each (count_by is_none xs) ports some) where
-      total : (n a s d p : ℕ) → n ≤ a + s → s ≤ d * p → a ≤ a * p → n ≤ (a + d) * p
-      total n a s d p counted share each = omega arith
+use Rattle.rsl_session.proofs.Counting.{fewer, length-le-places, places_of-le, places_of_alone, places_of_more}
 
 wider : (n p l : ℕ) → n ≤ l → n * p ≤ l * p
 wider n p l within = grind arith
@@ -160,7 +37,7 @@ links_bounded rules book fit within =
     let some : 0 < rules.ports = omega (arith, fit.a_port) in
     let bundles : List (Option Bundle) = map (λ (link : BookLink). link.bundle) book.links in
     let long : length bundles ≡ length book.links = length-map book.links (λ (link : BookLink). link.bundle) in
-    let held = ports_hold rules.ports bundles some in
+    let held = length-le-places rules.ports bundles some in
     let most = places_of-le rules.ports bundles some in
     let wide = wider (places_of rules.ports bundles) rules.ports rules.places within in
     (omega arith, omega arith)

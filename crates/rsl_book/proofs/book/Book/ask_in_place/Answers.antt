@@ -11,21 +11,21 @@ pub accept-requires-clause-place : goal.accept-requires-clause-place
 accept-requires-clause-place c =
     let value = c.args.self.now in
     let frees : places_in value.rules value.book ≡ places_of value.rules.ports (bundles_in (without_at c.args.at value.book.links)) + 1 =
-    c.frees_a_place.ensures ∙ ap (λ b. places_of value.rules.ports (bundles_in (without_at c.args.at value.book.links)) + cond b 1 0) c.if-frees_a_place.true in
+    c.frees_a_place.ensures ∙ ap (λ b. places_of value.rules.ports (bundles_in (without_at c.args.at value.book.links)) + cond b 1 0) c.if-not-frees_a_place.false in
     subst (λ (made : RuledBook). places_in made.rules made.book + 1 ≤ made.rules.places) (sym c.end_link.ensures)
     (freed_place value.rules value.book c.args.at frees c.stays_within_limit.ensures.limit)
 
-pub returns-then-frees_a_place-clause-step : goal.returns-then-frees_a_place-clause-step
-returns-then-frees_a_place-clause-step c =
+pub returns-clause-step : goal.returns-clause-step
+returns-clause-step c =
     let value = c.args.self.now in
     let frees : places_in value.rules value.book ≡ places_of value.rules.ports (bundles_in (without_at c.args.at value.book.links)) + 1 =
-    c.frees_a_place.ensures ∙ ap (λ b. places_of value.rules.ports (bundles_in (without_at c.args.at value.book.links)) + cond b 1 0) c.if-frees_a_place.true in
+    c.frees_a_place.ensures ∙ ap (λ b. places_of value.rules.ports (bundles_in (without_at c.args.at value.book.links)) + cond b 1 0) c.if-not-frees_a_place.false in
     in_place_yes value.rules value.book c.args.at c.args.key c.args.nas (c.accept.new.self.book, c.accept.result) c.requires.yields frees c.stays_within_limit.ensures.limit
     (c.accept.ensures.step ∙ ap (λ (made : RuledBook). accept_beside made.book.links made.book c.args.key c.args.nas) c.end_link.ensures)
 
-pub returns-else-frees_a_place-clause-step : goal.returns-else-frees_a_place-clause-step
-returns-else-frees_a_place-clause-step c =
+pub returns-then-not-frees_a_place-clause-step : goal.returns-then-not-frees_a_place-clause-step
+returns-then-not-frees_a_place-clause-step c =
     let value = c.args.self.now in
     let frees : places_in value.rules value.book ≡ places_of value.rules.ports (bundles_in (without_at c.args.at value.book.links)) + 0 =
-    c.frees_a_place.ensures ∙ ap (λ b. places_of value.rules.ports (bundles_in (without_at c.args.at value.book.links)) + cond b 1 0) c.if-frees_a_place.false in
+    c.frees_a_place.ensures ∙ ap (λ b. places_of value.rules.ports (bundles_in (without_at c.args.at value.book.links)) + cond b 1 0) c.if-not-frees_a_place.true in
     in_place_no value.rules value.book c.args.at c.args.key c.args.nas (c.refuse.new.self.book, c.refuse.result) c.requires.yields frees c.requires.full c.refuse.ensures.step

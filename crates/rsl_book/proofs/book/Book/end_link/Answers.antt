@@ -1,15 +1,11 @@
-use Rattle.std.proofs.Common.{◌∙◌, ap, refl, length, arith}
-use Rattle.rsl_book.proofs.Insides.{same_value, length-seen}
+use Rattle.std.proofs.Common.{◌∙◌, ap, refl}
+use Rattle.rsl_book.proofs.Insides.{same_value, within_seen}
 use Rattle.rsl_book.proofs.Stepping.{seen_without}
-use Rattle.rsl_book.specs.RuledBook.{RuledBook}
 use Rattle.rsl_book.specs.Seen.{links_seen}
 use Rattle.rsl_book.proofs.book.Book.end_link.Goals as goal
 
 pub end_at-requires-clause-within : goal.end_at-requires-clause-within
-end_at-requires-clause-within c =
-    let long = ap (λ (value : RuledBook). length value.book.links) c.self.view_is in
-    let seen = length-seen c.self.inside.servers c.self.inside.links.list.items in
-    omega (arith, c.requires)
+end_at-requires-clause-within c = within_seen c.self.inside c.args.self.now c.args.at c.self.view_is c.requires
 
 pub returns : goal.returns
 returns c =

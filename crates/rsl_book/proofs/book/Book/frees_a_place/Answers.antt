@@ -1,18 +1,14 @@
-use Rattle.std.proofs.Common.{◌+◌, cond, sym, ◌∙◌, ap, length, arith}
-use Rattle.rsl_book.proofs.Insides.{held_places, length-seen}
+use Rattle.std.proofs.Common.{◌+◌, cond, sym, ◌∙◌, ap}
+use Rattle.rsl_book.proofs.Insides.{held_places, within_seen}
 use Rattle.rsl_book.proofs.Stepping.{seen_without}
 use Rattle.rsl_session.specs.Places.{places_of}
 use Rattle.rsl_session.specs.Book.{bundles_in}
-use Rattle.rsl_book.specs.RuledBook.{RuledBook}
 use Rattle.rsl_book.specs.Steps.{without_at}
 use Rattle.rsl_book.specs.Seen.{links_seen}
 use Rattle.rsl_book.proofs.book.Book.frees_a_place.Goals as goal
 
 pub frees_a_place-requires-clause-within : goal.frees_a_place-requires-clause-within
-frees_a_place-requires-clause-within c =
-    let long = ap (λ (value : RuledBook). length value.book.links) c.self.view_is in
-    let seen = length-seen c.self.inside.servers c.self.inside.links.list.items in
-    omega (arith, c.requires)
+frees_a_place-requires-clause-within c = within_seen c.self.inside c.args.self.now c.args.at c.self.view_is c.requires
 
 pub returns : goal.returns
 returns c =

@@ -1,27 +1,22 @@
 use Rattle.std.proofs.Common.{◌∙◌, ap, refl, length, arith}
-use Rattle.rsl_book.proofs.Insides.{same_value, length-seen}
+use Rattle.rsl_book.proofs.Insides.{same_value, within_seen}
 use Rattle.rsl_book.proofs.Found.{seen_changed, seen_taken, change_twice, length-change_at}
 use Rattle.rsl_book.specs.declared.link.Link.{Link}
 use Rattle.rsl_book.specs.First.{change_at}
-use Rattle.rsl_book.specs.RuledBook.{RuledBook}
 use Rattle.rsl_book.specs.Seen.{links_seen}
 use Rattle.rsl_book.specs.Steps.{take_here}
 use Rattle.rsl_book.specs.Changed.{touched_link, bound_link}
 use Rattle.rsl_book.proofs.book.Book.take_link.Goals as goal
 
 pub bind_at-requires-clause-within : goal.bind_at-requires-clause-within
-bind_at-requires-clause-within c =
-    let long = ap (λ (value : RuledBook). length value.book.links) c.self.view_is in
-    let seen = length-seen c.self.inside.servers c.self.inside.links.list.items in
-    omega (arith, c.requires)
+bind_at-requires-clause-within c = within_seen c.self.inside c.args.self.now c.args.at c.self.view_is c.requires
 
 pub touch_at-requires-clause-within : goal.touch_at-requires-clause-within
 touch_at-requires-clause-within c =
-    let long = ap (λ (value : RuledBook). length value.book.links) c.self.view_is in
-    let seen = length-seen c.self.inside.servers c.self.inside.links.list.items in
+    let within = within_seen c.self.inside c.args.self.now c.args.at c.self.view_is c.requires in
     let same = ap length c.bind_at.ensures.links in
     let kept = length-change_at (bound_link c.args.id) c.self.inside.links.list.items c.args.at in
-    omega (arith, c.requires)
+    omega (arith, within, same, kept)
 
 pub returns : goal.returns
 returns c =

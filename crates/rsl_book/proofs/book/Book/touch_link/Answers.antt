@@ -1,17 +1,13 @@
-use Rattle.std.proofs.Common.{◌∙◌, ap, refl, length, arith}
-use Rattle.rsl_book.proofs.Insides.{same_value, length-seen}
+use Rattle.std.proofs.Common.{◌∙◌, ap, refl}
+use Rattle.rsl_book.proofs.Insides.{same_value, within_seen}
 use Rattle.rsl_book.proofs.Found.{seen_changed, seen_touched}
-use Rattle.rsl_book.specs.RuledBook.{RuledBook}
 use Rattle.rsl_book.specs.Seen.{links_seen}
 use Rattle.rsl_book.specs.Steps.{touch_here}
 use Rattle.rsl_book.specs.Changed.{touched_link}
 use Rattle.rsl_book.proofs.book.Book.touch_link.Goals as goal
 
 pub touch_at-requires-clause-within : goal.touch_at-requires-clause-within
-touch_at-requires-clause-within c =
-    let long = ap (λ (value : RuledBook). length value.book.links) c.self.view_is in
-    let seen = length-seen c.self.inside.servers c.self.inside.links.list.items in
-    omega (arith, c.requires)
+touch_at-requires-clause-within c = within_seen c.self.inside c.args.self.now c.args.at c.self.view_is c.requires
 
 pub returns : goal.returns
 returns c =

@@ -1,15 +1,11 @@
-use Rattle.std.proofs.Common.{◌≡◌, ℕ, ◌+◌, List, cond, ap, sym, ◌∙◌, subst, take, drop}
-use Rattle.std.specs.Prelude.{count_by}
-use Rattle.rsl_session.specs.Places.{is_bundle, places_of}
+use Rattle.std.proofs.Common.{◌+◌, cond, ap, sym, ◌∙◌, take, drop}
+use Rattle.rsl_session.specs.Places.{places_of}
 use Rattle.rsl_session.specs.declared.bundle.Bundle.{Bundle}
 use Rattle.rsl_session.specs.Book.{bundles_in}
 use Rattle.rsl_book.specs.declared.link.Link.{Link}
-use Rattle.rsl_book.specs.LinkList.{is_member}
-use Rattle.rsl_book.specs.Named.{IsPlace}
 use Rattle.rsl_book.specs.Seen.{links_seen, link_seen, server_at}
-use Rattle.rsl_book.proofs.OfLinks.{link_here}
 use Rattle.rsl_book.proofs.Opened.{less_alone, less_bundled, bundles-append, bundles-split, bundle_none, bundle_some, members_some}
-use Rattle.rsl_book.proofs.Placed.{members_seen}
+use Rattle.rsl_book.proofs.Placed.{members_at}
 use Rattle.rsl_book.proofs.links.Links.frees_a_place.Goals as goal
 
 pub overflow_sub-members : goal.overflow_sub-members
@@ -18,10 +14,7 @@ overflow_sub-members c =
     let links = c.args.self.now.list.items in
     let link : Link = c.index-link.result.now in
     let named : Bundle = record { nas = server_at servers link.nas; id = c.in-Some.id } in
-    let here = link_here links c.args.at link c.requires.within c.index-link.ensures in
-    let counted : c.members.result ≡ count_by (is_bundle named) (bundles_in (links_seen servers links)) =
-    c.members.ensures ∙ ap (λ (octets : List ℕ). count_by (is_member link.nas octets) links) c.as_slice.ensures
-    ∙ members_seen servers c.in-Some.id link.nas links (subst (λ (one : Link). IsPlace servers one.nas) (sym here) (c.requires.counted.placed c.args.at c.requires.within)) c.requires.counted.placed in
+    let counted = members_at servers links c.args.at c.members.result link c.in-Some.id c.as_slice.result.now c.requires.within c.index-link.ensures c.as_slice.ensures c.requires.counted.placed c.members.ensures in
     members_some c.members.result (link_seen servers link).bundle named (bundles_in (links_seen servers (take c.args.at links)))
     (bundles_in (links_seen servers (drop (c.args.at + 1) links))) (bundles_in (links_seen servers links))
     (bundles-split servers links c.args.at link c.requires.within c.index-link.ensures)
@@ -44,10 +37,7 @@ returns-in-Some c =
     let links = c.args.self.now.list.items in
     let link : Link = c.index-link.result.now in
     let named : Bundle = record { nas = server_at servers link.nas; id = c.in-Some.id } in
-    let here = link_here links c.args.at link c.requires.within c.index-link.ensures in
-    let counted : c.members.result ≡ count_by (is_bundle named) (bundles_in (links_seen servers links)) =
-    c.members.ensures ∙ ap (λ (octets : List ℕ). count_by (is_member link.nas octets) links) c.as_slice.ensures
-    ∙ members_seen servers c.in-Some.id link.nas links (subst (λ (one : Link). IsPlace servers one.nas) (sym here) (c.requires.counted.placed c.args.at c.requires.within)) c.requires.counted.placed in
+    let counted = members_at servers links c.args.at c.members.result link c.in-Some.id c.as_slice.result.now c.requires.within c.index-link.ensures c.as_slice.ensures c.requires.counted.placed c.members.ensures in
     less_bundled c.args.self.now.ports c.members.result (cond c.takes_a_place.result 1 0) (link_seen servers link).bundle named
     (bundles_in (links_seen servers (take c.args.at links))) (bundles_in (links_seen servers (drop (c.args.at + 1) links))) (bundles_in (links_seen servers links))
     c.requires.counted.a_port (bundles-split servers links c.args.at link c.requires.within c.index-link.ensures)

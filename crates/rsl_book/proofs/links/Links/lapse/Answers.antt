@@ -1,18 +1,13 @@
-use Rattle.std.proofs.Common.{sym, ◌∙◌, arith}
-use Rattle.rsl_book.proofs.Yielding.{lapse_step, lapse_end}
+use Rattle.std.proofs.Common.{sym, ◌∙◌}
+use Rattle.rsl_book.proofs.Yielding.{lapse_step, lapse_end, one_less}
 use Rattle.rsl_book.proofs.links.Links.lapse.Goals as goal
 
 pub loop-at-preserved : goal.loop-at-preserved
 loop-at-preserved c =
-    let so_far = c.loop-at.invariant in
     let gone = c.end_at.ensures in
-    record {
-      left = lapse_step c.args.servers.now c.args.rules.now c.args.now c.loop-at.self.list.items c.end_at.new.self.list.items c.in-Some.at c.in-Some.ensures.within c.in-Some.ensures.found gone.links ∙ so_far.left;
-      counted = gone.counted;
-      fewer = omega (arith, gone.fewer, so_far.fewer);
-      ports = gone.ports ∙ so_far.ports;
-      room = gone.room ∙ so_far.room;
-    }
+    one_less c.loop-at.invariant
+    (lapse_step c.args.servers.now c.args.rules.now c.args.now c.loop-at.self.list.items c.end_at.new.self.list.items c.in-Some.at c.in-Some.ensures.within c.in-Some.ensures.found gone.links)
+    gone.counted gone.fewer gone.ports gone.room
 
 pub returns-clause-links : goal.returns-clause-links
 returns-clause-links c =

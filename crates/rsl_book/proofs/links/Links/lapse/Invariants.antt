@@ -1,21 +1,10 @@
-use Rattle.std.proofs.Common.{◌≡◌, ◌≤◌, length, not}
-use Rattle.std.specs.Prelude.{filter}
-use Rattle.rsl_session.specs.Book.{BookLink}
+use Rattle.std.proofs.Common.{length}
 use Rattle.rsl_session.specs.BookLinks.{lapses_at}
-use Rattle.rsl_book.specs.Seen.{links_seen}
-use Rattle.rsl_book.specs.Counted.{AreCounted}
+use Rattle.rsl_book.proofs.Yielding.{AreLeft}
 use Rattle.rsl_book.proofs.links.Links.lapse.Given as goal
 
 abbrev pub invariant-loop-at : goal.invariant-loop-at
-invariant-loop-at l =
-    record {
-      left : filter (λ (link : BookLink). not (lapses_at l.rules l.now link)) (links_seen l.servers l.self.list.items)
-          ≡ filter (λ (link : BookLink). not (lapses_at l.rules l.now link)) (links_seen l.servers l.initial.self.list.items);
-      counted : AreCounted l.servers l.self;
-      fewer : l.self.places ≤ l.initial.self.places;
-      ports : l.self.ports ≡ l.initial.self.ports;
-      room : l.self.list.room ≡ l.initial.self.list.room;
-    }
+invariant-loop-at l = AreLeft (lapses_at l.rules l.now) l.servers l.initial.self l.self
 
 abbrev pub decreases-loop-at : goal.decreases-loop-at
 decreases-loop-at l = length l.self.list.items

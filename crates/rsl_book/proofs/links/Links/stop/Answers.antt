@@ -1,7 +1,7 @@
-use Rattle.std.proofs.Common.{sym, ◌∙◌, arith}
+use Rattle.std.proofs.Common.{sym, ◌∙◌}
 use Rattle.rsl_session.specs.BookLinks.{is_link_of}
 use Rattle.rsl_book.specs.Seen.{links_seen}
-use Rattle.rsl_book.proofs.Yielding.{ended_all, ended_step, fewer_found, fewer_left}
+use Rattle.rsl_book.proofs.Yielding.{ended_all, ended_step, fewer_found, fewer_left, one_less}
 use Rattle.rsl_book.proofs.links.Links.stop.Goals as goal
 
 pub end_at-requires-clause-within : goal.end_at-requires-clause-within
@@ -14,17 +14,12 @@ loop-at-smaller c =
 
 pub loop-at-preserved : goal.loop-at-preserved
 loop-at-preserved c =
-    let so_far = c.loop-at.invariant in
     let gone = c.end_at.ensures in
-    record {
-      left = ended_step c.args.servers.now (is_link_of (record { nas = c.args.nas.now; id = c.args.id.now })) c.loop-at.self.list.items c.end_at.new.self.list.items c.in-Some.at
-          (fewer_found c.args.servers.now (is_link_of (record { nas = c.args.nas.now; id = c.args.id.now })) c.loop-at.self.list.items c.in-Some.at c.in-Some.ensures.found)
-          c.in-Some.ensures.found.passed gone.links ∙ so_far.left;
-      counted = gone.counted;
-      fewer = omega (arith, gone.fewer, so_far.fewer);
-      ports = gone.ports ∙ so_far.ports;
-      room = gone.room ∙ so_far.room;
-    }
+    one_less c.loop-at.invariant
+    (ended_step c.args.servers.now (is_link_of (record { nas = c.args.nas.now; id = c.args.id.now })) c.loop-at.self.list.items c.end_at.new.self.list.items c.in-Some.at
+    (fewer_found c.args.servers.now (is_link_of (record { nas = c.args.nas.now; id = c.args.id.now })) c.loop-at.self.list.items c.in-Some.at c.in-Some.ensures.found)
+    c.in-Some.ensures.found.passed gone.links)
+    gone.counted gone.fewer gone.ports gone.room
 
 pub returns-clause-links : goal.returns-clause-links
 returns-clause-links c =
