@@ -1,8 +1,8 @@
-//! The program `audit_time`: makes the record of a shard in two segments, and audits it, so that its time
-//! and memory can be seen from outside. `audit_time WORK LINES` reads an account file from standard input
-//! and makes so many lines of its first shard, over the accounts in turn: an ask, the Start of its session,
-//! an Interim-Update and a Stop. With WORK `making` that is all; with `audit` the record is audited then.
-//! It prints the answer. `bench/audit` runs it.
+//! The program `audit_time`: makes the record of a shard in two segments, and audits it, so that
+//! its time and memory can be seen from outside. `audit_time WORK LINES` reads an account file from
+//! standard input and makes so many lines of its first shard, over the accounts in turn: an ask,
+//! the Start of its session, an Interim-Update and a Stop. With WORK `making` that is all; with
+//! `audit` the record is audited then. It prints the answer. `bench/audit` runs it.
 #![tactic(auto)]
 
 mod record;

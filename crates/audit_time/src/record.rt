@@ -27,7 +27,8 @@ pub(crate) fn record_of(
     Ok(segments)
 }
 
-/// The move of a line: one of four events of a session of the account whose turn it is, 100 a second.
+/// The move of a line: one of four events of a session of the account whose turn it is, 100 a
+/// second.
 fn move_of(alloc: Global, accounts: u32, number: u64) -> Result<Move, NoMemory> {
     let accounts = u64::from(accounts.max(1));
     let turn = number / accounts;

@@ -83,7 +83,8 @@ pub(crate) fn place_for(
     stops: &HeapCircularBuffer<StoredStop>,
     nas: Nas,
 ) -> usize
-    requires { length links.now.items + asks.now.capacity + stops.now.capacity < length servers.old }
+    requires { length links.now.items + asks.now.capacity + stops.now.capacity
+        < length servers.old }
     ensures stands { server_at servers.new result ≡ nas }
     ensures place { IsPlace servers.new result }
     ensures placed { ArePlaced servers.old links.now.items → ArePlaced servers.new links.now.items }

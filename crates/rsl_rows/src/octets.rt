@@ -5,7 +5,8 @@ use std::alloc::Global;
 use std::fmt;
 use std::test::Fail;
 
-/// Octets whose Debug is their hexadecimal digits, so that they can stand in a tuple that is printed.
+/// Octets whose Debug is their hexadecimal digits, so that they can stand in a tuple that is
+/// printed.
 #[derive(Clone, Copy)]
 pub struct Hex<'a>(pub &'a [u8]);
 

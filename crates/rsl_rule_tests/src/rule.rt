@@ -1,5 +1,5 @@
-//! Tests of `rsl_rule`: timelines of an account, each line with what the event did and the places held
-//! after it. What is expected was worked out by hand from the session rule.
+//! Tests of `rsl_rule`: timelines of an account, each line with what the event did and the places
+//! held after it. What is expected was worked out by hand from the session rule.
 
 mod alives;
 mod asks;

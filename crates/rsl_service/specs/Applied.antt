@@ -25,22 +25,22 @@ pub record IsAnswered (service : ServiceSeen) (prepared : Prepared) (decision : 
 
 -- What is an account's own moves its shard, a stray shard 0. A restart sweeps every shard. What is
 -- no ask is merely done; everything else moves none.
-abbrev pub IsDecided : ServiceSeen → (moment : ℕ) → Meaning → Decision → (old new : List Receipt)
+abbrev pub HasDecided : ServiceSeen → (moment : ℕ) → Meaning → Decision → (old new : List Receipt)
     → Type 0
-IsDecided service moment (Own account act) decision old new =
+HasDecided service moment (Own account act) decision old new =
     IsNoted (account % service.config.settings.shards)
     (moves.Own account (record { moment = moment; act = act })) decision old new
-IsDecided service moment (Stray note) decision old new =
+HasDecided service moment (Stray note) decision old new =
     IsNoted 0 (moves.Stray moment note) decision old new
-IsDecided service moment (Restart nas) decision old new =
+HasDecided service moment (Restart nas) decision old new =
     (decision ≡ Done) × AreNoted service.config.settings.shards (moves.Sweep moment nas) old new
-IsDecided service moment _ decision old new = (decision ≡ Done) × (new ≡ old)
+HasDecided service moment _ decision old new = (decision ≡ Done) × (new ≡ old)
 
 -- a datagram has made its moves, and is answered as they were decided
 pub record IsApplied (service : ServiceSeen) (moment : ℕ) (prepared : Prepared)
     (answered : Answered) (old new : List Receipt) : Type 0 where
   pub decision : Decision
-  pub decided : IsDecided service moment prepared.meaning decision old new
+  pub decided : HasDecided service moment prepared.meaning decision old new
   pub answer : IsAnswered service prepared decision answered
 
 -- how many shards had made their moves when a fault came

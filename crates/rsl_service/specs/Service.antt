@@ -8,9 +8,9 @@ pub record ServiceSeen : Type 0 where
   pub config : Configuration
   pub boot : ℕ
 
--- A blank of this name and number of parts becomes the ledger of a shard: it has a part for each pass
--- and one that stays, and the ledger's type, of which the last three are the members, is of that
--- shard of the configuration.
+-- A blank of this name and number of parts becomes the ledger of a shard: it has a part for each
+-- pass and one that stays, and the ledger's type, of which the last three are the members, is of
+-- that shard of the configuration.
 pub record IsLedgerOf (config : Configuration) (shard blank_name blank_parts name parts : ℕ)
     (setup : Setup) : Type 0 where
   pub named : blank_name ≡ name

@@ -1,4 +1,17 @@
-ghost use Rattle.std.specs.Prelude.{◌≡◌, ℕ, ◌+◌, ◌<◌, IfOk, OnErr, OnOk, [], ◌∷◌, ◌++◌, vec_len, vec_capacity};
+ghost use Rattle.std.specs.Prelude.{
+  ◌≡◌,
+  ℕ,
+  ◌+◌,
+  ◌<◌,
+  IfOk,
+  OnErr,
+  OnOk,
+  [],
+  ◌∷◌,
+  ◌++◌,
+  vec_len,
+  vec_capacity,
+};
 ghost use Rattle.rsl_shard.specs.Moves.{IsTaken};
 ghost use Rattle.rsl_service.specs.Receipts.{IsNoted, count_of};
 
@@ -15,8 +28,8 @@ use std::sync::ledger::Share;
 use std::sync::{Mutex, Wait};
 
 /// Makes a move in a shard, and notes it as the last of the receipts. What the step needs is taken
-/// before the lock: copies of the move and of its event, and room for a receipt and for lines of the
-/// journal. Where it fails, nothing has changed but the room.
+/// before the lock: copies of the move and of its event, and room for a receipt and for lines of
+/// the journal. Where it fails, nothing has changed but the room.
 pub(crate) fn enter<L: Tally, G: Gate, R: Wait>(
     rt: &R,
     alloc: Global,

@@ -7,8 +7,8 @@ use std::sync::ledger::Share;
 /// What a caller of the service holds: a receipt for each move that it made.
 ///
 /// A contract sees the receipts, in the order of the calls. Its type keeps that its share in each
-/// shard's ledger is the number of its receipts of that shard. Beside them it has the room for lines
-/// that its next step may need.
+/// shard's ledger is the number of its receipts of that shard. Beside them it has the room for
+/// lines that its next step may need.
 #[derive(Drop)]
 pub struct Pass<L0: Tally, L1: Tally, L2: Tally, L3: Tally> {
     pub(crate) share0: Share<L0>,

@@ -4,7 +4,7 @@ ghost use Rattle.rsl_event.specs.Prepared.{HasAccount, HasOwnAct, IsOfOneAccount
 ghost use Rattle.rsl_shard.specs.Moves.{IsTaken};
 ghost use Rattle.rsl_shard.specs.Setup.{setup_of};
 ghost use Rattle.rsl_shard.specs.declared.moved.Move.TheVariants as moves;
-ghost use Rattle.rsl_service.specs.Applied.{IsDecided, IsStopped, swept_before};
+ghost use Rattle.rsl_service.specs.Applied.{HasDecided, IsStopped, swept_before};
 ghost use Rattle.rsl_service.specs.Receipts.{AreNoted, HasOneMore, IsNoted, IsOfAll};
 
 use crate::fault::{ApplyFault, StepFault};
@@ -31,7 +31,7 @@ impl<L0: Tally, L1: Tally, L2: Tally, L3: Tally, G: Gate> Service<L0, L1, L2, L3
         requires account { HasAccount self.now.config meaning.now }
         requires act { HasOwnAct meaning.now }
         ensures decided { IfOk result (λ decision.
-            IsDecided self.now moment meaning.now decision pass.old pass.new) }
+            HasDecided self.now moment meaning.now decision pass.old pass.new) }
         ensures err { IfErr result (λ fault.
             IsStopped moment meaning.now fault pass.old pass.new) }
     {

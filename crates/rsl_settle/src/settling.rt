@@ -10,11 +10,12 @@ use rsl_shard::Segment;
 use std::alloc::Global;
 
 /// Whether a record is settled: every pass is given that was opened, the segments of each shard
-/// join from its new books to its present journal, and the receipts are lines of them, each its own.
+/// join from its new books to its present journal, and the receipts are lines of them, each its
+/// own.
 ///
 /// `opened` is how many passes were opened. `given` are the segments that were handed out, those of
-/// a shard in the order in which they were, and `present` the shards' present journals, one for each
-/// shard. A pass lends its receipts, so nothing is copied.
+/// a shard in the order in which they were, and `present` the shards' present journals, one for
+/// each shard. A pass lends its receipts, so nothing is copied.
 ///
 /// The first fault is the answer. `MissingPass` comes where not as many passes are given as were
 /// opened. `MissingSegment` names the lowest shard whose segments don't join, by the lines and the

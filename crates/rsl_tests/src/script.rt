@@ -2,7 +2,7 @@
 //! is shown by `script_rows`.
 
 use rsl_accounts::{Client, Entry};
-use rsl_rows::{Subject, check_rows};
+use rsl_rows::{Hex, Plain, Subject, check_rows, length, printed, push_printed, shown};
 use rsl_script::{
     AccessRequest, AccountingRequest, AttributeText, EventLine, Happening, Script, ScriptFault,
 };
@@ -11,64 +11,64 @@ use std::str;
 use std::test::Fail;
 
 /// Octets as text.
-fn text(octets: &[u8]) -> &str {
-    str::from_utf8(octets).unwrap_or("no text")
+fn text(octets: &[u8]) -> Plain<'_> {
+    Plain(str::from_utf8(octets).unwrap_or("no text"))
 }
 
-fn option_text(octets: &Option<AttributeText>) -> &str {
+fn option_text(octets: &Option<AttributeText>) -> Plain<'_> {
     match octets {
         Some(octets) => text(octets.as_slice()),
-        None => "none",
+        None => Plain("none"),
     }
 }
 
-/// An Access-Request in words, also what `Debug` does not print of it.
-fn told_access(alloc: Global, request: &AccessRequest) -> Result<String, Fail> {
-    Ok(format!(in alloc;
-        "{:?}, nas {}, name {}, password {}, id {}, of `{}`",
-        request.method,
-        option_text(&request.nas),
+/// Tells the method, access server, name, password, Identifier and text of an Access-Request.
+fn tell_access(found: &mut String, request: &AccessRequest) -> Result<(), Fail> {
+    let nas = option_text(&request.nas);
+    let (name, password) = (
         text(request.name.as_slice()),
         text(request.password.expose()),
-        request.id,
-        text(request.text.expose())
-    )?)
+    );
+    let digested = text(request.text.expose());
+    push_printed(
+        found,
+        &(request.method, nas, name, password, request.id, digested),
+    )
 }
 
-/// An Accounting-Request in words.
-fn told_accounting(alloc: Global, request: &AccountingRequest) -> Result<String, Fail> {
-    Ok(format!(in alloc;
-        "{:?}, nas {}, name {}, session {}, bundle {}, class {:?}",
-        request.status,
-        option_text(&request.nas),
-        option_text(&request.name),
-        option_text(&request.session),
-        option_text(&request.bundle),
-        request.class
-    )?)
+/// Tells the status, access server, name, session, bundle and class of an Accounting-Request.
+fn tell_accounting(found: &mut String, request: &AccountingRequest) -> Result<(), Fail> {
+    let (nas, name) = (option_text(&request.nas), option_text(&request.name));
+    let (session, bundle) = (option_text(&request.session), option_text(&request.bundle));
+    push_printed(
+        found,
+        &(request.status, nas, name, session, bundle, request.class),
+    )
 }
 
-/// An event line in words.
+/// An event line in words: its moment, where its datagram comes from, and what that says.
 fn told(alloc: Global, line: &EventLine) -> Result<String, Fail> {
-    let moment = line.moment;
-    match &line.happening {
+    let mut found = printed(alloc, &line.moment)?;
+    tell(&mut found, &line.happening)?;
+    Ok(found)
+}
+
+fn tell(found: &mut String, happening: &Happening) -> Result<(), Fail> {
+    match happening {
         Happening::Access { address, request } => {
-            let request = told_access(alloc, request)?;
-            Ok(format!(in alloc; "{moment} {address:?} {request}")?)
+            push_printed(found, address)?;
+            tell_access(found, request)
         }
         Happening::Accounting { address, request } => {
-            let request = told_accounting(alloc, request)?;
-            Ok(format!(in alloc; "{moment} {address:?} {request}")?)
+            push_printed(found, address)?;
+            tell_accounting(found, request)
         }
         Happening::Raw {
             address,
             port,
             octets,
-        } => {
-            let octets = hex::encode(alloc, octets.as_slice())?;
-            Ok(format!(in alloc; "{moment} {address:?} {port:?} {octets}")?)
-        }
-        Happening::Tick => Ok(format!(in alloc; "{moment} tick")?),
+        } => push_printed(found, &(*address, *port, Hex(octets.as_slice()))),
+        Happening::Tick => push_printed(found, &Plain("tick")),
     }
 }
 
@@ -94,25 +94,21 @@ fn event_lines_say_what_happens(rt: HostRuntime) -> Result<(), Fail> {
         &rt,
         &Happens,
         "
-an ask | ask 7 192.168.1.16 n u pw 255 | 7 [192, 168, 1, 16] Pap, nas n, name u, password pw, \
-    id 255, of `ask 192.168.1.16 n u pw 255`
+an ask | ask 7 192.168.1.16 n u pw 255 \
+    | 7 [192, 168, 1, 16] (Pap, n, u, pw, 255, ask 192.168.1.16 n u pw 255)
 a CHAP ask | chap 18446744073709551615 10.0.0.1 - u pw 007 \
-    | 18446744073709551615 [10, 0, 0, 1] Chap, nas none, name u, password pw, id 7, \
-    of `chap 10.0.0.1 - u pw 007`
+    | 18446744073709551615 [10, 0, 0, 1] (Chap, none, u, pw, 7, chap 10.0.0.1 - u pw 007)
 a start | start 1 10.0.0.1 n u s multi=m class=9 \
-    | 1 [10, 0, 0, 1] Start, nas n, name u, session s, bundle m, class Some(9)
+    | 1 [10, 0, 0, 1] (Start, n, u, s, m, Some(9))
 a session like a bundle | interim 1 10.0.0.1 n u multi=s class=9 \
-    | 1 [10, 0, 0, 1] Interim, nas n, name u, session multi=s, bundle none, class Some(9)
+    | 1 [10, 0, 0, 1] (Interim, n, u, multi=s, none, Some(9))
 a bundle like a class | interim 1 10.0.0.1 n u s multi=class=1 \
-    | 1 [10, 0, 0, 1] Interim, nas n, name u, session s, bundle class=1, class None
-a stop | stop 1 10.0.0.1 - u s \
-    | 1 [10, 0, 0, 1] Stop, nas none, name u, session s, bundle none, class None
-an on | on 1 10.0.0.1 n \
-    | 1 [10, 0, 0, 1] On, nas n, name none, session none, bundle none, class None
-an off | off 1 10.0.0.1 - \
-    | 1 [10, 0, 0, 1] Off, nas none, name none, session none, bundle none, class None
-octets for authentication | raw-auth 1 10.0.0.1 01fF | 1 [10, 0, 0, 1] Auth 01ff
-octets for accounting | raw-acct 1 10.0.0.1 00 | 1 [10, 0, 0, 1] Acct 00
+    | 1 [10, 0, 0, 1] (Interim, n, u, s, class=1, None)
+a stop | stop 1 10.0.0.1 - u s | 1 [10, 0, 0, 1] (Stop, none, u, s, none, None)
+an on | on 1 10.0.0.1 n | 1 [10, 0, 0, 1] (On, n, none, none, none, None)
+an off | off 1 10.0.0.1 - | 1 [10, 0, 0, 1] (Off, none, none, none, none, None)
+octets for authentication | raw-auth 1 10.0.0.1 01fF | 1 ([10, 0, 0, 1], Auth, 01ff)
+octets for accounting | raw-acct 1 10.0.0.1 00 | 1 ([10, 0, 0, 1], Acct, 00)
 a tick | tick 3 | 3 tick
 ",
     )
@@ -135,32 +131,21 @@ impl Subject for Configured {
     }
 }
 
+/// A client's address and secret, and whether it has to sign.
 fn told_client(alloc: Global, client: &Client) -> Result<String, Fail> {
-    let [a, b, c, d] = client.address;
-    let mut found = format!(in alloc; "{a}.{b}.{c}.{d}")?;
-    write!(
-        found,
-        " {} signed {}",
-        text(client.secret.expose()),
-        client.signed
-    )?;
-    Ok(found)
+    let secret = text(client.secret.expose());
+    printed(alloc, &(client.address, secret, client.signed))
 }
 
+/// An account's name, password, places, ports, and own live and grace times.
 fn told_account(alloc: Global, account: &Entry) -> Result<String, Fail> {
-    let mut found = String::from_str(alloc, account.name.as_str())?;
-    write!(found, " {}", text(account.password.expose()))?;
-    write!(
-        found,
-        " places {} ports {}",
-        account.rules.places, account.rules.ports
-    )?;
-    write!(
-        found,
-        " live {:?} grace {:?}",
-        account.own_live, account.own_grace
-    )?;
-    Ok(found)
+    let (name, password) = (
+        Plain(account.name.as_str()),
+        text(account.password.expose()),
+    );
+    let (places, ports) = (account.rules.places, account.rules.ports);
+    let (live, grace) = (account.own_live, account.own_grace);
+    printed(alloc, &(name, password, places, ports, live, grace))
 }
 
 #[test]
@@ -169,12 +154,12 @@ fn configuration_lines_say_what_there_is(rt: HostRuntime) -> Result<(), Fail> {
         &rt,
         &Configured,
         "
-a client | client 192.168.1.16 xyzzy5461 | 192.168.1.16 xyzzy5461 signed false
-a client that signs | client 10.0.0.1 s signed | 10.0.0.1 s signed true
-places | account u pw 1 | u pw places 1 ports 1 live None grace None
-ports | account u pw 64 16 | u pw places 64 ports 16 live None grace None
-times | account u pw 2 3 live=30 grace=5 | u pw places 2 ports 3 live Some(30) grace Some(5)
-a grace | account u pw 2 grace=5 | u pw places 2 ports 1 live None grace Some(5)
+a client | client 192.168.1.16 xyzzy5461 | ([192, 168, 1, 16], xyzzy5461, false)
+a client that signs | client 10.0.0.1 s signed | ([10, 0, 0, 1], s, true)
+places | account u pw 1 | (u, pw, 1, 1, None, None)
+ports | account u pw 64 16 | (u, pw, 64, 16, None, None)
+times | account u pw 2 3 live=30 grace=5 | (u, pw, 2, 3, Some(30), Some(5))
+a grace | account u pw 2 grace=5 | (u, pw, 2, 1, None, Some(5))
 ",
     )
 }
@@ -194,8 +179,8 @@ impl Subject for Set {
             return Err("lines")?;
         };
         match read_lines(alloc, lines)? {
-            Ok(script) => Ok(format!(in alloc; "{:?}", script.settings)?),
-            Err(fault) => Ok(format!(in alloc; "{fault:?}")?),
+            Ok(script) => printed(alloc, &script.settings),
+            Err(fault) => printed(alloc, &fault),
         }
     }
 }
@@ -225,9 +210,9 @@ impl Subject for Secretive {
             return Err("a line")?;
         };
         let script = Script::read(alloc, line.as_bytes())?;
-        let printed = format!(in alloc; "{script:?}")?;
+        let printed = printed(alloc, &script)?;
         if is_hidden(printed.as_str()) {
-            return Ok(String::from_str(alloc, "hidden")?);
+            return shown(alloc, &"hidden");
         }
         Ok(printed)
     }
@@ -260,11 +245,11 @@ struct Wrong;
 impl Subject for Wrong {
     fn found(&self, alloc: Global, fields: &[&str]) -> Result<String, Fail> {
         let [lines] = fields else {
-            return Ok(format!(in alloc; "{}", ScriptFault::NoMemory)?);
+            return shown(alloc, &ScriptFault::NoMemory);
         };
         match read_lines(alloc, lines)? {
-            Ok(script) => Ok(format!(in alloc; "{script:?}")?),
-            Err(fault) => Ok(format!(in alloc; "{fault}")?),
+            Ok(script) => printed(alloc, &script),
+            Err(fault) => shown(alloc, &fault),
         }
     }
 }
@@ -294,25 +279,24 @@ impl Subject for Counted {
         let [line, word, times, lines] = fields else {
             return Err("a line, a word and two numbers")?;
         };
-        let word = word.repeat(alloc, times.parse()?)?;
-        let line = line.replace(alloc, "WORD", word.as_str())?;
-        counted_in(alloc, line.as_str(), lines.parse()?)
+        let word = word.repeat(alloc, length(times)?)?;
+        let mut line = line.replace(alloc, "WORD", word.as_str())?;
+        counted_in(alloc, &mut line, length(lines)?)
     }
 }
 
-fn counted_in(alloc: Global, line: &str, lines: usize) -> Result<String, Fail> {
-    let line = format!(in alloc; "{line}\n")?;
+fn counted_in(alloc: Global, line: &mut String, lines: usize) -> Result<String, Fail> {
+    line.push('\n')?;
     let script = line.as_str().repeat(alloc, lines)?;
     match Script::read(alloc, script.as_bytes()) {
         Ok(script) => counts_of(alloc, &script),
-        Err(fault) => Ok(format!(in alloc; "{fault:?}")?),
+        Err(fault) => printed(alloc, &fault),
     }
 }
 
 fn counts_of(alloc: Global, script: &Script) -> Result<String, Fail> {
-    let mut found = format!(in alloc; "{} {}", script.clients.len(), script.accounts.len())?;
-    write!(found, " {}", script.events.len())?;
-    Ok(found)
+    let (clients, accounts) = (script.clients.len(), script.accounts.len());
+    printed(alloc, &(clients, accounts, script.events.len()))
 }
 
 // No limit of memory is made up: each line is read at the greatest length that it has a use for,
@@ -323,18 +307,18 @@ fn long_lines_and_many_are_read(rt: HostRuntime) -> Result<(), Fail> {
         &rt,
         &Counted,
         "
-a secret | client 1.2.3.4 WORD | s | 65535 | 1 | 1 0 0
-a name | account WORD p 1 | n | 65535 | 1 | 0 1 0
-a password | account n WORD 1 | p | 65535 | 1 | 0 1 0
-a datagram | raw-auth 0 1.2.3.4 WORD | 0f | 65507 | 1 | 0 0 1
-a password of an ask | ask 0 1.2.3.4 n u WORD 1 | p | 128 | 1 | 0 0 1
-a NAS | ask 0 1.2.3.4 WORD u p 1 | n | 253 | 1 | 0 0 1
-a session | start 0 1.2.3.4 n u WORD multi=m | s | 253 | 1 | 0 0 1
-a comment | # WORD | x | 1000000 | 1 | 0 0 0
-clients | client 1.2.3.4 s | | 0 | 257 | 257 0 0
-accounts | account n p 1 | | 0 | 16385 | 0 16385 0
-events | ask 0 1.2.3.4 n u p 1 | | 0 | 5000 | 0 0 5000
-ticks | tick 0 | | 0 | 149000 | 0 0 149000
+a secret | client 1.2.3.4 WORD | s | 65535 | 1 | (1, 0, 0)
+a name | account WORD p 1 | n | 65535 | 1 | (0, 1, 0)
+a password | account n WORD 1 | p | 65535 | 1 | (0, 1, 0)
+a datagram | raw-auth 0 1.2.3.4 WORD | 0f | 65507 | 1 | (0, 0, 1)
+a password of an ask | ask 0 1.2.3.4 n u WORD 1 | p | 128 | 1 | (0, 0, 1)
+a NAS | ask 0 1.2.3.4 WORD u p 1 | n | 253 | 1 | (0, 0, 1)
+a session | start 0 1.2.3.4 n u WORD multi=m | s | 253 | 1 | (0, 0, 1)
+a comment | # WORD | x | 1000000 | 1 | (0, 0, 0)
+clients | client 1.2.3.4 s | | 0 | 257 | (257, 0, 0)
+accounts | account n p 1 | | 0 | 16385 | (0, 16385, 0)
+events | ask 0 1.2.3.4 n u p 1 | | 0 | 5000 | (0, 0, 5000)
+ticks | tick 0 | | 0 | 149000 | (0, 0, 149000)
 ",
     )
 }

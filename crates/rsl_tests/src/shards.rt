@@ -1,10 +1,10 @@
 //! Tests of `rsl_shard`: the life of one shard, line by line.
 //!
 //! A row has the head of a script, as in `steps`, the number of the shard, and lines with `/`
-//! between them; what is expected is what each tells. `ACCOUNT EVENT` is a move of one account, with
-//! an event as in a timeline, `all EVENT` a sweep or a tick, `stray` a stray at 0: it tells the
-//! decision, or that the shard does not take it. `journal` tells the lines that there are, and all
-//! lines so far; `rows` for each account its places, and then those held, the links that are
+//! between them; what is expected is what each tells. `ACCOUNT EVENT` is a move of one account,
+//! with an event as in a timeline, `all EVENT` a sweep or a tick, `stray` a stray at 0: it tells
+//! the decision, or that the shard does not take it. `journal` tells the lines that there are, and
+//! all lines so far; `rows` for each account its places, and then those held, the links that are
 //! reserved, live and stale, and the over count; `cut` the segment: its shard, how many lines came
 //! before, the places that each book of its opening holds, and its lines.
 

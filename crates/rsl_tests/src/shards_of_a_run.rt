@@ -2,7 +2,7 @@
 //! `steps`.
 
 use crate::steps::{BOOT, config_and_steps};
-use rsl_rows::{Subject, check_rows};
+use rsl_rows::{Subject, check_rows, push_printed};
 use rsl_shard::Shard;
 use rsl_steps::run;
 use std::alloc::Global;
@@ -24,10 +24,7 @@ impl Subject for Moved {
 fn moves_of(alloc: Global, shards: &[Shard]) -> Result<String, Fail> {
     let mut text = String::new(alloc);
     for shard in shards {
-        if !text.is_empty() {
-            text.push(' ')?;
-        }
-        write!(text, "{}", shard.moves())?;
+        push_printed(&mut text, &shard.moves())?;
     }
     Ok(text)
 }

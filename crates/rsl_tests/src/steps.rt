@@ -9,7 +9,7 @@ use crate::replay::{replies_in, script_of};
 use rsl_accounts::Config;
 use rsl_event::{Act, Decision, Event, Nas, NasName};
 use rsl_replay::steps_of;
-use rsl_rows::{Subject, check_rows};
+use rsl_rows::{Plain, Subject, check_rows, number, printed, push_printed, short_number};
 use rsl_rule::{decide, places};
 use rsl_script::Script;
 use rsl_steps::{Answer, Ran, Step, own, run};
@@ -44,33 +44,33 @@ nothing | set shards 2/client C xyzzy5461/account a pw 1/account b pw 1/ \
     | 
 sweeps of a shard each | set shards 2/client C xyzzy5461/account a pw 1/account b pw 1/ \
     | ask 0 C n b pw 1/sweep 0 0 n/ask 0 C n b pw 2/sweep 1 0 n/ask 0 C n b pw 3/sweep 2 0 n \
-    | Accept(0), Quiet, LimitReject, Quiet, Accept(1), Quiet
+    | Accept(0) Quiet LimitReject Quiet Accept(1) Quiet
 ticks of a shard each | set shards 2/client C xyzzy5461/account a pw 1/account b pw 1/ \
     | ask 0 C n a pw 1/ask 0 C n b pw 1/time 1 60/time 2 90 \
-    | Accept(0), Accept(0), Quiet, Quiet
+    | Accept(0) Accept(0) Quiet Quiet
 two accounts in one shard | client C xyzzy5461/account a pw 2/account b pw 2/ \
     | ask 0 C n a pw 1/ask 0 C n b pw 1/ask 0 C n a pw 2/ask 0 C n b pw 2/ask 0 C n b pw 3 \
-    | Accept(0), Accept(0), Accept(1), Accept(1), LimitReject
+    | Accept(0) Accept(0) Accept(1) Accept(1) LimitReject
 two accounts in shards of their own \
     | set shards 3/client C xyzzy5461/account a pw 2/account b pw 2/ \
     | ask 0 C n a pw 1/ask 0 C n b pw 1/ask 0 C n a pw 2/ask 0 C n b pw 2/ask 0 C n b pw 3 \
-    | Accept(0), Accept(0), Accept(1), Accept(1), LimitReject
+    | Accept(0) Accept(0) Accept(1) Accept(1) LimitReject
 a restart, a stray | set shards 2/client C xyzzy5461/account a pw 1/account b pw 1/ \
     | start 0 C n a s/on 1 C n/start 2 C n ghost s/stop 3 C n a s \
-    | Account, Quiet, Quiet, Account, Account, Account
+    | Account Quiet Quiet Account Account Account
 a moment that falls | set shards 2/client C xyzzy5461/account a pw 1/account b pw 1/ \
     | ask 18446744073709551615 C n a pw 1/ask 0 C n a pw 2 \
-    | Accept(0), LimitReject
+    | Accept(0) LimitReject
 drops and rejects | client C xyzzy5461/account a pw 2/account b pw 2/ \
     | raw-auth 0 C 00/raw-acct 0 C 0400001400000000000000000000000000000000/\
     ask 0 10.0.0.9 n a pw 1/ask 0 C n a no 1/ask 0 C n a pw 1 \
-    | Short, BadAuthenticator, UnknownClient, Reject, Accept(0)
+    | Short BadAuthenticator UnknownClient Reject Accept(0)
 ",
     )
 }
 
-/// A head of two accounts, and steps: for each account the places that it holds after a run of
-/// them, and those that the rule counts on its own events.
+/// A head of two accounts, and steps: the places that each account holds after a run of them, and
+/// those that the rule counts on the own events of each.
 struct Held;
 
 impl Subject for Held {
@@ -85,12 +85,12 @@ impl Subject for Held {
 
 fn places_after(alloc: Global, config: &Config, steps: &[Step]) -> Result<String, Fail> {
     let ran = run(alloc, config, BOOT, steps)?;
-    let mut text = String::new(alloc);
-    write!(text, "{} ", held_by(&ran, config, 0)?)?;
-    write!(text, "{}, ", counted_for(alloc, config, steps, 0)?)?;
-    write!(text, "{} ", held_by(&ran, config, 1)?)?;
-    write!(text, "{}", counted_for(alloc, config, steps, 1)?)?;
-    Ok(text)
+    let held = (held_by(&ran, config, 0)?, held_by(&ran, config, 1)?);
+    let first = counted_for(alloc, config, steps, 0)?;
+    printed(
+        alloc,
+        &(held, (first, counted_for(alloc, config, steps, 1)?)),
+    )
 }
 
 /// The places that the book of an account holds after a run.
@@ -121,20 +121,20 @@ fn places_are_those_of_the_own_events(rt: HostRuntime) -> Result<(), Fail> {
         "
 sweeps of a shard each | set shards 2/client C xyzzy5461/account a pw 1/account b pw 1/ \
     | ask 0 C n b pw 1/sweep 0 0 n/ask 0 C n b pw 2/sweep 1 0 n/ask 0 C n b pw 3/sweep 2 0 n \
-    | 0 0, 1 1
+    | ((0, 1), (0, 1))
 ticks of a shard each | set shards 2/client C xyzzy5461/account a pw 1/account b pw 1/ \
     | ask 0 C n a pw 1/ask 0 C n b pw 1/time 1 60/time 2 90 \
-    | 1 1, 0 0
+    | ((1, 0), (1, 0))
 two accounts in one shard | client C xyzzy5461/account a pw 2/account b pw 2/ \
     | ask 0 C n a pw 1/ask 0 C n b pw 1/ask 0 C n a pw 2/ask 0 C n b pw 2/ask 0 C n b pw 3 \
-    | 2 2, 2 2
+    | ((2, 2), (2, 2))
 two accounts in shards of their own \
     | set shards 3/client C xyzzy5461/account a pw 2/account b pw 2/ \
     | ask 0 C n a pw 1/ask 0 C n b pw 1/ask 0 C n a pw 2/ask 0 C n b pw 2/ask 0 C n b pw 3 \
-    | 2 2, 2 2
+    | ((2, 2), (2, 2))
 a restart, a stray | set shards 2/client C xyzzy5461/account a pw 1/account b pw 1/ \
     | start 0 C n a s/on 1 C n/start 2 C n ghost s/stop 3 C n a s \
-    | 0 0, 0 0
+    | ((0, 0), (0, 0))
 ",
     )
 }
@@ -148,7 +148,7 @@ impl Subject for Decided {
             return Err("a head, steps and an account")?;
         };
         let (config, steps) = config_and_steps(alloc, head, steps)?;
-        decisions_in(alloc, &config, &steps, account.parse()?)
+        decisions_in(alloc, &config, &steps, short_number(account)?)
     }
 }
 
@@ -169,8 +169,10 @@ fn decisions_in(
 fn told_decisions(alloc: Global, events: &[Event], decisions: &[Decision]) -> Result<String, Fail> {
     let mut text = String::new(alloc);
     for (event, decision) in events.iter().zip(decisions) {
-        push_comma(&mut text)?;
-        write!(text, "{} {}: {decision:?}", act_word(event), event.moment)?;
+        push_printed(
+            &mut text,
+            &(Plain(act_word(event)), event.moment, *decision),
+        )?;
     }
     Ok(text)
 }
@@ -183,26 +185,26 @@ fn own_events_are_decided_by_the_rule(rt: HostRuntime) -> Result<(), Fail> {
         "
 another's alone | set shards 2/client C xyzzy5461/account a pw 1/account b pw 1/ \
     | ask 0 C n b pw 1/sweep 0 0 n/ask 0 C n b pw 2/sweep 1 0 n/ask 0 C n b pw 3/sweep 2 0 n | 0 \
-    | sweep 0: Done
+    | (sweep, 0, Done)
 sweeps of a shard each | set shards 2/client C xyzzy5461/account a pw 1/account b pw 1/ \
     | ask 0 C n b pw 1/sweep 0 0 n/ask 0 C n b pw 2/sweep 1 0 n/ask 0 C n b pw 3/sweep 2 0 n | 1 \
-    | ask 0: Accept(0), ask 0: LimitReject, sweep 0: Done, ask 0: Accept(1)
+    | (ask, 0, Accept(0)) (ask, 0, LimitReject) (sweep, 0, Done) (ask, 0, Accept(1))
 ticks of another shard | set shards 2/client C xyzzy5461/account a pw 1/account b pw 1/ \
     | ask 0 C n a pw 1/ask 0 C n b pw 1/time 1 60/time 2 90 | 0 \
-    | ask 0: Accept(0)
+    | (ask, 0, Accept(0))
 ticks of a shard each | set shards 2/client C xyzzy5461/account a pw 1/account b pw 1/ \
     | ask 0 C n a pw 1/ask 0 C n b pw 1/time 1 60/time 2 90 | 1 \
-    | ask 0: Accept(0), tick 60: Done
+    | (ask, 0, Accept(0)) (tick, 60, Done)
 two accounts in one shard | client C xyzzy5461/account a pw 2/account b pw 2/ \
     | ask 0 C n a pw 1/ask 0 C n b pw 1/ask 0 C n a pw 2/ask 0 C n b pw 2/ask 0 C n b pw 3 | 0 \
-    | ask 0: Accept(0), ask 0: Accept(1)
+    | (ask, 0, Accept(0)) (ask, 0, Accept(1))
 two accounts in shards of their own \
     | set shards 3/client C xyzzy5461/account a pw 2/account b pw 2/ \
     | ask 0 C n a pw 1/ask 0 C n b pw 1/ask 0 C n a pw 2/ask 0 C n b pw 2/ask 0 C n b pw 3 | 1 \
-    | ask 0: Accept(0), ask 0: Accept(1), ask 0: LimitReject
+    | (ask, 0, Accept(0)) (ask, 0, Accept(1)) (ask, 0, LimitReject)
 a restart, a stray | set shards 2/client C xyzzy5461/account a pw 1/account b pw 1/ \
     | start 0 C n a s/on 1 C n/start 2 C n ghost s/stop 3 C n a s | 0 \
-    | alive 0: Done, sweep 1: Done, stop 3: Done
+    | (alive, 0, Done) (sweep, 1, Done) (stop, 3, Done)
 ",
     )
 }
@@ -291,13 +293,13 @@ fn step_of(alloc: Global, line: &str) -> Result<Step, Fail> {
     let words: Vec<&str> = line.split(' ').collect(alloc)?;
     match words.as_slice() {
         ["sweep", shard, moment, name] => Ok(Step::Sweep {
-            shard: shard.parse()?,
-            moment: moment.parse()?,
+            shard: short_number(shard)?,
+            moment: number(moment)?,
             nas: nas_of(alloc, name)?,
         }),
         ["time", shard, moment] => Ok(Step::Tick {
-            shard: shard.parse()?,
-            moment: moment.parse()?,
+            shard: short_number(shard)?,
+            moment: number(moment)?,
         }),
         _ => Err("no step for one shard")?,
     }
@@ -312,27 +314,18 @@ fn nas_of(alloc: Global, name: &str) -> Result<Nas, Fail> {
 fn answers_in(alloc: Global, answers: &[Answer]) -> Result<String, Fail> {
     let mut text = String::new(alloc);
     for answer in answers {
-        push_comma(&mut text)?;
         push_answer(&mut text, answer)?;
     }
     Ok(text)
 }
 
-fn push_comma(text: &mut String) -> Result<(), Fail> {
-    if !text.is_empty() {
-        text.push_str(", ")?;
-    }
-    Ok(())
-}
-
 fn push_answer(text: &mut String, answer: &Answer) -> Result<(), Fail> {
     match answer {
-        Answer::Reply(said, _) => write!(text, "{said:?}")?,
-        Answer::Dropped(dropped) => write!(text, "{dropped:?}")?,
-        Answer::Quiet => text.push_str("Quiet")?,
-        Answer::Refused => text.push_str("Refused")?,
+        Answer::Reply(said, _) => push_printed(text, said),
+        Answer::Dropped(dropped) => push_printed(text, dropped),
+        Answer::Quiet => push_printed(text, &Plain("Quiet")),
+        Answer::Refused => push_printed(text, &Plain("Refused")),
     }
-    Ok(())
 }
 
 /// The name of an event's act.

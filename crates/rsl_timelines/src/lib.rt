@@ -10,8 +10,8 @@
 //! - `sweep MOMENT NAS`
 //! - `tick MOMENT`
 //!
-//! What stands after ` -> ` tells what is expected of the event, and is not read here. It is for test
-//! crates alone. No call has a clause: each is proved not to stop the program.
+//! What stands after ` -> ` tells what is expected of the event, and is not read here. It is for
+//! test crates alone. No call has a clause: each is proved not to stop the program.
 #![tactic(auto)]
 
 use rsl_accounts::Rules;
