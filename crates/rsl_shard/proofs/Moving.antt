@@ -12,9 +12,10 @@ use Rattle.rsl_accounts.specs.declared.rules.Rules.{Rules}
 use Rattle.rsl_event.specs.declared.event.Decision.{Decision}
 use Rattle.rsl_event.specs.declared.event.Decision.TheVariants.{Done}
 use Rattle.rsl_event.specs.declared.event.Event.{Event}
-use Rattle.rsl_session.specs.Book.{Book}
+use Rattle.rsl_session.specs.Book.{Book, new_book}
 use Rattle.rsl_session.specs.BookStep.{step}
 use Rattle.rsl_shard.specs.Moves.{IsOfShard, event_to}
+use Rattle.rsl_shard.specs.Opening.{as_new}
 use Rattle.rsl_shard.specs.Replay.{AreBooks, HaveStepped, book_at, book_from, books_after, decision_by, moved_from, step_by}
 use Rattle.rsl_shard.specs.Setup.{Setup}
 use Rattle.rsl_shard.specs.declared.moved.Move.{Move}
@@ -138,6 +139,21 @@ each_done event all place past =
     ∙ ap (λ (books : List RuledBook). map (step_by (Some event)) all ++ books) (drop_all place all past) ∙ append-nil (map (step_by (Some event)) all)
 
 pub ruleset each_steps = (each_done)
+
+-- books that are made new one by one
+pub renew_more : (books all : List RuledBook) (place : ℕ) (d new : RuledBook) → place < length all → place < length books
+    → books ≡ map as_new (take place all) ++ drop place all → new ≡ record { rules = (get_or books place d).rules; book = new_book }
+    → set books place new ≡ map as_new (take (place + 1) all) ++ drop (place + 1) all
+renew_more books all place d new within inside so_far is =
+    ap (set books place) is
+    ∙ map_over_more as_new all books place (get_or books place d) within so_far (get_or_default books place d (get_or books place d) inside)
+
+pub renew_done : (all : List RuledBook) (place : ℕ) → length all ≤ place → map as_new (take place all) ++ drop place all ≡ map as_new all
+renew_done all place past =
+    ap (λ (books : List RuledBook). map as_new books ++ drop place all) (take_all place all past)
+    ∙ ap (λ (books : List RuledBook). map as_new all ++ books) (drop_all place all past) ∙ append-nil (map as_new all)
+
+pub ruleset renew_steps = (renew_more, renew_done)
 
 -- a list that was written back whole
 pub written : {A : Type 0} (xs items : List A) (len : ℕ) → length xs ≡ length items → length items ≡ len → take len (xs ++ drop (length xs) items) ≡ xs

@@ -12,6 +12,7 @@ ghost use Rattle.std.specs.Prelude.{
   IsSome,
   IsTrue,
   OnErr,
+  OnOk,
   Some,
   None,
   length,
@@ -162,6 +163,19 @@ fn new_again(alloc: Global, books: &[Book]) -> Result<Vec<Book>, NoMemory>
         made.push(Book::new(alloc, book.rules())?)?;
     }
     Ok(made)
+}
+
+/// Makes each book a new one of its rules. It lets go of each book's room as it takes that of the
+/// new one.
+#[tactic(auto, using(crate::proofs::Moving::renew_steps))]
+fn renew_each(alloc: Global, books: &mut [Book]) -> Result<(), NoMemory>
+    ensures { OnOk result (books.new ≡ map as_new books.old) }
+{
+    for place in 0..books.len() {
+        let rules = books[place].rules();
+        books[place] = Book::new(alloc, rules)?;
+    }
+    Ok(())
 }
 
 /// The rows of an account and of those that follow it in its shard.
@@ -359,6 +373,15 @@ impl Books {
         ensures { IfOk result (λ made. made.items ≡ map as_new self.now.books) }
     {
         new_again(alloc, &self.list)
+    }
+
+    /// New books in place of these. It fails only where memory is refused.
+    pub(crate) fn into_new(self, alloc: Global) -> Result<Vec<Book>, NoMemory>
+        ensures { IfOk result (λ made. made.items ≡ map as_new self.books) }
+    {
+        let Books { mut list, .. } = self;
+        renew_each(alloc, &mut list)?;
+        Ok(list)
     }
 
     /// The number of the shard.

@@ -148,4 +148,14 @@ impl Journal {
         self.earlier = 0;
         all
     }
+
+    /// The lines, in one piece. It fails only where memory is refused.
+    pub(crate) fn into_lines(self, alloc: Global) -> Result<Vec<Line>, NoMemory>
+        requires { length self.lines < 2 ^ 64 }
+        ensures { IfOk result (λ lines. lines.items ≡ self.lines) }
+    {
+        let mut journal = self;
+        let room = journal.room_for_all(alloc)?;
+        Ok(journal.hand_out(room))
+    }
 }

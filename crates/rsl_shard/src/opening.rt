@@ -40,4 +40,15 @@ impl Opening {
             Opening::Kept(books) => Ok(replace(books, next)),
         }
     }
+
+    /// The books that a journal began with, which has come to these. It fails only where memory is
+    /// refused.
+    pub(crate) fn into_books(self, alloc: Global, present: Books) -> Result<Vec<Book>, NoMemory>
+        ensures { IfOk result (λ books. books.items ≡ opening_of self present.books) }
+    {
+        match self {
+            Opening::New => present.into_new(alloc),
+            Opening::Kept(books) => Ok(books),
+        }
+    }
 }

@@ -198,4 +198,31 @@ impl Shard {
         self.is_kept();
         Ok(segment)
     }
+
+    /// The journal with the books that it began with, where the shard goes on no more. Nothing is
+    /// copied: the lines are moved together, and where the books began new, new ones take the place
+    /// of the shard's, one by one. Where memory is refused the shard is let go.
+    pub fn into_segment(self, alloc: Global) -> Result<Segment, NoMemory>
+        ensures shard { IfOk result (λ segment. segment.shard ≡ self.setup.shard) }
+        ensures first { IfOk result (λ segment. segment.first ≡ self.first) }
+        ensures opening { IfOk result (λ segment. segment.opening.items ≡ self.opening) }
+        ensures lines { IfOk result (λ segment. segment.lines.items ≡ self.lines) }
+        ensures kept { IsShard self }
+    {
+        let Shard {
+            books,
+            opening,
+            journal,
+            first,
+        } = self;
+        let shard = books.shard();
+        let lines = journal.into_lines(alloc)?;
+        let opening = opening.into_books(alloc, books)?;
+        Ok(Segment {
+            shard,
+            first,
+            opening,
+            lines,
+        })
+    }
 }

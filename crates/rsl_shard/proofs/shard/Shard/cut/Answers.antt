@@ -1,4 +1,4 @@
-use Rattle.std.proofs.Common.{◌≡◌, ◌+◌, ◌^◌, ◌<◌, List, arith, rules, sym, ap, subst, ◌∙◌}
+use Rattle.std.proofs.Common.{◌≡◌, ◌+◌, ◌^◌, ◌<◌, List, rules, sym, ap, subst, ◌∙◌}
 use Rattle.rsl_book.specs.RuledBook.{RuledBook}
 use Rattle.rsl_shard.specs.Opening.{opening_of}
 use Rattle.rsl_shard.specs.Replay.{AreBooks}

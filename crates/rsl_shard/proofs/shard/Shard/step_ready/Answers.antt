@@ -1,4 +1,4 @@
-use Rattle.std.proofs.Common.{◌≡◌, ◌-◌, ◌^◌, ◌<◌, ◌++◌, ◌∷◌, [], List, refl, sym, ap, subst, ◌∙◌}
+use Rattle.std.proofs.Common.{◌-◌, ◌^◌, ◌<◌, ◌++◌, ◌∷◌, [], List, refl, sym, ap, subst, ◌∙◌}
 use Rattle.rsl_shard.specs.Moves.{IsTaken}
 use Rattle.rsl_shard.specs.Seen.{ShardSeen, total_of, with_line}
 use Rattle.rsl_shard.specs.ShardInside.{shard_seen}
