@@ -1,4 +1,4 @@
-ghost use Rattle.std.specs.Prelude.{IfErr, IfOk};
+ghost use Rattle.std.specs.Prelude.{◌<◌, IfErr, IfOk};
 ghost use Rattle.rsl_event.specs.Prepared.{HasOwnAct, IsPrepared};
 ghost use Rattle.rsl_shard.specs.declared.moved.Move.TheVariants as moves;
 ghost use Rattle.rsl_service.specs.Applied.{IsApplied, IsStopped, swept_before};
@@ -36,7 +36,10 @@ impl<L0: Tally, L1: Tally, L2: Tally, L3: Tally, G: Gate> Service<L0, L1, L2, L3
             IsApplied self.now moment prepared.entry answered pass.old pass.new) }
         ensures err { IfErr result (λ fault.
             IsStopped moment prepared.entry.meaning fault pass.old pass.new) }
+        ensures fewer { IfErr result (λ fault.
+            swept_before fault < self.now.config.settings.shards) }
     {
+        let _shards = self.config.shards();
         let draft = match room(alloc, &prepared) {
             Ok(draft) => draft,
             Err(NoMemory) => return Err(ApplyFault::NoMemory { swept: 0 }),
@@ -59,6 +62,8 @@ impl<L0: Tally, L1: Tally, L2: Tally, L3: Tally, G: Gate> Service<L0, L1, L2, L3
             AreNoted self.now.config.settings.shards (moves.Tick moment) pass.old pass.new) }
         ensures err { IfErr result (λ fault.
             AreNoted (swept_before fault) (moves.Tick moment) pass.old pass.new) }
+        ensures fewer { IfErr result (λ fault.
+            swept_before fault < self.now.config.settings.shards) }
     {
         self.step_each(rt, alloc, pass, &Move::Tick { moment })
     }

@@ -34,7 +34,10 @@ impl<L0: Tally, L1: Tally, L2: Tally, L3: Tally, G: Gate> Service<L0, L1, L2, L3
             HasDecided self.now moment meaning.now decision pass.old pass.new) }
         ensures err { IfErr result (λ fault.
             IsStopped moment meaning.now fault pass.old pass.new) }
+        ensures fewer { IfErr result (λ fault.
+            swept_before fault < self.now.config.settings.shards) }
     {
+        let _shards = self.config().shards();
         match meaning {
             Meaning::Own { account, act } => self.decide_own(
                 rt, alloc, pass, moment, *account, act,
@@ -111,7 +114,10 @@ impl<L0: Tally, L1: Tally, L2: Tally, L3: Tally, G: Gate> Service<L0, L1, L2, L3
             pass.old pass.new) }
         ensures err { IfErr result (λ fault.
             AreNoted (swept_before fault) (moves.Sweep moment nas.now) pass.old pass.new) }
+        ensures fewer { IfErr result (λ fault.
+            swept_before fault < self.now.config.settings.shards) }
     {
+        let _shards = self.config().shards();
         let nas = match nas.try_copy(alloc) {
             Ok(nas) => nas,
             Err(_) => return Err(ApplyFault::NoMemory { swept: 0 }),
@@ -155,6 +161,8 @@ impl<L0: Tally, L1: Tally, L2: Tally, L3: Tally, G: Gate> Service<L0, L1, L2, L3
             AreNoted self.now.config.settings.shards moved.now pass.old pass.new) }
         ensures err { IfErr result (λ fault.
             AreNoted (swept_before fault) moved.now pass.old pass.new) }
+        ensures fewer { IfErr result (λ fault.
+            swept_before fault < self.now.config.settings.shards) }
     {
         for shard in 0..self.config().shards() {
             self.step_copy(rt, alloc, pass, shard, moved)?;
