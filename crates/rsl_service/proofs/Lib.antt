@@ -1,2 +1,4 @@
 pub mod Counting
+pub mod Ends
+pub mod Gathering
 pub mod Noting

@@ -6,7 +6,6 @@ use Rattle.rsl_event.specs.declared.event.Decision.TheVariants.{Done}
 use Rattle.rsl_event.specs.declared.meaning.Meaning.{Meaning}
 use Rattle.rsl_event.specs.declared.meaning.Meaning.TheVariants.{Own, Restart, Stray}
 use Rattle.rsl_event.specs.declared.meaning.Prepared.{Prepared}
-use Rattle.rsl_shard.specs.declared.moved.Move.{Move}
 use Rattle.rsl_shard.specs.declared.moved.Move.TheVariants as moves
 use Rattle.rsl_wire.specs.Seen.{fields_of}
 use Rattle.rsl_service.specs.Receipts.{IsNoted, AreNoted}

@@ -1,3 +1,4 @@
 pub mod Applied
+pub mod Closed
 pub mod Receipts
 pub mod Service

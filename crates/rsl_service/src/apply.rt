@@ -21,7 +21,6 @@ impl<L0: Tally, L1: Tally, L2: Tally, L3: Tally, G: Gate> Service<L0, L1, L2, L3
     ///
     /// An account's own moves its shard, and a stray shard 0. A restart sweeps the shards in turn,
     /// and is answered after the last. A reject takes no lock. On a fault nothing is answered.
-    #[tactic(auto, using(crate::proofs::Noting::none_stopped))]
     pub fn apply<R: Wait>(
         &self,
         rt: &R,
@@ -39,14 +38,36 @@ impl<L0: Tally, L1: Tally, L2: Tally, L3: Tally, G: Gate> Service<L0, L1, L2, L3
         ensures fewer { IfErr result (λ fault.
             swept_before fault < self.now.config.settings.shards) }
     {
+        self.answer(rt, alloc, pass, moment, &prepared)
+    }
+
+    /// The same of a datagram that is lent.
+    #[tactic(auto, using(crate::proofs::Noting::none_stopped))]
+    fn answer<R: Wait>(
+        &self,
+        rt: &R,
+        alloc: Global,
+        pass: &mut Pass<L0, L1, L2, L3>,
+        moment: u64,
+        prepared: &Prepared<'_>,
+    ) -> Result<Answered, ApplyFault>
+        requires prepared { IsPrepared self.now.config prepared.now }
+        requires act { HasOwnAct prepared.now.meaning }
+        ensures applied { IfOk result (λ answered.
+            IsApplied self.now moment prepared.now answered pass.old pass.new) }
+        ensures err { IfErr result (λ fault.
+            IsStopped moment prepared.now.meaning fault pass.old pass.new) }
+        ensures fewer { IfErr result (λ fault.
+            swept_before fault < self.now.config.settings.shards) }
+    {
         let _shards = self.config.shards();
-        let draft = match room(alloc, &prepared) {
+        let draft = match room(alloc, prepared) {
             Ok(draft) => draft,
             Err(NoMemory) => return Err(ApplyFault::NoMemory { swept: 0 }),
         };
         let decision = self.decide(rt, alloc, pass, moment, &prepared.meaning)?;
         let said = said(&prepared.meaning, decision);
-        let octets = reply(&prepared, &self.config, self.boot, decision, draft);
+        let octets = reply(prepared, &self.config, self.boot, decision, draft);
         Ok(Answered { said, octets })
     }
 

@@ -3,6 +3,7 @@ ghost use Rattle.rsl_shard.specs.Moves.{IsTaken};
 ghost use Rattle.rsl_shard.specs.Seen.{total_of};
 ghost use Rattle.rsl_shard.specs.Setup.{setup_of};
 ghost use Rattle.rsl_shard.specs.Journal.{IsJournal};
+ghost use Rattle.rsl_service.specs.Closed.{IsEnd, lines_to};
 
 use crate::fault::StepFault;
 use crate::gate::Gate;
@@ -65,6 +66,16 @@ impl<L: Tally> Desk<L> {
     {
         let _total = self.shard.total();
         self.shard.cut(alloc)
+    }
+
+    /// Ends the journal, and hands it out with its ledger. It fails only where memory is refused.
+    pub(crate) fn end(self, alloc: Global) -> Result<(Segment, Book<L>), NoMemory>
+        ensures end { IfOk result (λ ended. IsEnd L.setup ended.0) }
+        ensures told { IfOk result (λ ended. ended.1.total ≡ lines_to ended.0) }
+    {
+        let Desk { shard, lines } = self;
+        let journal = shard.into_segment(alloc)?;
+        Ok((journal, lines))
     }
 
     /// Makes a move in the shard, counts its line in the share, and then calls the gate. Where it

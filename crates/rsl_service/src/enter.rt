@@ -52,7 +52,8 @@ pub(crate) fn enter<L: Tally, G: Gate, R: Wait>(
         count_of other receipts.new.items ≡ count_of other receipts.old.items }
     ensures err { OnErr result (receipts.new.items ≡ receipts.old.items) }
 {
-    let (copy, ready) = take_room(alloc, receipts, spare, moved)?;
+    take_room(alloc, receipts, spare)?;
+    let (copy, ready) = copied(alloc, moved)?;
     let made = make_under_lock(rt, alloc, desk, gate, shard, mine, ready, spare)?;
     let line = Line {
         moved: copy,
@@ -70,21 +71,22 @@ pub(crate) fn enter<L: Tally, G: Gate, R: Wait>(
     Ok(made.decision)
 }
 
-/// What a step and its receipt need: room, a copy of the move for the receipt, and the move with
-/// what its step takes over. Where it fails, nothing has changed but the room.
-fn take_room(
-    alloc: Global,
-    receipts: &mut Vec<Receipt>,
-    spare: &mut Spare,
-    moved: Move,
-) -> Result<(Move, Ready), StepFault>
-    ensures copy { IfOk result (λ taken. taken.0 ≡ moved) }
-    ensures ready { IfOk result (λ taken. taken.1 ≡ moved) }
+/// Room for a receipt and for lines of the journal. Where it fails, nothing has changed but the
+/// room.
+fn take_room(alloc: Global, receipts: &mut Vec<Receipt>, spare: &mut Spare) -> Result<(), StepFault>
     ensures receipts { receipts.new.items ≡ receipts.old.items }
     ensures room { OnOk result (vec_len receipts.new < vec_capacity receipts.new) }
 {
     receipts.reserve(1)?;
     spare.fill(alloc)?;
+    Ok(())
+}
+
+/// A copy of a move for its receipt, and the move with what its step takes over.
+fn copied(alloc: Global, moved: Move) -> Result<(Move, Ready), StepFault>
+    ensures copy { IfOk result (λ taken. taken.0 ≡ moved) }
+    ensures ready { IfOk result (λ taken. taken.1 ≡ moved) }
+{
     let copy = copy_of(alloc, &moved)?;
     let ready = Ready::new(alloc, moved)?;
     Ok((copy, ready))

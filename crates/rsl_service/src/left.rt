@@ -1,6 +1,7 @@
 ghost use Rattle.std.specs.Prelude.{◌≡◌, ◌+◌, [], IfOk};
 
 use crate::fault::PassFault;
+use crate::gather::Shares;
 use crate::pass::Pass;
 use crate::tally::Tally;
 use rsl_shard::Spare;
@@ -82,5 +83,31 @@ impl<L0: Tally, L1: Tally, L2: Tally, L3: Tally> Left<L0, L1, L2, L3> {
             receipts,
             spare: Spare::new(alloc),
         })
+    }
+
+    /// What was not handed out, and how many passes were opened: with the shares of as many passes
+    /// these are the whole of each ledger.
+    pub(crate) fn into_shares(self) -> (u64, Shares<L0, L1, L2, L3>)
+        ensures parts0 { result.1.share0.parts + result.0 ≡ 1025 }
+        ensures parts1 { result.1.share1.parts + result.0 ≡ 1025 }
+        ensures parts2 { result.1.share2.parts + result.0 ≡ 1025 }
+        ensures parts3 { result.1.share3.parts + result.0 ≡ 1025 }
+        ensures amounts { (result.1.share0.amount ≡ 0) × (result.1.share1.amount ≡ 0)
+            × (result.1.share2.amount ≡ 0) × (result.1.share3.amount ≡ 0) }
+    {
+        let Left {
+            opened,
+            share0,
+            share1,
+            share2,
+            share3,
+        } = self;
+        let shares = Shares {
+            share0,
+            share1,
+            share2,
+            share3,
+        };
+        (opened, shares)
     }
 }

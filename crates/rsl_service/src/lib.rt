@@ -3,10 +3,14 @@
 
 mod answered;
 mod apply;
+mod closing;
 mod desk;
+mod ended;
+mod ending;
 mod enter;
 mod fault;
 mod gate;
+mod gather;
 mod left;
 mod making;
 mod moves;
@@ -16,11 +20,12 @@ mod stepping;
 mod tally;
 
 pub use answered::Answered;
+pub use closing::Closed;
 pub use fault::{ApplyFault, CutFault, PassFault};
 pub use gate::{Gate, Open};
 pub use left::MAX_PASSES;
 pub use making::Blanks;
 pub use pass::Pass;
-pub use rsl_settle::Receipt;
+pub use rsl_settle::{CloseFault, Receipt, settle};
 pub use service::Service;
 pub use tally::Tally;

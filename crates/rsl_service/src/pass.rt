@@ -1,5 +1,5 @@
 use crate::tally::Tally;
-use rsl_settle::Receipt;
+use rsl_settle::{HasReceipts, Receipt};
 use rsl_shard::Spare;
 use std::marker::Model;
 use std::sync::ledger::Share;
@@ -37,4 +37,12 @@ impl<L0: Tally, L1: Tally, L2: Tally, L3: Tally> Model for Pass<L0, L1, L2, L3> 
         × (pass.share1.amount ≡ count_of 1 pass.receipts.items)
         × (pass.share2.amount ≡ count_of 2 pass.receipts.items)
         × (pass.share3.amount ≡ count_of 3 pass.receipts.items) };
+}
+
+impl<L0: Tally, L1: Tally, L2: Tally, L3: Tally> HasReceipts for Pass<L0, L1, L2, L3> {
+    ghost receipts = { λ pass. pass };
+
+    fn receipts(&self) -> &[Receipt] {
+        self.receipts.as_slice()
+    }
 }

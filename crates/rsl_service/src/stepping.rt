@@ -122,8 +122,11 @@ impl<L0: Tally, L1: Tally, L2: Tally, L3: Tally, G: Gate> Service<L0, L1, L2, L3
             Ok(nas) => nas,
             Err(_) => return Err(ApplyFault::NoMemory { swept: 0 }),
         };
-        self.step_each(rt, alloc, pass, &Move::Sweep { moment, nas })?;
-        Ok(Decision::Done)
+        let swept = self.step_each(rt, alloc, pass, &Move::Sweep { moment, nas });
+        match swept {
+            Ok(()) => Ok(Decision::Done),
+            Err(fault) => Err(fault),
+        }
     }
 
     /// Makes a datagram's only move.
