@@ -111,36 +111,3 @@ fn counts_of(alloc: Global, text: &[u8]) -> Result<Counts, Problem>
         Err(fault) => Err(Problem::Fault(fault)),
     }
 }
-
-#[cfg(test)]
-mod tests {
-    use super::*;
-    use std::io;
-    use std::test::Fail;
-
-    #[test]
-    fn no_more_is_read_than_a_file_may_have(rt: HostRuntime) -> Result<(), Fail> {
-        let found = trial(rt.alloc(), io::repeat(b'#'));
-        assert_eq!(rt; found, Err(Problem::TooLong));
-        Ok(())
-    }
-
-    #[test]
-    fn problems_are_printed_and_have_a_status(rt: HostRuntime) -> Result<(), Fail> {
-        for (problem, expected, status) in [
-            (Problem::Unreadable, "bad file: unreadable", 1),
-            (Problem::TooLong, "bad file: too long", 1),
-            (
-                Problem::Fault(ConfigFault::TwiceClient),
-                "bad file: TwiceClient",
-                1,
-            ),
-            (Problem::NoMemory, "no memory", 3),
-        ] {
-            let found = format!(in rt.alloc(); "{problem}")?;
-            assert_eq!(rt; found.as_str(), expected);
-            assert_eq!(rt; problem.status(), status, "{expected}");
-        }
-        Ok(())
-    }
-}

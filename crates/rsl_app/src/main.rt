@@ -10,8 +10,6 @@ mod arguments;
 mod command;
 mod ending;
 mod fault;
-#[cfg(test)]
-mod tests;
 
 use command::command;
 use ending::ended;

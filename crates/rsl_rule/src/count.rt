@@ -96,13 +96,12 @@ pub(crate) fn has_place_beside(
     Ok(places_taken(rules.ports, &bundles) < rules.places)
 }
 
-/// The places that are held.
+/// The places that an account with this past holds, by the session rule. The history is the
+/// account's past, oldest first.
+///
+/// It takes memory for what it looks up, and fails only where memory is refused.
 #[tactic(auto, using(crate::proofs::Memory::links_some), unfolding(rsl_session::specs::Places::places))]
-pub(crate) fn places_held(
-    alloc: Global,
-    rules: &Rules,
-    history: &[PastEvent],
-) -> Result<u64, NoMemory>
+pub fn places_held(alloc: Global, rules: &Rules, history: &[PastEvent]) -> Result<u64, NoMemory>
     requires { RulesFit rules.now }
     ensures places { IfOk result (λ held. held ≡ places rules.now (looking_back history.now)) }
     ensures refused { OnErr result (0 < length history.now) }

@@ -17,4 +17,5 @@ mod standing;
 mod sweep;
 mod yielding;
 
+pub use count::places_held;
 pub use decisions::{decide, decision, outcome, places};

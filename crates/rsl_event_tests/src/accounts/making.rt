@@ -1,8 +1,8 @@
 //! What `Config::make` takes, look-ups, rules and addresses.
 
-use super::{SAMPLE, client, entry, numbers_of, rules_of, said, settings};
-use rsl_accounts::{Client, Config, ConfigFault, Entry, Rules, Settings, address_of};
-use rsl_rows::{Subject, check_rows, printed, replaced, short_number, shown};
+use super::{client, entry, numbers_of, rules_of, said, settings};
+use rsl_accounts::{Config, Entry, Rules, Settings, address_of};
+use rsl_rows::{Subject, check_rows, printed, replaced};
 use std::alloc::Global;
 use std::test::Fail;
 
@@ -143,95 +143,6 @@ fn texts_are_taken_up_to_their_limits(rt: HostRuntime) -> Result<(), Fail> {
     ";
     let rows = replaced(rt.alloc(), rows, LONG)?;
     check_rows(&rt, &TextRows, rows.as_str())
-}
-
-/// So many clients and accounts, each with an address or a name of its own.
-fn many(alloc: Global, clients: u32, accounts: u32) -> Result<Result<Config, ConfigFault>, Fail> {
-    let clients = many_clients(alloc, clients)?;
-    let accounts = many_accounts(alloc, accounts)?;
-    Ok(Config::make(alloc, settings(2), clients, accounts))
-}
-
-fn many_clients(alloc: Global, number: u32) -> Result<Vec<Client>, Fail> {
-    let mut clients = Vec::new(alloc);
-    for number in 0..number {
-        let [_, _, high, low] = number.to_be_bytes();
-        clients.push(client(alloc, [10, 0, high, low], "s")?)?;
-    }
-    Ok(clients)
-}
-
-fn many_accounts(alloc: Global, number: u32) -> Result<Vec<Entry>, Fail> {
-    let mut accounts = Vec::new(alloc);
-    for number in 0..number {
-        let name = printed(alloc, &number)?;
-        accounts.push(entry(alloc, name.as_str(), "p")?)?;
-    }
-    Ok(accounts)
-}
-
-/// Where a client and an account are found among so many of each, and the numbers of clients,
-/// accounts and shards.
-struct ManyRows;
-
-impl Subject for ManyRows {
-    fn found(&self, alloc: Global, fields: &[&str]) -> Result<String, Fail> {
-        let [clients, accounts, address, name] = fields else {
-            return Err("a row has two numbers, an address and a name")?;
-        };
-        match many(alloc, short_number(clients)?, short_number(accounts)?)? {
-            Ok(config) => places(alloc, &config, address, name),
-            Err(fault) => shown(alloc, &fault),
-        }
-    }
-}
-
-fn places(alloc: Global, config: &Config, address: &str, name: &str) -> Result<String, Fail> {
-    let Some(address) = address_of(address.as_bytes()) else {
-        return Err("an address is four numbers")?;
-    };
-    let (client, account) = (config.client(address), config.account(name.as_bytes()));
-    let (clients, accounts, shards) = (config.clients(), config.accounts(), config.shards());
-    printed(alloc, &(client, account, clients, accounts, shards))
-}
-
-#[test]
-fn clients_and_accounts_are_found_up_to_the_greatest_numbers(rt: HostRuntime) -> Result<(), Fail> {
-    let rows = "
-        one of each | 1 | 1 | 10.0.0.0 | 0 | (Some(0), Some(0), 1, 1, 2)
-        the last of some | 2 | 3 | 10.0.0.1 | 2 | (Some(1), Some(2), 2, 3, 2)
-        none of these | 2 | 3 | 10.0.0.2 | 3 | (None, None, 2, 3, 2)
-        the most | 256 | 16384 | 10.0.0.255 | 16383 | (Some(255), Some(16383), 256, 16384, 2)
-        none | 0 | 0 | 10.0.0.0 | 0 | BadValue client
-        a client too many | 257 | 1 | 10.0.0.0 | 0 | BadValue client
-        no account | 1 | 0 | 10.0.0.0 | 0 | BadValue account
-        an account too many | 1 | 16385 | 10.0.0.0 | 0 | BadValue account
-    ";
-    check_rows(&rt, &ManyRows, rows)
-}
-
-/// The shard of an account of the sample, which has two shards.
-struct ShardRows;
-
-impl Subject for ShardRows {
-    fn found(&self, alloc: Global, fields: &[&str]) -> Result<String, Fail> {
-        let [account] = fields else {
-            return Err("a row has the number of an account")?;
-        };
-        let config = Config::read(alloc, SAMPLE.as_bytes())?;
-        printed(alloc, &config.shard_of(short_number(account)?))
-    }
-}
-
-#[test]
-fn an_account_belongs_to_the_shard_of_its_remainder(rt: HostRuntime) -> Result<(), Fail> {
-    let rows = "
-        the first | 0 | 0
-        the second | 1 | 1
-        the third | 2 | 0
-        the last | 16383 | 1
-    ";
-    check_rows(&rt, &ShardRows, rows)
 }
 
 /// Whether rules fit.

@@ -1,12 +1,12 @@
 ghost use Rattle.rsl_accounts.specs.Limits.{RulesFit};
 
-use crate::draw::Draw;
-use crate::found::Found;
+use super::draw::Draw;
+use super::found::Found;
 use rsl_accounts::Rules;
 use rsl_book::Book;
 use rsl_event::{Act, Decision, Event};
-use rsl_rule::{decide, decision, outcome, places};
-use rsl_session::PastEvent;
+use rsl_rule::{decide, decision, outcome, places, places_held};
+use rsl_session::{Outcome, PastEvent};
 use rsl_wire::NoMemory;
 use std::alloc::Global;
 
@@ -34,18 +34,7 @@ pub(crate) fn difference(
     draw.begin();
     let rules = draw.rules();
     let mut account = Account::new(alloc, rules)?;
-    for _ in 0..events {
-        let event = draw.event(alloc, &rules)?;
-        if !account.agrees_on(alloc, &rules, found, event)? {
-            return Ok(Some(account.told(alloc, &rules)?));
-        }
-    }
-    let decisions = decide(alloc, &rules, &account.events)?;
-    if decisions == account.decisions {
-        Ok(None)
-    } else {
-        Ok(Some(account.told(alloc, &rules)?))
-    }
+    account.difference(alloc, &rules, draw, found, events)
 }
 
 /// Hands an event to a book, a sweep and a tick by the calls of their names.
@@ -95,6 +84,42 @@ impl Account {
         })
     }
 
+    /// The rules and the history where the books and the rule differ on so many events.
+    fn difference(
+        &mut self,
+        alloc: Global,
+        rules: &Rules,
+        draw: &mut Draw,
+        found: &mut Found,
+        events: u64,
+    ) -> Result<Option<String>, NoMemory>
+        requires { RulesFit rules.now }
+    {
+        for _ in 0..events {
+            if !self.agrees_on_next(alloc, rules, draw, found)? {
+                return Ok(Some(self.told(alloc, rules)?));
+            }
+        }
+        if self.is_as_of_its_events(alloc, rules)? {
+            return Ok(None);
+        }
+        Ok(Some(self.told(alloc, rules)?))
+    }
+
+    /// The same of the next event that is drawn.
+    fn agrees_on_next(
+        &mut self,
+        alloc: Global,
+        rules: &Rules,
+        draw: &mut Draw,
+        found: &mut Found,
+    ) -> Result<bool, NoMemory>
+        requires { RulesFit rules.now }
+    {
+        let event = draw.event(alloc, rules)?;
+        self.agrees_on(alloc, rules, found, &event)
+    }
+
     /// Whether both books decide on an event as the rule does, hold as many places, and show the
     /// same.
     fn agrees_on(
@@ -102,28 +127,51 @@ impl Account {
         alloc: Global,
         rules: &Rules,
         found: &mut Found,
-        event: Event,
+        event: &Event,
     ) -> Result<bool, NoMemory>
         requires { RulesFit rules.now }
     {
-        let did = outcome(alloc, rules, &self.history, &event)?;
+        let did = outcome(alloc, rules, &self.history, event)?;
         found.note(did);
-        self.history.push(PastEvent {
-            event: event.try_copy(alloc)?,
-            outcome: did,
-        })?;
-        self.events.push(event.try_copy(alloc)?)?;
-        let called = call(alloc, &mut self.called, &event)?;
-        let decided = self.book.apply(event);
+        self.note(alloc, event, did)?;
+        let decided = self.book.apply(event.try_copy(alloc)?);
+        let called = call(alloc, &mut self.called, event)?;
         self.decisions.push(decided)?;
-        let held = u64::from(places(alloc, rules, &self.events)?);
+        let decides = decided == decision(did) && decided == called;
+        Ok(decides && self.shows_as_the_rule(alloc, rules)?)
+    }
+
+    /// Puts an event behind the others, with what it did.
+    fn note(&mut self, alloc: Global, event: &Event, did: Outcome) -> Result<(), NoMemory> {
+        self.events.push(event.try_copy(alloc)?)?;
+        let event = event.try_copy(alloc)?;
         Ok(
-            decided == decision(did)
-                && decided == called
-                && self.book.held() == held
+            self.history.push(PastEvent {
+                event,
+                outcome: did,
+            })?,
+        )
+    }
+
+    /// Whether both books show the same, and the places that the rule finds.
+    fn shows_as_the_rule(&self, alloc: Global, rules: &Rules) -> Result<bool, NoMemory>
+        requires { RulesFit rules.now }
+    {
+        let held = places_held(alloc, rules, &self.history)?;
+        Ok(
+            self.book.held() == held
                 && is_each_link_shown(&self.book)
                 && shown(&self.book) == shown(&self.called),
         )
+    }
+
+    /// Whether the rule finds the same decisions and places from the events alone.
+    fn is_as_of_its_events(&self, alloc: Global, rules: &Rules) -> Result<bool, NoMemory>
+        requires { RulesFit rules.now }
+    {
+        let decisions = decide(alloc, rules, &self.events)?;
+        let held = u64::from(places(alloc, rules, &self.events)?);
+        Ok(decisions == self.decisions && held == self.book.held())
     }
 
     /// The account's rules and history.

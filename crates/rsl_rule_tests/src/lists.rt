@@ -1,0 +1,42 @@
+//! Random lists of events, each on a running book and by the session rule that looks back.
+//!
+//! After each event the book must have decided as the rule does and hold as many places, and a
+//! second book, whose sweeps and ticks are calls of their own, must show the same.
+
+mod account;
+mod draw;
+mod found;
+mod full;
+
+use account::difference;
+use draw::Draw;
+use found::Found;
+use full::is_filled_twice;
+use std::test::Fail;
+
+/// The lists that are drawn, each with rules of its own.
+const LISTS: u64 = 400;
+
+/// The events of a list.
+const EVENTS: u64 = 50;
+
+/// How often each kind of outcome comes at least.
+const LEAST: u64 = 200;
+
+#[test]
+fn books_decide_as_the_rule_on_random_lists(rt: HostRuntime) -> Result<(), Fail> {
+    let mut draw = Draw::new(1);
+    let mut found = Found::none();
+    for list in 0..LISTS {
+        let differing = difference(rt.alloc(), &mut draw, &mut found, EVENTS)?;
+        assert_eq!(rt; differing, None, "list {list}");
+    }
+    assert!(rt; found.least() >= LEAST, "too few of a kind: {found}");
+    Ok(())
+}
+
+#[test]
+fn all_links_of_the_greatest_account_open_and_end_twice(rt: HostRuntime) -> Result<(), Fail> {
+    assert!(rt; is_filled_twice(rt.alloc())?);
+    Ok(())
+}
