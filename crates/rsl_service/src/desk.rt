@@ -10,7 +10,7 @@ use crate::gate::Gate;
 use crate::tally::Tally;
 use rsl_accounts::Config;
 use rsl_event::Decision;
-use rsl_shard::{Ready, Segment, Shard, Spare};
+use rsl_shard::{CutRoom, LooseSegment, Ready, Segment, Shard, Spare};
 use rsl_wire::NoMemory;
 use std::alloc::Global;
 use std::sync::ledger::{Blank, Book, Share};
@@ -57,15 +57,19 @@ impl<L: Tally> Desk<L> {
         Ok((Desk { shard, lines }, share))
     }
 
-    /// Hands out the journal, and goes on from equal books. It fails only where memory is refused,
-    /// and then nothing has changed.
-    pub(crate) fn cut(&mut self, alloc: Global) -> Result<Segment, NoMemory>
-        ensures shard { IfOk result (λ segment. segment.shard ≡ L.setup.shard) }
-        ensures journal { IfOk result (λ segment.
-            IsJournal L.setup segment.opening.items segment.lines.items) }
+    /// The number of lines of the present journal.
+    pub(crate) fn moves(&self) -> usize {
+        self.shard.moves()
+    }
+
+    /// Hands out the journal, as it stands, and goes on from equal books. It fails only where memory
+    /// is refused, and then nothing has changed.
+    pub(crate) fn cut(&mut self, alloc: Global, room: CutRoom) -> Result<LooseSegment, NoMemory>
+        ensures shard { IfOk result (λ loose. loose.shard ≡ L.setup.shard) }
+        ensures journal { IfOk result (λ loose. IsJournal L.setup loose.opening loose.lines) }
     {
         let _total = self.shard.total();
-        self.shard.cut(alloc)
+        self.shard.cut_loose(alloc, room)
     }
 
     /// Ends the journal, and hands it out with its ledger. It fails only where memory is refused.

@@ -1,5 +1,6 @@
 ghost use Rattle.std.specs.Prelude.{◌≡◌};
 ghost use Rattle.rsl_service.specs.Applied.{swept_before};
+ghost use Rattle.rsl_service.specs.declared.fault.CutFault.TheVariants.{NoMemory as no_memory};
 
 use rsl_wire::NoMemory;
 use std::alloc::AllocError;
@@ -41,6 +42,14 @@ pub enum CutFault {
     NoShard,
     /// Memory was refused. The journal is as it was.
     NoMemory,
+}
+
+impl From<NoMemory> for CutFault {
+    ghost from_gives = { λ _ fault. fault ≡ no_memory };
+
+    fn from(_refused: NoMemory) -> CutFault {
+        CutFault::NoMemory
+    }
 }
 
 /// Why a datagram was not answered, or a tick not made in every shard.

@@ -12,7 +12,7 @@ use crate::pass::Pass;
 use crate::service::Service;
 use crate::tally::Tally;
 use rsl_accounts::Config;
-use rsl_shard::Segment;
+use rsl_shard::{CutRoom, Segment};
 use rsl_wire::NoMemory;
 use std::alloc::Global;
 use std::sync::ledger::{Blank, Share};
@@ -30,6 +30,9 @@ pub struct Blanks {
     /// That of shard 3.
     pub blank3: Blank,
 }
+
+/// How many lines more a cut takes room for than there are, since others may come before its lock.
+const LATER_LINES: usize = 1024;
 
 /// The lock of a shard, if the configuration has that shard, and its ledger's only share.
 fn desk_if_there<L: Tally>(
@@ -145,7 +148,8 @@ impl<L0: Tally, L1: Tally, L2: Tally, L3: Tally, G: Gate> Service<L0, L1, L2, L3
     }
 }
 
-/// Hands out the journal of a shard under its lock.
+/// Hands out the journal of a shard, under its lock as it stands. Room for its lines is taken before
+/// the lock, and they are joined after it.
 fn cut_under_lock<L: Tally, R: Wait>(
     rt: &R,
     alloc: Global,
@@ -156,8 +160,8 @@ fn cut_under_lock<L: Tally, R: Wait>(
         IsJournal L.setup segment.opening.items segment.lines.items) }
     ensures err { IfErr result (λ fault. fault ≡ faults.NoMemory) }
 {
-    match desk.lock(rt).cut(alloc) {
-        Ok(segment) => Ok(segment),
-        Err(NoMemory) => Err(CutFault::NoMemory),
-    }
+    let lines = desk.lock(rt).moves();
+    let room = CutRoom::new(alloc, lines.saturating_add(LATER_LINES))?;
+    let loose = desk.lock(rt).cut(alloc, room)?;
+    Ok(loose.join())
 }

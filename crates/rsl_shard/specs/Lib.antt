@@ -1,6 +1,7 @@
 pub mod BooksInside
 pub mod Journal
 pub mod JournalInside
+pub mod Loose
 pub mod Moves
 pub mod Opening
 pub mod Replay

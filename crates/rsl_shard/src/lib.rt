@@ -8,6 +8,7 @@
 mod books;
 mod journal;
 mod line;
+mod loose;
 mod moved;
 mod opening;
 mod ready;
@@ -18,6 +19,7 @@ mod spare;
 
 pub use books::Books;
 pub use line::Line;
+pub use loose::{CutRoom, LooseSegment};
 pub use moved::Move;
 pub use ready::Ready;
 pub use row::Row;

@@ -22,6 +22,7 @@ ghost use Rattle.rsl_shard.specs.Seen.{IsShard, books_of, cut_off, new_shard, to
 use crate::books::Books;
 use crate::journal::Journal;
 use crate::line::Line;
+use crate::loose::{CutRoom, LooseSegment};
 use crate::moved::Move;
 use crate::opening::Opening;
 use crate::ready::Ready;
@@ -34,6 +35,7 @@ use rsl_event::Decision;
 use rsl_wire::NoMemory;
 use std::alloc::Global;
 use std::marker::Model;
+use std::mem::replace;
 
 /// The books of the accounts of one shard, with the journal of what was done to them.
 ///
@@ -183,20 +185,44 @@ impl Shard {
         ensures err { OnErr result (self.new ≡ self.old) }
         ensures kept { IsShard self.new }
     {
-        let room = self.journal.room_for_all(alloc)?;
+        self.is_kept();
+        let room = CutRoom::new(alloc, self.moves())?;
+        let loose = self.cut_loose(alloc, room)?;
+        Ok(loose.join())
+    }
+
+    /// Cuts the shard as `cut` does, with room that its caller took before. The lines stay where
+    /// they are until they are joined, and where there is room for all of them none is taken here
+    /// but for the copy of each book, and for the new books of the first opening. Where memory is
+    /// refused nothing has changed.
+    pub fn cut_loose(&mut self, alloc: Global, room: CutRoom) -> Result<LooseSegment, NoMemory>
+        ensures shard { IfOk result (λ loose. loose.shard ≡ self.old.setup.shard) }
+        ensures first { IfOk result (λ loose. loose.first ≡ self.old.first) }
+        ensures opening { IfOk result (λ loose. loose.opening ≡ self.old.opening) }
+        ensures lines { IfOk result (λ loose. loose.lines ≡ self.old.lines) }
+        ensures cut { IfOk result (λ _. self.new ≡ cut_off self.old) }
+        ensures err { OnErr result (self.new ≡ self.old) }
+        ensures kept { IsShard self.new }
+    {
+        let CutRoom {
+            lines: mut room,
+            journal,
+        } = room;
+        let more = self.journal.len();
+        room.reserve(more)?;
         let next = self.books.copies(alloc)?;
         let opening = self.opening.hand_out(alloc, &self.books, next)?;
         let first = self.first;
-        let more = self.journal.len() as u64;
-        let segment = Segment {
+        let loose = LooseSegment {
             shard: self.books.shard(),
             first,
             opening,
-            lines: self.journal.hand_out(room),
+            lines: replace(&mut self.journal, journal),
+            room,
         };
-        self.first = first + more;
+        self.first = first + more as u64;
         self.is_kept();
-        Ok(segment)
+        Ok(loose)
     }
 
     /// The journal with the books that it began with, where the shard goes on no more. Nothing is

@@ -1,0 +1,5 @@
+pub mod Calling
+pub mod Keeping
+pub mod Refusing
+pub mod Serving
+pub mod Ticking

@@ -1,0 +1,5 @@
+pub mod Counted
+pub mod Served
+pub mod Ticked
+pub mod Told
+pub mod Turned

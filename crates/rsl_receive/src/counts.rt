@@ -1,0 +1,57 @@
+ghost use Rattle.std.specs.Prelude.{◌≡◌, ◌+◌, ◌<◌, ◌≤◌, ◌^◌};
+ghost use Rattle.rsl_receive.specs.Counted.{AddsUp, no_counts};
+ghost use Rattle.rsl_receive.specs.Turned.{counted};
+
+use crate::turn::Turn;
+
+/// What a receiver did.
+#[derive(Clone, Copy, Debug, PartialEq, Eq)]
+pub struct Counts {
+    /// The turns: calls of the port's `receive`.
+    pub turns: u64,
+    /// The datagrams that were received: the sum of the four below.
+    pub received: u64,
+    /// Those whose reply was sent.
+    pub answered: u64,
+    /// Those that were dropped, by a cause of their own.
+    pub dropped: u64,
+    /// Those that were understood, and not answered: memory was refused, or a shard has made
+    /// 2^64 - 1 moves.
+    pub refused: u64,
+    /// Those whose reply could not be sent. What they did stands.
+    pub unsent: u64,
+}
+
+impl Counts {
+    /// Those of no turns.
+    pub(crate) fn new() -> Counts
+        ensures { result ≡ no_counts }
+    {
+        Counts {
+            turns: 0,
+            received: 0,
+            answered: 0,
+            dropped: 0,
+            refused: 0,
+            unsent: 0,
+        }
+    }
+
+    /// Counts a turn more.
+    pub(crate) fn count(&mut self, turn: Turn)
+        requires room { self.old.turns + 1 < 2 ^ 64 }
+        requires received { self.old.received ≤ self.old.turns }
+        requires sum { AddsUp self.old }
+        ensures { self.new ≡ counted turn self.old }
+    {
+        self.turns += 1;
+        match turn {
+            Turn::Down | Turn::Nothing => return,
+            Turn::Dropped => self.dropped += 1,
+            Turn::Refused => self.refused += 1,
+            Turn::Answered => self.answered += 1,
+            Turn::Unsent => self.unsent += 1,
+        }
+        self.received += 1;
+    }
+}

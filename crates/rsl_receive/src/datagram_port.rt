@@ -1,0 +1,44 @@
+use crate::fault::PortFault;
+use rsl_event::Source;
+
+/// Where datagrams come from and answers go to, as a UDP socket is.
+///
+/// A contract sees the numbers that the port keeps of its calls: all that a socket has to give,
+/// which holds a `Numbers`. A port over memory also tells which datagrams it gave and which sends
+/// were tried, as long as `tells` is true.
+pub trait DatagramPort {
+    ghost use Rattle.std.specs.Prelude.{◌≡◌, ◌≤◌, Bool, true, false, List, [], ◌∷◌, ◌++◌, length, IfOk, IfSome};
+    ghost use Rattle.rsl_receive.specs.Told.{CanReceive, CanSend, after_receive, after_send, datagram_of, taken_by};
+    ghost use Rattle.rsl_receive.specs.declared.datagram.Datagram.{Datagram as OneDatagram};
+    ghost use Rattle.rsl_receive.specs.declared.numbers.Numbers.{Numbers as PortNumbers};
+
+    ghost numbers: { Self → PortNumbers };
+
+    ghost tells: { Self → Bool } = { λ _. false };
+
+    ghost taken: { Self → List OneDatagram } = { λ _. [] };
+
+    ghost sent: { Self → List OneDatagram } = { λ _. [] };
+
+    /// Waits for a datagram for a while, and puts its octets at the start of the buffer. Gives how
+    /// many they are, with the source, or `None` where none has come. A datagram longer than the
+    /// buffer is cut.
+    fn receive(&mut self, buffer: &mut [u8]) -> Result<Option<(usize, Source)>, PortFault>
+        requires { CanReceive 1 (numbers self.old) }
+        ensures within { IfOk result (λ received. IfSome received (λ found.
+            found.0 ≤ length buffer.new)) }
+        ensures numbers { numbers self.new ≡ after_receive result (numbers self.old) }
+        ensures telling { tells self.new ≡ true → tells self.old ≡ true }
+        ensures taken { tells self.new ≡ true →
+            taken self.new ≡ taken self.old ++ taken_by result buffer.new }
+        ensures sent { tells self.new ≡ true → sent self.new ≡ sent self.old };
+
+    /// Sends these octets to a source. Where it fails, nothing is known to have been sent.
+    fn send(&mut self, octets: &[u8], to: Source) -> Result<(), PortFault>
+        requires { CanSend 1 (numbers self.old) }
+        ensures numbers { numbers self.new ≡ after_send to result (numbers self.old) }
+        ensures telling { tells self.new ≡ true → tells self.old ≡ true }
+        ensures taken { tells self.new ≡ true → taken self.new ≡ taken self.old }
+        ensures sent { tells self.new ≡ true →
+            sent self.new ≡ sent self.old ++ datagram_of to octets.now ∷ [] };
+}

@@ -1,0 +1,137 @@
+ghost use Rattle.std.specs.Prelude.{◌≡◌, ◌≤◌, IfOk, Err, true};
+ghost use Rattle.rsl_receive.specs.Counted.{AddsUp, AreCounted, IfCounted, failed_in};
+ghost use Rattle.rsl_receive.specs.Served.{HasServed, state_of};
+ghost use Rattle.rsl_receive.specs.Told.{CanReceive, CanSend};
+ghost use Rattle.rsl_receive.specs.Turned.{HasCalled, HasTurned};
+ghost use Rattle.rsl_receive.specs.declared.fault.ReceiveFault.TheVariants as faults;
+
+use crate::answering::{Unanswered, answer};
+use crate::clock::Clock;
+use crate::counts::Counts;
+use crate::datagram_port::DatagramPort;
+use crate::fault::{PortFault, ReceiveFault};
+use crate::turn::Turn;
+use rsl_event::Port;
+use rsl_service::{Gate, Pass, Service, Tally};
+use std::alloc::Global;
+use std::sync::Wait;
+
+/// The most octets of a datagram that are looked at: the longest packet (RFC 2865 section 3).
+const BUFFER_LEN: usize = 4096;
+
+/// Takes datagrams from a port, and sends the service's answers to where they came from, for so
+/// many turns.
+///
+/// Each turn calls the port's `receive` once. A datagram that is not dropped makes its moves in the
+/// service, with receipts in the pass, at the clock's present moment, and then its reply is sent.
+/// Where that fails the moves stand, and the next turn follows; so it does where memory is refused.
+/// `Down` where the port's `receive` fails, and `NoMemory` where there is no memory for the buffer.
+#[tactic(auto, using(crate::proofs::Calling::calling))]
+pub fn receive<
+    L0: Tally,
+    L1: Tally,
+    L2: Tally,
+    L3: Tally,
+    G: Gate,
+    P: DatagramPort,
+    C: Clock,
+    R: Wait,
+>(
+    rt: &R,
+    alloc: Global,
+    service: &Service<L0, L1, L2, L3, G>,
+    pass: &mut Pass<L0, L1, L2, L3>,
+    port: Port,
+    datagrams: &mut P,
+    clock: &mut C,
+    turns: u64,
+) -> Result<Counts, ReceiveFault>
+    requires receives { CanReceive turns (P.numbers datagrams.old) }
+    requires sends { CanSend turns (P.numbers datagrams.old) }
+    ensures most { IfCounted result (λ counts. counts.turns ≤ turns) }
+    ensures all { IfOk result (λ counts. counts.turns ≡ turns) }
+    ensures sum { IfCounted result AddsUp }
+    ensures calls { IfCounted result (λ counts. AreCounted (failed_in result) counts
+        (P.numbers datagrams.old) (P.numbers datagrams.new)) }
+    ensures served { P.tells datagrams.new ≡ true → IfCounted result (λ counts.
+        HasServed service.now port counts
+        (state_of (P.taken datagrams.old) pass.old (P.sent datagrams.old))
+        (state_of (P.taken datagrams.new) pass.new (P.sent datagrams.new))) }
+    ensures unmade { result ≡ Err faults.NoMemory →
+        (datagrams.new ≡ datagrams.old) × (pass.new ≡ pass.old) }
+{
+    let mut buffer = match Vec::from_elem(alloc, 0u8, BUFFER_LEN) {
+        Ok(buffer) => buffer,
+        Err(_) => return Err(ReceiveFault::NoMemory),
+    };
+    let mut counts = Counts::new();
+    for _ in 0..turns {
+        let turn = take_turn(
+            rt,
+            alloc,
+            service,
+            pass,
+            port,
+            datagrams,
+            clock,
+            &mut buffer,
+        );
+        counts.count(turn);
+        if turn.is_down() {
+            return Err(ReceiveFault::Down(counts));
+        }
+    }
+    Ok(counts)
+}
+
+/// A turn of a receiver, with a buffer for the datagram.
+fn take_turn<
+    L0: Tally,
+    L1: Tally,
+    L2: Tally,
+    L3: Tally,
+    G: Gate,
+    P: DatagramPort,
+    C: Clock,
+    R: Wait,
+>(
+    rt: &R,
+    alloc: Global,
+    service: &Service<L0, L1, L2, L3, G>,
+    pass: &mut Pass<L0, L1, L2, L3>,
+    port: Port,
+    datagrams: &mut P,
+    clock: &mut C,
+    buffer: &mut [u8],
+) -> Turn
+    requires receives { CanReceive 1 (P.numbers datagrams.old) }
+    requires sends { CanSend 1 (P.numbers datagrams.old) }
+    ensures calls { HasCalled result (P.numbers datagrams.old) (P.numbers datagrams.new) }
+    ensures telling { P.tells datagrams.new ≡ true → P.tells datagrams.old ≡ true }
+    ensures turned { P.tells datagrams.new ≡ true → HasTurned service.now port result
+        (state_of (P.taken datagrams.old) pass.old (P.sent datagrams.old))
+        (state_of (P.taken datagrams.new) pass.new (P.sent datagrams.new)) }
+{
+    let (len, source) = match datagrams.receive(buffer) {
+        Ok(Some(received)) => received,
+        Ok(None) => return Turn::Nothing,
+        Err(PortFault) => return Turn::Down,
+    };
+    match answer(
+        rt,
+        alloc,
+        service,
+        pass,
+        port,
+        source,
+        &buffer[..len],
+        clock,
+    ) {
+        Ok(octets) => match datagrams.send(octets.as_slice(), source) {
+            Ok(()) => Turn::Answered,
+            Err(PortFault) => Turn::Unsent,
+        },
+        Err(Unanswered::Dropped) => Turn::Dropped,
+        Err(Unanswered::Refused) => Turn::Refused,
+    }
+}

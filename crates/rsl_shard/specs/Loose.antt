@@ -1,0 +1,10 @@
+-- What a contract sees of a part of a journal whose lines stand in chunks still: what a segment has.
+use Rattle.std.specs.Prelude.{ℕ, List}
+use Rattle.rsl_book.specs.RuledBook.{RuledBook}
+use Rattle.rsl_shard.specs.declared.line.Line.{Line}
+
+pub record LooseSeen : Type 0 where
+  pub shard : ℕ
+  pub first : ℕ
+  pub opening : List RuledBook
+  pub lines : List Line
