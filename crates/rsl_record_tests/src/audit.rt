@@ -4,8 +4,9 @@
 //! expected is the answer as its Debug.
 
 use crate::records::{config_of, segment_of};
+use rsl_accounts::Config;
 use rsl_report::audit;
-use rsl_rows::{Subject, check_rows};
+use rsl_rows::{Subject, check_rows, printed};
 use std::alloc::Global;
 use std::test::Fail;
 
@@ -21,13 +22,22 @@ impl<R: AllocGlobal> Subject for Audits<'_, R> {
             return Err(Fail::from("a row without a number of shards"));
         };
         let config = config_of(self.rt, shards)?;
-        let mut segments = Vec::new(alloc);
-        for record in records {
-            segments.push(segment_of(self.rt, &config, record)?)?;
-        }
-        let answer = audit(alloc, &config, segments.as_slice());
-        Ok(format!(in alloc; "{answer:?}")?)
+        answered(self.rt, alloc, &config, records)
     }
+}
+
+/// What is answered to a record.
+fn answered<R: AllocGlobal>(
+    rt: &R,
+    alloc: Global,
+    config: &Config,
+    records: &[&str],
+) -> Result<String, Fail> {
+    let mut segments = Vec::new(alloc);
+    for record in records {
+        segments.push(segment_of(rt, config, record)?)?;
+    }
+    printed(alloc, &audit(alloc, config, segments.as_slice()))
 }
 
 /// Records that were kept right.

@@ -1,6 +1,7 @@
 //! Tests of the journal of a shard: its chunks are one list of lines.
 
 use crate::records::config_of;
+use rsl_accounts::Config;
 use rsl_rows::{Subject, check_rows, number, printed};
 use rsl_shard::{Line, Move, Ready, Shard, Spare};
 use std::alloc::Global;
@@ -18,16 +19,29 @@ impl<R: AllocGlobal> Subject for Ticked<'_, R> {
         let [ticks] = fields else {
             return Err("a number of ticks")?;
         };
+        let ticks = number(ticks)?;
         let config = config_of(self.rt, "1")?;
-        // a configuration has a shard: this call tells it
-        let _shards = config.shards();
-        let mut shard = Shard::new(alloc, &config, 0)?;
-        tick_ready(alloc, &mut shard, number(ticks)?)?;
-        let moves = shard.moves();
-        let segment = shard.cut(alloc)?;
-        let astray = first_astray(&segment.lines);
-        printed(alloc, &(moves, segment.lines.len(), astray))
+        after_ticks(alloc, &config, ticks)
     }
+}
+
+/// What is found after so many ticks.
+fn after_ticks(alloc: Global, config: &Config, ticks: u64) -> Result<String, Fail> {
+    // a configuration has a shard: this call tells it
+    let _shards = config.shards();
+    let mut shard = Shard::new(alloc, config, 0)?;
+    tick_ready(alloc, &mut shard, ticks)?;
+    cut_of(alloc, &mut shard)
+}
+
+/// What is found of a shard that is cut.
+fn cut_of(alloc: Global, shard: &mut Shard) -> Result<String, Fail> {
+    let moves = shard.moves();
+    let segment = shard.cut(alloc)?;
+    printed(
+        alloc,
+        &(moves, segment.lines.len(), first_astray(&segment.lines)),
+    )
 }
 
 /// Makes so many ticks.

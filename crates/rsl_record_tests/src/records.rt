@@ -29,7 +29,7 @@ pub(crate) fn config_of<R: AllocGlobal>(rt: &R, shards: &str) -> Result<Config, 
 }
 
 /// The move of a line.
-pub(crate) fn move_of<R: AllocGlobal>(rt: &R, line: &str) -> Result<Move, Fail> {
+fn move_of<R: AllocGlobal>(rt: &R, line: &str) -> Result<Move, Fail> {
     let text = text_of(line.trim());
     if text == "stray" {
         return stray(rt);
@@ -37,13 +37,16 @@ pub(crate) fn move_of<R: AllocGlobal>(rt: &R, line: &str) -> Result<Move, Fail> 
     let Some((who, event)) = text.split_once(' ') else {
         return Err(Fail::from("a line without an event"));
     };
-    let event = event_of(rt, event)?;
-    if who != "all" {
-        return Ok(Move::Own {
-            account: who.parse()?,
-            event,
-        });
+    if who == "all" {
+        return move_of_all(event_of(rt, event)?);
     }
+    let account = who.parse()?;
+    let event = event_of(rt, event)?;
+    Ok(Move::Own { account, event })
+}
+
+/// The move that an event is to all accounts.
+fn move_of_all(event: Event) -> Result<Move, Fail> {
     let Event { moment, act } = event;
     match act {
         Act::Sweep { nas } => Ok(Move::Sweep { moment, nas }),
@@ -68,7 +71,7 @@ fn stray<R: AllocGlobal>(rt: &R) -> Result<Move, Fail> {
 }
 
 /// The decision that a line tells.
-pub(crate) fn decision_of(line: &str) -> Result<Decision, Fail> {
+fn decision_of(line: &str) -> Result<Decision, Fail> {
     let Some((_, word)) = line.split_once(" -> ") else {
         return Err(Fail::from("a line without a decision"));
     };
@@ -112,12 +115,24 @@ fn book_of<R: AllocGlobal>(
     let mut book = Book::new(rt.alloc(), rules)?;
     for line in lines.split(';') {
         if !line.trim().is_empty() {
-            if let Some(event) = event_to(account, move_of(rt, line)?) {
-                book.apply(event);
-            }
+            apply_line(rt, &mut book, account, line)?;
         }
     }
     Ok(book)
+}
+
+/// Applies a line to the book of an account, if it concerns that.
+fn apply_line<R: AllocGlobal>(
+    rt: &R,
+    book: &mut Book,
+    account: u32,
+    line: &str,
+) -> Result<(), Fail> {
+    let moved = move_of(rt, line)?;
+    if let Some(event) = event_to(account, moved) {
+        book.apply(event);
+    }
+    Ok(())
 }
 
 /// The books of a shard after lines.
@@ -136,15 +151,19 @@ fn books_of<R: AllocGlobal>(
     Ok(books)
 }
 
+/// A line with its decision.
+pub(crate) fn line_of<R: AllocGlobal>(rt: &R, line: &str) -> Result<Line, Fail> {
+    let decision = decision_of(line)?;
+    let moved = move_of(rt, line)?;
+    Ok(Line { moved, decision })
+}
+
 /// Lines with their decisions.
 fn lines_of<R: AllocGlobal>(rt: &R, text: &str) -> Result<Vec<Line>, Fail> {
     let mut lines = Vec::new(rt.alloc());
     for line in text.split(';') {
         if !line.trim().is_empty() {
-            lines.push(Line {
-                moved: move_of(rt, line)?,
-                decision: decision_of(line)?,
-            })?;
+            lines.push(line_of(rt, line)?)?;
         }
     }
     Ok(lines)

@@ -5,11 +5,11 @@
 //! segments as in `records`. A receipt is its shard, its position and its line, with `; ` between
 //! receipts. What is expected is the answer as its Debug.
 
-use crate::records::{config_of, decision_of, move_of, segment_of};
+use crate::records::{config_of, line_of, segment_of};
 use rsl_accounts::Config;
-use rsl_rows::{Subject, check_rows};
+use rsl_rows::{Subject, check_rows, printed};
 use rsl_settle::{HasReceipts, Receipt, settle};
-use rsl_shard::{Line, Segment};
+use rsl_shard::Segment;
 use std::alloc::Global;
 use std::test::Fail;
 
@@ -43,14 +43,12 @@ fn receipt_of<R: AllocGlobal>(rt: &R, text: &str) -> Result<Receipt, Fail> {
     let Some((position, line)) = rest.split_once(' ') else {
         return Err(Fail::from("a receipt without a position"));
     };
-    let line = Line {
-        moved: move_of(rt, line)?,
-        decision: decision_of(line)?,
-    };
+    let shard = shard.parse()?;
+    let position = position.parse()?;
     Ok(Receipt {
-        shard: shard.parse()?,
-        position: position.parse()?,
-        line,
+        shard,
+        position,
+        line: line_of(rt, line)?,
     })
 }
 
@@ -103,18 +101,28 @@ impl<R: AllocGlobal> Subject for Settlings<'_, R> {
         let [shards, opened, parts @ ..] = fields else {
             return Err(Fail::from("a row without its numbers"));
         };
+        let opened = opened.parse()?;
         let config = config_of(self.rt, shards)?;
-        let record = record_of(self.rt, &config, parts)?;
-        let answer = settle(
-            alloc,
-            &config,
-            opened.parse()?,
-            record.passes.as_slice(),
-            record.given.as_slice(),
-            record.present.as_slice(),
-        );
-        Ok(format!(in alloc; "{answer:?}")?)
+        answered(self.rt, alloc, &config, opened, parts)
     }
+}
+
+/// What is answered to the record of some fields.
+fn answered<R: AllocGlobal>(
+    rt: &R,
+    alloc: Global,
+    config: &Config,
+    opened: u64,
+    parts: &[&str],
+) -> Result<String, Fail> {
+    let record = record_of(rt, config, parts)?;
+    let passes = record.passes.as_slice();
+    let given = record.given.as_slice();
+    let present = record.present.as_slice();
+    printed(
+        alloc,
+        &settle(alloc, config, opened, passes, given, present),
+    )
 }
 
 /// Records that are settled.
