@@ -17,4 +17,5 @@ pub mod Yielding
 pub mod Counting
 pub mod Sought
 pub mod Placed
+pub mod Tallied
 mod Marks

@@ -1,11 +1,9 @@
--- Loops over links: what is counted, kept, found or changed of their views.
+-- Loops over links: what is kept, found or changed of their views.
 use Rattle.std.proofs.Common.{◌≡◌, ℕ, zero, suc, ◌+◌, ◌-◌, ◌<◌, ◌≤◌, List, [], ◌∷◌, ◌++◌, take, drop, get_or, length, map, Bool, true, false, cond, not, refl, ap, sym, ◌∙◌, subst, arith, add-one, append-nil, append_assoc, length-append}
-use Rattle.std.specs.Prelude.{Some, None, filter, find, count_by}
+use Rattle.std.specs.Prelude.{Some, None, filter, find}
 use Rattle.std.proofs.lemmas.List.{take_more, drop_more, take_all, drop_all, take-map, drop-map, take-append-le, take-take, drop_at, map-append, length-take-le, get_or-take, get_or_append_left, get_or-map, length-map}
-use Rattle.std.proofs.lemmas.List.Sums.{sum_by-cons}
 use Rattle.std.proofs.lemmas.Bool.{or_parts}
 use Rattle.std.specs.List.{list_any}
-use Rattle.rsl_book.specs.First.{IsFirst}
 
 -- the first of the rest of a list
 keep_more : {B : Type 0} (orig : List B) (n i : ℕ) (y : B) → n ≡ i + 1 → n ≤ length orig → get_or orig i y ≡ y
@@ -17,22 +15,6 @@ keep_more orig n i y next within is =
     )
 
 module _ {A B : Type 0} where
-  -- what is counted of the views of the rest
-  pub count_yes : (p : B → Bool) (f : A → B) (xs : List A) (i : ℕ) (x : A) → i < length xs → x ≡ get_or xs i x → p (f x) ≡ true
-      → count_by p (map f (drop i xs)) ≡ 1 + count_by p (map f (drop (i + 1) xs))
-  count_yes p f xs i x within is passes =
-      ap (λ rest. count_by p (map f rest)) (drop_more xs i x within ∙ ap (λ y. y ∷ drop (i + 1) xs) (sym is))
-      ∙ sum_by-cons (λ y. cond (p y) 1 0) (f x) (map f (drop (i + 1) xs)) ∙ ap (λ b. cond b 1 0 + count_by p (map f (drop (i + 1) xs))) passes
-
-  pub count_no : (p : B → Bool) (f : A → B) (xs : List A) (i : ℕ) (x : A) → i < length xs → x ≡ get_or xs i x → p (f x) ≡ false
-      → count_by p (map f (drop i xs)) ≡ count_by p (map f (drop (i + 1) xs))
-  count_no p f xs i x within is misses =
-      ap (λ rest. count_by p (map f rest)) (drop_more xs i x within ∙ ap (λ y. y ∷ drop (i + 1) xs) (sym is))
-      ∙ sum_by-cons (λ y. cond (p y) 1 0) (f x) (map f (drop (i + 1) xs)) ∙ ap (λ b. cond b 1 0 + count_by p (map f (drop (i + 1) xs))) misses ∙ (omega arith)
-
-  pub count_end : (p : B → Bool) (f : A → B) (xs : List A) (i : ℕ) → length xs ≤ i → count_by p (map f (drop i xs)) ≡ 0
-  count_end p f xs i all = ap (λ rest. count_by p (map f rest)) (drop_all i xs all)
-
   -- links that end, the last first: what is left of those that were looked at stands after the others
   keep_here : (f : A → B) (keep : B → Bool) (xs : List A) (orig : List B) (n i : ℕ) (x : A) → n ≡ i + 1 → n ≤ length orig → i < length xs → x ≡ get_or xs i x
       → map f xs ≡ take n orig ++ filter keep (drop n orig) → get_or orig i (f x) ≡ f x
@@ -93,50 +75,20 @@ module _ {A B : Type 0} where
   pub any_end : (p : B → Bool) (f : A → B) (xs : List A) (i : ℕ) → length xs ≤ i → list_any p (map f (drop i xs)) ≡ false
   any_end p f xs i all = ap (λ ys. list_any p (map f ys)) (drop_all i xs all)
 
-any-push : {B : Type 0} (p : B → Bool) (xs : List B) (y : B) → list_any p xs ≡ false → p y ≡ false → list_any p (xs ++ y ∷ []) ≡ false
-any-push p [] y none misses = rw misses refl
-any-push p (x ∷ xs) y none misses =
-    let parts = or_parts (p x) (list_any p xs) none in
-    rw parts.0 (any-push p xs y parts.1 misses)
-
 pub find_none : {B : Type 0} (p : B → Bool) (xs : List B) → list_any p xs ≡ false → find p xs ≡ None
 find_none p [] none = refl
 find_none p (x ∷ xs) none =
     let parts = or_parts (p x) (list_any p xs) none in
     rw parts.0 (find_none p xs parts.1)
 
-module _ {A B : Type 0} where
-  -- the first view that passes
-  pub none_more : (p : B → Bool) (f : A → B) (xs : List A) (i : ℕ) (x : A) → i < length xs → x ≡ get_or xs i x → list_any p (take i (map f xs)) ≡ false → p (f x) ≡ false
-      → list_any p (take (i + 1) (map f xs)) ≡ false
-  none_more p f xs i x within is none misses =
-      ap (list_any p) (take_more (map f xs) i (f x) (rw (length-map xs f) within) ∙ ap (λ y. take i (map f xs) ++ y ∷ []) (get_or-map f xs i x (f x) within ∙ ap f (sym is)))
-      ∙ any-push p (take i (map f xs)) (f x) none misses
-
-  pub first_at : (p : B → Bool) (f : A → B) (xs : List A) (i : ℕ) (x : A) → i < length xs → x ≡ get_or xs i x → list_any p (take i (map f xs)) ≡ false → p (f x) ≡ true
-      → IsFirst p (map f xs) i
-  first_at p f xs i x within is none passes =
-      record {
-        within = rw (length-map xs f) within;
-        passed = λ d. ap p (get_or-map f xs i x d within ∙ ap f (sym is)) ∙ passes;
-        before = none;
-      }
-
-  pub none_found : (p : B → Bool) (f : A → B) (xs : List A) (i : ℕ) → length xs ≤ i → list_any p (take i (map f xs)) ≡ false → find p (map f xs) ≡ None
-  none_found p f xs i all none = find_none p (map f xs) (ap (list_any p) (sym (take_all i (map f xs) (rw (length-map xs f) all))) ∙ none)
-
 pub ruleset find_steps = (find_yes, find_no, find_end)
 
 pub ruleset any_steps = (any_yes, any_no, any_end)
-
-pub ruleset first_steps = (none_more, first_at, none_found)
 
 pub keep_all : {B : Type 0} (keep : B → Bool) (orig : List B) (n : ℕ) → n ≡ length orig → orig ≡ take n orig ++ filter keep (drop n orig)
 keep_all keep orig n is = sym (ap (λ ys. ys ++ filter keep (drop n orig)) (take_all n orig (omega arith)) ∙ ap (λ ys. orig ++ filter keep ys) (drop_all n orig (omega arith)) ∙ append-nil orig)
 
 pub ruleset keep_steps = (keep_all, keep_pass, keep_gone)
-
-pub ruleset count_steps = (count_yes, count_no, count_end)
 
 pub ruleset copy_steps = (take_more, take_all)
 

@@ -6,7 +6,7 @@ use Rattle.std.proofs.lemmas.List.{get_or_default, get_or_append_left, get_or-se
 use Rattle.std.proofs.lemmas.List.Edits.{get_or-remove_below, get_or-remove_above, length-remove}
 use Rattle.rsl_book.specs.declared.link.Link.{Link}
 use Rattle.rsl_book.specs.declared.order.Kind.{Kind}
-use Rattle.rsl_book.specs.declared.order.Kind.TheVariants.{Reserved, Bound, Sessions, Bundles}
+use Rattle.rsl_book.specs.declared.order.Kind.TheVariants.{Reserved, Bound, Numbers, Sessions, Bundles}
 use Rattle.rsl_book.specs.declared.list.Orders.{Orders}
 use Rattle.rsl_book.specs.Changed.{bound_link, joined_link, renewed_link}
 use Rattle.std.specs.Prelude.{Option}
@@ -224,6 +224,10 @@ kept_by kind f same_key same_kind links at x y order within is changed o =
     (ap (λ (one : Link). order_key kind one) changed ∙ same_key x ∙ ap (λ (one : Link). order_key kind one) here)
     (ap (λ (one : Link). is_of kind one) changed ∙ same_kind x ∙ ap (λ (one : Link). is_of kind one) here) o
 
+pub renewed_numbers : (now : ℕ) (links : List Link) (at : ℕ) (x y : Link) (order : List ℕ) → at < length links → x ≡ get_or links at x → y ≡ renewed_link now x → IsOrderOf Numbers links order → IsOrderOf Numbers (set links at y) order
+unfolding renewed_link
+renewed_numbers now links at x y order within is changed o = kept_by Numbers (renewed_link now) (λ one. refl) (λ one. refl) links at x y order within is changed o
+
 pub renewed_sessions : (now : ℕ) (links : List Link) (at : ℕ) (x y : Link) (order : List ℕ) → at < length links → x ≡ get_or links at x → y ≡ renewed_link now x → IsOrderOf Sessions links order → IsOrderOf Sessions (set links at y) order
 unfolding renewed_link
 renewed_sessions now links at x y order within is changed o = kept_by Sessions (renewed_link now) (λ one. refl) (λ one. refl) links at x y order within is changed o
@@ -237,13 +241,16 @@ unfolding bound_link
 bound_bundles id links at x y order within is changed o = kept_by Bundles (bound_link id) (λ one. refl) (λ one. refl) links at x y order within is changed o
 
 pub joined_others : (bundle : Option (List ℕ)) (links : List Link) (at : ℕ) (x y : Link) (orders : Orders) → at < length links → x ≡ get_or links at x → y ≡ joined_link bundle x → AreOrders links orders
-    → IsOrderOf Reserved (set links at y) orders.reserved.items × (IsOrderOf Bound (set links at y) orders.bound.items × IsOrderOf Sessions (set links at y) orders.sessions.items)
+    → IsOrderOf Reserved (set links at y) orders.reserved.items × (IsOrderOf Bound (set links at y) orders.bound.items × (IsOrderOf Numbers (set links at y) orders.numbers.items × IsOrderOf Sessions (set links at y) orders.sessions.items))
 unfolding joined_link
 joined_others bundle links at x y orders within is changed are = (
   kept_by Reserved (joined_link bundle) (λ one. refl) (λ one. refl) links at x y orders.reserved.items within is changed are.reserved,
   (
     kept_by Bound (joined_link bundle) (λ one. refl) (λ one. refl) links at x y orders.bound.items within is changed are.bound,
-    kept_by Sessions (joined_link bundle) (λ one. refl) (λ one. refl) links at x y orders.sessions.items within is changed are.sessions,
+    (
+      kept_by Numbers (joined_link bundle) (λ one. refl) (λ one. refl) links at x y orders.numbers.items within is changed are.numbers,
+      kept_by Sessions (joined_link bundle) (λ one. refl) (λ one. refl) links at x y orders.sessions.items within is changed are.sessions,
+    ),
   ),
 )
 
@@ -262,6 +269,7 @@ orders_grown links link orders are =
     record {
       reserved = grown Reserved links link orders.reserved.items are.reserved;
       bound = grown Bound links link orders.bound.items are.bound;
+      numbers = grown Numbers links link orders.numbers.items are.numbers;
       sessions = grown Sessions links link orders.sessions.items are.sessions;
       bundles = grown Bundles links link orders.bundles.items are.bundles;
     }
@@ -275,17 +283,19 @@ orders_closed links at old new within are closes =
     record {
       reserved = subst (IsOrderOf Reserved (remove links at)) (sym closes.reserved) (closed Reserved links at old.reserved.items within are.reserved);
       bound = subst (IsOrderOf Bound (remove links at)) (sym closes.bound) (closed Bound links at old.bound.items within are.bound);
+      numbers = subst (IsOrderOf Numbers (remove links at)) (sym closes.numbers) (closed Numbers links at old.numbers.items within are.numbers);
       sessions = subst (IsOrderOf Sessions (remove links at)) (sym closes.sessions) (closed Sessions links at old.sessions.items within are.sessions);
       bundles = subst (IsOrderOf Bundles (remove links at)) (sym closes.bundles) (closed Bundles links at old.bundles.items within are.bundles);
     }
 
-pub no_orders : (links : List Link) (orders : Orders) → links ≡ [] → orders.reserved.items ≡ [] → orders.bound.items ≡ [] → orders.sessions.items ≡ [] → orders.bundles.items ≡ [] → AreOrders links orders
-no_orders links orders none one two three four =
+pub no_orders : (links : List Link) (orders : Orders) → links ≡ [] → orders.reserved.items ≡ [] → orders.bound.items ≡ [] → orders.numbers.items ≡ [] → orders.sessions.items ≡ [] → orders.bundles.items ≡ [] → AreOrders links orders
+no_orders links orders none one two three four five =
     record {
       reserved = no_order Reserved links orders.reserved.items none one;
       bound = no_order Bound links orders.bound.items none two;
-      sessions = no_order Sessions links orders.sessions.items none three;
-      bundles = no_order Bundles links orders.bundles.items none four;
+      numbers = no_order Numbers links orders.numbers.items none three;
+      sessions = no_order Sessions links orders.sessions.items none four;
+      bundles = no_order Bundles links orders.bundles.items none five;
     }
 
 pub orders_of : (links others : List Link) (at : ℕ) (orders : Orders) → links ≡ others → AreOrdersBut links at orders → AreOrdersBut others at orders
@@ -296,6 +306,7 @@ roomy_for most few orders less roomy =
     record {
       reserved = let room = roomy.reserved in omega (arith, less, room);
       bound = let room = roomy.bound in omega (arith, less, room);
+      numbers = let room = roomy.numbers in omega (arith, less, room);
       sessions = let room = roomy.sessions in omega (arith, less, room);
       bundles = let room = roomy.bundles in omega (arith, less, room);
     }

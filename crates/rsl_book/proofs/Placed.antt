@@ -12,14 +12,14 @@ use Rattle.rsl_session.specs.declared.bundle.Bundle.{Bundle}
 use Rattle.rsl_session.specs.Same.{same_bundle, same_nas, same_octets, same_session}
 use Rattle.rsl_session.specs.Places.{is_bundle}
 use Rattle.rsl_session.specs.Book.{BookLink, bundles_in}
-use Rattle.rsl_session.specs.BookLinks.{is_holder, is_link_of}
+use Rattle.rsl_session.specs.BookLinks.{can_be_taken, is_holder, is_link_of, is_wanted}
 use Rattle.rsl_session.proofs.Callers.{nas_is_same, same_nas-true}
 use Rattle.rsl_book.specs.declared.link.Link.{Link}
 use Rattle.rsl_book.specs.declared.link.Hold.{Hold}
 use Rattle.rsl_book.specs.declared.link.Hold.TheVariants.{Number, Session}
 use Rattle.rsl_book.specs.Changed.{bound_link, touched_link}
 use Rattle.rsl_book.specs.First.{IsFirst, change_at}
-use Rattle.rsl_book.specs.LinkList.{is_bundle_id, is_held, is_id, is_member}
+use Rattle.rsl_book.specs.LinkList.{is_bundle_id, is_for, is_held, is_id, is_member, is_wanted_hold}
 use Rattle.rsl_book.specs.Named.{ArePlaced, IsPlace, named_by_links}
 use Rattle.rsl_book.specs.Order.{link_at, no_link}
 use Rattle.rsl_book.specs.Seen.{bundle_with, holder_at, link_seen, links_seen, server_at}
@@ -132,6 +132,19 @@ held_seen servers nas id place link is stands other = by_hold link.hold where
   by_hold (Number number) = sym (and-false (link.nas == place))
   by_hold (Session own) = ap (λ b. b && same_octets own id) (same_place servers nas place link.nas is stands other)
 
+taken_seen : (servers : List Nas) (nas : Nas) (class : Option ℕ) (place : ℕ) (link : Link) → IsPlace servers place → server_at servers place ≡ nas → IsPlace servers link.nas
+    → can_be_taken nas class (link_seen servers link) ≡ is_for place class link
+unfolding can_be_taken link_seen is_for
+taken_seen servers nas class place link is stands other =
+    ap (λ b. is_wanted class (holder_at (server_at servers link.nas) link.hold) && b) (same_place servers nas place link.nas is stands other)
+    ∙ ap (λ b. b && link.nas == place) (wanted class link.hold)
+  where
+    wanted : (class : Option ℕ) (hold : Hold) → is_wanted class (holder_at (server_at servers link.nas) hold) ≡ is_wanted_hold class hold
+    wanted None (Number number) = refl
+    wanted None (Session own) = refl
+    wanted (Some number) (Number own) = refl
+    wanted (Some number) (Session own) = refl
+
 member_seen : (servers : List Nas) (id : List ℕ) (place : ℕ) (link : Link) → IsPlace servers place → IsPlace servers link.nas
     → is_bundle (record { nas = server_at servers place; id = id }) (link_seen servers link).bundle ≡ is_member place id link
 unfolding link_seen is_member same_bundle
@@ -165,54 +178,82 @@ none_before q [] (suc at) i none low within = absurd (omega (arith, within))
 none_before q (x ∷ xs) (suc at) zero none low within = (or_parts (q x) (list_any q (take at xs)) none).0
 none_before q (x ∷ xs) (suc at) (suc i) none low within = none_before q xs at i (or_parts (q x) (list_any q (take at xs)) none).1 (omega (arith, low)) (omega (arith, within))
 
-module _ (servers : List Nas) (nas : Nas) (id : List ℕ) (links : List Link) (placed : ArePlaced servers links) where
-  pub session_seen : (place at : ℕ) → IsPlace servers place → server_at servers place ≡ nas → IsFirst (is_held place id) links at → IsFirst (is_link_of (record { nas = nas; id = id })) (links_seen servers links) at
+module _ (servers : List Nas) (links : List Link) (p : BookLink → Bool) (q : Link → Bool) (same : (x : ℕ) → x < length links → p (link_seen servers (link_at links x)) ≡ q (link_at links x)) where
+  pub first_seen : (at : ℕ) → IsFirst q links at → IsFirst p (links_seen servers links) at
   unfolding links_seen
-  session_seen place at is stands first =
+  first_seen at first =
       let long = length-map links (link_seen servers) in
       let front = first.within in
       record {
         within = omega (arith, front, long);
-        passed = λ d. ap (is_link_of (record { nas = nas; id = id })) (get_or-map (link_seen servers) links at no_link d front)
-            ∙ held_seen servers nas id place (link_at links at) is stands (placed at front) ∙ first.passed no_link;
-        before = any_none (is_link_of (record { nas = nas; id = id })) (map (link_seen servers) links) at
+        passed = λ d. ap p (get_or-map (link_seen servers) links at no_link d front) ∙ same at front ∙ first.passed no_link;
+        before = any_none p (map (link_seen servers) links) at
             (λ i d low within.
             let inside : i < length links = omega (arith, within, long) in
-            ap (is_link_of (record { nas = nas; id = id })) (get_or-map (link_seen servers) links i no_link d inside)
-            ∙ held_seen servers nas id place (link_at links i) is stands (placed i inside) ∙ none_before (is_held place id) links at i first.before low inside);
+            ap p (get_or-map (link_seen servers) links i no_link d inside) ∙ same i inside ∙ none_before q links at i first.before low inside);
       }
 
-  pub no_session_seen : (place : ℕ) → IsPlace servers place → server_at servers place ≡ nas → list_any (is_held place id) links ≡ false → find (is_link_of (record { nas = nas; id = id })) (links_seen servers links) ≡ None
+  pub none_seen : list_any q links ≡ false → find p (links_seen servers links) ≡ None
   unfolding links_seen
-  no_session_seen place is stands none =
+  none_seen none =
       let long = length-map links (link_seen servers) in
-      find_none (is_link_of (record { nas = nas; id = id })) (map (link_seen servers) links) (any_nowhere (is_link_of (record { nas = nas; id = id })) (map (link_seen servers) links)
+      find_none p (map (link_seen servers) links) (any_nowhere p (map (link_seen servers) links)
       (λ i d within.
       let inside : i < length links = omega (arith, within, long) in
-      ap (is_link_of (record { nas = nas; id = id })) (get_or-map (link_seen servers) links i no_link d inside)
-      ∙ held_seen servers nas id place (link_at links i) is stands (placed i inside) ∙ nowhere_among (is_held place id) links i none inside))
+      ap p (get_or-map (link_seen servers) links i no_link d inside) ∙ same i inside ∙ nowhere_among q links i none inside))
 
-  -- where the access server stands nowhere, none is of it
-  elsewhere : (link : Link) → IsPlace servers link.nas → ((x : ℕ) → x < length servers → server_at servers x ≢ nas) → is_link_of (record { nas = nas; id = id }) (link_seen servers link) ≡ false
-  unfolding is_link_of link_seen same_session
-  elsewhere link is nowhere = by_hold link.hold where
-    other : (b : Bool) → same_nas (server_at servers link.nas) nas ≡ b → same_nas (server_at servers link.nas) nas ≡ false
-    other false e = e
-    other true e = absurd (nowhere link.nas is.within (same_nas-true (server_at servers link.nas) nas e))
+-- where an access server stands nowhere, no link is at it
+other_server : (servers : List Nas) (nas : Nas) (link : Link) → IsPlace servers link.nas → ((x : ℕ) → x < length servers → server_at servers x ≢ nas) → same_nas (server_at servers link.nas) nas ≡ false
+other_server servers nas link is nowhere = by_cases (same_nas (server_at servers link.nas) nas) refl where
+  by_cases : (b : Bool) → same_nas (server_at servers link.nas) nas ≡ b → same_nas (server_at servers link.nas) nas ≡ false
+  by_cases false e = e
+  by_cases true e = absurd (nowhere link.nas is.within (same_nas-true (server_at servers link.nas) nas e))
 
-    by_hold : (hold : Hold) → is_holder (record { nas = nas; id = id }) (holder_at (server_at servers link.nas) hold) ≡ false
-    by_hold (Number number) = refl
-    by_hold (Session own) = ap (λ b. b && same_octets own id) (other (same_nas (server_at servers link.nas) nas) refl)
+not_held : (servers : List Nas) (nas : Nas) (id : List ℕ) (link : Link) → IsPlace servers link.nas → ((x : ℕ) → x < length servers → server_at servers x ≢ nas)
+    → is_link_of (record { nas = nas; id = id }) (link_seen servers link) ≡ false
+unfolding is_link_of link_seen same_session
+not_held servers nas id link is nowhere = by_hold link.hold where
+  by_hold : (hold : Hold) → is_holder (record { nas = nas; id = id }) (holder_at (server_at servers link.nas) hold) ≡ false
+  by_hold (Number number) = refl
+  by_hold (Session own) = ap (λ b. b && same_octets own id) (other_server servers nas link is nowhere)
 
-  pub nowhere_seen : ((x : ℕ) → x < length servers → server_at servers x ≢ nas) → find (is_link_of (record { nas = nas; id = id })) (links_seen servers links) ≡ None
-  unfolding links_seen
-  nowhere_seen nowhere =
-      let long = length-map links (link_seen servers) in
-      find_none (is_link_of (record { nas = nas; id = id })) (map (link_seen servers) links) (any_nowhere (is_link_of (record { nas = nas; id = id })) (map (link_seen servers) links)
-      (λ i d within.
-      let inside : i < length links = omega (arith, within, long) in
-      ap (is_link_of (record { nas = nas; id = id })) (get_or-map (link_seen servers) links i no_link d inside)
-      ∙ elsewhere (link_at links i) (placed i inside) nowhere))
+not_taken : (servers : List Nas) (nas : Nas) (class : Option ℕ) (link : Link) → IsPlace servers link.nas → ((x : ℕ) → x < length servers → server_at servers x ≢ nas)
+    → can_be_taken nas class (link_seen servers link) ≡ false
+unfolding can_be_taken link_seen
+not_taken servers nas class link is nowhere =
+    ap (λ b. is_wanted class (holder_at (server_at servers link.nas) link.hold) && b) (other_server servers nas link is nowhere)
+    ∙ and-false (is_wanted class (holder_at (server_at servers link.nas) link.hold))
+
+module _ (servers : List Nas) (nas : Nas) (links : List Link) (placed : ArePlaced servers links) where
+  none_at_all : list_any (λ (link : Link). false) links ≡ false
+  none_at_all = any_nowhere (λ (link : Link). false) links (λ i d within. refl)
+
+  pub session_nowhere : (id : List ℕ) → ((x : ℕ) → x < length servers → server_at servers x ≢ nas) → find (is_link_of (record { nas = nas; id = id })) (links_seen servers links) ≡ None
+  session_nowhere id nowhere =
+      none_seen servers links (is_link_of (record { nas = nas; id = id })) (λ link. false) (λ x within. not_held servers nas id (link_at links x) (placed x within) nowhere) none_at_all
+
+  pub taken_nowhere : (class : Option ℕ) → ((x : ℕ) → x < length servers → server_at servers x ≢ nas) → find (can_be_taken nas class) (links_seen servers links) ≡ None
+  taken_nowhere class nowhere =
+      none_seen servers links (can_be_taken nas class) (λ link. false) (λ x within. not_taken servers nas class (link_at links x) (placed x within) nowhere) none_at_all
+
+  module _ (place : ℕ) (is : IsPlace servers place) (stands : server_at servers place ≡ nas) where
+    same_held : (id : List ℕ) (x : ℕ) → x < length links → is_link_of (record { nas = nas; id = id }) (link_seen servers (link_at links x)) ≡ is_held place id (link_at links x)
+    same_held id x within = held_seen servers nas id place (link_at links x) is stands (placed x within)
+
+    same_taken : (class : Option ℕ) (x : ℕ) → x < length links → can_be_taken nas class (link_seen servers (link_at links x)) ≡ is_for place class (link_at links x)
+    same_taken class x within = taken_seen servers nas class place (link_at links x) is stands (placed x within)
+
+    pub session_seen : (id : List ℕ) (at : ℕ) → IsFirst (is_held place id) links at → IsFirst (is_link_of (record { nas = nas; id = id })) (links_seen servers links) at
+    session_seen id at first = first_seen servers links (is_link_of (record { nas = nas; id = id })) (is_held place id) (same_held id) at first
+
+    pub no_session_seen : (id : List ℕ) → list_any (is_held place id) links ≡ false → find (is_link_of (record { nas = nas; id = id })) (links_seen servers links) ≡ None
+    no_session_seen id none = none_seen servers links (is_link_of (record { nas = nas; id = id })) (is_held place id) (same_held id) none
+
+    pub reservation_seen : (class : Option ℕ) (at : ℕ) → IsFirst (is_for place class) links at → IsFirst (can_be_taken nas class) (links_seen servers links) at
+    reservation_seen class at first = first_seen servers links (can_be_taken nas class) (is_for place class) (same_taken class) at first
+
+    pub no_reservation_seen : (class : Option ℕ) → list_any (is_for place class) links ≡ false → find (can_be_taken nas class) (links_seen servers links) ≡ None
+    no_reservation_seen class none = none_seen servers links (can_be_taken nas class) (is_for place class) (same_taken class) none
 
 pub none_then : {P Q : Type 0} (found : Option ℕ) → IfNone found P → (P → Q) → IfNone found Q
 none_then None none then = then none

@@ -9,7 +9,7 @@ use Rattle.rsl_book.specs.declared.link.Link.{Link}
 use Rattle.rsl_book.specs.declared.link.Hold.{Hold}
 use Rattle.rsl_book.specs.declared.link.Hold.TheVariants.{Number, Session}
 use Rattle.rsl_book.specs.declared.order.Kind.{Kind}
-use Rattle.rsl_book.specs.declared.order.Kind.TheVariants.{Reserved, Bound, Sessions, Bundles}
+use Rattle.rsl_book.specs.declared.order.Kind.TheVariants.{Reserved, Bound, Numbers, Sessions, Bundles}
 use Rattle.rsl_book.specs.Order.{rank_at, is_before, is_by_touch, holds_number, is_of, holds_session, link_at, IsOrderOf}
 use Rattle.rsl_book.specs.LinkList.{IsOldest}
 use Rattle.rsl_book.specs.Seen.{holder_at, link_seen, server_at}
@@ -28,6 +28,7 @@ sessions_alike rules n m (Number a) b one two = absurd (false≢true one)
 time_kept : (rules : Rules) (kind : Kind) → is_by_touch kind ≡ true → (n m : Nas) (f x : Link) → is_of kind f ≡ true → is_of kind x ≡ true → time_of rules (holder_at n f.hold) ≡ time_of rules (holder_at m x.hold)
 time_kept rules Reserved is n m f x one two = numbers_alike rules n m f.hold x.hold one two
 time_kept rules Bound is n m f x one two = sessions_alike rules n m f.hold x.hold one two
+time_kept rules Numbers is n m f x one two = absurd (false≢true is)
 time_kept rules Sessions is n m f x one two = absurd (false≢true is)
 time_kept rules Bundles is n m f x one two = absurd (false≢true is)
 
@@ -49,6 +50,7 @@ by_touch : (kind : Kind) → is_by_touch kind ≡ true → (links : List Link) (
     → is_before ((link_at links a).touched ∷ 0 ∷ [], a) ((link_at links b).touched ∷ 0 ∷ [], b) ≡ true
 by_touch Reserved is links a b h = h
 by_touch Bound is links a b h = h
+by_touch Numbers is links a b h = absurd (false≢true is)
 by_touch Sessions is links a b h = absurd (false≢true is)
 by_touch Bundles is links a b h = absurd (false≢true is)
 

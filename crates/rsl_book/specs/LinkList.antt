@@ -1,8 +1,8 @@
 -- What a contract sees of a list of links: the links in the order in which they opened, and the
 -- room for them. Inside, its orders list the positions of the reserved links and of those that are
--- bound, by their last touch, of those that are bound, by their sessions, and of all, by their
--- bundles.
-use Rattle.std.specs.Prelude.{◌≡◌, ℕ, ◌<◌, ◌≤◌, ◌==◌, ◌&&◌, List, Bool, true, false, Option, None, Some, vec_capacity, length, map}
+-- bound, by their last touch, of those that are reserved, by their accept numbers, and of all, by
+-- their sessions and by their bundles.
+use Rattle.std.specs.Prelude.{◌≡◌, ℕ, ◌<◌, ◌≤◌, ◌==◌, ◌&&◌, nat_le, List, Bool, true, false, Option, None, Some, vec_capacity, length, map}
 use Rattle.std.specs.VecDeque.{deque_capacity}
 use Rattle.rsl_session.specs.Same.{same_octets}
 use Rattle.rsl_book.specs.declared.link.Hold.{Hold}
@@ -10,7 +10,7 @@ use Rattle.rsl_book.specs.declared.link.Hold.TheVariants.{Number, Session}
 use Rattle.rsl_book.specs.declared.link.Link.{Link}
 use Rattle.rsl_book.specs.declared.list.LinkList.TheInside.{Inside}
 use Rattle.rsl_book.specs.declared.list.Orders.{Orders}
-use Rattle.rsl_book.specs.declared.order.Kind.TheVariants.{Reserved, Bound, Sessions, Bundles}
+use Rattle.rsl_book.specs.declared.order.Kind.TheVariants.{Reserved, Bound, Numbers, Sessions, Bundles}
 use Rattle.rsl_book.specs.Order.{IsOrderBut, holds_session, link_at, moved_up}
 
 pub record RoomyList : Type 0 where
@@ -24,6 +24,7 @@ list_seen list = record { items = list.links.items; room = vec_capacity list.lin
 pub record AreOrdersBut (links : List Link) (but : ℕ) (orders : Orders) : Type 0 where
   pub reserved : IsOrderBut Reserved links but orders.reserved.items
   pub bound : IsOrderBut Bound links but orders.bound.items
+  pub numbers : IsOrderBut Numbers links but orders.numbers.items
   pub sessions : IsOrderBut Sessions links but orders.sessions.items
   pub bundles : IsOrderBut Bundles links but orders.bundles.items
 
@@ -34,6 +35,7 @@ AreOrders links orders = AreOrdersBut links (length links) orders
 pub record HaveOrdersRoom (most : ℕ) (orders : Orders) : Type 0 where
   pub reserved : most ≤ deque_capacity orders.reserved
   pub bound : most ≤ deque_capacity orders.bound
+  pub numbers : most ≤ deque_capacity orders.numbers
   pub sessions : most ≤ deque_capacity orders.sessions
   pub bundles : most ≤ deque_capacity orders.bundles
 
@@ -41,6 +43,7 @@ pub record HaveOrdersRoom (most : ℕ) (orders : Orders) : Type 0 where
 pub record AreClosed (gone : ℕ) (old new : Orders) : Type 0 where
   pub reserved : new.reserved.items ≡ map (moved_up gone) old.reserved.items
   pub bound : new.bound.items ≡ map (moved_up gone) old.bound.items
+  pub numbers : new.numbers.items ≡ map (moved_up gone) old.numbers.items
   pub sessions : new.sessions.items ≡ map (moved_up gone) old.sessions.items
   pub bundles : new.bundles.items ≡ map (moved_up gone) old.bundles.items
 
@@ -48,8 +51,8 @@ pub record IsRanked (list : Inside) : Type 0 where
   pub orders : AreOrders list.links.items list.orders
   pub room : HaveOrdersRoom (vec_capacity list.links) list.orders
 
--- whether a link is bound to the session of this id, or in the bundle of this id, at the access
--- server of a place
+-- whether a link at the access server of a place is bound to the session of this id, is reserved by
+-- a number that a class names, or is in the bundle of this id
 abbrev pub is_id : List ℕ → Hold → Bool
 is_id id (Number number) = false
 is_id id (Session own) = same_octets own id
@@ -57,12 +60,24 @@ is_id id (Session own) = same_octets own id
 unfoldable pub is_held : ℕ → List ℕ → Link → Bool
 is_held nas id link = link.nas == nas && is_id id link.hold
 
+abbrev pub is_wanted_hold : Option ℕ → Hold → Bool
+is_wanted_hold class (Session id) = false
+is_wanted_hold None (Number number) = true
+is_wanted_hold (Some wanted) (Number number) = number == wanted
+
+unfoldable pub is_for : ℕ → Option ℕ → Link → Bool
+is_for nas class link = is_wanted_hold class link.hold && link.nas == nas
+
 abbrev pub is_bundle_id : List ℕ → Option (List ℕ) → Bool
 is_bundle_id id None = false
 is_bundle_id id (Some own) = same_octets own id
 
 unfoldable pub is_member : ℕ → List ℕ → Link → Bool
 is_member nas id link = link.nas == nas && is_bundle_id id link.bundle
+
+-- whether a link is bound, and was touched at this clock or before
+unfoldable pub is_bound_until : ℕ → Link → Bool
+is_bound_until clock link = holds_session link.hold && nat_le link.touched clock
 
 -- the bound link that was touched longest ago, and of these the first
 pub record IsOldest (links : List Link) (at : ℕ) : Type 0 where

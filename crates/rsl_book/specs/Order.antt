@@ -1,15 +1,16 @@
 -- An order lists the positions of some links of a book: those that are reserved or those that are
--- bound, by their last touch, those that are bound, by their sessions, or all, by their bundles.
--- Links that are alike in this stand as they opened.
-use Rattle.std.specs.Prelude.{◌≡◌, ◌≢◌, ℕ, ◌<◌, ◌≤◌, ◌-◌, List, [], ◌∷◌, get_or, length, nat_lt, if◌then◌else◌, Bool, true, false, Option, None, Some}
+-- bound, by their last touch, those that are reserved, by their accept numbers, or all, by their
+-- sessions or by their bundles. Links that are alike in this stand as they opened.
+use Rattle.std.specs.Prelude.{◌≡◌, ◌≢◌, ℕ, ◌<◌, ◌≤◌, ◌-◌, List, [], ◌∷◌, get_or, length, nat_lt, ◌==◌, ◌&&◌, if◌then◌else◌, Bool, true, false, Option, None, Some}
 use Rattle.std.specs.Ordering.{ordering_then, nat_cmp, is_lt}
 use Rattle.std.specs.declared.cmp.Ordering.{Ordering}
 use Rattle.std.specs.Cmp.Lexicographic.{slice_cmp}
+use Rattle.rsl_session.specs.Same.{same_octets}
 use Rattle.rsl_book.specs.declared.link.Link.{Link}
 use Rattle.rsl_book.specs.declared.link.Hold.{Hold}
 use Rattle.rsl_book.specs.declared.link.Hold.TheVariants.{Number, Session}
 use Rattle.rsl_book.specs.declared.order.Kind.{Kind}
-use Rattle.rsl_book.specs.declared.order.Kind.TheVariants.{Reserved, Bound, Sessions, Bundles}
+use Rattle.rsl_book.specs.declared.order.Kind.TheVariants.{Reserved, Bound, Numbers, Sessions, Bundles}
 
 -- what an order goes by: numbers, and then the position
 abbrev pub Rank : Type 0
@@ -56,6 +57,14 @@ abbrev pub holds_number : Hold → Bool
 holds_number (Number number) = true
 holds_number (Session id) = false
 
+abbrev pub number_of : Hold → ℕ
+number_of (Number number) = number
+number_of (Session id) = 0
+
+abbrev pub mark_of_hold : Hold → ℕ
+mark_of_hold (Number number) = 0
+mark_of_hold (Session id) = 1
+
 abbrev pub id_of : Hold → List ℕ
 id_of (Number number) = []
 id_of (Session id) = id
@@ -72,29 +81,39 @@ id_of_bundle (Some id) = id
 abbrev pub is_of : Kind → Link → Bool
 is_of Reserved link = holds_number link.hold
 is_of Bound link = holds_session link.hold
-is_of Sessions link = holds_session link.hold
+is_of Numbers link = holds_number link.hold
+is_of Sessions link = true
 is_of Bundles link = true
 
 abbrev pub order_number : Kind → Link → ℕ
 order_number Reserved link = link.touched
 order_number Bound link = link.touched
+order_number Numbers link = number_of link.hold
 order_number Sessions link = link.nas
 order_number Bundles link = link.nas
 
 abbrev pub order_mark : Kind → Link → ℕ
 order_mark Reserved link = 0
 order_mark Bound link = 0
-order_mark Sessions link = 0
+order_mark Numbers link = link.nas
+order_mark Sessions link = mark_of_hold link.hold
 order_mark Bundles link = mark_of_bundle link.bundle
 
 abbrev pub order_octets : Kind → Link → List ℕ
 order_octets Reserved link = []
 order_octets Bound link = []
+order_octets Numbers link = []
 order_octets Sessions link = id_of link.hold
 order_octets Bundles link = id_of_bundle link.bundle
 
 abbrev pub order_key : Kind → Link → List ℕ
 order_key kind link = order_number kind link ∷ order_mark kind link ∷ order_octets kind link
+
+-- whether a link is of a kind and goes by these
+unfoldable pub goes_by : Kind → ℕ → ℕ → List ℕ → Link → Bool
+goes_by kind number mark octets link =
+    is_of kind link && order_number kind link == number && order_mark kind link == mark
+    && same_octets (order_octets kind link) octets
 
 abbrev pub rank_at : Kind → List Link → ℕ → Rank
 rank_at kind links at = (order_key kind (link_at links at), at)
@@ -127,5 +146,6 @@ moved_up gone at = if nat_lt gone at then at - 1 else at
 abbrev pub is_by_touch : Kind → Bool
 is_by_touch Reserved = true
 is_by_touch Bound = true
+is_by_touch Numbers = false
 is_by_touch Sessions = false
 is_by_touch Bundles = false

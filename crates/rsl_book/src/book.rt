@@ -227,7 +227,7 @@ impl Book {
         ensures reserved { result ≡ reserved_in self.now.book }
         ensures few { result ≤ 1024 }
     {
-        self.links.reserved(&self.servers) as u64
+        self.links.reserved() as u64
     }
 
     /// How many links are live at the book's clock: at most 1,024, as many as an account can have.
@@ -236,7 +236,7 @@ impl Book {
         ensures live { result ≡ live_in self.now.rules self.now.book }
         ensures few { result ≤ 1024 }
     {
-        self.links.live(&self.servers, &self.rules, self.clock) as u64
+        self.links.live(&self.rules, self.clock) as u64
     }
 
     /// How many links are stale at the book's clock: at most 1,024, as many as an account can have.
@@ -245,7 +245,7 @@ impl Book {
         ensures stale { result ≡ stale_in self.now.rules self.now.book }
         ensures few { result ≤ 1024 }
     {
-        self.links.stale(&self.servers, &self.rules, self.clock) as u64
+        self.links.stale(&self.rules, self.clock) as u64
     }
 
     /// How much the book stores: it never grows past what `new` made room for.

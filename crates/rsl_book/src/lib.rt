@@ -7,8 +7,8 @@
 //!
 //! Inside, the links stand in the order in which they opened, the last asks and stops in rings, and
 //! each access server once in a table: whatever is at one names its place there. Orders of the
-//! links lead from a session to its link, from a bundle to its links, and to the links that were
-//! touched longest ago.
+//! links lead from a session to its link, from an alive to its reservation, from a bundle to its
+//! links, and to the links that were touched longest ago.
 #![tactic(auto)]
 
 mod book;

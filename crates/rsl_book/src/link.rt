@@ -1,10 +1,9 @@
 ghost use Rattle.std.specs.Prelude.{◌≡◌, ◌↔◌, Option, IfOk, IsTrue};
 ghost use Rattle.rsl_accounts.specs.Limits.{RulesFit};
 ghost use Rattle.rsl_session.specs.Same.{same_nas};
-ghost use Rattle.rsl_session.specs.Book.{is_stale_at, is_live_at, is_reservation, Reserved};
-ghost use Rattle.rsl_session.specs.BookLinks.{lapses_at, is_wanted, can_be_taken};
+ghost use Rattle.rsl_session.specs.Book.{is_stale_at};
+ghost use Rattle.rsl_session.specs.BookLinks.{lapses_at};
 ghost use Rattle.rsl_book.specs.Seen.{server_at, link_seen};
-ghost use Rattle.rsl_book.specs.LinkList.{is_held};
 ghost use Rattle.rsl_book.specs.Changed.{bound_link, joined_link, renewed_link};
 
 use crate::servers::Servers;
@@ -82,14 +81,6 @@ impl Link {
             && self.touched == other.touched
     }
 
-    /// Whether it is reserved.
-    #[tactic(auto, unfolding(crate::specs::Seen::link_seen))]
-    pub(crate) fn is_reserved(&self, servers: &Servers) -> bool
-        ensures { result ≡ is_reservation (link_seen servers.now self.now).holder }
-    {
-        matches!(&self.hold, Hold::Number(_))
-    }
-
     /// Whether it lapses at this clock.
     #[tactic(auto, unfolding(crate::specs::Seen::link_seen, rsl_session::specs::BookLinks::lapses_at))]
     pub(crate) fn lapses(&self, servers: &Servers, rules: &Rules, now: u64) -> bool
@@ -114,34 +105,12 @@ impl Link {
         }
     }
 
-    /// Whether it is bound, and live at this clock.
-    #[tactic(auto, unfolding(crate::specs::Seen::link_seen, rsl_session::specs::Book::is_live_at))]
-    pub(crate) fn is_live(&self, servers: &Servers, rules: &Rules, now: u64) -> bool
-        ensures { result ≡ is_live_at rules.now now (link_seen servers.now self.now) }
-    {
-        match &self.hold {
-            Hold::Number(_) => false,
-            Hold::Session(_) => now.saturating_sub(self.touched) < rules.live,
-        }
-    }
-
     /// Whether it is at an access server.
     #[tactic(auto, unfolding(crate::specs::Seen::link_seen))]
     pub(crate) fn is_at(&self, servers: &Servers, nas: &Nas) -> bool
         ensures { result ≡ same_nas (link_seen servers.now self.now).nas nas.now }
     {
         servers.is_at(self.nas, nas)
-    }
-
-    /// Whether it is a reservation that an alive at an access server can take.
-    #[tactic(auto, unfolding(crate::specs::Seen::link_seen, rsl_session::specs::BookLinks::can_be_taken))]
-    pub(crate) fn can_be_taken(&self, servers: &Servers, nas: &Nas, class: Option<u64>) -> bool
-        ensures { result ≡ can_be_taken nas.now class (link_seen servers.now self.now) }
-    {
-        match &self.hold {
-            Hold::Number(number) => { is_named(class, *number) && servers.is_at(self.nas, nas) }
-            Hold::Session(_) => false,
-        }
     }
 
     /// Touches it at this clock.
@@ -162,32 +131,11 @@ impl Link {
         }
     }
 
-    /// Whether it is bound to the session of this id at the access server of a place.
-    #[tactic(auto, unfolding(crate::specs::LinkList::is_held))]
-    pub(crate) fn is_held(&self, nas: usize, id: &[u8]) -> bool
-        ensures { result ≡ is_held nas id.now self.now }
-    {
-        match &self.hold {
-            Hold::Number(_) => false,
-            Hold::Session(own) => self.nas == nas && own.as_slice() == id,
-        }
-    }
-
     /// Binds it to the session of this id.
     #[tactic(auto, unfolding(crate::specs::Changed::bound_link))]
     pub(crate) fn bind(&mut self, id: Octets)
         ensures { self.new ≡ bound_link id self.old }
     {
         self.hold = Hold::Session(id);
-    }
-}
-
-/// Whether a class names this accept number; no class names any.
-fn is_named(class: Option<u64>, number: u64) -> bool
-    ensures { result ≡ is_wanted class (Reserved number) }
-{
-    match class {
-        None => true,
-        Some(wanted) => number == wanted,
     }
 }

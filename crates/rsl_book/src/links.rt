@@ -1,6 +1,6 @@
 ghost use Rattle.std.specs.Prelude.{◌≡◌, ℕ, IfOk, ◌+◌, ◌-◌, ◌<◌, ◌≤◌, [], ◌∷◌, ◌++◌, Option, Some};
-ghost use Rattle.std.specs.Prelude.{None, map, filter, not, find, nat_le, count_by, take, drop};
-ghost use Rattle.std.specs.Prelude.{length, vec_capacity, if◌then◌else◌, IfSome, IfNone};
+ghost use Rattle.std.specs.Prelude.{List, None, map, filter, not, find, nat_le, count_by, take};
+ghost use Rattle.std.specs.Prelude.{drop, length, vec_capacity, if◌then◌else◌, IfSome, IfNone};
 ghost use Rattle.std.specs.List.{list_all};
 ghost use Rattle.std.specs.Int.{div_ceil};
 ghost use Rattle.rsl_accounts.specs.Limits.{RulesFit};
@@ -255,24 +255,22 @@ impl Links {
     }
 
     /// The first reservation that an alive at an access server can take.
-    #[tactic(auto, using(crate::proofs::Lists::first_steps), unfolding(crate::specs::Seen::links_seen))]
     pub(crate) fn reservation(
         &self,
         servers: &Servers,
         nas: &Nas,
         class: Option<u64>,
     ) -> Option<usize>
+        requires { AreCounted servers.now self.now }
         ensures found { IfSome result (λ at. IsFirst (can_be_taken nas.now class)
             (links_seen servers.now self.now.list.items) at) }
         ensures missed { IfNone result (find (can_be_taken nas.now class)
             (links_seen servers.now self.now.list.items) ≡ None) }
     {
-        for at in 0..self.list.len() {
-            if self.list.index(at).can_be_taken(servers, nas, class) {
-                return Some(at);
-            }
+        match servers.find(nas) {
+            None => None,
+            Some(place) => self.list.reservation(place, class),
         }
-        None
     }
 
     /// The link that can yield at this clock: the bound link touched longest ago, if it is stale.
@@ -312,50 +310,36 @@ impl Links {
     }
 
     /// How many of the links are reserved.
-    #[tactic(auto, using(crate::proofs::Lists::count_steps), unfolding(crate::specs::Seen::links_seen))]
-    pub(crate) fn reserved(&self, servers: &Servers) -> usize
-        ensures { result ≡ count_by (λ (link : BookLink). is_reservation link.holder)
-            (links_seen servers.now self.now.list.items) }
+    #[tactic(auto, using(crate::proofs::Tallied::tallied))]
+    pub(crate) fn reserved(&self) -> usize
+        ensures { (servers : List Nas) → result ≡
+            count_by (λ (link : BookLink). is_reservation link.holder)
+            (links_seen servers self.now.list.items) }
     {
-        let links = self.list.as_slice();
-        let mut reserved = 0;
-        for link in links {
-            if link.is_reserved(servers) {
-                reserved += 1;
-            }
-        }
-        reserved
+        self.list.reserved()
     }
 
-    /// How many of the links are live at this clock.
-    #[tactic(auto, using(crate::proofs::Lists::count_steps), unfolding(crate::specs::Seen::links_seen))]
-    pub(crate) fn live(&self, servers: &Servers, rules: &Rules, now: u64) -> usize
-        ensures { result ≡ count_by (is_live_at rules.now now)
-            (links_seen servers.now self.now.list.items) }
+    /// How many of the links are live at this clock: those that are bound and not stale.
+    #[tactic(auto, using(crate::proofs::Tallied::tallied))]
+    pub(crate) fn live(&self, rules: &Rules, now: u64) -> usize
+        requires { RulesFit rules.now }
+        ensures { (servers : List Nas) → result ≡ count_by (is_live_at rules.now now)
+            (links_seen servers self.now.list.items) }
     {
-        let links = self.list.as_slice();
-        let mut live = 0;
-        for link in links {
-            if link.is_live(servers, rules, now) {
-                live += 1;
-            }
-        }
-        live
+        self.list.bound() - self.stale(rules, now)
     }
 
-    /// How many of the links are stale at this clock.
-    #[tactic(auto, using(crate::proofs::Lists::count_steps), unfolding(crate::specs::Seen::links_seen))]
-    pub(crate) fn stale(&self, servers: &Servers, rules: &Rules, now: u64) -> usize
-        ensures { result ≡ count_by (is_stale_at rules.now now)
-            (links_seen servers.now self.now.list.items) }
+    /// How many of the links are stale at this clock: of the bound links, those that were touched
+    /// as long ago as a session may be silent.
+    #[tactic(auto, using(crate::proofs::Tallied::tallied))]
+    pub(crate) fn stale(&self, rules: &Rules, now: u64) -> usize
+        requires { RulesFit rules.now }
+        ensures { (servers : List Nas) → result ≡ count_by (is_stale_at rules.now now)
+            (links_seen servers self.now.list.items) }
     {
-        let links = self.list.as_slice();
-        let mut stale = 0;
-        for link in links {
-            if link.is_stale(servers, rules, now) {
-                stale += 1;
-            }
+        if now < rules.live {
+            return 0;
         }
-        stale
+        self.list.bound_until(now - rules.live)
     }
 }

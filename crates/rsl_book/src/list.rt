@@ -9,7 +9,8 @@ ghost use Rattle.rsl_book.specs.Changed.{bound_link, joined_link, renewed_link, 
 ghost use Rattle.rsl_book.specs.First.{IsFirst, change_at};
 ghost use Rattle.rsl_book.specs.Order.{IsOrderOf, is_by_touch, is_of, holds_session, link_at};
 ghost use Rattle.rsl_book.specs.LinkList.{AreClosed, AreOrders, AreOrdersBut, HaveOrdersRoom, IsOldest};
-ghost use Rattle.rsl_book.specs.LinkList.{is_held, is_member};
+ghost use Rattle.rsl_book.specs.LinkList.{is_bound_until, is_for, is_held, is_member};
+ghost use Rattle.rsl_book.specs.declared.order.Kind.TheVariants.{Reserved, Bound};
 ghost use Rattle.rsl_book.specs.Named.{named_by_links};
 ghost use Rattle.rsl_book.specs.Seen.{link_seen};
 
@@ -27,6 +28,7 @@ use std::marker::Model;
 struct Orders {
     reserved: VecDeque<usize>,
     bound: VecDeque<usize>,
+    numbers: VecDeque<usize>,
     sessions: VecDeque<usize>,
     bundles: VecDeque<usize>,
 }
@@ -40,6 +42,7 @@ impl Orders {
         Ok(Orders {
             reserved: VecDeque::with_capacity(alloc, room)?,
             bound: VecDeque::with_capacity(alloc, room)?,
+            numbers: VecDeque::with_capacity(alloc, room)?,
             sessions: VecDeque::with_capacity(alloc, room)?,
             bundles: VecDeque::with_capacity(alloc, room)?,
         })
@@ -54,6 +57,7 @@ impl Orders {
     {
         Kind::Reserved.withdraw(&mut self.reserved, links, at);
         Kind::Bound.withdraw(&mut self.bound, links, at);
+        Kind::Numbers.withdraw(&mut self.numbers, links, at);
         Kind::Sessions.withdraw(&mut self.sessions, links, at);
         Kind::Bundles.withdraw(&mut self.bundles, links, at);
     }
@@ -68,6 +72,7 @@ impl Orders {
     {
         Kind::Reserved.enter(&mut self.reserved, links, at);
         Kind::Bound.enter(&mut self.bound, links, at);
+        Kind::Numbers.enter(&mut self.numbers, links, at);
         Kind::Sessions.enter(&mut self.sessions, links, at);
         Kind::Bundles.enter(&mut self.bundles, links, at);
     }
@@ -79,6 +84,7 @@ impl Orders {
     {
         close_up(&mut self.reserved, gone);
         close_up(&mut self.bound, gone);
+        close_up(&mut self.numbers, gone);
         close_up(&mut self.sessions, gone);
         close_up(&mut self.bundles, gone);
     }
@@ -203,10 +209,12 @@ impl LinkList {
     {
         Kind::Reserved.withdraw(&mut self.orders.reserved, &self.links, at);
         Kind::Bound.withdraw(&mut self.orders.bound, &self.links, at);
+        Kind::Numbers.withdraw(&mut self.orders.numbers, &self.links, at);
         Kind::Sessions.withdraw(&mut self.orders.sessions, &self.links, at);
         self.links[at].bind(id);
         Kind::Reserved.enter(&mut self.orders.reserved, &self.links, at);
         Kind::Bound.enter(&mut self.orders.bound, &self.links, at);
+        Kind::Numbers.enter(&mut self.orders.numbers, &self.links, at);
         Kind::Sessions.enter(&mut self.orders.sessions, &self.links, at);
     }
 
@@ -216,17 +224,44 @@ impl LinkList {
         ensures missed { IfNone result (list_any (is_held nas id.now) self.now.items ≡ false) }
     {
         let links = self.links.as_slice();
-        let order = &self.orders.sessions;
-        let place = Kind::Sessions.count_before(order, links, nas as u64, 0, id, 0);
-        if place == order.len() {
-            return None;
+        Kind::Sessions.first_of(&self.orders.sessions, links, nas as u64, 1, id)
+    }
+
+    /// The first link that is reserved at the access server of a place, by the number that a class
+    /// names if there is one.
+    pub(crate) fn reservation(&self, nas: usize, class: Option<u64>) -> Option<usize>
+        ensures found { IfSome result (λ at. IsFirst (is_for nas class) self.now.items at) }
+        ensures missed { IfNone result (list_any (is_for nas class) self.now.items ≡ false) }
+    {
+        let links = self.links.as_slice();
+        match class {
+            None => Kind::Sessions.first_of(&self.orders.sessions, links, nas as u64, 0, &[]),
+            Some(number) => {
+                Kind::Numbers.first_of(&self.orders.numbers, links, number, nas as u64, &[])
+            }
         }
-        let at = order[place];
-        if links[at].is_held(nas, id) {
-            Some(at)
-        } else {
-            None
-        }
+    }
+
+    /// How many links are reserved.
+    pub(crate) fn reserved(&self) -> usize
+        ensures { result ≡ count_by (is_of Reserved) self.now.items }
+    {
+        self.orders.reserved.len()
+    }
+
+    /// How many links are bound.
+    pub(crate) fn bound(&self) -> usize
+        ensures { result ≡ count_by (is_of Bound) self.now.items }
+    {
+        self.orders.bound.len()
+    }
+
+    /// How many links are bound, and were touched at this clock or before.
+    pub(crate) fn bound_until(&self, clock: u64) -> usize
+        ensures { result ≡ count_by (is_bound_until clock) self.now.items }
+    {
+        let links = self.links.as_slice();
+        Kind::Bound.count_before(&self.orders.bound, links, clock, 0, &[], links.len())
     }
 
     /// How many links are in the bundle of this id at the access server of a place.

@@ -1,10 +1,13 @@
 //! Orders of a book's links: lists of their positions, so that a link is found without a look at
 //! each.
 
-ghost use Rattle.std.specs.Prelude.{◌≡◌, ◌<◌, ◌≤◌, ◌∷◌, get_or, length, map, true};
-ghost use Rattle.std.specs.List.{insert};
+ghost use Rattle.std.specs.Prelude.{◌≡◌, ◌<◌, ◌≤◌, ◌∷◌, get_or, length, map, true, false, IfSome};
+ghost use Rattle.std.specs.Prelude.{IfNone};
+ghost use Rattle.std.specs.List.{insert, list_any};
 ghost use Rattle.std.specs.VecDeque.{deque_capacity};
+ghost use Rattle.rsl_book.specs.First.{IsFirst};
 ghost use Rattle.rsl_book.specs.Order.{IsSearchable, IsSplit, IsOrderBut, IsOrderOf, rank_at};
+ghost use Rattle.rsl_book.specs.Order.{goes_by};
 ghost use Rattle.rsl_book.specs.Order.{is_before, is_of, link_at, order_key, order_mark, moved_up};
 ghost use Rattle.rsl_book.specs.Order.{order_number, order_octets};
 
@@ -19,7 +22,10 @@ pub(crate) enum Kind {
     Reserved,
     /// The bound links, by their last touch.
     Bound,
-    /// The bound links, by their sessions: the place of the access server, and the Acct-Session-Id.
+    /// The reserved links, by their accept number and the place of the access server.
+    Numbers,
+    /// All links, by their sessions: the place of the access server, and the Acct-Session-Id. Those
+    /// that are reserved come first.
     Sessions,
     /// All links, by their bundles: the place of the access server, and the Acct-Multi-Session-Id.
     /// Those that are in none come first.
@@ -32,9 +38,9 @@ impl Kind {
         ensures { result ≡ is_of self link.now }
     {
         match self {
-            Kind::Reserved => matches!(&link.hold, Hold::Number(_)),
-            Kind::Bound | Kind::Sessions => matches!(&link.hold, Hold::Session(_)),
-            Kind::Bundles => true,
+            Kind::Reserved | Kind::Numbers => matches!(&link.hold, Hold::Number(_)),
+            Kind::Bound => matches!(&link.hold, Hold::Session(_)),
+            Kind::Sessions | Kind::Bundles => true,
         }
     }
 
@@ -42,18 +48,22 @@ impl Kind {
     fn number(self, link: &Link) -> u64
         ensures { result ≡ order_number self link.now }
     {
-        match self {
-            Kind::Reserved | Kind::Bound => link.touched,
-            Kind::Sessions | Kind::Bundles => link.nas as u64,
+        match (self, &link.hold) {
+            (Kind::Reserved | Kind::Bound, _) => link.touched,
+            (Kind::Numbers, Hold::Number(number)) => *number,
+            (Kind::Numbers, Hold::Session(_)) => 0,
+            (Kind::Sessions | Kind::Bundles, _) => link.nas as u64,
         }
     }
 
-    /// The mark that a link of this kind goes by then: 1 for one in a bundle.
+    /// The mark that a link of this kind goes by then: 1 for one with a session, or in a bundle.
     fn mark(self, link: &Link) -> u64
         ensures { result ≡ order_mark self link.now }
     {
-        match (self, &link.bundle) {
-            (Kind::Bundles, Some(_)) => 1,
+        match (self, &link.hold, &link.bundle) {
+            (Kind::Numbers, _, _) => link.nas as u64,
+            (Kind::Sessions, Hold::Session(_), _) => 1,
+            (Kind::Bundles, _, Some(_)) => 1,
             _ => 0,
         }
     }
@@ -116,6 +126,44 @@ impl Kind {
             }
         }
         low
+    }
+
+    /// Whether a link is of this kind and goes by these.
+    #[tactic(auto, unfolding(crate::specs::Order::goes_by))]
+    fn goes_by(self, link: &Link, number: u64, mark: u64, octets: &[u8]) -> bool
+        ensures { result ≡ goes_by self number mark octets.now link.now }
+    {
+        self.holds(link)
+            && self.number(link) == number
+            && self.mark(link) == mark
+            && self.octets(link) == octets
+    }
+
+    /// The first link of an order that goes by these, if one does.
+    pub(crate) fn first_of(
+        self,
+        order: &VecDeque<usize>,
+        links: &[Link],
+        number: u64,
+        mark: u64,
+        octets: &[u8],
+    ) -> Option<usize>
+        requires { IsOrderOf self links.now order.now.items }
+        ensures found { IfSome result (λ at.
+            IsFirst (goes_by self number mark octets.now) links.now at) }
+        ensures missed { IfNone result (list_any (goes_by self number mark octets.now) links.now
+            ≡ false) }
+    {
+        let place = self.count_before(order, links, number, mark, octets, 0);
+        if place == order.len() {
+            return None;
+        }
+        let at = order[place];
+        if self.goes_by(&links[at], number, mark, octets) {
+            Some(at)
+        } else {
+            None
+        }
     }
 
     /// How many links of an order stand before the link at a position. The link that is touched

@@ -18,12 +18,14 @@ invariant_of-self c =
       orders = record {
         reserved = others.0;
         bound = others.1.0;
-        sessions = others.1.1;
+        numbers = others.1.1.0;
+        sessions = others.1.1.1;
         bundles = subst (λ (xs : List Link). IsOrderOf Bundles xs c.enter.new.order.items) c.deref-then-is_none.ensures.value c.enter.ensures.order;
       };
       room = record {
         reserved = c.self.invariant.room.reserved;
         bound = c.self.invariant.room.bound;
+        numbers = c.self.invariant.room.numbers;
         sessions = c.self.invariant.room.sessions;
         bundles = let one = c.withdraw.ensures.room in let two = c.enter.ensures.room in let room = c.self.invariant.room.bundles in omega (arith, one, two, room);
       };

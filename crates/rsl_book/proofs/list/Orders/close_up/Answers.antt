@@ -6,6 +6,7 @@ returns-clause-room c =
     λ most roomy. record {
       reserved = let one = c.close_up.ensures.room in let room = roomy.reserved in omega (arith, one, room);
       bound = let one = c.close_up-2.ensures.room in let room = roomy.bound in omega (arith, one, room);
-      sessions = let one = c.close_up-3.ensures.room in let room = roomy.sessions in omega (arith, one, room);
-      bundles = let one = c.close_up-4.ensures.room in let room = roomy.bundles in omega (arith, one, room);
+      numbers = let one = c.close_up-3.ensures.room in let room = roomy.numbers in omega (arith, one, room);
+      sessions = let one = c.close_up-4.ensures.room in let room = roomy.sessions in omega (arith, one, room);
+      bundles = let one = c.close_up-5.ensures.room in let room = roomy.bundles in omega (arith, one, room);
     }
