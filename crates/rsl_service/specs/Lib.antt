@@ -1,4 +1,5 @@
 pub mod Applied
 pub mod Closed
 pub mod Receipts
+pub mod Report
 pub mod Service

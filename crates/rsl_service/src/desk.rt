@@ -1,8 +1,10 @@
-ghost use Rattle.std.specs.Prelude.{◌≡◌, ◌+◌, ◌<◌, IfOk, OnErr, OnOk};
+ghost use Rattle.std.specs.Prelude.{◌≡◌, ◌+◌, ◌<◌, IfOk, OnErr, OnOk, map};
 ghost use Rattle.rsl_shard.specs.Moves.{IsTaken};
-ghost use Rattle.rsl_shard.specs.Seen.{total_of};
-ghost use Rattle.rsl_shard.specs.Setup.{setup_of};
 ghost use Rattle.rsl_shard.specs.Journal.{IsJournal};
+ghost use Rattle.rsl_shard.specs.Opening.{as_new};
+ghost use Rattle.rsl_shard.specs.Replay.{new_books};
+ghost use Rattle.rsl_shard.specs.Seen.{books_of, total_of};
+ghost use Rattle.rsl_shard.specs.Setup.{setup_of};
 ghost use Rattle.rsl_service.specs.Closed.{IsEnd, lines_to};
 
 use crate::fault::StepFault;
@@ -17,14 +19,16 @@ use std::sync::ledger::{Blank, Book, Share};
 
 /// A shard with the ledger of its lines, as they stand behind the shard's lock.
 ///
-/// Its type keeps that it is the shard for which the ledger stands, and that the ledger's total is
-/// the number of the shard's lines, with those that were handed out.
+/// Its type keeps that it is the shard for which the ledger stands, with books of its accounts'
+/// rules, and that the ledger's total is the number of the shard's lines, with those that were
+/// handed out.
 #[derive(Drop)]
 pub(crate) struct Desk<L: Tally> {
-    shard: Shard,
+    pub(crate) shard: Shard,
     lines: Book<L>,
     ghost counted: { lines.total ≡ total_of shard },
     ghost numbered: { shard.setup ≡ L.setup },
+    ghost ruled: { map as_new (books_of shard) ≡ L.books },
 }
 
 /// What came of a step: where its line stands, and what was decided.
@@ -39,6 +43,7 @@ pub(crate) struct Made {
 impl<L: Tally> Desk<L> {
     /// A shard of new books behind its ledger, with the share that has all of the ledger's parts.
     /// It fails only where memory is refused.
+    #[tactic(auto, using(crate::proofs::Ruled::ruled))]
     pub(crate) fn new(
         alloc: Global,
         config: &Config,
@@ -47,6 +52,7 @@ impl<L: Tally> Desk<L> {
     ) -> Result<(Desk<L>, Share<L>), NoMemory>
         requires there { number < config.now.settings.shards }
         requires setup { L.setup ≡ setup_of config.now number }
+        requires books { L.books ≡ new_books config.now number }
         requires name { blank.name ≡ L.name }
         requires parts { blank.parts ≡ L.parts }
         ensures parts { IfOk result (λ made. made.1.parts ≡ L.parts) }
@@ -64,6 +70,7 @@ impl<L: Tally> Desk<L> {
 
     /// Hands out the journal, as it stands, and goes on from equal books. It fails only where memory
     /// is refused, and then nothing has changed.
+    #[tactic(auto, using(crate::proofs::Ruled::ruled))]
     pub(crate) fn cut(&mut self, alloc: Global, room: CutRoom) -> Result<LooseSegment, NoMemory>
         ensures shard { IfOk result (λ loose. loose.shard ≡ L.setup.shard) }
         ensures journal { IfOk result (λ loose. IsJournal L.setup loose.opening loose.lines) }
@@ -85,6 +92,7 @@ impl<L: Tally> Desk<L> {
     /// Makes a move in the shard, counts its line in the share, and then calls the gate. Where it
     /// fails, nothing has changed but the spare room: `Spent` comes before the step's own want of
     /// memory.
+    #[tactic(auto, using(crate::proofs::Ruled::ruled))]
     pub(crate) fn make<G: Gate>(
         &mut self,
         alloc: Global,

@@ -15,6 +15,7 @@ mod left;
 mod making;
 mod moves;
 mod pass;
+mod reporting;
 mod service;
 mod stepping;
 mod tally;

@@ -1,4 +1,5 @@
 ghost use Rattle.std.specs.Prelude.{◌≡◌, ◌<◌, ◌≤◌, [], IfErr, IfOk, nat_lt, is_some};
+ghost use Rattle.rsl_shard.specs.Replay.{new_books};
 ghost use Rattle.rsl_shard.specs.Setup.{setup_of};
 ghost use Rattle.rsl_shard.specs.Journal.{IsJournal};
 ghost use Rattle.rsl_service.specs.Service.{IsLedgerOf};
@@ -42,6 +43,7 @@ fn desk_if_there<L: Tally>(
     blank: Blank,
 ) -> Result<(Option<Mutex<Desk<L>>>, Share<L>), NoMemory>
     requires setup { L.setup ≡ setup_of config.now number }
+    requires books { L.books ≡ new_books config.now number }
     requires name { blank.name ≡ L.name }
     requires parts { blank.parts ≡ L.parts }
     ensures there { IfOk result (λ made.
@@ -70,13 +72,13 @@ impl<L0: Tally, L1: Tally, L2: Tally, L3: Tally, G: Gate + Drop> Service<L0, L1,
         gate: G,
     ) -> Result<Service<L0, L1, L2, L3, G>, NoMemory>
         requires ledger0 { IsLedgerOf config 0
-            blanks.blank0.name blanks.blank0.parts L0.name L0.parts L0.setup }
+            blanks.blank0.name blanks.blank0.parts L0.name L0.parts L0.setup L0.books }
         requires ledger1 { IsLedgerOf config 1
-            blanks.blank1.name blanks.blank1.parts L1.name L1.parts L1.setup }
+            blanks.blank1.name blanks.blank1.parts L1.name L1.parts L1.setup L1.books }
         requires ledger2 { IsLedgerOf config 2
-            blanks.blank2.name blanks.blank2.parts L2.name L2.parts L2.setup }
+            blanks.blank2.name blanks.blank2.parts L2.name L2.parts L2.setup L2.books }
         requires ledger3 { IsLedgerOf config 3
-            blanks.blank3.name blanks.blank3.parts L3.name L3.parts L3.setup }
+            blanks.blank3.name blanks.blank3.parts L3.name L3.parts L3.setup L3.books }
         ensures { IfOk result (λ service. service ≡ record { config = config; boot = boot }) }
     {
         let Blanks {

@@ -42,6 +42,7 @@ pub struct Service<L0: Tally, L1: Tally, L2: Tally, L3: Tally, G: Gate> {
 
 impl<L0: Tally, L1: Tally, L2: Tally, L3: Tally, G: Gate> Model for Service<L0, L1, L2, L3, G> {
     ghost use Rattle.std.specs.Prelude.{◌≡◌, nat_lt, is_some};
+    ghost use Rattle.rsl_shard.specs.Replay.{new_books};
     ghost use Rattle.rsl_shard.specs.Setup.{setup_of};
     ghost use Rattle.rsl_service.specs.Service.{ServiceSeen};
 
@@ -60,7 +61,11 @@ impl<L0: Tally, L1: Tally, L2: Tally, L3: Tally, G: Gate> Model for Service<L0, 
         × (L3.parts ≡ 1025)
         × (is_some service.desk1 ≡ nat_lt 1 service.config.settings.shards)
         × (is_some service.desk2 ≡ nat_lt 2 service.config.settings.shards)
-        × (is_some service.desk3 ≡ nat_lt 3 service.config.settings.shards) };
+        × (is_some service.desk3 ≡ nat_lt 3 service.config.settings.shards)
+        × (L0.books ≡ new_books service.config 0)
+        × (L1.books ≡ new_books service.config 1)
+        × (L2.books ≡ new_books service.config 2)
+        × (L3.books ≡ new_books service.config 3) };
 }
 
 impl<L0: Tally, L1: Tally, L2: Tally, L3: Tally, G: Gate> Service<L0, L1, L2, L3, G> {

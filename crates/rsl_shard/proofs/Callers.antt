@@ -8,3 +8,5 @@ pub use Rattle.rsl_shard.proofs.Moving.{book_placed}
 pub use Rattle.rsl_shard.proofs.Moving.{moved_book}
 -- the new book at a place is that of the account whose place it is
 pub use Rattle.rsl_shard.proofs.Beginning.{new_book_at}
+-- the new books of a shard's accounts are the same whatever the shard has come to
+pub use Rattle.rsl_shard.proofs.Journaling.{renewed_line, renewed_cut, renewed_begun}

@@ -15,7 +15,7 @@ use Rattle.rsl_shard.specs.Opening.{opening_of, as_new}
 use Rattle.rsl_shard.specs.Replay.{AreBooks, HaveStepped, book_of_entry, books_after, decision_by, moved_from, new_books, new_books_from, replay, step_by}
 use Rattle.rsl_shard.specs.declared.opening.Opening.{Opening}
 use Rattle.rsl_shard.specs.declared.opening.Opening.TheVariants.{New, Kept}
-use Rattle.rsl_shard.specs.Seen.{IsShard, ShardSeen, books_of, new_shard, total_of, with_line}
+use Rattle.rsl_shard.specs.Seen.{IsShard, ShardSeen, books_of, cut_off, new_shard, total_of, with_line}
 use Rattle.rsl_shard.specs.Journal.{IsJournal}
 use Rattle.rsl_shard.specs.Setup.{Setup, setup_of}
 use Rattle.rsl_shard.specs.declared.line.Line.{Line}
@@ -111,6 +111,19 @@ renewed_from shards shard number (entry ∷ entries) = by (number % shards == sh
 pub renewed_new : (config : Configuration) (shard : ℕ) (books : List RuledBook) → books ≡ new_books config shard → opening_of New books ≡ books
 renewed_new config shard books are =
     ap (map as_new) are ∙ renewed_from config.settings.shards shard 0 config.accounts ∙ sym are
+
+-- whatever a shard has come to: the new books of its accounts are the same after one line more, and after its journal was handed out
+pub renewed_line : (shard : ShardSeen) (moved : Move) (decision : Decision) → map as_new (books_of (with_line shard moved decision)) ≡ map as_new (books_of shard)
+renewed_line shard moved decision =
+    ap (map as_new) (replay_more shard.setup shard.opening shard.lines (record { moved = moved; decision = decision }))
+    ∙ renewed_moved shard.setup.shard shard.setup.shards moved (books_of shard)
+
+pub renewed_cut : (shard : ShardSeen) → map as_new (books_of (cut_off shard)) ≡ map as_new (books_of shard)
+renewed_cut shard = ap (map as_new) (replay_none shard.setup (books_of shard))
+
+pub renewed_begun : (config : Configuration) (shard : ℕ) → map as_new (books_of (new_shard config shard)) ≡ new_books config shard
+renewed_begun config shard =
+    ap (map as_new) (replay_none (setup_of config shard) (new_books config shard)) ∙ renewed_from config.settings.shards shard 0 config.accounts
 
 -- what is seen of a shard after one move more
 pub seen_on : (old new : Inside) (moved : Move) (decision : Decision) → new.books.setup ≡ old.books.setup

@@ -24,7 +24,7 @@ pub struct Row {
 
 impl Row {
     /// What an account holds, as its book shows it at the book's own clock.
-    pub(crate) fn of(account: u32, book: &Book) -> Row
+    pub fn of(account: u32, book: &Book) -> Row
         ensures { result ≡ row_of account book.now }
     {
         Row {

@@ -1,0 +1,129 @@
+-- The rows of a report, one by one.
+use Rattle.std.proofs.Common.{◌≡◌, ℕ, zero, suc, ◌+◌, ◌*◌, ◌/◌, ◌%◌, ◌<◌, ◌≤◌, ◌⊎◌, inl, inr, List, [], ◌∷◌, ◌++◌, length, map, set, Option, Some, None, refl, sym, ap, subst, ◌∙◌, arith, length-set, length-append}
+use Rattle.std.specs.Prelude.{slice_get}
+use Rattle.std.specs.Option.{option_map}
+use Rattle.std.proofs.lemmas.Bool.{cases_eq, cases_lt}
+use Rattle.std.proofs.lemmas.Option.{slice_get-map, slice_get_within, slice_get_past, same_Some}
+use Rattle.rsl_accounts.specs.Configuration.{Configuration}
+use Rattle.rsl_accounts.specs.declared.entry.Entry.{Entry}
+use Rattle.rsl_accounts.specs.declared.rules.Rules.{Rules}
+use Rattle.rsl_book.specs.RuledBook.{RuledBook}
+use Rattle.rsl_session.specs.Book.{places_in}
+use Rattle.rsl_shard.specs.Moves.{IsOfShard}
+use Rattle.rsl_shard.specs.Opening.{as_new}
+use Rattle.rsl_shard.specs.Replay.{book_at, book_of_entry, new_books}
+use Rattle.rsl_shard.specs.Rows.{row_of}
+use Rattle.rsl_shard.specs.Seen.{IsShard, ShardSeen, books_of}
+use Rattle.rsl_shard.specs.Setup.{Setup, setup_of}
+use Rattle.rsl_shard.specs.declared.row.Row.{Row}
+use Rattle.rsl_shard.proofs.Callers.{account_is, book_placed, new_book_at}
+use Rattle.rsl_service.specs.Report.{IsReport, IsRowOf}
+
+-- what stands in a list in which one element was set
+set_same : {X : Type 0} (xs : List X) (at : ℕ) (new x : X) → slice_get (set xs at new) at ≡ Some x → x ≡ new
+set_same [] at new x is = cc
+set_same (y ∷ xs) zero new x is = same_Some x new (sym is)
+set_same (y ∷ xs) (suc at) new x is = set_same xs at new x is
+
+set_other : {X : Type 0} (xs : List X) (at other : ℕ) (new : X) → (other ≡ at → ⊥) → slice_get (set xs at new) other ≡ slice_get xs other
+set_other [] at other new apart = refl
+set_other (y ∷ xs) zero zero new apart = absurd (apart refl)
+set_other (y ∷ xs) zero (suc other) new apart = refl
+set_other (y ∷ xs) (suc at) zero new apart = refl
+set_other (y ∷ xs) (suc at) (suc other) new apart = set_other xs at other new (λ same. apart (ap suc same))
+
+-- a report in which the row of one account was set
+set_row : (accounts : List Entry) (rows : List Row) (account : ℕ) (new : Row)
+    → ((entry : Entry) → slice_get accounts account ≡ Some entry → IsRowOf account entry new)
+    → IsReport accounts rows → IsReport accounts (set rows account new)
+set_row accounts rows account new is report = record {
+  one_each = length-set rows account new ∙ report.one_each;
+  each = λ at entry row there here. by at entry row there here (cases_eq at account);
+}
+  where
+    by : (at : ℕ) (entry : Entry) (row : Row) → slice_get accounts at ≡ Some entry → slice_get (set rows account new) at ≡ Some row
+        → (at ≡ account) ⊎ (at ≡ account → ⊥) → IsRowOf at entry row
+    by at entry row there here (inr apart) = report.each at entry row there (sym (set_other rows account at new apart) ∙ here)
+    by at entry row there here (inl same) =
+        let mine : row ≡ new = set_same rows account new row (ap (slice_get (set rows account new)) (sym same) ∙ here) in
+        subst (λ n. IsRowOf n entry row) (sym same)
+        (subst (IsRowOf account entry) (sym mine) (is entry (ap (slice_get accounts) (sym same) ∙ there)))
+
+-- the book of an account of a shard, whatever it has come to, has the rules of the account's entry
+rules_are : (config : Configuration) (shard account : ℕ) (books : List RuledBook) (ruled : RuledBook) (entry : Entry)
+    → shard < config.settings.shards → account % config.settings.shards ≡ shard → map as_new books ≡ new_books config shard
+    → book_at (setup_of config shard) books account ≡ Some ruled → slice_get config.accounts account ≡ Some entry → ruled.rules ≡ entry.rules
+rules_are config shard account books ruled entry within of_shard are is there =
+    let shards = config.settings.shards in
+    let place = account / shards in
+    let at : account ≡ shard + place * shards = account_is shards shard account of_shard in
+    let stands : slice_get books place ≡ Some ruled = sym (book_placed shard shards account place books (omega (arith, within)) at) ∙ is in
+    let as_it_was : Some (as_new ruled) ≡ Some (book_of_entry entry) =
+    ap (option_map as_new) (sym stands) ∙ sym (slice_get-map as_new books place)
+    ∙ ap (λ (all : List RuledBook). slice_get all place) are ∙ new_book_at config shard place within
+    ∙ ap (λ (n : ℕ). option_map book_of_entry (slice_get config.accounts n)) (sym at) ∙ ap (option_map book_of_entry) there in
+    ap (λ (book : RuledBook). book.rules) (same_Some (as_new ruled) (book_of_entry entry) as_it_was)
+
+-- with the row of a book of a shard it is a report again
+pub shown : (config : Configuration) (shard account : ℕ) (books : List RuledBook) (rows : List Row) (ruled : RuledBook)
+    → shard < config.settings.shards → IsOfShard (setup_of config shard) account → map as_new books ≡ new_books config shard
+    → book_at (setup_of config shard) books account ≡ Some ruled → places_in ruled.rules ruled.book ≤ ruled.rules.places
+    → IsReport config.accounts rows → IsReport config.accounts (set rows account (row_of account ruled))
+shown config shard account books rows ruled within of_shard are is limit report =
+    set_row config.accounts rows account (row_of account ruled)
+    (λ (entry : Entry) (there : slice_get config.accounts account ≡ Some entry). record {
+      numbered = refl;
+      places = ap (λ (rules : Rules). rules.places) (rules_are config shard account books ruled entry within of_shard.of_shard are is there);
+      limit = limit;
+    })
+    report
+
+-- what stands in a list with one element more
+push_cases : {X : Type 0} (xs : List X) (at : ℕ) (new x : X) → slice_get (xs ++ new ∷ []) at ≡ Some x
+    → ((at ≡ length xs) × (x ≡ new)) ⊎ (slice_get xs at ≡ Some x)
+push_cases [] zero new x is = inl (refl, same_Some x new (sym is))
+push_cases [] (suc at) new x is = cc
+push_cases (y ∷ xs) zero new x is = inr is
+push_cases (y ∷ xs) (suc at) new x is = elim (push_cases xs at new x is) [ inl both ↦ inl (ap suc both.0, both.1) | inr there ↦ inr there ]
+
+-- the rows of the first accounts, so many
+pub record AreFirst (accounts : List Entry) (many : ℕ) (rows : List Row) : Type 0 where
+  pub long : length rows ≡ many
+  pub each : (account : ℕ) (entry : Entry) (row : Row) → slice_get accounts account ≡ Some entry
+      → slice_get rows account ≡ Some row → IsRowOf account entry row
+
+pub none_first : (accounts : List Entry) (rows : List Row) → rows ≡ [] → AreFirst accounts 0 rows
+none_first accounts rows none = subst (AreFirst accounts 0) (sym none) (record { long = refl; each = λ account entry row there here. cc })
+
+pub one_first : (accounts : List Entry) (account : ℕ) (rows new : List Row) (entry : Entry) (row : Row) → slice_get accounts account ≡ Some entry
+    → IsRowOf account entry row → new ≡ rows ++ row ∷ [] → AreFirst accounts account rows → AreFirst accounts (account + 1) new
+one_first accounts account rows new entry row there is more first = subst (AreFirst accounts (account + 1)) (sym more) (record {
+  long = length-append rows (row ∷ []) ∙ ap (λ n. n + 1) first.long;
+  each = λ at other one at_there at_here. by at other one at_there at_here (push_cases rows at row one at_here);
+})
+  where
+    by : (at : ℕ) (other : Entry) (one : Row) → slice_get accounts at ≡ Some other → slice_get (rows ++ row ∷ []) at ≡ Some one
+        → ((at ≡ length rows) × (one ≡ row)) ⊎ (slice_get rows at ≡ Some one) → IsRowOf at other one
+    by at other one at_there at_here (inr before) = first.each at other one at_there before
+    by at other one at_there at_here (inl last) =
+        let here : at ≡ account = last.0 ∙ first.long in
+        let same : other ≡ entry = same_Some other entry (sym at_there ∙ ap (slice_get accounts) here ∙ there) in
+        subst (λ n. IsRowOf n other one) (sym here) (subst (λ e. IsRowOf account e one) (sym same) (subst (IsRowOf account entry) (sym last.1) is))
+
+pub all_first : (accounts : List Entry) (many : ℕ) (rows : List Row) → many ≡ length accounts → AreFirst accounts many rows → IsReport accounts rows
+all_first accounts many rows all first = record { one_each = first.long ∙ all; each = first.each }
+
+pub ruleset firsts = (none_first, one_first, all_first)
+
+-- the same of what a lock keeps
+pub shown_by : (config : Configuration) (number account : ℕ) (shard : ShardSeen) (setup : Setup) (books : List RuledBook) (rows : List Row) (ruled : RuledBook) (row : Row)
+    → IsShard shard → shard.setup ≡ setup → setup ≡ setup_of config number → map as_new (books_of shard) ≡ books → books ≡ new_books config number
+    → IsOfShard shard.setup account → book_at shard.setup (books_of shard) account ≡ Some ruled
+    → places_in ruled.rules ruled.book ≤ ruled.rules.places → row ≡ row_of account ruled → IsReport config.accounts rows
+    → IsReport config.accounts (set rows account row)
+shown_by config number account shard setup books rows ruled row kept numbered is are_ruled are of_shard found limit is_row report =
+    let mine : shard.setup ≡ setup_of config number = numbered ∙ is in
+    let within : number < config.settings.shards = subst (λ (s : Setup). s.shard < s.shards) mine kept.books.within.shard in
+    subst (λ (r : Row). IsReport config.accounts (set rows account r)) (sym is_row)
+    (shown config number account (books_of shard) rows ruled within (subst (λ (s : Setup). IsOfShard s account) mine of_shard) (are_ruled ∙ are)
+    (subst (λ (s : Setup). book_at s (books_of shard) account ≡ Some ruled) mine found) limit report)
