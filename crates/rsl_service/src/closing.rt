@@ -28,8 +28,15 @@ impl<L0: Tally, L1: Tally, L2: Tally, L3: Tally, G: Gate + Drop> Service<L0, L1,
     /// and those of its shards, hold the moves of all passes, each once, and no others.
     ///
     /// The passes are all that were opened, and the segments those that `cut` handed out, those of
-    /// a shard in the order in which they were. The faults are those of `rsl_settle`'s `settle`,
-    /// which see, and want of memory. On a fault everything that was handed in is dropped.
+    /// a shard in the order in which they were.
+    ///
+    /// The first fault is the answer. `MissingPass` comes where not as many passes are given as
+    /// were opened. `MissingSegment` names the lowest shard whose segments, with its journal last,
+    /// don't join from its new books or have a move that it doesn't take, or a number that is no
+    /// shard's. `Mismatch` names a receipt that isn't the line at its position, that isn't above the
+    /// one before it of its pass and shard, or that isn't the only one there. `NoMemory` comes where
+    /// memory is refused, which may be before any of these. On a fault everything that was handed
+    /// in is dropped.
     pub fn close(
         self,
         alloc: Global,
