@@ -13,6 +13,8 @@ use Rattle.rsl_service.specs.Service.{ServiceSeen}
 use Rattle.rsl_service.specs.declared.answered.Answered.{Answered}
 use Rattle.rsl_service.specs.declared.fault.ApplyFault.{ApplyFault}
 use Rattle.rsl_service.specs.declared.fault.ApplyFault.TheVariants as faults
+use Rattle.rsl_service.specs.declared.fault.StepFault.{StepFault}
+use Rattle.rsl_service.specs.declared.fault.StepFault.TheVariants as steps
 use Rattle.rsl_settle.specs.declared.receipt.Receipt.{Receipt}
 
 -- the word and the octets that answer a datagram on which this was decided
@@ -46,6 +48,11 @@ pub record IsApplied (service : ServiceSeen) (moment : ℕ) (prepared : Prepared
 abbrev pub swept_before : ApplyFault → ℕ
 swept_before (faults.NoMemory swept) = swept
 swept_before (faults.Spent swept) = swept
+
+-- the fault of a step that was not made, after so many shards had made their moves
+abbrev pub fault_after : (swept : ℕ) → StepFault → ApplyFault
+fault_after swept steps.NoMemory = faults.NoMemory swept
+fault_after swept steps.Spent = faults.Spent swept
 
 -- a restart may have swept some shards, from 0 on, when a fault comes; everything else made no move
 abbrev pub IsStopped : (moment : ℕ) → Meaning → ApplyFault → (old new : List Receipt) → Type 0

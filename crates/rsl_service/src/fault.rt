@@ -1,6 +1,7 @@
 ghost use Rattle.std.specs.Prelude.{◌≡◌};
-ghost use Rattle.rsl_service.specs.Applied.{swept_before};
+ghost use Rattle.rsl_service.specs.Applied.{fault_after, swept_before};
 ghost use Rattle.rsl_service.specs.declared.fault.CutFault.TheVariants.{NoMemory as no_memory};
+ghost use Rattle.rsl_service.specs.declared.fault.StepFault.TheVariants.{NoMemory as no_room};
 
 use rsl_wire::NoMemory;
 use std::alloc::AllocError;
@@ -15,13 +16,17 @@ pub(crate) enum StepFault {
 }
 
 impl From<NoMemory> for StepFault {
-    fn from(_: NoMemory) -> StepFault {
+    ghost from_gives = { λ _ fault. fault ≡ no_room };
+
+    fn from(_refused: NoMemory) -> StepFault {
         StepFault::NoMemory
     }
 }
 
 impl From<AllocError> for StepFault {
-    fn from(_: AllocError) -> StepFault {
+    ghost from_gives = { λ _ fault. fault ≡ no_room };
+
+    fn from(_refused: AllocError) -> StepFault {
         StepFault::NoMemory
     }
 }
@@ -73,7 +78,8 @@ pub enum ApplyFault {
 impl StepFault {
     /// The fault, where so many shards had made their moves before it.
     pub(crate) fn after(self, swept: u32) -> ApplyFault
-        ensures { swept_before result ≡ swept }
+        ensures fault { result ≡ fault_after swept self }
+        ensures swept { swept_before result ≡ swept }
     {
         match self {
             StepFault::NoMemory => ApplyFault::NoMemory { swept },

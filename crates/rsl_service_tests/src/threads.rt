@@ -186,11 +186,15 @@ fn cuts<L0: Tally, L1: Tally, L2: Tally, L3: Tally, R: Wait>(
     Some(segments)
 }
 
-/// The calls of each of eight callers.
+/// The calls of each of eight callers, while a ninth cuts, and where none does.
 const CALLS: u64 = 20_000;
 
-/// How many lines a crowd's service has, and the audit of each of its four shards.
+const CALLS_UNCUT: u64 = 2_500;
+
+/// How many lines a crowd's service has then, and the audit of each of its four shards.
 const CROWD: &str = "(160000, \"Ok(())Ok(())Ok(())Ok(())\")";
+
+const CROWD_UNCUT: &str = "(20000, \"Ok(())Ok(())Ok(())Ok(())\")";
 
 /// Eight callers on four shards, each with so many asks, and one that cuts so many times: how many
 /// lines there are then, and the audit of each shard. The audit answers `Ok` only where each
@@ -280,8 +284,8 @@ fn told_closed<L0: Tally, L1: Tally, L2: Tally, L3: Tally>(
 #[test]
 fn eight_callers_at_once(rt: HostRuntime) -> Result<(), Fail> {
     let config = config_of(rt.alloc(), "4", "3")?;
-    let found = crowd_of(&rt, rt.alloc(), config, CALLS, 0)?;
-    assert_eq!(rt; found.as_str(), CROWD);
+    let found = crowd_of(&rt, rt.alloc(), config, CALLS_UNCUT, 0)?;
+    assert_eq!(rt; found.as_str(), CROWD_UNCUT);
     Ok(())
 }
 
