@@ -12,6 +12,11 @@ pub mod OneByOne
 pub mod Before
 pub mod Orders
 pub mod OfLinks
+pub mod Slotted
+pub mod Grown
+pub mod Freed
+pub mod Lined
+pub mod Ordered
 pub mod Standing
 pub mod Yielding
 pub mod Counting

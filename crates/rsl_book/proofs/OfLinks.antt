@@ -1,43 +1,22 @@
 -- Orders of a book's links: one link less, more, changed, or gone from among them.
-use Rattle.std.proofs.Common.{◌≡◌, ◌≢◌, ℕ, zero, suc, ◌+◌, ◌-◌, ◌<◌, ◌≤◌, List, [], ◌∷◌, ◌++◌, get_or, length, length-append, map, set, Bool, true, false, refl, ap, sym, ◌∙◌, subst, arith, inl, inr}
+use Rattle.std.proofs.Common.{◌≡◌, ◌≢◌, ℕ, zero, suc, ◌+◌, ◌-◌, ◌<◌, List, [], ◌∷◌, ◌++◌, get_or, length, length-append, map, set, Bool, true, false, refl, ap, sym, ◌∙◌, subst, arith, inl, inr}
+use Rattle.std.specs.Prelude.{nat_lt, if◌then◌else◌}
 use Rattle.std.specs.List.{insert, remove}
 use Rattle.std.proofs.lemmas.Bool.{false≢true, cases_lt, cases_eq, lt-ltb, le-ltb}
 use Rattle.std.proofs.lemmas.List.{get_or_default, get_or_append_left, get_or-set_same, get_or-set_other, length-set}
 use Rattle.std.proofs.lemmas.List.Edits.{get_or-remove_below, get_or-remove_above, length-remove}
 use Rattle.rsl_book.specs.declared.link.Link.{Link}
 use Rattle.rsl_book.specs.declared.order.Kind.{Kind}
-use Rattle.rsl_book.specs.declared.order.Kind.TheVariants.{Reserved, Bound, Numbers, Sessions, Bundles}
-use Rattle.rsl_book.specs.declared.list.Orders.{Orders}
-use Rattle.rsl_book.specs.Changed.{bound_link, joined_link, renewed_link}
-use Rattle.std.specs.Prelude.{Option}
-use Rattle.rsl_book.specs.LinkList.{AreClosed, AreOrders, AreOrdersBut, HaveOrdersRoom}
-use Rattle.rsl_book.specs.Order.{Rank, rank_at, is_before, is_of, order_key, link_at, no_link, moved_up, IsSearchable, IsSplit, IsListed, IsOrderBut, IsOrderOf}
+use Rattle.rsl_book.specs.Order.{Rank, rank_at, is_before, is_of, order_key, link_at, no_link, IsSplit, IsListed, IsOrderBut, IsOrderOf}
 use Rattle.rsl_book.proofs.Before.{neither, moved_before}
-use Rattle.rsl_book.proofs.Orders.{apart, stands_at, removed, inserted, same_order, mapped, few, Came}
+use Rattle.rsl_book.proofs.Orders.{apart, removed, inserted, same_order, mapped, few, Came}
 
 pub link_here : (links : List Link) (at : ℕ) (link : Link) → at < length links → link ≡ get_or links at link → link ≡ link_at links at
 link_here links at link within is = is ∙ get_or_default links at link no_link within
 
-pub entry_here : (kind : Kind) (links : List Link) (at : ℕ) (link : Link) → at < length links → link ≡ get_or links at link
-    → (order_key kind link, at) ≡ rank_at kind links at
-entry_here kind links at link within is = ap (λ (one : Link). (order_key kind one, at)) (link_here links at link within is)
-
-pub searchable : (kind : Kind) (links : List Link) (but : ℕ) (order : List ℕ) → IsOrderBut kind links but order → IsSearchable kind links order
-searchable kind links but order o = record { within = λ k inside. (o.each k inside).within; rises = o.rises }
-
 -- what an order lists at a place
 pub listed_here : (order : List ℕ) (k place : ℕ) → k < length order → place ≡ get_or order k place → place ≡ get_or order k 0
 listed_here order k place inside is = is ∙ get_or_default order k place 0 inside
-
-pub listed_within : (kind : Kind) (links : List Link) (order : List ℕ) → IsSearchable kind links order → (k place : ℕ) → k < length order → place ≡ get_or order k place → place < length links
-listed_within kind links order o k place inside is =
-    subst (λ n. n < length links) (sym (listed_here order k place inside is)) (o.within k inside)
-
-pub listed_entry : (kind : Kind) (links : List Link) (order : List ℕ) → IsSearchable kind links order → (k place : ℕ) (link : Link) → k < length order → place ≡ get_or order k place → link ≡ get_or links place link
-    → (order_key kind link, place) ≡ rank_at kind links (get_or order k 0)
-listed_entry kind links order o k place link inside is here =
-    entry_here kind links place link (listed_within kind links order o k place inside is) here
-    ∙ ap (rank_at kind links) (listed_here order k place inside is)
 
 pub few_others : (kind : Kind) (links : List Link) (at : ℕ) (order : List ℕ) → at < length links → IsOrderBut kind links at order → length order < length links
 few_others kind links at order within o =
@@ -68,13 +47,6 @@ not_there kind links order at o other_kind =
     (λ x l. record { within = l.within; other = (λ e. false≢true (sym other_kind ∙ subst (λ n. is_of kind (link_at links n) ≡ true) e l.of_kind)); of_kind = l.of_kind })
     (λ x l. record { within = l.within; other = (let w = l.within in omega (arith, w)); of_kind = l.of_kind })
     (λ x l. refl)
-
--- where the link at a position stands
-pub there : (kind : Kind) (links : List Link) (order view : List ℕ) (at place : ℕ) → at < length links → IsOrderOf kind links order → is_of kind (link_at links at) ≡ true → view ≡ order
-    → IsSplit (rank_at kind links) view (rank_at kind links at) place → (place < length order) × (get_or order place 0 ≡ at)
-there kind links order view at place within o here same split =
-    stands_at order o at place (subst (λ (xs : List ℕ). IsSplit (rank_at kind links) xs (rank_at kind links at) place) same split)
-    (o.all at (record { within = within; other = omega (arith, within); of_kind = here }))
 
 -- a link is put in, or is of another kind
 pub entered : (kind : Kind) (links : List Link) (order : List ℕ) (at place : ℕ) → at < length links → IsOrderBut kind links at order → is_of kind (link_at links at) ≡ true
@@ -125,11 +97,15 @@ grown kind links link order o =
     record { within = within; other = l.other; of_kind = sym (ap (λ (one : Link). is_of kind one) (same x within)) ∙ l.of_kind })
     (λ x l. ap (λ (one : Link). (order_key kind one, x)) (same x l.within))
 
+-- where a position moves once the link at another is gone
+abbrev pub moved_up : ℕ → ℕ → ℕ
+moved_up gone at = if nat_lt gone at then at - 1 else at
+
 -- the link that an order leaves out is gone from among the others
-up_below : (gone x : ℕ) → x < gone → moved_up gone x ≡ x
+pub up_below : (gone x : ℕ) → x < gone → moved_up gone x ≡ x
 up_below gone x low = rw (le-ltb gone x (omega arith)) refl
 
-up_above : (gone x : ℕ) → gone < x → moved_up gone x ≡ x - 1
+pub up_above : (gone x : ℕ) → gone < x → moved_up gone x ≡ x - 1
 up_above gone x high = rw (lt-ltb gone x high) refl
 
 pub closed : (kind : Kind) (links : List Link) (at : ℕ) (order : List ℕ) → at < length links → IsOrderBut kind links at order → IsOrderOf kind (remove links at) (map (moved_up at) order)
@@ -224,36 +200,6 @@ kept_by kind f same_key same_kind links at x y order within is changed o =
     (ap (λ (one : Link). order_key kind one) changed ∙ same_key x ∙ ap (λ (one : Link). order_key kind one) here)
     (ap (λ (one : Link). is_of kind one) changed ∙ same_kind x ∙ ap (λ (one : Link). is_of kind one) here) o
 
-pub renewed_numbers : (now : ℕ) (links : List Link) (at : ℕ) (x y : Link) (order : List ℕ) → at < length links → x ≡ get_or links at x → y ≡ renewed_link now x → IsOrderOf Numbers links order → IsOrderOf Numbers (set links at y) order
-unfolding renewed_link
-renewed_numbers now links at x y order within is changed o = kept_by Numbers (renewed_link now) (λ one. refl) (λ one. refl) links at x y order within is changed o
-
-pub renewed_sessions : (now : ℕ) (links : List Link) (at : ℕ) (x y : Link) (order : List ℕ) → at < length links → x ≡ get_or links at x → y ≡ renewed_link now x → IsOrderOf Sessions links order → IsOrderOf Sessions (set links at y) order
-unfolding renewed_link
-renewed_sessions now links at x y order within is changed o = kept_by Sessions (renewed_link now) (λ one. refl) (λ one. refl) links at x y order within is changed o
-
-pub renewed_bundles : (now : ℕ) (links : List Link) (at : ℕ) (x y : Link) (order : List ℕ) → at < length links → x ≡ get_or links at x → y ≡ renewed_link now x → IsOrderOf Bundles links order → IsOrderOf Bundles (set links at y) order
-unfolding renewed_link
-renewed_bundles now links at x y order within is changed o = kept_by Bundles (renewed_link now) (λ one. refl) (λ one. refl) links at x y order within is changed o
-
-pub bound_bundles : (id : List ℕ) (links : List Link) (at : ℕ) (x y : Link) (order : List ℕ) → at < length links → x ≡ get_or links at x → y ≡ bound_link id x → IsOrderOf Bundles links order → IsOrderOf Bundles (set links at y) order
-unfolding bound_link
-bound_bundles id links at x y order within is changed o = kept_by Bundles (bound_link id) (λ one. refl) (λ one. refl) links at x y order within is changed o
-
-pub joined_others : (bundle : Option (List ℕ)) (links : List Link) (at : ℕ) (x y : Link) (orders : Orders) → at < length links → x ≡ get_or links at x → y ≡ joined_link bundle x → AreOrders links orders
-    → IsOrderOf Reserved (set links at y) orders.reserved.items × (IsOrderOf Bound (set links at y) orders.bound.items × (IsOrderOf Numbers (set links at y) orders.numbers.items × IsOrderOf Sessions (set links at y) orders.sessions.items))
-unfolding joined_link
-joined_others bundle links at x y orders within is changed are = (
-  kept_by Reserved (joined_link bundle) (λ one. refl) (λ one. refl) links at x y orders.reserved.items within is changed are.reserved,
-  (
-    kept_by Bound (joined_link bundle) (λ one. refl) (λ one. refl) links at x y orders.bound.items within is changed are.bound,
-    (
-      kept_by Numbers (joined_link bundle) (λ one. refl) (λ one. refl) links at x y orders.numbers.items within is changed are.numbers,
-      kept_by Sessions (joined_link bundle) (λ one. refl) (λ one. refl) links at x y orders.sessions.items within is changed are.sessions,
-    ),
-  ),
-)
-
 -- the order of a view of links
 pub no_order : (kind : Kind) (links : List Link) (order : List ℕ) → links ≡ [] → order ≡ [] → IsOrderOf kind links order
 no_order kind links order none empty =
@@ -261,52 +207,4 @@ no_order kind links order none empty =
       each = λ k inside. absurd (let zero_long = ap length empty in omega (arith, inside, zero_long));
       rises = λ j k past inside. absurd (let zero_long = ap length empty in omega (arith, inside, zero_long));
       all = λ x l. absurd (let w = l.within in let zero_long = ap length none in omega (arith, w, zero_long));
-    }
-
--- the same of all orders
-pub orders_grown : (links : List Link) (link : Link) (orders : Orders) → AreOrders links orders → AreOrdersBut (links ++ link ∷ []) (length links) orders
-orders_grown links link orders are =
-    record {
-      reserved = grown Reserved links link orders.reserved.items are.reserved;
-      bound = grown Bound links link orders.bound.items are.bound;
-      numbers = grown Numbers links link orders.numbers.items are.numbers;
-      sessions = grown Sessions links link orders.sessions.items are.sessions;
-      bundles = grown Bundles links link orders.bundles.items are.bundles;
-    }
-
-pub set_but : (kind : Kind) (links : List Link) (at : ℕ) (link : Link) (order : List ℕ) → IsOrderBut kind links at order → IsOrderBut kind (set links at link) at order
-set_but kind links at link order o =
-    changed_but kind links (set links at link) at order (length-set links at link) (λ x other. get_or-set_other links at x link _ other) o
-
-pub orders_closed : (links : List Link) (at : ℕ) (old new : Orders) → at < length links → AreOrdersBut links at old → AreClosed at old new → AreOrders (remove links at) new
-orders_closed links at old new within are closes =
-    record {
-      reserved = subst (IsOrderOf Reserved (remove links at)) (sym closes.reserved) (closed Reserved links at old.reserved.items within are.reserved);
-      bound = subst (IsOrderOf Bound (remove links at)) (sym closes.bound) (closed Bound links at old.bound.items within are.bound);
-      numbers = subst (IsOrderOf Numbers (remove links at)) (sym closes.numbers) (closed Numbers links at old.numbers.items within are.numbers);
-      sessions = subst (IsOrderOf Sessions (remove links at)) (sym closes.sessions) (closed Sessions links at old.sessions.items within are.sessions);
-      bundles = subst (IsOrderOf Bundles (remove links at)) (sym closes.bundles) (closed Bundles links at old.bundles.items within are.bundles);
-    }
-
-pub no_orders : (links : List Link) (orders : Orders) → links ≡ [] → orders.reserved.items ≡ [] → orders.bound.items ≡ [] → orders.numbers.items ≡ [] → orders.sessions.items ≡ [] → orders.bundles.items ≡ [] → AreOrders links orders
-no_orders links orders none one two three four five =
-    record {
-      reserved = no_order Reserved links orders.reserved.items none one;
-      bound = no_order Bound links orders.bound.items none two;
-      numbers = no_order Numbers links orders.numbers.items none three;
-      sessions = no_order Sessions links orders.sessions.items none four;
-      bundles = no_order Bundles links orders.bundles.items none five;
-    }
-
-pub orders_of : (links others : List Link) (at : ℕ) (orders : Orders) → links ≡ others → AreOrdersBut links at orders → AreOrdersBut others at orders
-orders_of links others at orders same are = subst (λ (xs : List Link). AreOrdersBut xs at orders) same are
-
-pub roomy_for : (most few : ℕ) (orders : Orders) → few ≤ most → HaveOrdersRoom most orders → HaveOrdersRoom few orders
-roomy_for most few orders less roomy =
-    record {
-      reserved = let room = roomy.reserved in omega (arith, less, room);
-      bound = let room = roomy.bound in omega (arith, less, room);
-      numbers = let room = roomy.numbers in omega (arith, less, room);
-      sessions = let room = roomy.sessions in omega (arith, less, room);
-      bundles = let room = roomy.bundles in omega (arith, less, room);
     }

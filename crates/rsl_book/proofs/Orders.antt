@@ -1,34 +1,35 @@
 -- Orders: what a split of one finds, and one with a number more or less.
-use Rattle.std.proofs.Common.{◌≡◌, ◌≢◌, ℕ, zero, suc, ◌+◌, ◌-◌, ◌<◌, ◌≤◌, List, [], ◌∷◌, ◌++◌, take, drop, set, get_or, length, map, Bool, true, false, refl, ap, sym, ◌∙◌, subst, arith, append-nil, ◌⊎◌, inl, inr}
+use Rattle.std.proofs.Common.{◌≡◌, ◌≢◌, ℕ, zero, suc, ◌+◌, ◌-◌, ◌<◌, ◌≤◌, List, [], ◌∷◌, ◌++◌, take, drop, get_or, length, map, Bool, true, false, refl, ap, sym, ◌∙◌, subst, arith, ◌⊎◌, inl, inr}
 use Rattle.std.specs.List.{insert, remove}
 use Rattle.std.proofs.lemmas.Bool.{false≢true, cases_lt, cases_eq}
-use Rattle.std.proofs.lemmas.List.{length-drop, length-map, get_or-map, drop_all, drop_at, take_all, take_at}
-use Rattle.std.proofs.lemmas.List.Edits.{get_or-insert_at, get_or-insert_below, get_or-insert_above, get_or-remove_below, get_or-remove_above, length-insert, length-remove, map_over_more}
-use Rattle.rsl_book.specs.declared.link.Link.{Link}
+use Rattle.std.proofs.lemmas.List.{length-drop, length-map, get_or-map, drop_at, take_at}
+use Rattle.std.proofs.lemmas.List.Edits.{get_or-insert_at, get_or-insert_below, get_or-insert_above, get_or-remove_below, get_or-remove_above, length-insert, length-remove}
+use Rattle.rsl_book.specs.declared.slots.Slot.{Slot}
 use Rattle.rsl_book.specs.declared.order.Kind.{Kind}
-use Rattle.rsl_book.specs.Order.{Rank, rank_at, is_before, IsSearchable, IsSplit, IsOrder, Stands}
+use Rattle.rsl_book.specs.Lines.{IsSearchable, slot_rank}
+use Rattle.rsl_book.specs.Order.{Rank, is_before, IsSplit, IsOrder, Stands}
 use Rattle.rsl_book.proofs.Before.{not_self, chain}
 
 -- the halves of a search
-pub low_part : (kind : Kind) (links : List Link) (order : List ℕ) → IsSearchable kind links order → (target : Rank) (middle : ℕ) → middle < length order → is_before (rank_at kind links (get_or order middle 0)) target ≡ true
-    → (k : ℕ) → k < middle + 1 → is_before (rank_at kind links (get_or order k 0)) target ≡ true
-low_part kind links order o target middle within low k upto =
+pub low_part : (kind : Kind) (slots : List Slot) (order : List ℕ) → IsSearchable kind slots order → (target : Rank) (middle : ℕ) → middle < length order → is_before (slot_rank kind slots (get_or order middle 0)) target ≡ true
+    → (k : ℕ) → k < middle + 1 → is_before (slot_rank kind slots (get_or order k 0)) target ≡ true
+low_part kind slots order o target middle within low k upto =
     elim (cases_eq k middle) [
-      | inl same ↦ ap (λ n. is_before (rank_at kind links (get_or order n 0)) target) same ∙ low
-      | inr other ↦ chain (rank_at kind links (get_or order k 0)) (rank_at kind links (get_or order middle 0)) target (o.rises k middle (omega (arith, other)) within) low
+      | inl same ↦ ap (λ n. is_before (slot_rank kind slots (get_or order n 0)) target) same ∙ low
+      | inr other ↦ chain (slot_rank kind slots (get_or order k 0)) (slot_rank kind slots (get_or order middle 0)) target (o.rises k middle (omega (arith, other)) within) low
     ]
 
-pub high_part : (kind : Kind) (links : List Link) (order : List ℕ) → IsSearchable kind links order → (target : Rank) (middle : ℕ) → is_before (rank_at kind links (get_or order middle 0)) target ≡ false
-    → (k : ℕ) → middle ≤ k → k < length order → is_before (rank_at kind links (get_or order k 0)) target ≡ false
-high_part kind links order o target middle high k from within =
+pub high_part : (kind : Kind) (slots : List Slot) (order : List ℕ) → IsSearchable kind slots order → (target : Rank) (middle : ℕ) → is_before (slot_rank kind slots (get_or order middle 0)) target ≡ false
+    → (k : ℕ) → middle ≤ k → k < length order → is_before (slot_rank kind slots (get_or order k 0)) target ≡ false
+high_part kind slots order o target middle high k from within =
     elim (cases_eq k middle) [
-      | inl same ↦ ap (λ n. is_before (rank_at kind links (get_or order n 0)) target) same ∙ high
-      | inr other ↦ by_cases (is_before (rank_at kind links (get_or order k 0)) target) refl (omega (arith, other))
+      | inl same ↦ ap (λ n. is_before (slot_rank kind slots (get_or order n 0)) target) same ∙ high
+      | inr other ↦ by_cases (is_before (slot_rank kind slots (get_or order k 0)) target) refl (omega (arith, other))
     ]
   where
-    by_cases : (b : Bool) → is_before (rank_at kind links (get_or order k 0)) target ≡ b → middle < k → is_before (rank_at kind links (get_or order k 0)) target ≡ false
+    by_cases : (b : Bool) → is_before (slot_rank kind slots (get_or order k 0)) target ≡ b → middle < k → is_before (slot_rank kind slots (get_or order k 0)) target ≡ false
     by_cases true e past =
-        absurd (false≢true (sym high ∙ chain (rank_at kind links (get_or order middle 0)) (rank_at kind links (get_or order k 0)) target (o.rises middle k past within) e))
+        absurd (false≢true (sym high ∙ chain (slot_rank kind slots (get_or order middle 0)) (slot_rank kind slots (get_or order k 0)) target (o.rises middle k past within) e))
     by_cases false e past = e
 
 -- a number put before the others, after they were turned to the left and before they are turned back
@@ -44,16 +45,16 @@ turned_in xs turned more after place at long left put right one within =
     ∙ ap (λ ys. take place xs ++ ys) (take_at (at ∷ drop place xs) (take place xs) (long - place) head)
 
 -- where the last stands before an entry, all do
-pub split_at_end : (kind : Kind) (links : List Link) (order : List ℕ) → IsSearchable kind links order → (target : Rank) (end : ℕ) → end ≡ length order → 0 < end
-    → is_before (rank_at kind links (get_or order (end - 1) 0)) target ≡ true → IsSplit (rank_at kind links) order target end
-split_at_end kind links order o target end long some low =
+pub split_at_end : (kind : Kind) (slots : List Slot) (order : List ℕ) → IsSearchable kind slots order → (target : Rank) (end : ℕ) → end ≡ length order → 0 < end
+    → is_before (slot_rank kind slots (get_or order (end - 1) 0)) target ≡ true → IsSplit (slot_rank kind slots) order target end
+split_at_end kind slots order o target end long some low =
     record {
       within = omega (arith, long);
-      before = λ k less. low_part kind links order o target (end - 1) (omega (arith, long, some)) low k (omega (arith, less, some));
+      before = λ k less. low_part kind slots order o target (end - 1) (omega (arith, long, some)) low k (omega (arith, less, some));
       after = λ k past inside. absurd (omega (arith, long, past, inside));
     }
 
-read_less : (order : List ℕ) (at k : ℕ) → at < length order → k < length (remove order at)
+pub read_less : (order : List ℕ) (at k : ℕ) → at < length order → k < length (remove order at)
     → ((k < at) × (get_or (remove order at) k 0 ≡ get_or order k 0)) ⊎ ((at ≤ k) × ((k + 1 < length order) × (get_or (remove order at) k 0 ≡ get_or order (k + 1) 0)))
 read_less order at k within inside =
     let long = length-remove order at within in
@@ -298,12 +299,3 @@ few (suc n) xs below apart =
             | inr two ↦ λ e. apart (j + 1) (k + 1) (omega (arith, past)) two.1.0 (sym one.1.1 ∙ e ∙ two.1.1)
           ]
         ]
-
-pub moved_step : (f : ℕ → ℕ) (xs ys : List ℕ) (i x y : ℕ) → i < length xs → ys ≡ map f (take i xs) ++ drop i xs → x ≡ get_or ys i x → y ≡ f x
-    → set ys i y ≡ map f (take (i + 1) xs) ++ drop (i + 1) xs
-moved_step f xs ys i x y within so_far is changed = ap (λ z. set ys i z) changed ∙ map_over_more f xs ys i x within so_far is
-
-pub moved_end : (f : ℕ → ℕ) (xs : List ℕ) (i : ℕ) → length xs ≤ i → map f (take i xs) ++ drop i xs ≡ map f xs
-moved_end f xs i all = ap (λ ys. map f ys ++ drop i xs) (take_all i xs all) ∙ ap (λ ys. map f xs ++ ys) (drop_all i xs all) ∙ append-nil (map f xs)
-
-pub ruleset all_moved = (moved_step, moved_end)

@@ -19,7 +19,6 @@ use Rattle.rsl_book.specs.Named.{named_by_links}
 use Rattle.rsl_book.specs.Order.{Rank, IsOrderOf, IsSplit, rank_at, goes_by, id_of, id_of_bundle, is_before, is_of, holds_number, holds_session, order_key, order_mark, order_number, order_octets, link_at, mark_of_bundle, mark_of_hold, no_link, number_of}
 use Rattle.rsl_book.proofs.Before.{alike_or_before, first_of_key, heads, later_target, lower_before, lower_first, lower_head, touched_order}
 use Rattle.rsl_book.proofs.Counting.{counted_between}
-use Rattle.rsl_book.proofs.OfLinks.{link_here, listed_here}
 use Rattle.rsl_book.proofs.Orders.{same_order}
 use Rattle.rsl_book.proofs.Yielding.{any_none, any_nowhere}
 
@@ -122,14 +121,6 @@ module _ (kind : Kind) (links : List Link) (order : List ℕ) (o : IsOrderOf kin
     not_sought : (i : ℕ) → i < length links → (b : Bool) → goes_by kind number mark octets (link_at links i) ≡ b → goes_by kind number mark octets (link_at links i) ≡ false
     not_sought i within false e = e
     not_sought i within true e = absurd (let found = sought_there i within e in false≢true (sym (none found.0) ∙ found.1.0))
-
--- what is read of the link that an order lists at a place
-pub read_there : (kind : Kind) (number mark : ℕ) (octets : List ℕ) (links : List Link) (order : List ℕ) → IsOrderOf kind links order → (k place : ℕ) (link : Link) (b : Bool) → k < length order
-    → place ≡ get_or order k place → link ≡ get_or links place link → b ≡ goes_by kind number mark octets link → goes_by kind number mark octets (link_at links (get_or order k 0)) ≡ b
-read_there kind number mark octets links order o k place link b within listed is goes =
-    let stands = listed_here order k place within listed in
-    let here = link_here links place link (subst (λ n. n < length links) (sym stands) (o.each k within).within) is ∙ ap (link_at links) stands in
-    ap (goes_by kind number mark octets) (sym here) ∙ sym goes
 
 -- what a session, and a reservation, goes by
 and_then : (a b c : Bool) → ((a && b) && c) ≡ (a && (b && c))

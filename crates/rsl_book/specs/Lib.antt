@@ -5,6 +5,8 @@ pub mod Changed
 pub mod Counted
 pub mod Named
 pub mod Order
+pub mod Slots
+pub mod Lines
 pub mod LinkList
 pub mod Steps
 pub mod Sound

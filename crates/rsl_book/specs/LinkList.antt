@@ -1,8 +1,8 @@
 -- What a contract sees of a list of links: the links in the order in which they opened, and the
--- room for them. Inside, its orders list the positions of the reserved links and of those that are
+-- room for them. Inside, its orders list the slots of the reserved links and of those that are
 -- bound, by their last touch, of those that are reserved, by their accept numbers, and of all, by
 -- their sessions and by their bundles.
-use Rattle.std.specs.Prelude.{◌≡◌, ℕ, ◌<◌, ◌≤◌, ◌==◌, ◌&&◌, nat_le, List, Bool, true, false, Option, None, Some, vec_capacity, length, map}
+use Rattle.std.specs.Prelude.{◌≡◌, ℕ, ◌<◌, ◌≤◌, ◌==◌, ◌&&◌, nat_le, List, [], Bool, true, false, Option, None, Some, vec_capacity, length}
 use Rattle.std.specs.VecDeque.{deque_capacity}
 use Rattle.rsl_session.specs.Same.{same_octets}
 use Rattle.rsl_book.specs.declared.link.Hold.{Hold}
@@ -11,27 +11,37 @@ use Rattle.rsl_book.specs.declared.link.Link.{Link}
 use Rattle.rsl_book.specs.declared.list.LinkList.TheInside.{Inside}
 use Rattle.rsl_book.specs.declared.list.Orders.{Orders}
 use Rattle.rsl_book.specs.declared.order.Kind.TheVariants.{Reserved, Bound, Numbers, Sessions, Bundles}
-use Rattle.rsl_book.specs.Order.{IsOrderBut, holds_session, link_at, moved_up}
+use Rattle.rsl_book.specs.declared.slots.Slots.{Slots}
+use Rattle.rsl_book.specs.Lines.{IsLineBut}
+use Rattle.rsl_book.specs.Order.{holds_session, link_at}
+use Rattle.rsl_book.specs.Slots.{IsKept, links_of}
 
 pub record RoomyList : Type 0 where
   pub items : List Link
   pub room : ℕ
 
 abbrev pub list_seen : Inside → RoomyList
-list_seen list = record { items = list.links.items; room = vec_capacity list.links }
+list_seen list = record { items = links_of list.slots; room = vec_capacity list.slots.slots }
 
 -- the orders list the links of their kinds, but for one; and all of them
-pub record AreOrdersBut (links : List Link) (but : ℕ) (orders : Orders) : Type 0 where
-  pub reserved : IsOrderBut Reserved links but orders.reserved.items
-  pub bound : IsOrderBut Bound links but orders.bound.items
-  pub numbers : IsOrderBut Numbers links but orders.numbers.items
-  pub sessions : IsOrderBut Sessions links but orders.sessions.items
-  pub bundles : IsOrderBut Bundles links but orders.bundles.items
+pub record AreOrdersBut (slots : Slots) (but : ℕ) (orders : Orders) : Type 0 where
+  pub reserved : IsLineBut Reserved slots but orders.reserved.items
+  pub bound : IsLineBut Bound slots but orders.bound.items
+  pub numbers : IsLineBut Numbers slots but orders.numbers.items
+  pub sessions : IsLineBut Sessions slots but orders.sessions.items
+  pub bundles : IsLineBut Bundles slots but orders.bundles.items
 
-abbrev pub AreOrders : List Link → Orders → Type 0
-AreOrders links orders = AreOrdersBut links (length links) orders
+abbrev pub AreOrders : Slots → Orders → Type 0
+AreOrders slots orders = AreOrdersBut slots (length (links_of slots)) orders
 
--- each order has room for so many positions
+pub record AreNoOrders (orders : Orders) : Type 0 where
+  pub reserved : orders.reserved.items ≡ []
+  pub bound : orders.bound.items ≡ []
+  pub numbers : orders.numbers.items ≡ []
+  pub sessions : orders.sessions.items ≡ []
+  pub bundles : orders.bundles.items ≡ []
+
+-- each order has room for so many links
 pub record HaveOrdersRoom (most : ℕ) (orders : Orders) : Type 0 where
   pub reserved : most ≤ deque_capacity orders.reserved
   pub bound : most ≤ deque_capacity orders.bound
@@ -39,17 +49,10 @@ pub record HaveOrdersRoom (most : ℕ) (orders : Orders) : Type 0 where
   pub sessions : most ≤ deque_capacity orders.sessions
   pub bundles : most ≤ deque_capacity orders.bundles
 
--- the orders close up after the position of a link that is gone
-pub record AreClosed (gone : ℕ) (old new : Orders) : Type 0 where
-  pub reserved : new.reserved.items ≡ map (moved_up gone) old.reserved.items
-  pub bound : new.bound.items ≡ map (moved_up gone) old.bound.items
-  pub numbers : new.numbers.items ≡ map (moved_up gone) old.numbers.items
-  pub sessions : new.sessions.items ≡ map (moved_up gone) old.sessions.items
-  pub bundles : new.bundles.items ≡ map (moved_up gone) old.bundles.items
-
 pub record IsRanked (list : Inside) : Type 0 where
-  pub orders : AreOrders list.links.items list.orders
-  pub room : HaveOrdersRoom (vec_capacity list.links) list.orders
+  pub kept : IsKept list.slots
+  pub orders : AreOrders list.slots list.orders
+  pub room : HaveOrdersRoom (vec_capacity list.slots.slots) list.orders
 
 -- whether a link at the access server of a place is bound to the session of this id, is reserved by
 -- a number that a class names, or is in the bundle of this id

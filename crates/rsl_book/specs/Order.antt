@@ -1,7 +1,7 @@
 -- An order lists the positions of some links of a book: those that are reserved or those that are
 -- bound, by their last touch, those that are reserved, by their accept numbers, or all, by their
 -- sessions or by their bundles. Links that are alike in this stand as they opened.
-use Rattle.std.specs.Prelude.{◌≡◌, ◌≢◌, ℕ, ◌<◌, ◌≤◌, ◌-◌, List, [], ◌∷◌, get_or, length, nat_lt, ◌==◌, ◌&&◌, if◌then◌else◌, Bool, true, false, Option, None, Some}
+use Rattle.std.specs.Prelude.{◌≡◌, ◌≢◌, ℕ, ◌<◌, ◌≤◌, List, [], ◌∷◌, get_or, length, ◌==◌, ◌&&◌, Bool, true, false, Option, None, Some}
 use Rattle.std.specs.Ordering.{ordering_then, nat_cmp, is_lt}
 use Rattle.std.specs.declared.cmp.Ordering.{Ordering}
 use Rattle.std.specs.Cmp.Lexicographic.{slice_cmp}
@@ -118,13 +118,6 @@ goes_by kind number mark octets link =
 abbrev pub rank_at : Kind → List Link → ℕ → Rank
 rank_at kind links at = (order_key kind (link_at links at), at)
 
--- positions of links, each before those that come after it
-pub record IsSearchable (kind : Kind) (links : List Link) (order : List ℕ) : Type 0 where
-  pub within : (k : ℕ) → k < length order → get_or order k 0 < length links
-  pub rises : (j k : ℕ) → j < k → k < length order
-      → is_before (rank_at kind links (get_or order j 0)) (rank_at kind links (get_or order k 0))
-      ≡ true
-
 -- the positions of the links of a kind, but for one
 pub record IsListed (kind : Kind) (links : List Link) (but at : ℕ) : Type 0 where
   pub within : at < length links
@@ -137,10 +130,6 @@ IsOrderBut kind links but order = IsOrder (IsListed kind links but) (rank_at kin
 
 abbrev pub IsOrderOf : Kind → List Link → List ℕ → Type 0
 IsOrderOf kind links order = IsOrderBut kind links (length links) order
-
--- where a position moves once the link at another is gone
-abbrev pub moved_up : ℕ → ℕ → ℕ
-moved_up gone at = if nat_lt gone at then at - 1 else at
 
 -- whether an order goes by the last touch
 abbrev pub is_by_touch : Kind → Bool

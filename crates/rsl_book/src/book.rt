@@ -149,9 +149,9 @@ impl Book {
             && self.accepts == other.accepts
             && self.over == other.over
             && has_same_links(
-                self.links.list.as_slice(),
+                &self.links.list,
                 &self.servers,
-                other.links.list.as_slice(),
+                &other.links.list,
                 &other.servers,
             )
             && has_same_asks(&self.asks, &self.servers, &other.asks, &other.servers)

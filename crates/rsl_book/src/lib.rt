@@ -5,10 +5,10 @@
 //! makes of it is the definition in `rsl_session`'s `specs/BookStep.antt`, whose laws join it to
 //! the session rule.
 //!
-//! Inside, the links stand in the order in which they opened, the last asks and stops in rings, and
-//! each access server once in a table: whatever is at one names its place there. Orders of the
-//! links lead from a session to its link, from an alive to its reservation, from a bundle to its
-//! links, and to the links that were touched longest ago.
+//! Inside, each link stands in a slot until it ends, the last asks and stops in rings, and each
+//! access server once in a table: whatever is at one names its place there. Orders of the slots
+//! lead from a session to its link, from an alive to its reservation, from a bundle to its links,
+//! to the links that were touched longest ago, and through all as they opened.
 #![tactic(auto)]
 
 mod book;
@@ -19,6 +19,7 @@ mod list;
 mod order;
 mod same;
 mod servers;
+mod slots;
 mod table;
 
 pub use book::{Book, Stored};

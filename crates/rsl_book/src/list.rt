@@ -7,16 +7,20 @@ ghost use Rattle.rsl_accounts.specs.Limits.{RulesFit};
 ghost use Rattle.rsl_session.specs.BookLinks.{lapses_at};
 ghost use Rattle.rsl_book.specs.Changed.{bound_link, joined_link, renewed_link, touched_link};
 ghost use Rattle.rsl_book.specs.First.{IsFirst, change_at};
-ghost use Rattle.rsl_book.specs.Order.{IsOrderOf, is_by_touch, is_of, holds_session, link_at};
-ghost use Rattle.rsl_book.specs.LinkList.{AreClosed, AreOrders, AreOrdersBut, HaveOrdersRoom, IsOldest};
+ghost use Rattle.rsl_book.specs.Lines.{IsLineOf};
+ghost use Rattle.rsl_book.specs.Order.{is_by_touch, is_of, holds_session, link_at};
+ghost use Rattle.rsl_book.specs.Slots.{IsKept, links_of};
+ghost use Rattle.rsl_book.specs.LinkList.{AreOrders, AreOrdersBut, AreNoOrders, HaveOrdersRoom};
+ghost use Rattle.rsl_book.specs.LinkList.{IsOldest};
 ghost use Rattle.rsl_book.specs.LinkList.{is_bound_until, is_for, is_held, is_member};
 ghost use Rattle.rsl_book.specs.declared.order.Kind.TheVariants.{Reserved, Bound};
 ghost use Rattle.rsl_book.specs.Named.{named_by_links};
 ghost use Rattle.rsl_book.specs.Seen.{link_seen};
 
 use crate::link::Link;
-use crate::order::{Kind, close_up};
+use crate::order::Kind;
 use crate::servers::Servers;
+use crate::slots::Slots;
 use rsl_accounts::Rules;
 use rsl_wire::{NoMemory, Octets};
 use std::alloc::Global;
@@ -36,7 +40,7 @@ struct Orders {
 impl Orders {
     /// Orders of no links, with room for so many. It fails only where memory is refused.
     fn new(alloc: Global, room: usize) -> Result<Orders, NoMemory>
-        ensures empty { IfOk result (λ orders. AreOrders [] orders) }
+        ensures empty { IfOk result AreNoOrders }
         ensures room { IfOk result (λ orders. HaveOrdersRoom room orders) }
     {
         Ok(Orders {
@@ -49,54 +53,45 @@ impl Orders {
     }
 
     /// Takes the link at a position out of each order.
-    fn withdraw(&mut self, links: &[Link], at: usize)
-        requires within { at < length links.now }
-        requires orders { AreOrders links.now self.old }
-        ensures orders { AreOrdersBut links.now at self.new }
+    fn withdraw(&mut self, slots: &Slots, at: usize)
+        requires kept { IsKept slots.now }
+        requires within { at < slots.now.count }
+        requires orders { AreOrders slots.now self.old }
+        ensures orders { AreOrdersBut slots.now at self.new }
         ensures room { (most : ℕ) → HaveOrdersRoom most self.old → HaveOrdersRoom most self.new }
     {
-        Kind::Reserved.withdraw(&mut self.reserved, links, at);
-        Kind::Bound.withdraw(&mut self.bound, links, at);
-        Kind::Numbers.withdraw(&mut self.numbers, links, at);
-        Kind::Sessions.withdraw(&mut self.sessions, links, at);
-        Kind::Bundles.withdraw(&mut self.bundles, links, at);
+        Kind::Reserved.withdraw(&mut self.reserved, slots, at);
+        Kind::Bound.withdraw(&mut self.bound, slots, at);
+        Kind::Numbers.withdraw(&mut self.numbers, slots, at);
+        Kind::Sessions.withdraw(&mut self.sessions, slots, at);
+        Kind::Bundles.withdraw(&mut self.bundles, slots, at);
     }
 
     /// Puts the link at a position into the orders of its kind.
-    fn enter(&mut self, links: &[Link], at: usize)
-        requires within { at < length links.now }
-        requires orders { AreOrdersBut links.now at self.old }
-        requires room { HaveOrdersRoom (length links.now) self.old }
-        ensures orders { AreOrders links.now self.new }
+    fn enter(&mut self, slots: &Slots, at: usize)
+        requires kept { IsKept slots.now }
+        requires within { at < slots.now.count }
+        requires orders { AreOrdersBut slots.now at self.old }
+        requires room { HaveOrdersRoom slots.now.count self.old }
+        ensures orders { AreOrders slots.now self.new }
         ensures room { (most : ℕ) → HaveOrdersRoom most self.old → HaveOrdersRoom most self.new }
     {
-        Kind::Reserved.enter(&mut self.reserved, links, at);
-        Kind::Bound.enter(&mut self.bound, links, at);
-        Kind::Numbers.enter(&mut self.numbers, links, at);
-        Kind::Sessions.enter(&mut self.sessions, links, at);
-        Kind::Bundles.enter(&mut self.bundles, links, at);
-    }
-
-    /// Moves the positions after one whose link is gone.
-    fn close_up(&mut self, gone: usize)
-        ensures closed { AreClosed gone self.old self.new }
-        ensures room { (most : ℕ) → HaveOrdersRoom most self.old → HaveOrdersRoom most self.new }
-    {
-        close_up(&mut self.reserved, gone);
-        close_up(&mut self.bound, gone);
-        close_up(&mut self.numbers, gone);
-        close_up(&mut self.sessions, gone);
-        close_up(&mut self.bundles, gone);
+        Kind::Reserved.enter(&mut self.reserved, slots, at);
+        Kind::Bound.enter(&mut self.bound, slots, at);
+        Kind::Numbers.enter(&mut self.numbers, slots, at);
+        Kind::Sessions.enter(&mut self.sessions, slots, at);
+        Kind::Bundles.enter(&mut self.bundles, slots, at);
     }
 }
 
 /// The links of a book, in the order in which they opened.
 ///
 /// The clock never falls, so the link that is touched goes to the end of its order, and those that
-/// lapse, or could yield, stand at the front.
+/// lapse, or could yield, stand at the front. A link that ends leaves its place in each order, where
+/// others move up by a word each; no other link is looked at.
 #[derive(Drop)]
 pub(crate) struct LinkList {
-    links: Vec<Link>,
+    slots: Slots,
     orders: Orders,
 }
 
@@ -116,23 +111,16 @@ impl LinkList {
         ensures { IfOk result (λ list. list ≡ record { items = []; room = room }) }
     {
         Ok(LinkList {
-            links: Vec::with_capacity(alloc, room)?,
+            slots: Slots::new(alloc, room)?,
             orders: Orders::new(alloc, room)?,
         })
-    }
-
-    /// The links.
-    pub(crate) fn as_slice(&self) -> &[Link]
-        ensures { result.now ≡ self.now.items }
-    {
-        self.links.as_slice()
     }
 
     /// How many links there are.
     pub(crate) fn len(&self) -> usize
         ensures { result ≡ length self.now.items }
     {
-        self.links.len()
+        self.slots.count
     }
 
     /// The link at a position.
@@ -140,7 +128,7 @@ impl LinkList {
         requires { at < length self.now.items }
         ensures { result.now ≡ get_or self.now.items at result.now }
     {
-        &self.links[at]
+        self.slots.link(at)
     }
 
     /// Adds a link after the others.
@@ -149,9 +137,9 @@ impl LinkList {
         ensures items { self.new.items ≡ self.old.items ++ link ∷ [] }
         ensures room { self.new.room ≡ self.old.room }
     {
-        let at = self.links.len();
-        self.links.push_reserved(link);
-        self.orders.enter(&self.links, at);
+        let at = self.slots.count;
+        self.slots.push(link);
+        self.orders.enter(&self.slots, at);
     }
 
     /// Takes a link out.
@@ -160,9 +148,8 @@ impl LinkList {
         ensures items { self.new.items ≡ take at self.old.items ++ drop (at + 1) self.old.items }
         ensures room { self.new.room ≡ self.old.room }
     {
-        self.orders.withdraw(&self.links, at);
-        let _ = self.links.remove(at);
-        self.orders.close_up(at);
+        self.orders.withdraw(&self.slots, at);
+        self.slots.remove(at);
     }
 
     /// Touches a link at this clock. What its session and its bundle stand by stays.
@@ -171,11 +158,11 @@ impl LinkList {
         ensures items { self.new.items ≡ change_at at (renewed_link now) self.old.items }
         ensures room { self.new.room ≡ self.old.room }
     {
-        Kind::Reserved.withdraw(&mut self.orders.reserved, &self.links, at);
-        Kind::Bound.withdraw(&mut self.orders.bound, &self.links, at);
-        self.links[at].renew(now);
-        Kind::Reserved.enter(&mut self.orders.reserved, &self.links, at);
-        Kind::Bound.enter(&mut self.orders.bound, &self.links, at);
+        Kind::Reserved.withdraw(&mut self.orders.reserved, &self.slots, at);
+        Kind::Bound.withdraw(&mut self.orders.bound, &self.slots, at);
+        self.slots.renew(at, now);
+        Kind::Reserved.enter(&mut self.orders.reserved, &self.slots, at);
+        Kind::Bound.enter(&mut self.orders.bound, &self.slots, at);
     }
 
     /// Puts a link that is in no bundle into one, if an alive carries it.
@@ -184,10 +171,10 @@ impl LinkList {
         ensures items { self.new.items ≡ change_at at (joined_link bundle) self.old.items }
         ensures room { self.new.room ≡ self.old.room }
     {
-        if self.links[at].bundle.is_none() {
-            Kind::Bundles.withdraw(&mut self.orders.bundles, &self.links, at);
-            self.links[at].join(bundle);
-            Kind::Bundles.enter(&mut self.orders.bundles, &self.links, at);
+        if self.slots.link(at).bundle.is_none() {
+            Kind::Bundles.withdraw(&mut self.orders.bundles, &self.slots, at);
+            self.slots.join(at, bundle);
+            Kind::Bundles.enter(&mut self.orders.bundles, &self.slots, at);
         }
     }
 
@@ -207,15 +194,15 @@ impl LinkList {
         ensures items { self.new.items ≡ change_at at (bound_link id) self.old.items }
         ensures room { self.new.room ≡ self.old.room }
     {
-        Kind::Reserved.withdraw(&mut self.orders.reserved, &self.links, at);
-        Kind::Bound.withdraw(&mut self.orders.bound, &self.links, at);
-        Kind::Numbers.withdraw(&mut self.orders.numbers, &self.links, at);
-        Kind::Sessions.withdraw(&mut self.orders.sessions, &self.links, at);
-        self.links[at].bind(id);
-        Kind::Reserved.enter(&mut self.orders.reserved, &self.links, at);
-        Kind::Bound.enter(&mut self.orders.bound, &self.links, at);
-        Kind::Numbers.enter(&mut self.orders.numbers, &self.links, at);
-        Kind::Sessions.enter(&mut self.orders.sessions, &self.links, at);
+        Kind::Reserved.withdraw(&mut self.orders.reserved, &self.slots, at);
+        Kind::Bound.withdraw(&mut self.orders.bound, &self.slots, at);
+        Kind::Numbers.withdraw(&mut self.orders.numbers, &self.slots, at);
+        Kind::Sessions.withdraw(&mut self.orders.sessions, &self.slots, at);
+        self.slots.bind(at, id);
+        Kind::Reserved.enter(&mut self.orders.reserved, &self.slots, at);
+        Kind::Bound.enter(&mut self.orders.bound, &self.slots, at);
+        Kind::Numbers.enter(&mut self.orders.numbers, &self.slots, at);
+        Kind::Sessions.enter(&mut self.orders.sessions, &self.slots, at);
     }
 
     /// The first link that is bound to the session of this id at the access server of a place.
@@ -223,8 +210,7 @@ impl LinkList {
         ensures found { IfSome result (λ at. IsFirst (is_held nas id.now) self.now.items at) }
         ensures missed { IfNone result (list_any (is_held nas id.now) self.now.items ≡ false) }
     {
-        let links = self.links.as_slice();
-        Kind::Sessions.first_of(&self.orders.sessions, links, nas as u64, 1, id)
+        Kind::Sessions.first_of(&self.orders.sessions, &self.slots, nas as u64, 1, id)
     }
 
     /// The first link that is reserved at the access server of a place, by the number that a class
@@ -233,11 +219,11 @@ impl LinkList {
         ensures found { IfSome result (λ at. IsFirst (is_for nas class) self.now.items at) }
         ensures missed { IfNone result (list_any (is_for nas class) self.now.items ≡ false) }
     {
-        let links = self.links.as_slice();
+        let slots = &self.slots;
         match class {
-            None => Kind::Sessions.first_of(&self.orders.sessions, links, nas as u64, 0, &[]),
+            None => Kind::Sessions.first_of(&self.orders.sessions, slots, nas as u64, 0, &[]),
             Some(number) => {
-                Kind::Numbers.first_of(&self.orders.numbers, links, number, nas as u64, &[])
+                Kind::Numbers.first_of(&self.orders.numbers, slots, number, nas as u64, &[])
             }
         }
     }
@@ -260,18 +246,16 @@ impl LinkList {
     pub(crate) fn bound_until(&self, clock: u64) -> usize
         ensures { result ≡ count_by (is_bound_until clock) self.now.items }
     {
-        let links = self.links.as_slice();
-        Kind::Bound.count_before(&self.orders.bound, links, clock, 0, &[], links.len())
+        Kind::Bound.count_before(&self.orders.bound, &self.slots, clock, 0, &[], u64::MAX)
     }
 
     /// How many links are in the bundle of this id at the access server of a place.
     pub(crate) fn members(&self, nas: usize, id: &[u8]) -> usize
         ensures { result ≡ count_by (is_member nas id.now) self.now.items }
     {
-        let links = self.links.as_slice();
         let order = &self.orders.bundles;
-        let first = Kind::Bundles.count_before(order, links, nas as u64, 1, id, 0);
-        let end = Kind::Bundles.count_before(order, links, nas as u64, 1, id, links.len());
+        let first = Kind::Bundles.count_before(order, &self.slots, nas as u64, 1, id, 0);
+        let end = Kind::Bundles.count_before(order, &self.slots, nas as u64, 1, id, u64::MAX);
         end - first
     }
 
@@ -279,13 +263,12 @@ impl LinkList {
     pub(crate) fn names(&self, nas: usize) -> bool
         ensures { result ≡ named_by_links self.now.items nas }
     {
-        let links = self.links.as_slice();
         let order = &self.orders.bundles;
-        let place = Kind::Bundles.count_before(order, links, nas as u64, 0, &[], 0);
+        let place = Kind::Bundles.count_before(order, &self.slots, nas as u64, 0, &[], 0);
         if place == order.len() {
             return false;
         }
-        links[order[place]].nas == nas
+        self.slots.slots[order[place]].link.nas == nas
     }
 
     /// A link that lapses at this clock, if there is one: the first in its order.
@@ -297,14 +280,17 @@ impl LinkList {
         ensures missed { IfNone result ((at : ℕ) → at < length self.now.items →
             lapses_at rules.now now (link_seen servers.now (link_at self.now.items at)) ≡ false) }
     {
-        let links = self.links.as_slice();
-        let reserved = &self.orders.reserved;
-        match first_lapsed(Kind::Reserved, reserved, links, servers, rules, now) {
+        let slots = &self.slots;
+        match first_lapsed(
+            Kind::Reserved,
+            &self.orders.reserved,
+            slots,
+            servers,
+            rules,
+            now,
+        ) {
             Some(at) => Some(at),
-            None => {
-                let bound = &self.orders.bound;
-                first_lapsed(Kind::Bound, bound, links, servers, rules, now)
-            }
+            None => first_lapsed(Kind::Bound, &self.orders.bound, slots, servers, rules, now),
         }
     }
 
@@ -317,7 +303,7 @@ impl LinkList {
         if self.orders.bound.is_empty() {
             return None;
         }
-        Some(self.orders.bound[0])
+        Some(self.slots.position(self.orders.bound[0]))
     }
 
     /// Equal links, with room for so many. It fails only where memory is refused.
@@ -326,38 +312,39 @@ impl LinkList {
         ensures { IfOk result (λ copy. copy ≡ record { items = self.now.items; room = room }) }
     {
         let mut copy = LinkList::new(alloc, room)?;
-        let links = self.links.as_slice();
-        for link in links {
-            copy.push(link.try_copy(alloc)?);
+        for at in 0..self.len() {
+            copy.push(self.index(at).try_copy(alloc)?);
         }
         Ok(copy)
     }
 }
 
-/// The link of an order that lapses at this clock, if one does: then the first does.
+/// The position of a link of an order that lapses at this clock, if one does: then the first does.
 fn first_lapsed(
     kind: Kind,
     order: &VecDeque<usize>,
-    links: &[Link],
+    slots: &Slots,
     servers: &Servers,
     rules: &Rules,
     now: u64,
 ) -> Option<usize>
     requires fit { RulesFit rules.now }
     requires touch { is_by_touch kind ≡ true }
-    requires order { IsOrderOf kind links.now order.now.items }
-    ensures within { IfSome result (λ at. at < length links.now) }
+    requires kept { IsKept slots.now }
+    requires order { IsLineOf kind slots.now order.now.items }
+    ensures within { IfSome result (λ at. at < length (links_of slots.now)) }
     ensures found { IfSome result (λ at. lapses_at rules.now now (link_seen servers.now
-        (link_at links.now at)) ≡ true) }
-    ensures missed { IfNone result ((at : ℕ) → at < length links.now →
-        is_of kind (link_at links.now at) ≡ true →
-        lapses_at rules.now now (link_seen servers.now (link_at links.now at)) ≡ false) }
+        (link_at (links_of slots.now) at)) ≡ true) }
+    ensures missed { IfNone result ((at : ℕ) → at < length (links_of slots.now) →
+        is_of kind (link_at (links_of slots.now) at) ≡ true →
+        lapses_at rules.now now (link_seen servers.now (link_at (links_of slots.now) at))
+        ≡ false) }
 {
     if order.is_empty() {
         return None;
     }
-    let at = order[0];
-    if links[at].lapses(servers, rules, now) {
+    let at = slots.position(order[0]);
+    if slots.link(at).lapses(servers, rules, now) {
         Some(at)
     } else {
         None

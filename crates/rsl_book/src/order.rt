@@ -1,17 +1,17 @@
-//! Orders of a book's links: lists of their positions, so that a link is found without a look at
-//! each.
+//! Orders of a book's links: lists of their slots, so that a link is found without a look at each.
 
-ghost use Rattle.std.specs.Prelude.{◌≡◌, ◌<◌, ◌≤◌, ◌∷◌, get_or, length, map, true, false, IfSome};
+ghost use Rattle.std.specs.Prelude.{◌≡◌, ◌<◌, ◌≤◌, ◌∷◌, get_or, length, true, false, IfSome};
 ghost use Rattle.std.specs.Prelude.{IfNone};
 ghost use Rattle.std.specs.List.{insert, list_any};
 ghost use Rattle.std.specs.VecDeque.{deque_capacity};
 ghost use Rattle.rsl_book.specs.First.{IsFirst};
-ghost use Rattle.rsl_book.specs.Order.{IsSearchable, IsSplit, IsOrderBut, IsOrderOf, rank_at};
-ghost use Rattle.rsl_book.specs.Order.{goes_by};
-ghost use Rattle.rsl_book.specs.Order.{is_before, is_of, link_at, order_key, order_mark, moved_up};
-ghost use Rattle.rsl_book.specs.Order.{order_number, order_octets};
+ghost use Rattle.rsl_book.specs.Lines.{IsLineBut, IsLineOf, IsSearchable, slot_rank};
+ghost use Rattle.rsl_book.specs.Order.{IsSplit, goes_by, is_before, is_of, link_at, order_key};
+ghost use Rattle.rsl_book.specs.Order.{order_mark, order_number, order_octets};
+ghost use Rattle.rsl_book.specs.Slots.{IsKept, links_of, opened_of};
 
 use crate::link::{Hold, Link};
+use crate::slots::{Slot, Slots};
 use std::collections::VecDeque;
 
 /// Which links an order lists, and by what it goes. Links that are alike in this stand as they
@@ -79,47 +79,45 @@ impl Kind {
         }
     }
 
-    /// Whether a link at a position stands before what goes by these.
+    /// Whether the link in a slot stands before what goes by these and opened as this number.
     #[inline(always)]
     #[tactic(auto, unfolding(crate::specs::Order::is_before))]
-    fn is_before(
-        self,
-        link: &Link,
-        at: usize,
-        number: u64,
-        mark: u64,
-        octets: &[u8],
-        other: usize,
-    ) -> bool
-        ensures { result ≡ is_before (order_key self link.now, at)
-            (number ∷ mark ∷ octets.now, other) }
+    fn is_before(self, slot: &Slot, number: u64, mark: u64, octets: &[u8], opened: u64) -> bool
+        ensures { result ≡ is_before (order_key self slot.now.link, slot.now.opened)
+            (number ∷ mark ∷ octets.now, opened) }
     {
-        (self.number(link), self.mark(link), self.octets(link), at)
-            .cmp(&(number, mark, octets, other))
+        let link = &slot.link;
+        (
+            self.number(link),
+            self.mark(link),
+            self.octets(link),
+            slot.opened,
+        )
+            .cmp(&(number, mark, octets, opened))
             .is_lt()
     }
 
-    /// How many links of an order stand before what goes by these.
+    /// How many links of an order stand before what goes by these and opened as this number.
     #[inline(always)]
     pub(crate) fn count_before(
         self,
         order: &VecDeque<usize>,
-        links: &[Link],
+        slots: &Slots,
         number: u64,
         mark: u64,
         octets: &[u8],
-        at: usize,
+        opened: u64,
     ) -> usize
-        requires { IsSearchable self links.now order.now.items }
-        ensures { IsSplit (rank_at self links.now) order.now.items
-            (number ∷ mark ∷ octets.now, at) result }
+        requires { IsSearchable self slots.now.slots.items order.now.items }
+        ensures { IsSplit (slot_rank self slots.now.slots.items) order.now.items
+            (number ∷ mark ∷ octets.now, opened) result }
     {
         let mut low = 0;
         let mut high = order.len();
         while low < high {
             let middle = low + (high - low) / 2;
             let place = order[middle];
-            if self.is_before(&links[place], place, number, mark, octets, at) {
+            if self.is_before(&slots.slots[place], number, mark, octets, opened) {
                 low = middle + 1;
             } else {
                 high = middle;
@@ -139,122 +137,111 @@ impl Kind {
             && self.octets(link) == octets
     }
 
-    /// The first link of an order that goes by these, if one does.
+    /// The position of the first link that goes by these, if one of an order does.
     pub(crate) fn first_of(
         self,
         order: &VecDeque<usize>,
-        links: &[Link],
+        slots: &Slots,
         number: u64,
         mark: u64,
         octets: &[u8],
     ) -> Option<usize>
-        requires { IsOrderOf self links.now order.now.items }
+        requires kept { IsKept slots.now }
+        requires order { IsLineOf self slots.now order.now.items }
         ensures found { IfSome result (λ at.
-            IsFirst (goes_by self number mark octets.now) links.now at) }
-        ensures missed { IfNone result (list_any (goes_by self number mark octets.now) links.now
-            ≡ false) }
+            IsFirst (goes_by self number mark octets.now) (links_of slots.now) at) }
+        ensures missed { IfNone result (list_any (goes_by self number mark octets.now)
+            (links_of slots.now) ≡ false) }
     {
-        let place = self.count_before(order, links, number, mark, octets, 0);
+        let place = self.count_before(order, slots, number, mark, octets, 0);
         if place == order.len() {
             return None;
         }
-        let at = order[place];
-        if self.goes_by(&links[at], number, mark, octets) {
-            Some(at)
+        let slot = order[place];
+        if self.goes_by(&slots.slots[slot].link, number, mark, octets) {
+            Some(slots.position(slot))
         } else {
             None
         }
     }
 
-    /// How many links of an order stand before the link at a position. The link that is touched
-    /// goes to the end of an order by touch, so that place is tried first.
-    fn count_before_link(self, order: &VecDeque<usize>, links: &[Link], at: usize) -> usize
-        requires within { at < length links.now }
-        requires order { IsSearchable self links.now order.now.items }
-        ensures { IsSplit (rank_at self links.now) order.now.items (rank_at self links.now at)
-            result }
+    /// How many links of an order stand before the link in a slot. The link that is touched goes to
+    /// the end of an order by touch, so that place is tried first.
+    fn count_before_link(self, order: &VecDeque<usize>, slots: &Slots, slot: usize) -> usize
+        requires within { slot < length slots.now.slots.items }
+        requires order { IsSearchable self slots.now.slots.items order.now.items }
+        ensures { IsSplit (slot_rank self slots.now.slots.items) order.now.items
+            (slot_rank self slots.now.slots.items slot) result }
     {
-        let link = &links[at];
+        let own = &slots.slots[slot];
+        let link = &own.link;
         let (number, mark, octets) = (self.number(link), self.mark(link), self.octets(link));
         let end = order.len();
         if end > 0 {
             let last = order[end - 1];
-            if self.is_before(&links[last], last, number, mark, octets, at) {
+            if self.is_before(&slots.slots[last], number, mark, octets, own.opened) {
                 return end;
             }
         }
-        self.count_before(order, links, number, mark, octets, at)
+        self.count_before(order, slots, number, mark, octets, own.opened)
     }
 
     /// Where the link at a position stands in the order of its kind. Links are mostly touched in
     /// turn, so the first of an order is tried first.
-    fn place_of(self, order: &VecDeque<usize>, links: &[Link], at: usize) -> usize
-        requires within { at < length links.now }
-        requires order { IsOrderOf self links.now order.now.items }
-        requires kind { is_of self (link_at links.now at) ≡ true }
+    fn place_of(self, order: &VecDeque<usize>, slots: &Slots, at: usize) -> usize
+        requires kept { IsKept slots.now }
+        requires within { at < slots.now.count }
+        requires order { IsLineOf self slots.now order.now.items }
+        requires kind { is_of self (link_at (links_of slots.now) at) ≡ true }
         ensures within { result < length order.now.items }
-        ensures stands { get_or order.now.items result 0 ≡ at }
+        ensures stands { get_or order.now.items result 0 ≡ get_or (opened_of slots.now) at 0 }
     {
-        if order.len() > 0 && order[0] == at {
+        let slot = slots.slot(at);
+        if order.len() > 0 && order[0] == slot {
             return 0;
         }
-        self.count_before_link(order, links, at)
+        self.count_before_link(order, slots, slot)
     }
 
     /// Takes the link at a position out of an order, if it is of its kind.
-    pub(crate) fn withdraw(self, order: &mut VecDeque<usize>, links: &[Link], at: usize)
-        requires within { at < length links.now }
-        requires order { IsOrderOf self links.now order.old.items }
-        ensures order { IsOrderBut self links.now at order.new.items }
+    pub(crate) fn withdraw(self, order: &mut VecDeque<usize>, slots: &Slots, at: usize)
+        requires kept { IsKept slots.now }
+        requires within { at < slots.now.count }
+        requires order { IsLineOf self slots.now order.old.items }
+        ensures order { IsLineBut self slots.now at order.new.items }
         ensures room { deque_capacity order.new ≡ deque_capacity order.old }
     {
-        if self.holds(&links[at]) {
-            let place = self.place_of(order, links, at);
+        if self.holds(slots.link(at)) {
+            let place = self.place_of(order, slots, at);
             let _ = order.remove(place);
         }
     }
 
     /// Puts the link at a position into an order of links of its kind.
-    pub(crate) fn enter(self, order: &mut VecDeque<usize>, links: &[Link], at: usize)
-        requires within { at < length links.now }
-        requires order { IsOrderBut self links.now at order.old.items }
-        requires room { length links.now ≤ deque_capacity order.old }
-        ensures order { IsOrderOf self links.now order.new.items }
+    pub(crate) fn enter(self, order: &mut VecDeque<usize>, slots: &Slots, at: usize)
+        requires kept { IsKept slots.now }
+        requires within { at < slots.now.count }
+        requires order { IsLineBut self slots.now at order.old.items }
+        requires room { slots.now.count ≤ deque_capacity order.old }
+        ensures order { IsLineOf self slots.now order.new.items }
         ensures room { deque_capacity order.new ≡ deque_capacity order.old }
     {
-        if self.holds(&links[at]) {
-            let place = self.count_before_link(order, links, at);
-            insert_reserved(order, place, at);
+        if self.holds(slots.link(at)) {
+            let slot = slots.slot(at);
+            let place = self.count_before_link(order, slots, slot);
+            insert_reserved(order, place, slot);
         }
     }
 }
 
-/// Puts a position into a place of an order that has room for it.
-fn insert_reserved(order: &mut VecDeque<usize>, place: usize, at: usize)
+/// Puts a slot into a place of an order that has room for it.
+fn insert_reserved(order: &mut VecDeque<usize>, place: usize, slot: usize)
     requires within { place ≤ length order.old.items }
     requires room { length order.old.items < deque_capacity order.old }
-    ensures items { order.new.items ≡ insert order.old.items place at }
+    ensures items { order.new.items ≡ insert order.old.items place slot }
     ensures room { deque_capacity order.new ≡ deque_capacity order.old }
 {
     order.rotate_left(place);
-    order.push_front_reserved(at);
+    order.push_front_reserved(slot);
     order.rotate_right(place);
-}
-
-/// Where a position moves once the link at another is gone.
-fn moved_up(gone: usize, at: usize) -> usize
-    ensures { result ≡ moved_up gone at }
-{
-    if gone < at { at - 1 } else { at }
-}
-
-/// Moves the positions of an order after one whose link is gone.
-#[tactic(auto, using(crate::proofs::Orders::all_moved))]
-pub(crate) fn close_up(order: &mut VecDeque<usize>, gone: usize)
-    ensures moved { order.new.items ≡ map (moved_up gone) order.old.items }
-    ensures room { deque_capacity order.new ≡ deque_capacity order.old }
-{
-    for place in 0..order.len() {
-        order[place] = moved_up(gone, order[place]);
-    }
 }

@@ -6,26 +6,29 @@ ghost use Rattle.rsl_book.specs.declared.kept.StoredStop.{StoredStop};
 ghost use Rattle.rsl_book.specs.Seen.{links_seen, ask_seen, asks_seen, stop_seen, stops_seen};
 
 use crate::kept::{StoredAsk, StoredStop};
-use crate::link::Link;
+use crate::list::LinkList;
 use crate::servers::Servers;
 use circular_buffer::HeapCircularBuffer;
 
 /// Whether two books have the same links, in the same order.
 #[tactic(auto, using(crate::proofs::OneByOne::same_steps), unfolding(crate::specs::Seen::links_seen))]
 pub(crate) fn has_same_links(
-    links: &[Link],
+    links: &LinkList,
     servers: &Servers,
-    other_links: &[Link],
+    other_links: &LinkList,
     other_servers: &Servers,
 ) -> bool
-    ensures { IsTrue result ↔ (links_seen servers.now links.now ≡
-        links_seen other_servers.now other_links.now) }
+    ensures { IsTrue result ↔ (links_seen servers.now links.now.items ≡
+        links_seen other_servers.now other_links.now.items) }
 {
     if links.len() != other_links.len() {
         return false;
     }
     for at in 0..links.len() {
-        if !links[at].is_same(servers, &other_links[at], other_servers) {
+        if !links
+            .index(at)
+            .is_same(servers, other_links.index(at), other_servers)
+        {
             return false;
         }
     }

@@ -6,6 +6,36 @@ use std::alloc::Global;
 /// The most seconds that a time of the rules can have.
 const DAY: u64 = 86_400;
 
+/// How many links lie between two whose turn comes one after the other, where they do not come in
+/// the order in which they opened. It is odd, so each of 1,024 links has its turn.
+const STRIDE: u64 = 389;
+
+/// A work whose events are those of its turns.
+#[derive(Clone, Copy)]
+pub(crate) enum Work {
+    /// An Interim-Update of each link, in the order in which they opened.
+    Interims,
+    /// The same, in another order.
+    Strides,
+    /// In that order, each link ends by a Stop, and in the next turn another opens in its bundle.
+    Changes,
+    /// An ask, the Start that takes the link that it reserved, and the Stop of that.
+    Takes,
+}
+
+impl Work {
+    /// The work of this name, if there is one.
+    pub(crate) fn named(name: &str) -> Option<Work> {
+        match name {
+            "interims" => Some(Work::Interims),
+            "strides" => Some(Work::Strides),
+            "changes" => Some(Work::Changes),
+            "takes" => Some(Work::Takes),
+            _ => None,
+        }
+    }
+}
+
 /// An account, and what is open of it.
 #[derive(Clone, Copy)]
 pub(crate) struct Size {
@@ -30,17 +60,78 @@ impl Size {
         }
     }
 
-    /// The alive of a link by its number: links that follow one another share a bundle.
-    pub(crate) fn alive(&self, alloc: Global, moment: u64, number: u64) -> Result<Event, NoMemory> {
-        let link = number % self.links.max(1);
-        let bundle = link / self.ports.max(1);
-        let act = Act::Alive {
-            nas: nas_of(alloc, bundle % self.servers.max(1))?,
-            session: octets_of(alloc, link)?,
-            bundle: Some(octets_of(alloc, bundle)?),
+    /// The access server of a link by its number.
+    fn nas(&self, alloc: Global, link: u64) -> Result<Nas, NoMemory> {
+        nas_of(alloc, link / self.ports.max(1) % self.servers.max(1))
+    }
+
+    /// The alive of a session that has a link: links that follow one another share a bundle.
+    fn alive(&self, alloc: Global, link: u64, session: u64) -> Result<Act, NoMemory> {
+        Ok(Act::Alive {
+            nas: self.nas(alloc, link)?,
+            session: octets_of(alloc, session)?,
+            bundle: Some(octets_of(alloc, link / self.ports.max(1))?),
             class: None,
+        })
+    }
+
+    /// The Start of a link by its number, at the moment 0.
+    pub(crate) fn start(&self, alloc: Global, link: u64) -> Result<Event, NoMemory> {
+        Ok(Event {
+            moment: 0,
+            act: self.alive(alloc, link, link)?,
+        })
+    }
+
+    /// The event of a turn of a work, a second after the one before; of `Takes` a hundred of them
+    /// come in a second, so that no other link lapses.
+    pub(crate) fn event(&self, alloc: Global, work: Work, turn: u64) -> Result<Event, NoMemory> {
+        let links = self.links.max(1);
+        let strided = turn.wrapping_mul(STRIDE) % links;
+        let (moment, act) = match work {
+            Work::Interims => (turn, self.alive(alloc, turn % links, turn % links)?),
+            Work::Strides => (turn, self.alive(alloc, strided, strided)?),
+            Work::Changes => (turn, self.change(alloc, turn)?),
+            Work::Takes => (turn / 100, self.take(alloc, turn)?),
         };
         Ok(Event { moment, act })
+    }
+
+    /// The act of a turn of `Changes`.
+    fn change(&self, alloc: Global, turn: u64) -> Result<Act, NoMemory> {
+        let links = self.links.max(1);
+        let change = turn / 2;
+        let link = change.wrapping_mul(STRIDE) % links;
+        let session = (change - change % links).wrapping_add(link);
+        if turn % 2 == 0 {
+            let nas = self.nas(alloc, link)?;
+            let session = octets_of(alloc, session)?;
+            Ok(Act::Stop { nas, session })
+        } else {
+            self.alive(alloc, link, session.wrapping_add(links))
+        }
+    }
+
+    /// The act of a turn of `Takes`. The numbers of the accepts begin with 0, and those of the
+    /// sessions past those of the other links.
+    fn take(&self, alloc: Global, turn: u64) -> Result<Act, NoMemory> {
+        let number = turn / 3;
+        let nas = self.nas(alloc, 0)?;
+        if turn % 3 == 0 {
+            let key = key_of(number);
+            return Ok(Act::Ask { key, nas });
+        }
+        let session = octets_of(alloc, self.links.wrapping_add(number))?;
+        Ok(if turn % 3 == 1 {
+            Act::Alive {
+                nas,
+                session,
+                bundle: None,
+                class: Some(number),
+            }
+        } else {
+            Act::Stop { nas, session }
+        })
     }
 }
 

@@ -6,7 +6,10 @@
 //! | WORK | What it does |
 //! |---|---|
 //! | `interims` | an Interim-Update of each link in turn, a second apart |
-//! | `making` | makes the events of `interims`, and hands them to no book |
+//! | `strides` | the same, in another order than that in which the links opened |
+//! | `changes` | in that order, a Stop of a link, and in the next turn the Start of another in its bundle |
+//! | `takes` | an ask, then the Start that takes the link that it reserved, then the Stop of that |
+//! | `making-` and one of these | makes its events, and hands them to no book |
 //! | `ticks` | ticks, of which none lets a link lapse |
 //! | `mixed` | events of every kind, of more sessions and access servers than a book has room for |
 //! | `books` | makes new books and keeps them all |

@@ -1,6 +1,6 @@
 ghost use Rattle.rsl_accounts.specs.Limits.{RulesFit};
 
-use crate::events::{Size, mixed, tick_of};
+use crate::events::{Size, Work, mixed, tick_of};
 use rsl_accounts::Rules;
 use rsl_book::Book;
 use rsl_event::Event;
@@ -21,15 +21,23 @@ pub(crate) fn shown_after(
     }
     let mut book = Book::new(alloc, rules)?;
     for number in 0..size.links {
-        let _ = book.apply(size.alive(alloc, 0, number)?);
+        let _ = book.apply(size.start(alloc, number)?);
     }
     match work {
-        "interims" => renew(alloc, &mut book, size, times)?,
-        "making" => make(alloc, size, times)?,
         "ticks" => pass(&mut book, times),
         "mixed" => mix(alloc, &mut book, times)?,
         "books" => make_books(alloc, rules, times)?,
-        _ => return Ok(None),
+        name => {
+            let made = name.strip_prefix("making-");
+            let Some(work) = Work::named(made.unwrap_or(name)) else {
+                return Ok(None);
+            };
+            if made.is_some() {
+                make(alloc, size, work, times)?;
+            } else {
+                turn(alloc, &mut book, size, work, times)?;
+            }
+        }
     }
     Ok(Some(shown(alloc, &book)?))
 }
@@ -51,19 +59,25 @@ fn shown(alloc: Global, book: &Book) -> Result<String, NoMemory> {
     )?)
 }
 
-/// An Interim-Update of each link in turn.
-fn renew(alloc: Global, book: &mut Book, size: &Size, times: u64) -> Result<(), NoMemory> {
+/// Hands a book the events of a work.
+fn turn(
+    alloc: Global,
+    book: &mut Book,
+    size: &Size,
+    work: Work,
+    times: u64,
+) -> Result<(), NoMemory> {
     for turn in 0..times {
-        let _ = book.apply(size.alive(alloc, turn, turn)?);
+        let _ = book.apply(size.event(alloc, work, turn)?);
     }
     Ok(())
 }
 
-/// The events of `renew`, each let go.
-fn make(alloc: Global, size: &Size, times: u64) -> Result<(), NoMemory> {
+/// The events of a work, each let go.
+fn make(alloc: Global, size: &Size, work: Work, times: u64) -> Result<(), NoMemory> {
     let mut last = tick_of(0);
     for turn in 0..times {
-        last = size.alive(alloc, turn, turn)?;
+        last = size.event(alloc, work, turn)?;
     }
     let _ = last;
     Ok(())

@@ -1,20 +1,39 @@
-use Rattle.std.proofs.Common.{◌≡◌, ◌<◌, length, ap, sym, ◌∙◌, subst, arith, rules}
+use Rattle.std.proofs.Common.{◌≡◌, ◌<◌, length, ap, sym, ◌∙◌, arith, rules}
 use Rattle.std.specs.VecDeque.{deque_len}
 use Rattle.rsl_session.specs.BookLinks.{lapses_at}
 use Rattle.rsl_book.specs.declared.link.Link.{Link}
 use Rattle.rsl_book.specs.Order.{link_at}
 use Rattle.rsl_book.specs.Seen.{link_seen}
-use Rattle.rsl_book.proofs.OfLinks.{link_here, listed_here}
+use Rattle.rsl_book.specs.Slots.{links_of, opened_of}
+use Rattle.rsl_book.proofs.Lined.{line_found, line_stands, long_line}
+use Rattle.rsl_book.proofs.Slotted.{long_links, long_opened}
 use Rattle.rsl_book.proofs.Standing.{none_lapses, some_there}
 use Rattle.rsl_book.proofs.list.first_lapsed.Goals as goal
 
-pub returns-else-lapses-clause-missed : goal.returns-else-lapses-clause-missed
-returns-else-lapses-clause-missed c =
+pub position-at-requires-clause-stands : goal.position-at-requires-clause-stands
+position-at-requires-clause-stands c =
+    let slots = c.args.slots.now in
     let long : deque_len c.args.order.now ≡ length c.args.order.now.items = search rules in
     let one = some_there (deque_len c.args.order.now) c.is_empty.result c.is_empty.ensures c.if-is_empty.false in
-    let some : 0 < length c.args.order.now.items = omega (arith, long, one) in
-    let stands = listed_here c.args.order.now.items 0 c.index-at.result.now some c.index-at.ensures in
-    let front = c.requires.order.each 0 some in
-    let here = link_here c.args.links.now c.index-at.result.now c.index-links-at.result (subst (λ n. n < length c.args.links.now) (sym stands) front.within) c.index-links-at.is ∙ ap (link_at c.args.links.now) stands in
-    none_lapses c.args.servers.now c.args.rules.now c.args.now c.args.kind c.requires.touch c.args.links.now c.args.order.now.items c.requires.order some
-    (ap (λ (one : Link). lapses_at c.args.rules.now c.args.now (link_seen c.args.servers.now one)) (sym here) ∙ sym c.lapses.ensures ∙ c.if-lapses.false)
+    line_stands c.args.kind slots.slots.items (opened_of slots) c.requires.kept.placed.rising (length (links_of slots)) c.args.order.now.items c.requires.order 0 c.index.result.now (omega (arith, long, one)) c.index.ensures
+
+pub returns-then-lapses-clause-within : goal.returns-then-lapses-clause-within
+returns-then-lapses-clause-within c =
+    let long = long_links c.args.slots.now c.requires.kept in
+    let low = c.position-at.ensures.within in
+    omega (arith, long, low)
+
+pub returns-else-lapses-clause-missed : goal.returns-else-lapses-clause-missed
+returns-else-lapses-clause-missed c =
+    let slots = c.args.slots.now in
+    let order = c.args.order.now.items in
+    let long : deque_len c.args.order.now ≡ length order = search rules in
+    let one = some_there (deque_len c.args.order.now) c.is_empty.result c.is_empty.ensures c.if-is_empty.false in
+    let some : 0 < length order = omega (arith, long, one) in
+    let same = long_line c.args.kind (links_of slots) (opened_of slots) (length (links_of slots)) order c.requires.order in
+    let few = long_opened slots.slots.items slots.places.items slots.count c.requires.kept.placed in
+    let low = c.position-at.ensures.within in
+    let here = line_found c.args.kind slots.slots.items (opened_of slots) c.requires.kept.placed.rising (length (links_of slots)) order c.requires.order 0 c.index.result.now c.position-at.result some c.index.ensures
+    (omega (arith, few, low)) c.position-at.ensures.stands in
+    none_lapses c.args.servers.now c.args.rules.now c.args.now c.args.kind c.requires.touch (links_of slots) c.requires.order.positions c.requires.order.in_order (omega (arith, some, same))
+    (ap (λ (one : Link). lapses_at c.args.rules.now c.args.now (link_seen c.args.servers.now one)) (sym (c.link.ensures ∙ ap (link_at (links_of slots)) here)) ∙ sym c.lapses.ensures ∙ c.if-lapses.false)

@@ -1,16 +1,21 @@
-use Rattle.std.proofs.Common.{List, ap, sym, ◌∙◌, subst}
+use Rattle.std.proofs.Common.{◌∷◌, [], length, ap, ◌∙◌}
 use Rattle.std.specs.Prelude.{count_by}
-use Rattle.rsl_book.specs.declared.link.Link.{Link}
 use Rattle.rsl_book.specs.declared.order.Kind.TheVariants.{Bound}
 use Rattle.rsl_book.specs.LinkList.{RoomyList, is_bound_until}
-use Rattle.rsl_book.specs.Order.{IsOrderOf}
+use Rattle.rsl_book.specs.Slots.{links_of, opened_of}
+use Rattle.rsl_book.proofs.Lined.{searchable, split_last}
 use Rattle.rsl_book.proofs.Sought.{counted_until}
 use Rattle.rsl_book.proofs.list.LinkList.bound_until.Goals as goal
 
+pub count_before-requires : goal.count_before-requires
+count_before-requires c =
+    let slots = c.self.inside.slots in
+    searchable Bound slots.slots.items (opened_of slots) c.self.invariant.kept.placed.rising (length (links_of slots)) c.self.inside.orders.bound.items c.self.invariant.orders.bound
+
 pub returns : goal.returns
 returns c =
-    let inside = c.self.inside in
-    let o = subst (λ (xs : List Link). IsOrderOf Bound xs inside.orders.bound.items) (sym c.as_slice-links.ensures.value) c.self.invariant.orders.bound in
-    let items = c.as_slice-links.ensures.value ∙ ap (λ (value : RoomyList). value.items) c.self.view_is in
-    counted_until c.args.clock c.as_slice-links.result.now inside.orders.bound.items c.count_before.result o c.count_before.ensures
-    ∙ ap (count_by (is_bound_until c.args.clock)) items
+    let slots = c.self.inside.slots in
+    let line = c.self.invariant.orders.bound in
+    counted_until c.args.clock (links_of slots) line.positions c.count_before.result line.in_order
+    (split_last Bound slots.slots.items (opened_of slots) c.self.invariant.kept.placed.rising (length (links_of slots)) c.self.inside.orders.bound.items line (c.args.clock ∷ 0 ∷ []) c.count_before.result c.count_before.ensures)
+    ∙ ap (λ (value : RoomyList). count_by (is_bound_until c.args.clock) value.items) c.self.view_is

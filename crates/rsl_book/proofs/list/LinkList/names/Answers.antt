@@ -1,33 +1,61 @@
-use Rattle.std.proofs.Common.{◌<◌, List, get_or, length, ap, sym, ◌∙◌, subst, arith}
+use Rattle.std.proofs.Common.{◌≡◌, ◌<◌, ◌∷◌, [], length, ap, sym, ◌∙◌, arith, rules}
 use Rattle.std.specs.Prelude.{◌==◌}
+use Rattle.std.specs.Vec.{vec_len}
+use Rattle.std.specs.VecDeque.{deque_len}
 use Rattle.rsl_book.specs.declared.link.Link.{Link}
 use Rattle.rsl_book.specs.declared.order.Kind.TheVariants.{Bundles}
 use Rattle.rsl_book.specs.LinkList.{RoomyList}
-use Rattle.rsl_book.specs.Order.{IsOrderOf}
 use Rattle.rsl_book.specs.Named.{named_by_links}
-use Rattle.rsl_book.proofs.OfLinks.{listed_here}
-use Rattle.rsl_book.proofs.Sought.{names_is, names_none, read_link}
+use Rattle.rsl_book.specs.Slots.{links_of, opened_of}
+use Rattle.rsl_book.proofs.Lined.{line_link, listed_within, long_line, searchable, split_first}
+use Rattle.rsl_book.proofs.Sought.{names_is, names_none}
 use Rattle.rsl_book.proofs.list.LinkList.names.Goals as goal
+
+pub count_before-place-requires : goal.count_before-place-requires
+count_before-place-requires c =
+    let slots = c.self.inside.slots in
+    searchable Bundles slots.slots.items (opened_of slots) c.self.invariant.kept.placed.rising (length (links_of slots)) c.self.inside.orders.bundles.items c.self.invariant.orders.bundles
 
 pub returns-then-place-len : goal.returns-then-place-len
 returns-then-place-len c =
-    let inside = c.self.inside in
-    let o = subst (λ (xs : List Link). IsOrderOf Bundles xs inside.orders.bundles.items) (sym c.as_slice-links.ensures.value) c.self.invariant.orders.bundles in
-    let items = c.as_slice-links.ensures.value ∙ ap (λ (value : RoomyList). value.items) c.self.view_is in
+    let slots = c.self.inside.slots in
+    let order = c.self.inside.orders.bundles.items in
+    let line = c.self.invariant.orders.bundles in
+    let long : deque_len c.self.inside.orders.bundles ≡ length order = search rules in
     let last = c.if-place-len.true in
-    sym (names_none c.as_slice-links.result.now inside.orders.bundles.items o c.args.nas c.count_before-place.result c.count_before-place.ensures (λ within. absurd (omega (arith, within, last))))
-    ∙ ap (λ (xs : List Link). named_by_links xs c.args.nas) items
+    let same = long_line Bundles (links_of slots) (opened_of slots) (length (links_of slots)) order line in
+    sym (names_none (links_of slots) line.positions line.in_order c.args.nas c.count_before-place.result
+    (split_first Bundles slots.slots.items (opened_of slots) c.self.invariant.kept.placed.rising (length (links_of slots)) order line (c.args.nas ∷ 0 ∷ []) c.count_before-place.result c.count_before-place.ensures)
+    (λ within. absurd (omega (arith, within, last, long, same))))
+    ∙ ap (λ (value : RoomyList). named_by_links value.items c.args.nas) c.self.view_is
+
+pub index-requires-2 : goal.index-requires-2
+index-requires-2 c =
+    let slots = c.self.inside.slots in
+    let order = c.self.inside.orders.bundles.items in
+    let long : deque_len c.self.inside.orders.bundles ≡ length order = search rules in
+    let all : vec_len slots.slots ≡ length slots.slots.items = search rules in
+    let most = c.count_before-place.ensures.within in
+    let other = c.if-place-len.false in
+    let low = listed_within Bundles slots.slots.items order
+    (searchable Bundles slots.slots.items (opened_of slots) c.self.invariant.kept.placed.rising (length (links_of slots)) order c.self.invariant.orders.bundles)
+    c.count_before-place.result c.index.result.now (omega (arith, most, other, long)) c.index.ensures in
+    omega (arith, all, low)
 
 pub returns : goal.returns
 returns c =
-    let inside = c.self.inside in
-    let o = subst (λ (xs : List Link). IsOrderOf Bundles xs inside.orders.bundles.items) (sym c.as_slice-links.ensures.value) c.self.invariant.orders.bundles in
-    let items = c.as_slice-links.ensures.value ∙ ap (λ (value : RoomyList). value.items) c.self.view_is in
+    let slots = c.self.inside.slots in
+    let order = c.self.inside.orders.bundles.items in
+    let line = c.self.invariant.orders.bundles in
+    let rising = c.self.invariant.kept.placed.rising in
+    let long : deque_len c.self.inside.orders.bundles ≡ length order = search rules in
     let most = c.count_before-place.ensures.within in
     let other = c.if-place-len.false in
-    let within : c.count_before-place.result < length inside.orders.bundles.items = omega (arith, most, other) in
-    let stands = listed_here inside.orders.bundles.items c.count_before-place.result c.index.result.now within c.index.ensures in
-    ap (λ n. (get_or c.as_slice-links.result.now n c.index-links-index.result).nas == c.args.nas) stands
-    ∙ ap (λ (one : Link). one.nas == c.args.nas) (read_link c.as_slice-links.result.now (get_or inside.orders.bundles.items c.count_before-place.result 0) c.index-links-index.result (o.each c.count_before-place.result within).within)
-    ∙ names_is c.as_slice-links.result.now inside.orders.bundles.items o c.args.nas c.count_before-place.result c.count_before-place.ensures within
-    ∙ ap (λ (xs : List Link). named_by_links xs c.args.nas) items
+    let within : c.count_before-place.result < length order = omega (arith, most, other, long) in
+    let same = long_line Bundles (links_of slots) (opened_of slots) (length (links_of slots)) order line in
+    ap (λ (one : Link). one.nas == c.args.nas) (line_link Bundles slots.slots.items (opened_of slots) rising (length (links_of slots)) order line
+    c.count_before-place.result c.index.result.now c.index-2.result.now within c.index.ensures c.index-2.ensures)
+    ∙ names_is (links_of slots) line.positions line.in_order c.args.nas c.count_before-place.result
+    (split_first Bundles slots.slots.items (opened_of slots) rising (length (links_of slots)) order line (c.args.nas ∷ 0 ∷ []) c.count_before-place.result c.count_before-place.ensures)
+    (omega (arith, within, same))
+    ∙ ap (λ (value : RoomyList). named_by_links value.items c.args.nas) c.self.view_is

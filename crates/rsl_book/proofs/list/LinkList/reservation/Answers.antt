@@ -1,4 +1,4 @@
-use Rattle.std.proofs.Common.{◌≡◌, List, [], false, ap, ◌∙◌, subst}
+use Rattle.std.proofs.Common.{◌≡◌, List, [], false, ap, subst}
 use Rattle.std.specs.Prelude.{None, Some}
 use Rattle.std.specs.List.{list_any}
 use Rattle.std.proofs.lemmas.Option.{IfSome_then}
@@ -7,38 +7,39 @@ use Rattle.rsl_book.specs.declared.order.Kind.TheVariants.{Numbers, Sessions}
 use Rattle.rsl_book.specs.First.{IsFirst}
 use Rattle.rsl_book.specs.LinkList.{RoomyList, is_for}
 use Rattle.rsl_book.specs.Order.{goes_by}
+use Rattle.rsl_book.specs.Slots.{links_of}
 use Rattle.rsl_book.proofs.Placed.{none_then}
 use Rattle.rsl_book.proofs.Sought.{any_is, first_as, none_as, number_is}
 use Rattle.rsl_book.proofs.list.LinkList.reservation.Goals as goal
 
 pub returns-in-None-clause-found : goal.returns-in-None-clause-found
 returns-in-None-clause-found c =
-    let items = c.as_slice-links.ensures.value ∙ ap (λ (value : RoomyList). value.items) c.self.view_is in
+    let items = ap (λ (value : RoomyList). value.items) c.self.view_is in
     rw c.in-None.is
     (IfSome_then c.first_of.result c.first_of.ensures.found
     (λ at first. subst (λ (xs : List Link). IsFirst (is_for c.args.nas None) xs at) items
-    (first_as (goes_by Sessions c.args.nas 0 []) (is_for c.args.nas None) (any_is c.args.nas) c.as_slice-links.result.now at first)))
+    (first_as (goes_by Sessions c.args.nas 0 []) (is_for c.args.nas None) (any_is c.args.nas) (links_of c.self.inside.slots) at first)))
 
 pub returns-in-None-clause-missed : goal.returns-in-None-clause-missed
 returns-in-None-clause-missed c =
-    let items = c.as_slice-links.ensures.value ∙ ap (λ (value : RoomyList). value.items) c.self.view_is in
+    let items = ap (λ (value : RoomyList). value.items) c.self.view_is in
     rw c.in-None.is
     (none_then c.first_of.result c.first_of.ensures.missed
     (λ none. subst (λ (xs : List Link). list_any (is_for c.args.nas None) xs ≡ false) items
-    (none_as (goes_by Sessions c.args.nas 0 []) (is_for c.args.nas None) (any_is c.args.nas) c.as_slice-links.result.now none)))
+    (none_as (goes_by Sessions c.args.nas 0 []) (is_for c.args.nas None) (any_is c.args.nas) (links_of c.self.inside.slots) none)))
 
 pub returns-in-Some-clause-found : goal.returns-in-Some-clause-found
 returns-in-Some-clause-found c =
-    let items = c.as_slice-links.ensures.value ∙ ap (λ (value : RoomyList). value.items) c.self.view_is in
+    let items = ap (λ (value : RoomyList). value.items) c.self.view_is in
     rw c.in-Some.is
     (IfSome_then c.first_of-in-Some.result c.first_of-in-Some.ensures.found
     (λ at first. subst (λ (xs : List Link). IsFirst (is_for c.args.nas (Some c.in-Some.number)) xs at) items
-    (first_as (goes_by Numbers c.in-Some.number c.args.nas []) (is_for c.args.nas (Some c.in-Some.number)) (number_is c.args.nas c.in-Some.number) c.as_slice-links.result.now at first)))
+    (first_as (goes_by Numbers c.in-Some.number c.args.nas []) (is_for c.args.nas (Some c.in-Some.number)) (number_is c.args.nas c.in-Some.number) (links_of c.self.inside.slots) at first)))
 
 pub returns-in-Some-clause-missed : goal.returns-in-Some-clause-missed
 returns-in-Some-clause-missed c =
-    let items = c.as_slice-links.ensures.value ∙ ap (λ (value : RoomyList). value.items) c.self.view_is in
+    let items = ap (λ (value : RoomyList). value.items) c.self.view_is in
     rw c.in-Some.is
     (none_then c.first_of-in-Some.result c.first_of-in-Some.ensures.missed
     (λ none. subst (λ (xs : List Link). list_any (is_for c.args.nas (Some c.in-Some.number)) xs ≡ false) items
-    (none_as (goes_by Numbers c.in-Some.number c.args.nas []) (is_for c.args.nas (Some c.in-Some.number)) (number_is c.args.nas c.in-Some.number) c.as_slice-links.result.now none)))
+    (none_as (goes_by Numbers c.in-Some.number c.args.nas []) (is_for c.args.nas (Some c.in-Some.number)) (number_is c.args.nas c.in-Some.number) (links_of c.self.inside.slots) none)))

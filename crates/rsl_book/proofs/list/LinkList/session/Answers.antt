@@ -1,29 +1,26 @@
-use Rattle.std.proofs.Common.{◌≡◌, List, false, ap, sym, ◌∙◌, subst}
+use Rattle.std.proofs.Common.{◌≡◌, List, false, ap, subst}
 use Rattle.std.specs.List.{list_any}
 use Rattle.std.proofs.lemmas.Option.{IfSome_then}
 use Rattle.rsl_book.specs.declared.link.Link.{Link}
 use Rattle.rsl_book.specs.declared.order.Kind.TheVariants.{Sessions}
 use Rattle.rsl_book.specs.First.{IsFirst}
 use Rattle.rsl_book.specs.LinkList.{RoomyList, is_held}
-use Rattle.rsl_book.specs.Order.{IsOrderOf, goes_by}
+use Rattle.rsl_book.specs.Order.{goes_by}
+use Rattle.rsl_book.specs.Slots.{links_of}
 use Rattle.rsl_book.proofs.Placed.{none_then}
 use Rattle.rsl_book.proofs.Sought.{first_as, held_is, none_as}
 use Rattle.rsl_book.proofs.list.LinkList.session.Goals as goal
 
-pub first_of-requires : goal.first_of-requires
-first_of-requires c =
-    subst (λ (xs : List Link). IsOrderOf Sessions xs c.self.inside.orders.sessions.items) (sym c.as_slice-links.ensures.value) c.self.invariant.orders.sessions
-
 pub returns-clause-found : goal.returns-clause-found
 returns-clause-found c =
-    let items = c.as_slice-links.ensures.value ∙ ap (λ (value : RoomyList). value.items) c.self.view_is in
+    let items = ap (λ (value : RoomyList). value.items) c.self.view_is in
     IfSome_then c.first_of.result c.first_of.ensures.found
     (λ at first. subst (λ (xs : List Link). IsFirst (is_held c.args.nas c.args.id.now) xs at) items
-    (first_as (goes_by Sessions c.args.nas 1 c.args.id.now) (is_held c.args.nas c.args.id.now) (held_is c.args.nas c.args.id.now) c.as_slice-links.result.now at first))
+    (first_as (goes_by Sessions c.args.nas 1 c.args.id.now) (is_held c.args.nas c.args.id.now) (held_is c.args.nas c.args.id.now) (links_of c.self.inside.slots) at first))
 
 pub returns-clause-missed : goal.returns-clause-missed
 returns-clause-missed c =
-    let items = c.as_slice-links.ensures.value ∙ ap (λ (value : RoomyList). value.items) c.self.view_is in
+    let items = ap (λ (value : RoomyList). value.items) c.self.view_is in
     none_then c.first_of.result c.first_of.ensures.missed
     (λ none. subst (λ (xs : List Link). list_any (is_held c.args.nas c.args.id.now) xs ≡ false) items
-    (none_as (goes_by Sessions c.args.nas 1 c.args.id.now) (is_held c.args.nas c.args.id.now) (held_is c.args.nas c.args.id.now) c.as_slice-links.result.now none))
+    (none_as (goes_by Sessions c.args.nas 1 c.args.id.now) (is_held c.args.nas c.args.id.now) (held_is c.args.nas c.args.id.now) (links_of c.self.inside.slots) none))

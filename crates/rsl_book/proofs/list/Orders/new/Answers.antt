@@ -1,15 +1,15 @@
-use Rattle.std.proofs.Common.{[], arith, refl}
-use Rattle.rsl_book.proofs.OfLinks.{no_orders}
+use Rattle.std.proofs.Common.{arith}
 use Rattle.rsl_book.proofs.list.Orders.new.Goals as goal
 
 pub returns-clause-empty : goal.returns-clause-empty
 returns-clause-empty c =
-    let reserved = c.in_ok-with_capacity.ensures in
-    let bound = c.in_ok-with_capacity-2.ensures in
-    let numbers = c.in_ok-with_capacity-3.ensures in
-    let sessions = c.in_ok-with_capacity-4.ensures in
-    let bundles = c.in_ok-with_capacity-5.ensures in
-    no_orders [] _ refl reserved.items bound.items numbers.items sessions.items bundles.items
+    record {
+      reserved = c.in_ok-with_capacity.ensures.items;
+      bound = c.in_ok-with_capacity-2.ensures.items;
+      numbers = c.in_ok-with_capacity-3.ensures.items;
+      sessions = c.in_ok-with_capacity-4.ensures.items;
+      bundles = c.in_ok-with_capacity-5.ensures.items;
+    }
 
 pub returns-clause-room : goal.returns-clause-room
 returns-clause-room c =

@@ -1,26 +1,37 @@
 use Rattle.std.proofs.Common.{ℕ, List, ap, sym, ◌∙◌, subst, arith}
+use Rattle.std.specs.List.{insert}
 use Rattle.rsl_book.specs.declared.link.Link.{Link}
-use Rattle.rsl_book.specs.Order.{IsOrderOf, is_of}
-use Rattle.rsl_book.proofs.OfLinks.{entered, few_others, link_here, not_entered, searchable}
+use Rattle.rsl_book.specs.Lines.{IsLineOf, slot_rank}
+use Rattle.rsl_book.specs.Order.{IsSplit, is_of}
+use Rattle.rsl_book.specs.Slots.{links_of, opened_of}
+use Rattle.rsl_book.proofs.Lined.{few_lines, line_entered, line_not_entered, searchable}
+use Rattle.rsl_book.proofs.Slotted.{long_opened}
 use Rattle.rsl_book.proofs.order.Kind.enter.Goals as goal
 
 pub count_before_link-place-requires-clause-order : goal.count_before_link-place-requires-clause-order
 count_before_link-place-requires-clause-order c =
-    searchable c.args.self c.args.links.now c.args.at c.args.order.now.items c.requires.order
+    let slots = c.args.slots.now in
+    searchable c.args.self slots.slots.items (opened_of slots) c.requires.kept.placed.rising c.args.at c.args.order.now.items c.requires.order
 
 pub insert_reserved-requires-clause-room : goal.insert_reserved-requires-clause-room
 insert_reserved-requires-clause-room c =
-    let few = few_others c.args.self c.args.links.now c.args.at c.args.order.now.items c.requires.within c.requires.order in
-    let room = c.requires.room in omega (arith, few, room)
+    let slots = c.args.slots.now in
+    let most = long_opened slots.slots.items slots.places.items slots.count c.requires.kept.placed in
+    let few = few_lines c.args.self slots.slots.items (opened_of slots) c.requires.kept.placed.rising c.args.order.now.items c.args.at (omega (arith, most, c.requires.within)) c.requires.order in
+    omega (arith, few, most, c.requires.room)
 
 pub returns-then-holds-clause-order : goal.returns-then-holds-clause-order
 returns-then-holds-clause-order c =
-    subst (λ (order : List ℕ). IsOrderOf c.args.self c.args.links.now order) (sym c.insert_reserved.ensures.items)
-    (entered c.args.self c.args.links.now c.args.order.now.items c.args.at c.count_before_link-place.result c.requires.within c.requires.order
-    (sym (ap (λ (one : Link). is_of c.args.self one) (link_here c.args.links.now c.args.at c.index-links-at.result c.requires.within c.index-links-at.is)) ∙ sym c.holds.ensures ∙ c.if-holds.true)
-    c.count_before_link-place.ensures)
+    let slots = c.args.slots.now in
+    let most = long_opened slots.slots.items slots.places.items slots.count c.requires.kept.placed in
+    subst (λ (order : List ℕ). IsLineOf c.args.self c.args.slots.now order)
+    (sym (c.insert_reserved.ensures.items ∙ ap (insert c.args.order.now.items c.count_before_link-place.result) c.slot-slot.ensures.slot))
+    (line_entered c.args.self slots.slots.items (opened_of slots) c.requires.kept.placed.rising c.args.order.now.items c.args.at (omega (arith, most, c.requires.within)) c.requires.order
+    (sym (ap (λ (one : Link). is_of c.args.self one) c.link.ensures) ∙ sym c.holds.ensures ∙ c.if-holds.true)
+    c.count_before_link-place.result
+    (subst (λ (n : ℕ). IsSplit (slot_rank c.args.self slots.slots.items) c.args.order.now.items (slot_rank c.args.self slots.slots.items n) c.count_before_link-place.result) c.slot-slot.ensures.slot c.count_before_link-place.ensures))
 
 pub returns-else-holds-clause-order : goal.returns-else-holds-clause-order
 returns-else-holds-clause-order c =
-    not_entered c.args.self c.args.links.now c.args.order.now.items c.args.at c.requires.order
-    (sym (ap (λ (one : Link). is_of c.args.self one) (link_here c.args.links.now c.args.at c.index-links-at.result c.requires.within c.index-links-at.is)) ∙ sym c.holds.ensures ∙ c.if-holds.false)
+    line_not_entered c.args.self (links_of c.args.slots.now) (opened_of c.args.slots.now) c.args.order.now.items c.args.at c.requires.order
+    (sym (ap (λ (one : Link). is_of c.args.self one) c.link.ensures) ∙ sym c.holds.ensures ∙ c.if-holds.false)

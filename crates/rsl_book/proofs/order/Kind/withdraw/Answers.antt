@@ -1,10 +1,13 @@
-use Rattle.std.proofs.Common.{◌≡◌, ℕ, List, length, sym, ◌∙◌, ap, subst, arith, rules}
+use Rattle.std.proofs.Common.{◌≡◌, ℕ, List, ◌∙◌, ap, length, sym, subst, arith, rules}
 use Rattle.std.specs.Prelude.{Option, Some}
 use Rattle.std.specs.Option.{OnSome}
 use Rattle.std.specs.VecDeque.{deque_len}
 use Rattle.rsl_book.specs.declared.link.Link.{Link}
-use Rattle.rsl_book.specs.Order.{IsOrderBut, is_of}
-use Rattle.rsl_book.proofs.OfLinks.{link_here, not_there, withdrawn}
+use Rattle.rsl_book.specs.Lines.{IsLineBut}
+use Rattle.rsl_book.specs.Order.{is_of}
+use Rattle.rsl_book.specs.Slots.{links_of, opened_of}
+use Rattle.rsl_book.proofs.Lined.{line_not_there, line_withdrawn}
+use Rattle.rsl_book.proofs.Slotted.{long_opened}
 use Rattle.rsl_book.proofs.order.Kind.withdraw.Goals as goal
 
 some_is : (taken : Option ℕ) (x : ℕ) (P : Type 0) → taken ≡ Some x → OnSome taken P → P
@@ -12,17 +15,20 @@ some_is taken x P is then = subst (λ (one : Option ℕ). OnSome one P) is then
 
 pub place_of-place-requires-clause-kind : goal.place_of-place-requires-clause-kind
 place_of-place-requires-clause-kind c =
-    sym (ap (λ (one : Link). is_of c.args.self one) (link_here c.args.links.now c.args.at c.index-links-at.result c.requires.within c.index-links-at.is)) ∙ sym c.holds.ensures ∙ c.if-holds.true
+    sym (ap (λ (one : Link). is_of c.args.self one) c.link.ensures) ∙ sym c.holds.ensures ∙ c.if-holds.true
 
 pub returns-then-holds-clause-order : goal.returns-then-holds-clause-order
 returns-then-holds-clause-order c =
+    let slots = c.args.slots.now in
     let long : deque_len c.args.order.now ≡ length c.args.order.now.items = search rules in
     let inside = c.place_of-place.ensures.within in
     let removed = some_is c.remove.result _ _ (c.remove.ensures.succeeds 0 (omega (arith, long, inside))) c.remove.ensures.items in
-    subst (λ (order : List ℕ). IsOrderBut c.args.self c.args.links.now c.args.at order) (sym removed)
-    (withdrawn c.args.self c.args.links.now c.args.order.now.items c.args.at c.place_of-place.result c.requires.order c.place_of-place.ensures.within c.place_of-place.ensures.stands)
+    let most = long_opened slots.slots.items slots.places.items slots.count c.requires.kept.placed in
+    subst (λ (order : List ℕ). IsLineBut c.args.self c.args.slots.now c.args.at order) (sym removed)
+    (line_withdrawn c.args.self slots.slots.items (opened_of slots) c.requires.kept.placed.rising c.args.order.now.items c.args.at (omega (arith, most, c.requires.within)) c.requires.order
+    c.place_of-place.result c.place_of-place.ensures.within c.place_of-place.ensures.stands)
 
 pub returns-else-holds-clause-order : goal.returns-else-holds-clause-order
 returns-else-holds-clause-order c =
-    not_there c.args.self c.args.links.now c.args.order.now.items c.args.at c.requires.order
-    (sym (ap (λ (one : Link). is_of c.args.self one) (link_here c.args.links.now c.args.at c.index-links-at.result c.requires.within c.index-links-at.is)) ∙ sym c.holds.ensures ∙ c.if-holds.false)
+    line_not_there c.args.self (links_of c.args.slots.now) (opened_of c.args.slots.now) c.args.order.now.items c.args.at c.requires.order
+    (sym (ap (λ (one : Link). is_of c.args.self one) c.link.ensures) ∙ sym c.holds.ensures ∙ c.if-holds.false)
