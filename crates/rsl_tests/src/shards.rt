@@ -6,7 +6,8 @@
 //! the decision, or that the shard does not take it. `journal` tells the lines that there are, and
 //! all lines so far; `rows` for each account its places, and then those held, the links that are
 //! reserved, live and stale, and the over count; `cut` the segment: its shard, how many lines came
-//! before, the places that each book of its opening holds, and its lines.
+//! before, the places that each book of its opening holds, and its lines; `end` the same of the
+//! journal with which the shard ends.
 
 use crate::steps::config_and_steps;
 use rsl_accounts::Config;
@@ -39,6 +40,11 @@ fn life_of(alloc: Global, config: &Config, number: u32, lines: &str) -> Result<S
     let mut shard = Shard::new(alloc, config, number)?;
     let mut text = String::new(alloc);
     for line in lines.split('/') {
+        if line == "end" {
+            let last = shard.into_segment(alloc)?;
+            push_part(&mut text, ", ", told_segment(alloc, &last)?.as_str())?;
+            return Ok(text);
+        }
         push_part(&mut text, ", ", told(alloc, &mut shard, line)?.as_str())?;
     }
     Ok(text)
@@ -168,6 +174,13 @@ the books go on after a cut, and a second cut is empty | client C xyzzy5461/acco
     | Accept(0), shard 0 from 0: 0; 0 at 0 Accept(0), 0 of 1, Accept(0), LimitReject, 2 of 3, \
     shard 0 from 1: 1; 0 at 1 Accept(0); 0 at 1 LimitReject, shard 0 from 3: 1, 0 of 3, \
     0: 1 1 1 0 0 0
+a shard ends with its journal | client C xyzzy5461/account a pw 1/account b pw 1/ | 0 \
+    | 0 ask 0 n 1/1 ask 1 n 1/end \
+    | Accept(0), Accept(0), shard 0 from 0: 0 0; 0 at 0 Accept(0); 1 at 1 Accept(0)
+and with what came after a cut | client C xyzzy5461/account a pw 2/ | 0 \
+    | 0 ask 0 n 1/cut/0 ask 1 n 2/end \
+    | Accept(0), shard 0 from 0: 0; 0 at 0 Accept(0), Accept(1), \
+    shard 0 from 1: 1; 0 at 1 Accept(1)
 rows of a shard alone | set shards 2/client C xyzzy5461/account a pw 2/account b pw 1/\
     account c pw 1/ | 0 \
     | 0 alive 0 n s/0 ask 1 n 1/2 ask 0 n 1/all tick 59/rows/all tick 900/rows/2 alive 901 n x/\
