@@ -1,21 +1,32 @@
 -- The exit status of the program, and what its faults say.
 use Rattle.std.specs.Prelude.{ℕ, ⊤, List, Result, Ok, Err}
 use Rattle.rsl_app.specs.declared.fault.Fault.{Fault}
-use Rattle.rsl_app.specs.declared.fault.Fault.TheVariants.{Usage, Replay}
+use Rattle.rsl_app.specs.declared.fault.Fault.TheVariants.{Usage, Replay, Serve}
 use Rattle.rsl_replay.specs.Fault.{status_of}
 use Rattle.rsl_replay.specs.Replay.{IsFaultOf}
+use Rattle.rsl_serve.specs.Fault.{status_of as status_of_server}
+use Rattle.rsl_serve.specs.declared.fault.ServeFault.{ServeFault}
+use Rattle.rsl_serve.specs.declared.fault.ServeFault.TheVariants.{Usage as server_usage}
 
--- 1 where the arguments are wrong; else the status of the replay's fault
+-- wrong arguments of a server are the program's
+abbrev pub fault_of_server : ServeFault → Fault
+fault_of_server server_usage = Usage
+fault_of_server fault = Serve fault
+
+-- 1 where the arguments are wrong; else the status of the replay's fault, or of the server's
 abbrev pub fault_status : Fault → ℕ
 fault_status Usage = 1
 fault_status (Replay fault) = status_of fault
+fault_status (Serve fault) = status_of_server fault
 
 -- the status of a process whose work came to this
 abbrev pub status_after : {T : Type 0} → Result T Fault → ℕ
 status_after (Ok value) = 0
 status_after (Err fault) = fault_status fault
 
--- a fault of the script that was read is there; wrong arguments are no fault of a script
+-- a fault of the script that was read is there; wrong arguments are no fault of a script, nor is
+-- one of a server
 abbrev pub IsFaultOfText : (text : List ℕ) → Fault → Type 0
 IsFaultOfText text Usage = ⊤
 IsFaultOfText text (Replay fault) = IsFaultOf text fault
+IsFaultOfText text (Serve fault) = ⊥

@@ -16,6 +16,15 @@ pub(crate) fn ask_for_a_replay<E: Env>(arguments: &E) -> bool {
     }
 }
 
+/// Whether the first argument, after the name of the program, is the word `serve`.
+pub(crate) fn ask_to_serve<E: Env>(arguments: &E) -> bool {
+    let mut word = [0u8; WORD_LEN];
+    match arguments.arg(1, &mut word) {
+        Ok(len) => &word[..len] == b"serve".as_slice(),
+        Err(_) => false,
+    }
+}
+
 /// Whether the octets of a first argument are `replay`, and reading a second one found none.
 fn is_replay(first: &[u8], second: Result<usize, FillError>) -> bool
     ensures { result ≡ is_replay first.now second }

@@ -1,4 +1,5 @@
 use rsl_replay::ReplayFault;
+use rsl_serve::ServeFault;
 use thiserror::Error;
 
 /// Why the program does not end well. It prints as the line for standard error.
@@ -10,6 +11,10 @@ pub(crate) enum Fault {
     /// The script was not replayed.
     #[error("{0}")]
     Replay(ReplayFault),
+    /// The server has not started, or has not ended well. It is never `ServeFault::Usage`, which is
+    /// given as `Usage`.
+    #[error("{0}")]
+    Serve(ServeFault),
 }
 
 impl Fault {
@@ -23,6 +28,7 @@ impl Fault {
         match self {
             Fault::Usage => 1,
             Fault::Replay(fault) => fault.status(),
+            Fault::Serve(fault) => fault.status(),
         }
     }
 }
@@ -35,5 +41,19 @@ impl From<ReplayFault> for Fault {
 
     fn from(fault: ReplayFault) -> Fault {
         Fault::Replay(fault)
+    }
+}
+
+impl From<ServeFault> for Fault {
+    ghost use Rattle.std.specs.Prelude.{◌≡◌};
+    ghost use Rattle.rsl_app.specs.Status.{fault_of_server};
+
+    ghost from_gives = { λ fault made. made ≡ fault_of_server fault };
+
+    fn from(fault: ServeFault) -> Fault {
+        match fault {
+            ServeFault::Usage => Fault::Usage,
+            _ => Fault::Serve(fault),
+        }
     }
 }

@@ -1,9 +1,10 @@
 //! The program `radlimit`: `radlimit replay` reads a script of datagrams from standard input, gives
-//! them to the server one after the other, and prints what it answered to each.
+//! them to the server one after the other, and prints what it answered to each; `radlimit serve`
+//! takes datagrams from two sockets and answers them.
 //!
-//! This crate has the edges of the process: the arguments, the three streams and the exit status,
-//! which is that of the fault (`ended`). What a script says, what the server answers to it and what
-//! is printed is the business of `rsl_replay`.
+//! This crate has the edges of the process: its first argument, the three streams and the exit
+//! status, which is that of the fault (`ended`). What a script says, what the server answers to it
+//! and what is printed is the business of `rsl_replay`, and the running server that of `rsl_serve`.
 #![tactic(auto)]
 
 mod arguments;
@@ -11,11 +12,18 @@ mod command;
 mod ending;
 mod fault;
 
+use arguments::ask_to_serve;
 use command::command;
 use ending::ended;
+use fault::Fault;
+use rsl_serve::serve;
 use std::process::ExitCode;
 
 fn main(rt: HostRuntime) -> ExitCode {
-    let outcome = command(rt.alloc(), &rt, &mut rt.stdin(), &mut rt.stdout());
+    let outcome = if ask_to_serve(&rt) {
+        serve(&rt, &mut rt.stdout()).map_err(Fault::from)
+    } else {
+        command(rt.alloc(), &rt, &mut rt.stdin(), &mut rt.stdout())
+    };
     ended(&mut rt.stderr(), outcome)
 }

@@ -45,3 +45,4 @@ pub use fault::ScriptFault;
 pub use limited::{AttributeText, Password};
 pub use request::{AccessRequest, AccountingRequest, Method, Status};
 pub use script::Script;
+pub use values::read_number;

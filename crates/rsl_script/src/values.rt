@@ -18,9 +18,10 @@ use hex::FromHexError;
 use rsl_wire::Octets;
 use std::alloc::Global;
 
-/// The number that a word of decimal digits writes, where it is under 2^64.
+/// The number that a word of decimal digits writes, where it is under 2^64. Leading zeros are
+/// allowed; `None` for every other word.
 #[tactic(auto, using(crate::proofs::Numbers::number_of_parsed))]
-pub(crate) fn read_number(word: &str) -> Option<u64>
+pub fn read_number(word: &str) -> Option<u64>
     ensures { result ≡ read_number word.now }
 {
     if word.starts_with('+') {

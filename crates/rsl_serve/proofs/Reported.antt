@@ -1,0 +1,44 @@
+-- What a report's rows and a server's lines come to.
+use Rattle.std.proofs.Common.{◌≡◌, ℕ, ◌<◌, ◌≤◌, ◌⊎◌, inl, inr, List, ◌++◌, length, get_or, Some, None, ap, ◌∙◌, arith}
+use Rattle.std.specs.Prelude.{All, codes, slice_get}
+use Rattle.std.proofs.lemmas.Option.{slice_get-get_or, slice_get_cases}
+use Rattle.rsl_accounts.specs.Configuration.{Configuration}
+use Rattle.rsl_accounts.specs.declared.entry.Entry.{Entry}
+use Rattle.rsl_receive.specs.declared.counts.Counts.{Counts}
+use Rattle.rsl_report.specs.Table.{table}
+use Rattle.rsl_serve.specs.Output.{counts_line}
+use Rattle.rsl_serve.specs.Served.{HasReceived, IsServed}
+use Rattle.rsl_service.specs.Report.{IsReport}
+use Rattle.rsl_shard.specs.declared.row.Row.{Row}
+
+-- each row of a report is that of an account
+pub rows_of_accounts : (accounts : List Entry) (rows : List Row) → IsReport accounts rows
+    → All (λ (row : Row). row.account < length accounts) rows
+rows_of_accounts accounts rows report k d within = by (slice_get_cases accounts k).1
+  where
+    here : slice_get rows k ≡ Some (get_or rows k d)
+    here = slice_get-get_or rows k d within
+
+    by : ((entry : Entry) × (k < length accounts) × (slice_get accounts k ≡ Some entry) × (get_or accounts k entry ≡ entry)) ⊎ ((length accounts ≤ k) × (slice_get accounts k ≡ None))
+        → (get_or rows k d).account < length accounts
+    by (inl (entry, below, is, same)) = let row = report.each k entry (get_or rows k d) is here in omega (arith, row.numbered, below)
+    by (inr (past, none)) = absurd (omega (arith, report.one_each, within, past))
+
+-- what both receivers did and what the accounts hold is what a server prints
+pub is_served : (config : Configuration) (turns : ℕ) (auth acct : Counts) (rows : List Row) (lines report : List ℕ)
+    → IsReport config.accounts rows
+    → lines ≡ counts_line (codes "auth") auth ++ counts_line (codes "acct") acct
+    → report ≡ table config rows
+    → HasReceived turns auth → HasReceived turns acct
+    → IsServed config turns (lines ++ report)
+is_served config turns auth acct rows lines report reported line table_is first second = record {
+  auth = auth;
+  acct = acct;
+  rows = rows;
+  auth_received = first;
+  acct_received = second;
+  reported = reported;
+  printed = ap (λ xs. xs ++ report) line ∙ ap (λ xs. counts_line (codes "auth") auth ++ counts_line (codes "acct") acct ++ xs) table_is;
+}
+
+pub ruleset reported = (rows_of_accounts, is_served)

@@ -1,0 +1,40 @@
+-- Why a server has not started, or has not ended well.
+use Rattle.std.specs.Prelude.{ℕ}
+use Rattle.rsl_accounts.specs.declared.fault.ConfigFault.{ConfigFault}
+use Rattle.rsl_accounts.specs.declared.fault.ConfigFault.TheVariants.{NoMemory as config_no_memory}
+use Rattle.rsl_receive.specs.declared.fault.ReceiveFault.{ReceiveFault}
+use Rattle.rsl_receive.specs.declared.fault.ReceiveFault.TheVariants.{NoMemory as receive_no_memory}
+use Rattle.rsl_service.specs.declared.fault.PassFault.{PassFault}
+use Rattle.rsl_service.specs.declared.fault.PassFault.TheVariants.{NoMemory as pass_no_memory}
+use Rattle.rsl_settle.specs.declared.close_fault.CloseFault.{CloseFault}
+use Rattle.rsl_settle.specs.declared.close_fault.CloseFault.TheVariants.{NoMemory as close_no_memory}
+use Rattle.rsl_serve.specs.declared.fault.ServeFault.{ServeFault}
+use Rattle.rsl_serve.specs.declared.fault.ServeFault.TheVariants.{Usage, Unreadable, Config, InputOutput, NoMemory}
+
+-- want of memory is named as such, and every other fault is the account file's
+abbrev pub fault_of_config : ConfigFault → ServeFault
+fault_of_config config_no_memory = NoMemory
+fault_of_config fault = Config fault
+
+-- so it is of a pass, a receiver and the closing of a service; what else ends these is input or
+-- output
+abbrev pub fault_of_pass : PassFault → ServeFault
+fault_of_pass pass_no_memory = NoMemory
+fault_of_pass fault = InputOutput
+
+abbrev pub fault_of_receive : ReceiveFault → ServeFault
+fault_of_receive receive_no_memory = NoMemory
+fault_of_receive fault = InputOutput
+
+abbrev pub fault_of_close : CloseFault → ServeFault
+fault_of_close close_no_memory = NoMemory
+fault_of_close fault = InputOutput
+
+-- the status of a process that ends so: 1 where the arguments or the file are at fault, 2 for input
+-- and output, 3 for memory
+abbrev pub status_of : ServeFault → ℕ
+status_of Usage = 1
+status_of Unreadable = 1
+status_of (Config fault) = 1
+status_of InputOutput = 2
+status_of NoMemory = 3

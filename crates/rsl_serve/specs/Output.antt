@@ -1,0 +1,24 @@
+-- What a server prints once it has ended well.
+use Rattle.std.specs.Prelude.{ℕ, List, [], ◌∷◌, ◌++◌, codes, string_bytes}
+use Rattle.std.specs.Fmt.{decimal}
+use Rattle.rsl_receive.specs.declared.counts.Counts.{Counts}
+use Rattle.rsl_serve.specs.declared.output.Output.{Output}
+
+-- a word and a number, after a space each
+abbrev pub counted : (word : List ℕ) → (number : ℕ) → List ℕ
+counted word number = 32 ∷ word ++ 32 ∷ decimal number
+
+-- what the receiver of a port did
+abbrev pub counts_line : (port : List ℕ) → Counts → List ℕ
+counts_line port counts =
+    port
+    ++ counted (codes "received") counts.received
+    ++ counted (codes "answered") counts.answered
+    ++ counted (codes "dropped") counts.dropped
+    ++ counted (codes "refused") counts.refused
+    ++ counted (codes "unsent") counts.unsent
+    ++ 10 ∷ []
+
+-- the octets that are printed: a line for each receiver, and then the report
+abbrev pub output_octets : Output → List ℕ
+output_octets output = string_bytes output.lines ++ output.report.items

@@ -1,0 +1,26 @@
+-- What a server has done once it has ended well, as far as it prints it.
+use Rattle.std.specs.Prelude.{◌≡◌, ℕ, List, ◌++◌, codes}
+use Rattle.rsl_accounts.specs.Configuration.{Configuration}
+use Rattle.rsl_receive.specs.Counted.{AddsUp}
+use Rattle.rsl_receive.specs.declared.counts.Counts.{Counts}
+use Rattle.rsl_report.specs.Table.{table}
+use Rattle.rsl_serve.specs.Output.{counts_line}
+use Rattle.rsl_service.specs.Report.{IsReport}
+use Rattle.rsl_shard.specs.declared.row.Row.{Row}
+
+-- a receiver has taken its turns, and every datagram that came is counted once
+pub record HasReceived (turns : ℕ) (counts : Counts) : Type 0 where
+  pub all : counts.turns ≡ turns
+  pub sum : AddsUp counts
+
+-- What is printed: what the receivers did, a line for each, and a report with a row for each
+-- account in file order, with its places and no more held.
+pub record IsServed (config : Configuration) (turns : ℕ) (written : List ℕ) : Type 0 where
+  pub auth : Counts
+  pub acct : Counts
+  pub rows : List Row
+  pub auth_received : HasReceived turns auth
+  pub acct_received : HasReceived turns acct
+  pub reported : IsReport config.accounts rows
+  pub printed : written ≡ counts_line (codes "auth") auth ++ counts_line (codes "acct") acct
+      ++ table config rows

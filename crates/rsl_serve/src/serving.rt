@@ -1,0 +1,102 @@
+ghost use Rattle.std.specs.Prelude.{◌≢◌, ℕ, List, IfErr, IfOk, OnOk};
+ghost use Rattle.std.specs.Io.KnownBytes.{Appends, Keeps};
+ghost use Rattle.rsl_accounts.specs.Configuration.{Configuration};
+ghost use Rattle.rsl_serve.specs.Output.{output_octets};
+ghost use Rattle.rsl_serve.specs.Served.{IsServed};
+
+use crate::fault::ServeFault;
+use crate::file::config_of_file;
+use crate::output::{Output, write_output};
+use crate::plan::Plan;
+use crate::port::UdpPort;
+use crate::running::run;
+use rsl_service::Blanks;
+use std::alloc::Global;
+use std::env::{self, Args, Env};
+use std::fs::Files;
+use std::io::{ErrorKind, Write};
+use std::marker::Brand;
+use std::net::Net;
+use std::sync::Wait;
+use std::sync::ledger::Blank;
+use std::thread::Threads;
+use std::time;
+
+/// The parts of a shard's ledger: one for each pass that a service can open, and one that stays.
+const PARTS: u64 = 1025;
+
+/// Serves the accounts of a file: takes RADIUS datagrams from two UDP sockets, for so many turns of
+/// each, and answers them. Then it writes what both receivers did, a line for each, and what each
+/// account holds.
+///
+/// The arguments after the program's name and a first word are FILE, ADDRESS, AUTHPORT, ACCTPORT
+/// and TURNS, as `Plan::read` takes the last four. The faults come in this order, and nothing is
+/// written before the last: `Usage` where the arguments are wrong; `Unreadable` and `Config` where
+/// the account file is; `InputOutput` where a socket can't be bound or fails, the clock can't be
+/// read, or the record is not settled at the end, and where a write fails. `NoMemory` comes where
+/// memory is refused outside of a step.
+pub fn serve<R, W: Write>(rt: &R, stdout: &mut W) -> Result<(), ServeFault>
+where
+    R: Env + Files + Net + time::Clock + AllocGlobal + Threads + Wait + Sync,
+    // What is written is what the receivers did and what the accounts hold, and nothing else.
+    ensures served { OnOk result ((config : Configuration) × (turns : ℕ) × (written : List ℕ)
+        × IsServed config turns written
+        × Appends (W.contents stdout.old) (W.contents stdout.new) written) }
+    // After every other fault than `InputOutput` nothing was written.
+    ensures silent { IfErr result (λ fault.
+        fault ≢ ServeFault.InputOutput → Keeps (W.contents stdout.old) (W.contents stdout.new)) }
+{
+    let output = served(rt)?;
+    write_output(stdout, &output)
+}
+
+/// Serves until both receivers have taken their turns, and gives what is then printed.
+fn served<R>(rt: &R) -> Result<Output, ServeFault>
+where
+    R: Env + Files + Net + time::Clock + AllocGlobal + Threads + Wait + Sync,
+    ensures { IfOk result (λ output. (config : Configuration) × (turns : ℕ)
+        × IsServed config turns (output_octets output)) }
+{
+    let alloc = rt.alloc();
+    let (file, plan) = match env::args(rt) {
+        Ok(words) => asked(words)?,
+        Err(error) if error.kind() == ErrorKind::OutOfMemory => return Err(ServeFault::NoMemory),
+        Err(_) => return Err(ServeFault::Usage),
+    };
+    let config = config_of_file(rt, alloc, file.as_str())?;
+    let auth = UdpPort::bind(rt, plan.address, plan.auth)?;
+    let acct = UdpPort::bind(rt, plan.address, plan.acct)?;
+    let boot = rt.since_1970()?.as_secs();
+    let blanks = Blanks {
+        blank0: Blank::new(PARTS),
+        blank1: Blank::new(PARTS),
+        blank2: Blank::new(PARTS),
+        blank3: Blank::new(PARTS),
+    };
+    run::<Brand, Brand, Brand, Brand, R>(rt, alloc, blanks, config, boot, auth, acct, plan.turns)
+}
+
+/// The file and the plan that the arguments name.
+fn asked(mut words: Args<Global>) -> Result<(String, Plan), ServeFault> {
+    let _program = words.next();
+    let _serve = words.next();
+    let (Some(file), Some(address), Some(auth), Some(acct), Some(turns), None) = (
+        words.next(),
+        words.next(),
+        words.next(),
+        words.next(),
+        words.next(),
+        words.next(),
+    ) else {
+        return Err(ServeFault::Usage);
+    };
+    match Plan::read(
+        address.as_str(),
+        auth.as_str(),
+        acct.as_str(),
+        turns.as_str(),
+    ) {
+        Some(plan) => Ok((file, plan)),
+        None => Err(ServeFault::Usage),
+    }
+}

@@ -1,0 +1,102 @@
+#!/usr/bin/env bash
+# Starts a server on free ports of 127.0.0.1, asks it with FreeRADIUS's radclient, and looks at each answer. It exits
+# with 0 only where every answer was the right one, and ends the server by its process id.
+#
+# usage: examples/with-radclient.sh [PROGRAM]        PROGRAM: the program radlimit, ./radlimit if it is not given
+#
+# It wants Linux, Python 3 and radclient (Debian's package freeradius-utils).
+set -euo pipefail
+
+top=$(cd "$(dirname "$0")/.." && pwd)
+program=${1:-$top/radlimit}
+said=$(mktemp)
+failed=0
+
+server=
+trap 'kill "$server" 2> /dev/null || true; wait "$server" 2> /dev/null || true; rm -f "$said"' EXIT
+
+# Two UDP ports that nobody has.
+free_ports() {
+    python3 -c '
+from socket import AF_INET, SOCK_DGRAM, socket
+sockets = [socket(AF_INET, SOCK_DGRAM) for _ in range(2)]
+for one in sockets:
+    one.bind(("127.0.0.1", 0))
+print(*(one.getsockname()[1] for one in sockets))
+'
+}
+
+# Whether a UDP socket is bound on this port.
+bound() {
+    grep -q "^ *[0-9]*: [0-9A-F]*:$(printf %04X "$1") " /proc/net/udp
+}
+
+# Starts the server, and waits for its sockets. A build of the program may come first, so this waits as long as the
+# process is there.
+start() {
+    read -r auth acct < <(free_ports)
+    "$program" serve "$top/examples/with-radclient.toml" 127.0.0.1 "$auth" "$acct" 18446744073709551615 2> "$said" &
+    server=$!
+    until bound "$auth" && bound "$acct"; do
+        kill -0 "$server" 2> /dev/null || return 1
+        sleep 0.1
+    done
+}
+
+# another program may take a port in between
+start || start || start || {
+    echo "the server has not started: $(cat "$said")" >&2
+    exit 1
+}
+
+# Sends a packet and looks at the answer:
+# expect WHAT CODE PATTERN auth|acct SECRET ATTRIBUTE..
+# CODE is the answer's name, or nothing where none may come; PATTERN, if there is one, stands in a line of it.
+expect() {
+    local what=$1 code=$2 pattern=$3 kind=$4 secret=$5
+    shift 5
+    local port=$auth wait=3
+    if [ "$kind" = acct ]; then port=$acct; fi
+    if [ -z "$code" ]; then wait=1; fi
+    answer=$(printf '%s\n' "$@" | radclient -x -r 1 -t "$wait" "127.0.0.1:$port" "$kind" "$secret" 2>&1) || true
+    received=$(sed -n '/^Received /,$p' <<< "$answer")
+    local found
+    found=$(sed -n 's/^Received \([A-Za-z-]*\) .*/\1/p' <<< "$received")
+    if [ "$found" = "$code" ] && { [ -z "$pattern" ] || grep -q -- "$pattern" <<< "$received"; }; then
+        echo "$what: ${code:-no answer}"
+    else
+        echo "$what: wanted ${code:-no answer}${pattern:+ with $pattern}, and found:"
+        sed 's/^/    /' <<< "$answer"
+        failed=1
+    fi
+}
+
+# The same from the client 127.0.0.1, and from 127.0.0.2, which has to sign.
+from_first() { expect "$1" "$2" "$3" "$4" testing123 "${@:5}"; }
+from_second() { expect "$1" "$2" "$3" "$4" testing456 'Packet-Src-IP-Address = 127.0.0.2' "${@:5}"; }
+
+nas='NAS-Identifier = "pop1"'
+name='User-Name = "nemo"'
+pap='User-Password = "arctangent"'
+session='Acct-Session-Id = "s1"'
+
+from_first 'a wrong password' Access-Reject '' auth "$name" 'User-Password = "arctangents"' "$nas"
+from_first 'a login by PAP' Access-Accept 'Port-Limit = 1' auth "$name" "$pap" "$nas"
+class=$(sed -n 's/^[[:space:]]*\(Class = 0x[0-9a-f]*\)$/\1/p' <<< "$received")
+from_first 'a login beside it' Access-Reject 'Session limit reached' auth "$name" "$pap" "$nas"
+from_first 'the session starts' Accounting-Response '' acct \
+    'Acct-Status-Type = Start' "$name" "$nas" "$session" "$class"
+from_first 'it goes on' Accounting-Response '' acct 'Acct-Status-Type = Interim-Update' "$name" "$nas" "$session" "$class"
+from_first 'a login beside it' Access-Reject 'Session limit reached' auth "$name" "$pap" "$nas"
+from_first 'it stops' Accounting-Response '' acct 'Acct-Status-Type = Stop' "$name" "$nas" "$session" "$class"
+from_first 'a login by CHAP' Access-Accept 'Class = ' auth "$name" 'CHAP-Password = "arctangent"' "$nas"
+from_first 'a login beside it' Access-Reject 'Session limit reached' auth "$name" "$pap" "$nas"
+from_first 'the access server restarts' Accounting-Response '' acct 'Acct-Status-Type = Accounting-On' "$nas"
+from_first 'a login after that' Access-Accept '' auth "$name" "$pap" "$nas"
+from_second 'a signed login' Access-Accept 'Message-Authenticator = ' auth \
+    'User-Name = "ishmael"' 'User-Password = "call me"' "$nas" 'Message-Authenticator = 0x00'
+from_second 'an unsigned one of the same client' '' '' auth \
+    'User-Name = "ishmael"' 'User-Password = "call me"' "$nas"
+
+if [ "$failed" = 0 ]; then echo "every answer was the right one"; fi
+exit "$failed"
