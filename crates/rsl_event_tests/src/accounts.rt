@@ -3,6 +3,7 @@
 
 mod files;
 mod making;
+mod names;
 mod printing;
 
 use rsl_accounts::{Client, Config, ConfigFault, Entry, Rules, Secret, Settings, Text};

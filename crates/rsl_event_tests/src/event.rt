@@ -7,6 +7,7 @@ mod access;
 mod accounting;
 mod copies;
 mod drops;
+mod hostile;
 mod replies;
 mod signatures;
 

@@ -1,0 +1,177 @@
+"""What scripts of bench/ share that ask `radlimit serve`: the server as a process, and an access server, whose octets
+Python's hashlib and hmac make. It wants Linux."""
+
+import hashlib
+import hmac
+import os
+import random
+import re
+import signal
+import socket
+import struct
+import subprocess
+import sys
+import tempfile
+import time
+
+TOP = os.path.dirname(os.path.dirname(os.path.dirname(os.path.abspath(__file__))))
+PROGRAM = os.path.join(TOP, "crates", "rsl_app", "out", "rsl_app")
+HOST = "127.0.0.1"
+UNUSED = random.sample(range(20_000, 32_000), 12_000)
+START, STOP, INTERIM = 1, 2, 3
+MESSAGE_AUTHENTICATOR = 80
+COUNTS = re.compile(r"^(auth|acct) received (\d+) answered (\d+) dropped (\d+) refused (\d+) unsent (\d+)$", re.M)
+
+HEAD = """version = 1
+shards = {shards}
+reserve_secs = {reserve}
+live_secs = 900
+grace_secs = 900
+closed_secs = 3600
+keep_secs = {keep}
+"""
+
+
+def udp_sockets():
+    """Of each UDP port that is bound: the octets that wait at it, and the datagrams that found no room."""
+    found = {}
+    with open("/proc/net/udp", encoding="ascii") as table:
+        for line in table.readlines()[1:]:
+            words = line.split()
+            found[int(words[1].split(":")[1], 16)] = int(words[4].split(":")[1], 16), int(words[12])
+    return found
+
+
+def free_ports():
+    """Two UDP ports that nobody has, that the system gives nobody by itself, and that come once. No socket tries them:
+    a process that another thread starts would hold it for a while."""
+    found = []
+    while len(found) < 2:
+        port = UNUSED.pop()
+        if port not in udp_sockets():
+            found.append(str(port))
+    return found
+
+
+def attribute(kind, value):
+    """An attribute."""
+    return bytes([kind, 2 + len(value)]) + value
+
+
+def hidden(password, secret, authenticator):
+    """A password as RFC 2865 section 5.2 hides it."""
+    padded = password + bytes(-len(password) % 16 if password else 16)
+    found, last = b"", authenticator
+    for at in range(0, len(padded), 16):
+        digest = hashlib.md5(secret + last).digest()
+        last = bytes(one ^ other for one, other in zip(padded[at : at + 16], digest))
+        found += last
+    return found
+
+
+def access_request(number, secret, attributes, authenticator, password=None, signs=False):
+    """An Access-Request, with PAP where there is a password."""
+    if password is not None:
+        attributes = attributes + attribute(2, hidden(password, secret, authenticator))
+    if signs:
+        attributes = attribute(MESSAGE_AUTHENTICATOR, bytes(16)) + attributes
+    octets = struct.pack(">BBH", 1, number, 20 + len(attributes)) + authenticator + attributes
+    if signs:
+        octets = octets[:22] + hmac.new(secret, octets, "md5").digest() + octets[38:]
+    return octets
+
+
+def accounting_request(number, secret, status, attributes):
+    """An Accounting-Request with a right Request Authenticator."""
+    attributes = attribute(40, struct.pack(">I", status)) + attributes
+    head = struct.pack(">BBH", 4, number, 20 + len(attributes))
+    return head + hashlib.md5(head + bytes(16) + attributes + secret).digest() + attributes
+
+
+def is_answer(reply, request, secret):
+    """Whether a reply is to the request, by its Identifier, its Length and its Response Authenticator."""
+    if len(reply) < 20 or reply[1] != request[1] or len(reply) != struct.unpack(">H", reply[2:4])[0]:
+        return False
+    return reply[4:20] == hashlib.md5(reply[:4] + request[4:20] + reply[20:] + secret).digest()
+
+
+def attributes_of(packet):
+    """The attributes of a packet with a well-formed list, as pairs."""
+    at = 20
+    while at < len(packet):
+        yield packet[at], packet[at + 2 : at + packet[at + 1]]
+        at += packet[at + 1]
+
+
+class Server:
+    """A server that runs. Where it does not end by itself it is ended by its process id."""
+
+    def __init__(self, file, turns, environment=None):
+        """Starts it, in the environment that a function of its ports gives, or in this process's."""
+        for _ in range(10):
+            self.ports = free_ports()
+            self.outputs = [tempfile.TemporaryFile() for _ in range(2)]
+            self.start(file, turns, environment)
+            # another program may take a port in between
+            if self.process.poll() is None or not any(int(port) in udp_sockets() for port in self.ports):
+                return
+            self.close()
+
+    def start(self, file, turns, environment):
+        """Starts the process, and waits until it has its sockets."""
+        stdout, stderr = self.outputs
+        words = [PROGRAM, "serve", file, HOST, *self.ports, str(turns)]
+        given = environment(self.ports) if environment else None
+        self.process = subprocess.Popen(words, stdin=subprocess.DEVNULL, stdout=stdout, stderr=stderr, env=given)
+        while self.process.poll() is None and not all(int(port) in udp_sockets() for port in self.ports):
+            time.sleep(0.002)
+
+    def close(self):
+        """Closes what it wrote to."""
+        for output in self.outputs:
+            output.close()
+
+    def __enter__(self):
+        return self
+
+    def __exit__(self, *_):
+        if self.process.poll() is None:
+            self.process.send_signal(signal.SIGKILL)
+            self.process.wait()
+        self.close()
+
+    def ended(self, seconds):
+        """The status, standard output and standard error of a server that ends within so many seconds."""
+        try:
+            status = self.process.wait(seconds)
+        except subprocess.TimeoutExpired:
+            status = "goes on"
+        texts = []
+        for output in self.outputs:
+            output.seek(0)
+            texts.append(output.read().decode())
+        return status, *texts
+
+    def resident(self):
+        """The octets that are resident."""
+        with open(f"/proc/{self.process.pid}/status", encoding="ascii") as status:
+            return 1024 * int(re.search(r"VmRSS:\s+(\d+) kB", status.read())[1])
+
+
+def built(folder, name, *words):
+    """A program of bench/radius, built by the C compiler."""
+    path = os.path.join(folder, name)
+    source = os.path.join(TOP, "bench", "radius", f"{name}.c")
+    subprocess.run(["cc", "-O2", "-Wall", "-Wextra", "-pthread", *words, "-o", path, source], check=True)
+    return path
+
+
+def verdict(results):
+    """Prints what failed and how many passed, and ends the process with 1 where one failed."""
+    failed = 0
+    for name, found, expected in results:
+        if found != expected:
+            failed += 1
+            print(f"{name}\nexpected: {expected!r}\nfound:    {found!r}")
+    print(f"{len(results) - failed} passed, {failed} failed")
+    sys.exit(1 if failed else 0)
