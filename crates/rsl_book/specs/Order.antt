@@ -1,6 +1,7 @@
--- An order lists the positions of some links of a book: those that are reserved or those that are
--- bound, by their last touch, those that are reserved, by their accept numbers, or all, by their
--- sessions or by their bundles. Links that are alike in this stand as they opened.
+-- An order lists some links of a book, here by their positions, where a book itself keeps their
+-- slots: those that are reserved or those that are bound, by their last touch, those that are
+-- reserved, by their accept numbers, or all, by their sessions or by their bundles. Links that are
+-- alike in this stand as they opened.
 use Rattle.std.specs.Prelude.{◌≡◌, ◌≢◌, ℕ, ◌<◌, ◌≤◌, List, [], ◌∷◌, get_or, length, ◌==◌, ◌&&◌, Bool, true, false, Option, None, Some}
 use Rattle.std.specs.Ordering.{ordering_then, nat_cmp, is_lt}
 use Rattle.std.specs.declared.cmp.Ordering.{Ordering}

@@ -88,7 +88,8 @@ impl Orders {
 ///
 /// The clock never falls, so the link that is touched goes to the end of its order, and those that
 /// lapse, or could yield, stand at the front. A link that ends leaves its place in each order, where
-/// others move up by a word each; no other link is looked at.
+/// others move up by a word each; no other link is looked at but those at which an order is halved
+/// to find that place.
 #[derive(Drop)]
 pub(crate) struct LinkList {
     slots: Slots,

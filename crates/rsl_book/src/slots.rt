@@ -37,7 +37,8 @@ impl Slot {
 
 /// The links of a book, each in a slot, where it stays until it ends.
 ///
-/// A link that opens or ends moves words of `places`, and no link, and none but itself is looked at.
+/// A link that opens or ends moves words of `places`, and no link. To find the position of a slot's
+/// link, only those are looked at at which `places` is halved.
 #[derive(Drop)]
 pub(crate) struct Slots {
     /// The slots, in no order.

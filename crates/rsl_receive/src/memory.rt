@@ -39,6 +39,9 @@ pub struct MemoryPort {
 impl MemoryPort {
     /// A port to which this comes. The sends of these numbers, counted from 0, fail.
     pub fn new(alloc: Global, coming: Vec<Coming>, failing: Vec<u64>) -> MemoryPort
+        ensures coming { result.coming ≡ coming }
+        ensures next { result.next ≡ 0 }
+        ensures failing { result.failing ≡ failing }
         ensures numbers { result.numbers ≡ no_numbers }
         ensures tells { result.telling ≡ true }
         ensures taken { result.taken.items ≡ [] }

@@ -12,10 +12,12 @@ use std::alloc::{AllocError, AllocFailed};
 use std::io;
 use thiserror::Error;
 
-/// Why a server has not started, or has not ended well. It prints as the text for standard error.
+/// Why a server has not started, or has not ended well. It prints as the text for standard error,
+/// but for `Usage`.
 #[derive(Clone, Copy, Debug, PartialEq, Eq, Error)]
 pub enum ServeFault {
-    /// The arguments are wrong. They are looked at before anything else.
+    /// The arguments are wrong. They are looked at before anything else. The program prints its own
+    /// line of usage for it.
     #[error("wrong arguments")]
     Usage,
     /// The account file is not there, a read of it failed, or it has over 16,777,216 octets.

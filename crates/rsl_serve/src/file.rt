@@ -11,8 +11,10 @@ use std::io::{ErrorKind, Read};
 /// The most octets that an account file may have.
 const MAX_FILE_LEN: u64 = 16_777_216;
 
-/// The configuration that the account file of this name gives. `Unreadable` comes where it is not
-/// there, a read of it fails or it is too long, `Config` where it is refused.
+/// The configuration that the account file of this name gives.
+///
+/// `Unreadable` comes where it can't be opened, a read of it fails or it has over 16,777,216 octets,
+/// `Config` where its text is refused, and `NoMemory` where memory is refused for it.
 pub(crate) fn config_of_file<F: Files>(
     files: &F,
     alloc: Global,
@@ -29,7 +31,8 @@ pub(crate) fn config_of_file<F: Files>(
     }
 }
 
-/// The configuration that the text of an account file gives, or why it gives none.
+/// The configuration that the text of an account file gives. `Unreadable` comes where it is too
+/// long, `Config` where it is refused, and `NoMemory` where memory is.
 fn config_of_text(alloc: Global, text: &[u8]) -> Result<Config, ServeFault>
     ensures config { IfOk result (λ config. configuration_of_text text.now ≡ Ok config) }
     ensures fault { IfErr result (λ found. (fault : ConfigFault) →

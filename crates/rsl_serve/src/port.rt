@@ -20,6 +20,9 @@ pub struct UdpPort {
 
 impl UdpPort {
     /// A socket that is bound on this address and UDP port.
+    ///
+    /// The error is the system's: it comes where there is no room for a socket, the address is not
+    /// this machine's, the port is taken or not allowed, or how long a read waits can't be set.
     pub fn bind<N: Net>(net: &N, address: [u8; 4], port: u16) -> io::Result<UdpPort>
         ensures { IfOk result (λ port. port.numbers ≡ no_numbers) }
     {
@@ -31,7 +34,8 @@ impl UdpPort {
         })
     }
 
-    /// What the socket has for a `receive`, which is not counted yet.
+    /// What the socket has for a `receive`, which is not counted yet. `PortFault` comes where the
+    /// system's read fails; that no datagram comes in time is no failure.
     pub(crate) fn read(&self, buffer: &mut [u8]) -> Result<Option<(usize, Source)>, PortFault>
         ensures { IfOk result (λ received. IfSome received (λ found.
             found.0 ≤ length buffer.new)) }
@@ -67,7 +71,8 @@ fn socket_addr(source: Source) -> SocketAddr {
 }
 
 /// What a read of a socket on an IPv4 address gave, which is at most so many octets. A wait that
-/// ended without a datagram, or that was interrupted, is no failure.
+/// ended without a datagram, or that was interrupted, is no failure; every other error is a
+/// `PortFault`.
 fn received(
     read: io::Result<(usize, SocketAddr)>,
     most: usize,

@@ -8,7 +8,7 @@ use crate::ending::Ending;
 use crate::fault::ServeFault;
 use crate::output::{Output, counts_of, table_of};
 use crate::port::UdpPort;
-use crate::worker::{received, ticked};
+use crate::worker::{Received, Receiver, Shared, Span, received, ticked};
 use rsl_accounts::Config;
 use rsl_event::Port;
 use rsl_receive::Counts;
@@ -17,6 +17,13 @@ use std::alloc::Global;
 use std::sync::Wait;
 use std::thread::{self, Threads};
 use std::time;
+
+/// The sockets of a server, of which nothing was read yet.
+#[derive(Drop)]
+pub(crate) struct Sockets {
+    pub auth: UdpPort,
+    pub acct: UdpPort,
+}
 
 /// What the workers of a server have come to: the counts of both receivers, and the passes.
 #[derive(Drop)]
@@ -40,10 +47,8 @@ pub(crate) fn run<L0, L1, L2, L3, R>(
     alloc: Global,
     blanks: Blanks,
     config: Config,
-    boot: u64,
-    auth: UdpPort,
-    acct: UdpPort,
-    turns: u64,
+    sockets: Sockets,
+    span: Span,
 ) -> Result<Output, ServeFault>
 where
     L0: Tally + Send + Sync,
@@ -59,13 +64,15 @@ where
         blanks.blank2.name blanks.blank2.parts L2.name L2.parts L2.setup L2.books }
     requires ledger3 { IsLedgerOf config 3
         blanks.blank3.name blanks.blank3.parts L3.name L3.parts L3.setup L3.books }
-    requires auth { auth.numbers ≡ no_numbers }
-    requires acct { acct.numbers ≡ no_numbers }
-    ensures { IfOk result (λ output. IsServed config turns (output_octets output)) }
+    requires auth { sockets.auth.numbers ≡ no_numbers }
+    requires acct { sockets.acct.numbers ≡ no_numbers }
+    ensures { IfOk result (λ output. IsServed config span.turns (output_octets output)) }
 {
-    let service: Service<L0, L1, L2, L3, Open> = Service::new(alloc, blanks, config, boot, Open)?;
+    let service: Service<L0, L1, L2, L3, Open> = Service::new(
+        alloc, blanks, config, span.boot, Open,
+    )?;
     let passes = open(rt, alloc, &service)?;
-    let worked = work(rt, alloc, &service, passes, boot, auth, acct, turns)?;
+    let worked = work(rt, alloc, &service, passes, sockets, span)?;
     close(rt, alloc, service, worked)
 }
 
@@ -82,9 +89,6 @@ fn open<L0: Tally, L1: Tally, L2: Tally, L3: Tally, R: Wait>(
     })
 }
 
-/// What a receiver has come to, with its pass.
-type Received<L0, L1, L2, L3> = Result<(Counts, Pass<L0, L1, L2, L3>), ServeFault>;
-
 /// What both receivers have come to, that of the authentication port first.
 type Both<L0, L1, L2, L3> = (Received<L0, L1, L2, L3>, Received<L0, L1, L2, L3>);
 
@@ -92,14 +96,9 @@ type Both<L0, L1, L2, L3> = (Received<L0, L1, L2, L3>, Received<L0, L1, L2, L3>)
 fn both_received<L0, L1, L2, L3, R>(
     rt: &R,
     alloc: Global,
-    service: &Service<L0, L1, L2, L3, Open>,
-    auth_pass: Pass<L0, L1, L2, L3>,
-    acct_pass: Pass<L0, L1, L2, L3>,
-    boot: u64,
-    auth: UdpPort,
-    acct: UdpPort,
-    turns: u64,
-    ending: &Ending,
+    shared: &Shared<'_, L0, L1, L2, L3>,
+    auth: Receiver<L0, L1, L2, L3>,
+    acct: Receiver<L0, L1, L2, L3>,
 ) -> Both<L0, L1, L2, L3>
 where
     L0: Tally + Send + Sync,
@@ -107,45 +106,21 @@ where
     L2: Tally + Send + Sync,
     L3: Tally + Send + Sync,
     R: time::Clock + Threads + Wait + Sync,
-    requires auth { auth.numbers ≡ no_numbers }
-    requires acct { acct.numbers ≡ no_numbers }
-    ensures auth { IfOk result.0 (λ received. HasReceived turns received.0) }
-    ensures acct { IfOk result.1 (λ received. HasReceived turns received.0) }
+    requires auth { auth.datagrams.numbers ≡ no_numbers }
+    requires acct { acct.datagrams.numbers ≡ no_numbers }
+    ensures auth { IfOk result.0 (λ received. HasReceived shared.now.span.turns received.0) }
+    ensures acct { IfOk result.1 (λ received. HasReceived shared.now.span.turns received.0) }
 {
     thread::join(
         rt,
         move || -> Received<L0, L1, L2, L3>
-            requires { auth.numbers ≡ no_numbers }
-            ensures { IfOk result (λ received. HasReceived turns received.0) }
-        {
-            received(
-                rt,
-                alloc,
-                service,
-                auth_pass,
-                boot,
-                Port::Auth,
-                auth,
-                turns,
-                ending,
-            )
-        },
+            requires { auth.datagrams.numbers ≡ no_numbers }
+            ensures { IfOk result (λ received. HasReceived shared.entry.now.span.turns received.0) }
+        { received(rt, alloc, shared, auth) },
         move || -> Received<L0, L1, L2, L3>
-            requires { acct.numbers ≡ no_numbers }
-            ensures { IfOk result (λ received. HasReceived turns received.0) }
-        {
-            received(
-                rt,
-                alloc,
-                service,
-                acct_pass,
-                boot,
-                Port::Acct,
-                acct,
-                turns,
-                ending,
-            )
-        },
+            requires { acct.datagrams.numbers ≡ no_numbers }
+            ensures { IfOk result (λ received. HasReceived shared.entry.now.span.turns received.0) }
+        { received(rt, alloc, shared, acct) },
     )
 }
 
@@ -155,10 +130,8 @@ fn work<L0, L1, L2, L3, R>(
     alloc: Global,
     service: &Service<L0, L1, L2, L3, Open>,
     passes: Passes<L0, L1, L2, L3>,
-    boot: u64,
-    auth: UdpPort,
-    acct: UdpPort,
-    turns: u64,
+    sockets: Sockets,
+    span: Span,
 ) -> Result<Worked<L0, L1, L2, L3>, ServeFault>
 where
     L0: Tally + Send + Sync,
@@ -166,32 +139,40 @@ where
     L2: Tally + Send + Sync,
     L3: Tally + Send + Sync,
     R: time::Clock + Threads + Wait + Sync,
-    requires auth { auth.numbers ≡ no_numbers }
-    requires acct { acct.numbers ≡ no_numbers }
-    ensures auth { IfOk result (λ worked. HasReceived turns worked.auth) }
-    ensures acct { IfOk result (λ worked. HasReceived turns worked.acct) }
+    requires auth { sockets.auth.numbers ≡ no_numbers }
+    requires acct { sockets.acct.numbers ≡ no_numbers }
+    ensures auth { IfOk result (λ worked. HasReceived span.turns worked.auth) }
+    ensures acct { IfOk result (λ worked. HasReceived span.turns worked.acct) }
 {
-    let Passes {
-        auth: auth_pass,
-        acct: acct_pass,
-        ticks,
-    } = passes;
     let ending = Ending::new();
-    let ending = &ending;
-    // where no thread can be made the first comes last: the worker that makes ticks, which then ends at once
+    let shared = Shared {
+        service,
+        span,
+        ending: &ending,
+    };
+    let shared = &shared;
+    let auth = Receiver {
+        port: Port::Auth,
+        datagrams: sockets.auth,
+        pass: passes.auth,
+    };
+    let acct = Receiver {
+        port: Port::Acct,
+        datagrams: sockets.acct,
+        pass: passes.acct,
+    };
+    let ticks = passes.ticks;
+    // where no thread can be made the first comes last: the worker that makes ticks, which then
+    // ends at once
     let (ticks, (auth, acct)) = thread::join(
         rt,
-        move || ticked(rt, alloc, service, ticks, boot, ending),
+        move || ticked(rt, alloc, shared, ticks),
         move || -> Both<L0, L1, L2, L3>
-            requires auth { auth.numbers ≡ no_numbers }
-            requires acct { acct.numbers ≡ no_numbers }
-            ensures auth { IfOk result.0 (λ received. HasReceived turns received.0) }
-            ensures acct { IfOk result.1 (λ received. HasReceived turns received.0) }
-        {
-            both_received(
-                rt, alloc, service, auth_pass, acct_pass, boot, auth, acct, turns, ending,
-            )
-        },
+            requires auth { auth.datagrams.numbers ≡ no_numbers }
+            requires acct { acct.datagrams.numbers ≡ no_numbers }
+            ensures auth { IfOk result.0 (λ received. HasReceived shared.entry.now.span.turns received.0) }
+            ensures acct { IfOk result.1 (λ received. HasReceived shared.entry.now.span.turns received.0) }
+        { both_received(rt, alloc, shared, auth, acct) },
     );
     let (auth, auth_pass) = auth?;
     let (acct, acct_pass) = acct?;

@@ -9,7 +9,8 @@ use crate::file::config_of_file;
 use crate::output::{Output, write_output};
 use crate::plan::Plan;
 use crate::port::UdpPort;
-use crate::running::run;
+use crate::running::{Sockets, run};
+use crate::worker::Span;
 use rsl_service::Blanks;
 use std::alloc::Global;
 use std::env::{self, Args, Env};
@@ -18,12 +19,8 @@ use std::io::{ErrorKind, Write};
 use std::marker::Brand;
 use std::net::Net;
 use std::sync::Wait;
-use std::sync::ledger::Blank;
 use std::thread::Threads;
 use std::time;
-
-/// The parts of a shard's ledger: one for each pass that a service can open, and one that stays.
-const PARTS: u64 = 1025;
 
 /// Serves the accounts of a file: takes RADIUS datagrams from two UDP sockets, for so many turns of
 /// each, and answers them. Then it writes what both receivers did, a line for each, and what each
@@ -64,16 +61,16 @@ where
         Err(_) => return Err(ServeFault::Usage),
     };
     let config = config_of_file(rt, alloc, file.as_str())?;
-    let auth = UdpPort::bind(rt, plan.address, plan.auth)?;
-    let acct = UdpPort::bind(rt, plan.address, plan.acct)?;
-    let boot = rt.since_1970()?.as_secs();
-    let blanks = Blanks {
-        blank0: Blank::new(PARTS),
-        blank1: Blank::new(PARTS),
-        blank2: Blank::new(PARTS),
-        blank3: Blank::new(PARTS),
+    let sockets = Sockets {
+        auth: UdpPort::bind(rt, plan.address, plan.auth)?,
+        acct: UdpPort::bind(rt, plan.address, plan.acct)?,
     };
-    run::<Brand, Brand, Brand, Brand, R>(rt, alloc, blanks, config, boot, auth, acct, plan.turns)
+    let span = Span {
+        boot: rt.since_1970()?.as_secs(),
+        turns: plan.turns,
+    };
+    let blanks = Blanks::new();
+    run::<Brand, Brand, Brand, Brand, R>(rt, alloc, blanks, config, sockets, span)
 }
 
 /// The file and the plan that the arguments name.

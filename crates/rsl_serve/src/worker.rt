@@ -14,24 +14,57 @@ use std::alloc::Global;
 use std::sync::Wait;
 use std::time;
 
+/// When a server starts, and how long it works.
+#[derive(Clone, Copy)]
+pub(crate) struct Span {
+    /// The seconds since 1970 at its start, which are also its service's boot number.
+    pub boot: u64,
+    /// The turns that each receiver takes.
+    pub turns: u64,
+}
+
+/// What the workers of a server share.
+#[derive(Drop)]
+pub(crate) struct Shared<'a, L0: Tally, L1: Tally, L2: Tally, L3: Tally> {
+    pub service: &'a Service<L0, L1, L2, L3, Open>,
+    pub span: Span,
+    pub ending: &'a Ending,
+}
+
+/// A receiver, before it has taken a turn.
+#[derive(Drop)]
+pub(crate) struct Receiver<L0: Tally, L1: Tally, L2: Tally, L3: Tally> {
+    pub port: Port,
+    pub datagrams: UdpPort,
+    pub pass: Pass<L0, L1, L2, L3>,
+}
+
+/// What a receiver has come to: what it did, and its pass.
+pub(crate) type Received<L0, L1, L2, L3> = Result<(Counts, Pass<L0, L1, L2, L3>), ServeFault>;
+
 /// Runs a receiver, and then tells the other workers of its end. It fails also where the other one
 /// has failed.
 pub(crate) fn received<L0: Tally, L1: Tally, L2: Tally, L3: Tally, R: time::Clock + Wait>(
     rt: &R,
     alloc: Global,
-    service: &Service<L0, L1, L2, L3, Open>,
-    mut pass: Pass<L0, L1, L2, L3>,
-    boot: u64,
-    port: Port,
-    datagrams: UdpPort,
-    turns: u64,
-    ending: &Ending,
-) -> Result<(Counts, Pass<L0, L1, L2, L3>), ServeFault>
-    requires { datagrams.numbers ≡ no_numbers }
-    ensures { IfOk result (λ received. HasReceived turns received.0) }
+    shared: &Shared<'_, L0, L1, L2, L3>,
+    receiver: Receiver<L0, L1, L2, L3>,
+) -> Received<L0, L1, L2, L3>
+    requires { receiver.datagrams.numbers ≡ no_numbers }
+    ensures { IfOk result (λ received. HasReceived shared.now.span.turns received.0) }
 {
+    let Shared {
+        service,
+        span,
+        ending,
+    } = shared;
+    let Receiver {
+        port,
+        datagrams,
+        mut pass,
+    } = receiver;
     let mut datagrams = Paired::new(datagrams, ending);
-    let mut clock = SystemClock::new(rt, boot);
+    let mut clock = SystemClock::new(rt, span.boot);
     let result = receive(
         rt,
         alloc,
@@ -40,7 +73,7 @@ pub(crate) fn received<L0: Tally, L1: Tally, L2: Tally, L3: Tally, R: time::Cloc
         port,
         &mut datagrams,
         &mut clock,
-        turns,
+        span.turns,
     );
     ending.note(result.is_err());
     let counts = result?;
@@ -51,17 +84,15 @@ pub(crate) fn received<L0: Tally, L1: Tally, L2: Tally, L3: Tally, R: time::Cloc
 pub(crate) fn ticked<L0: Tally, L1: Tally, L2: Tally, L3: Tally, R: time::Clock + Wait>(
     rt: &R,
     alloc: Global,
-    service: &Service<L0, L1, L2, L3, Open>,
+    shared: &Shared<'_, L0, L1, L2, L3>,
     mut pass: Pass<L0, L1, L2, L3>,
-    boot: u64,
-    ending: &Ending,
 ) -> Pass<L0, L1, L2, L3> {
-    let mut clock = SystemClock::new(rt, boot);
-    let mut second = Second::new(rt, ending);
+    let mut clock = SystemClock::new(rt, shared.span.boot);
+    let mut second = Second::new(rt, shared.ending);
     let _ticks = expire_loop(
         rt,
         alloc,
-        service,
+        shared.service,
         &mut pass,
         &mut clock,
         &mut second,

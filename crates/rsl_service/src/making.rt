@@ -8,7 +8,7 @@ ghost use Rattle.rsl_service.specs.declared.fault.CutFault.TheVariants as faults
 use crate::desk::Desk;
 use crate::fault::{CutFault, PassFault};
 use crate::gate::Gate;
-use crate::left::Left;
+use crate::left::{Left, MAX_PASSES};
 use crate::pass::Pass;
 use crate::service::Service;
 use crate::tally::Tally;
@@ -30,6 +30,26 @@ pub struct Blanks {
     pub blank2: Blank,
     /// That of shard 3.
     pub blank3: Blank,
+}
+
+/// The parts of a shard's ledger: one for each pass that a service opens, and one that stays.
+const PARTS: u64 = MAX_PASSES + 1;
+
+impl Blanks {
+    /// Four blanks with as many parts as a service needs.
+    pub fn new() -> Blanks
+        ensures blank0 { result.blank0.parts ≡ 1025 }
+        ensures blank1 { result.blank1.parts ≡ 1025 }
+        ensures blank2 { result.blank2.parts ≡ 1025 }
+        ensures blank3 { result.blank3.parts ≡ 1025 }
+    {
+        Blanks {
+            blank0: Blank::new(PARTS),
+            blank1: Blank::new(PARTS),
+            blank2: Blank::new(PARTS),
+            blank3: Blank::new(PARTS),
+        }
+    }
 }
 
 /// How many lines more a cut takes room for than there are, since others may come before its lock.

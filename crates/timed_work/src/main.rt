@@ -65,7 +65,9 @@ fn worked(rt: &HostRuntime) -> io::Result<()> {
 }
 
 fn usage() -> io::Error {
-    io::Error::other("usage: timed_work book WORK PLACES PORTS LINKS SERVERS TIMES, or audit LINES")
+    io::Error::other(
+        "usage: timed_work book WORK PLACES PORTS LINKS SERVERS TIMES, or audit LINES, or record LINES",
+    )
 }
 
 /// Does a book's work, and prints what the book shows then.

@@ -7,6 +7,6 @@ use Rattle.rsl_serve.proofs.running.run.Goals as goal
 
 pub returns : goal.returns
 returns g c =
-    subst (λ (config : Configuration). IfOk c.close.result (λ output. IsServed config c.args.turns (output_octets output)))
+    subst (λ (config : Configuration). IfOk c.close.result (λ output. IsServed config c.args.span.turns (output_octets output)))
     (ap (λ (service : ServiceSeen). service.config) c.in_ok-service.ensures)
-    (c.close.ensures c.args.turns c.in_ok-worked.ensures.auth c.in_ok-worked.ensures.acct)
+    (c.close.ensures c.args.span.turns c.in_ok-worked.ensures.auth c.in_ok-worked.ensures.acct)
