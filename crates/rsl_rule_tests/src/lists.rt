@@ -15,13 +15,13 @@ use full::is_filled_twice;
 use std::test::Fail;
 
 /// The lists that are drawn, each with rules of its own.
-const LISTS: u64 = 400;
+const LISTS: u64 = 400; // quick: 40
 
 /// The events of a list.
 const EVENTS: u64 = 50;
 
 /// How often each kind of outcome comes at least.
-const LEAST: u64 = 200;
+const LEAST: u64 = 200; // quick: 20
 
 #[test]
 fn books_decide_as_the_rule_on_random_lists(rt: HostRuntime) -> Result<(), Fail> {

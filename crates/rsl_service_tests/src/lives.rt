@@ -11,10 +11,10 @@
 //! `changed`: that tells the fault, or of each segment its shard, how many lines came before and how
 //! many it has, and then the audit of each shard.
 
-ghost use Rattle.std.specs.Prelude.{◌≡◌, ◌≤◌, length};
+ghost use Rattle.std.specs.Prelude.{◌≤◌, length};
 ghost use Rattle.rsl_service.specs.Service.{IsLedgerOf};
 
-use crate::datagrams::{SOURCE, ask, config_of, on, stray};
+use crate::packets::{SOURCE, ask, config_of, on, stray};
 use rsl_accounts::Config;
 use rsl_event::{Decision, Port};
 use rsl_report::audit;
@@ -25,7 +25,6 @@ use rsl_shard::Segment;
 use std::alloc::Global;
 use std::marker::Brand;
 use std::sync::Wait;
-use std::sync::ledger::Blank;
 use std::test::Fail;
 
 /// The lives of rows.
@@ -65,20 +64,7 @@ fn life_of<R: Wait>(
     config: Config,
     life: &Life<'_>,
 ) -> Result<String, Fail> {
-    lived::<Brand, Brand, Brand, Brand, R>(rt, alloc, blanks(), config, life)
-}
-
-/// Blank ledgers of 1,025 parts.
-pub(crate) fn blanks() -> Blanks
-    ensures { (result.blank0.parts ≡ 1025) × (result.blank1.parts ≡ 1025)
-        × (result.blank2.parts ≡ 1025) × (result.blank3.parts ≡ 1025) }
-{
-    Blanks {
-        blank0: Blank::new(1025),
-        blank1: Blank::new(1025),
-        blank2: Blank::new(1025),
-        blank3: Blank::new(1025),
-    }
+    lived::<Brand, Brand, Brand, Brand, R>(rt, alloc, Blanks::new(), config, life)
 }
 
 /// What the lines of a life tell, and its ending.
@@ -104,11 +90,7 @@ fn lived<L0: Tally, L1: Tally, L2: Tally, L3: Tally, R: Wait>(
         passes: Vec::new(alloc),
         given: Vec::new(alloc),
     };
-    let mut text = String::new(alloc);
-    for line in life.lines.split('/') {
-        text.push_str(served.told(rt, alloc, line)?.as_str())?;
-        text.push_str(", ")?;
-    }
+    let mut text = served.told_lines(rt, alloc, life.lines)?;
     text.push_str(served.closed(alloc, life)?.as_str())?;
     Ok(text)
 }
@@ -131,6 +113,16 @@ impl<L0: Tally, L1: Tally, L2: Tally, L3: Tally> Served<L0, L1, L2, L3> {
             }
         }
         printed(alloc, &many)
+    }
+
+    /// What lines tell.
+    fn told_lines<R: Wait>(&mut self, rt: &R, alloc: Global, lines: &str) -> Result<String, Fail> {
+        let mut text = String::new(alloc);
+        for line in lines.split('/') {
+            text.push_str(self.told(rt, alloc, line)?.as_str())?;
+            text.push_str(", ")?;
+        }
+        Ok(text)
     }
 
     /// What a line tells.

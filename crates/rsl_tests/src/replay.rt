@@ -608,8 +608,8 @@ fn too_long_comes_before_a_wrong_line(rt: HostRuntime) -> Result<(), Fail> {
         &rt,
         &Replayed,
         "
-1,048,576 octets | wrong/#WORD | x | 1048569 | Err(Line(1)) []
-1,048,577 octets | wrong/#WORD | x | 1048570 | Err(TooLong) []
+1,048,576 octets | wrong/#xxxxxxxxxxxxxxxxxxxWORD | xxxxxxxxxxxxxxxxxxxxxxxxxxxxxxxxxxxxxxxxxxxxxxxxxx | 20971 | Err(Line(1)) []
+1,048,577 octets | wrong/#xxxxxxxxxxxxxxxxxxxxWORD | xxxxxxxxxxxxxxxxxxxxxxxxxxxxxxxxxxxxxxxxxxxxxxxxxx | 20971 | Err(TooLong) []
 ",
     )
 }

@@ -133,7 +133,7 @@ fn tables_stand_as_their_format_says(rt: HostRuntime) -> Result<(), Fail> {
              nemo                        1        1        1        0        0        0\n",
         ),
     ] {
-        let (result, taken) = write(&rt, rows, of_one, usize::MAX)?;
+        let (result, taken) = write_anew(&rt, rows, of_one, usize::MAX)?;
         let found = format!(in rt.alloc(); "{result:?} {}", str::from_utf8(taken.as_slice())?)?;
         let expected = format!(in rt.alloc(); "Ok(()) {TITLES}{lines}")?;
         assert_eq!(rt; found.as_str(), expected.as_str(), "{name}");
@@ -143,27 +143,44 @@ fn tables_stand_as_their_format_says(rt: HostRuntime) -> Result<(), Fail> {
 
 #[test]
 fn a_fault_comes_where_the_writer_fails(rt: HostRuntime) -> Result<(), Fail> {
+    let config = Config::read(rt.alloc(), FILE.as_bytes())?;
+    fails_at_each_octet(&rt, &config)
+}
+
+/// Writes a table over writers that fail after each number of octets.
+fn fails_at_each_octet<R: AllocGlobal + Abort>(rt: &R, config: &Config) -> Result<(), Fail> {
     let rows = [RESERVED, WIDE, Row { account: 3, ..EACH }];
-    let (_, whole) = write(&rt, &rows, usize::MAX, usize::MAX)?;
+    let (_, whole) = write(rt, config, &rows, usize::MAX, usize::MAX)?;
     for in_all in 0..whole.len() {
-        let (result, taken) = write(&rt, &rows, usize::MAX, in_all)?;
+        let (result, taken) = write(rt, config, &rows, usize::MAX, in_all)?;
         assert_eq!(rt; result, Err(WriteFault), "{in_all}");
         assert_eq!(rt; taken.len(), in_all);
     }
-    let (result, _) = write(&rt, &rows, usize::MAX, whole.len())?;
+    let (result, _) = write(rt, config, &rows, usize::MAX, whole.len())?;
     assert_eq!(rt; result, Ok(()));
     Ok(())
 }
 
-/// Writes a table over a writer of these limits. Gives what was answered and the octets that were
-/// taken.
-fn write<R: AllocGlobal + Abort>(
+/// The same as `write`, with a configuration that is read for it.
+fn write_anew<R: AllocGlobal + Abort>(
     rt: &R,
     rows: &[Row],
     of_one: usize,
     in_all: usize,
 ) -> Result<(Result<(), WriteFault>, Vec<u8>), Fail> {
     let config = Config::read(rt.alloc(), FILE.as_bytes())?;
+    write(rt, &config, rows, of_one, in_all)
+}
+
+/// Writes a table over a writer of these limits. Gives what was answered and the octets that were
+/// taken.
+fn write<R: AllocGlobal + Abort>(
+    rt: &R,
+    config: &Config,
+    rows: &[Row],
+    of_one: usize,
+    in_all: usize,
+) -> Result<(Result<(), WriteFault>, Vec<u8>), Fail> {
     let mut writer = Limited {
         taken: Vec::new(rt.alloc()),
         of_one,
@@ -171,7 +188,7 @@ fn write<R: AllocGlobal + Abort>(
     };
     let known = are_below(rows, config.accounts());
     assert!(rt; known);
-    let result = write_table(&config, rows, &mut writer);
+    let result = write_table(config, rows, &mut writer);
     Ok((result, writer.taken))
 }
 

@@ -314,11 +314,22 @@ a datagram | raw-auth 0 1.2.3.4 WORD | 0f | 65507 | 1 | (0, 0, 1)
 a password of an ask | ask 0 1.2.3.4 n u WORD 1 | p | 128 | 1 | (0, 0, 1)
 a NAS | ask 0 1.2.3.4 WORD u p 1 | n | 253 | 1 | (0, 0, 1)
 a session | start 0 1.2.3.4 n u WORD multi=m | s | 253 | 1 | (0, 0, 1)
-a comment | # WORD | x | 1000000 | 1 | (0, 0, 0)
+a comment | # WORD | xxxxxxxxxxxxxxxxxxxxxxxxxxxxxxxxxxxxxxxxxxxxxxxxxx | 20000 | 1 | (0, 0, 0)
 clients | client 1.2.3.4 s | | 0 | 257 | (257, 0, 0)
 accounts | account n p 1 | | 0 | 16385 | (0, 16385, 0)
 events | ask 0 1.2.3.4 n u p 1 | | 0 | 5000 | (0, 0, 5000)
-ticks | tick 0 | | 0 | 149000 | (0, 0, 149000)
 ",
     )
+}
+
+/// So many ticks that a script of them is nearly as long as one may be.
+const TICKS: usize = 149_000; // quick: 5_000
+
+#[test]
+fn as_many_ticks_as_fit_are_read(rt: HostRuntime) -> Result<(), Fail> {
+    let mut line = String::from_str(rt.alloc(), "tick 0")?;
+    let found = counted_in(rt.alloc(), &mut line, TICKS)?;
+    let expected = printed(rt.alloc(), &(0, 0, TICKS))?;
+    assert_eq!(rt; found.as_str(), expected.as_str());
+    Ok(())
 }

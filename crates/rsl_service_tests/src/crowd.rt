@@ -3,11 +3,10 @@
 
 ghost use Rattle.rsl_service.specs.Service.{IsLedgerOf};
 
-use crate::client::{Client, Side};
+use crate::client::{Answers, Client, Side};
 use crate::fresh::Fresh;
-use crate::requests::config_of;
+use crate::requests::{ACCOUNTS, config_of};
 use crate::scene::{Rests, Scene, Shown};
-use crate::socket::blanks;
 use crate::watched::Watched;
 use rsl_accounts::Config;
 use rsl_event::Port;
@@ -60,14 +59,21 @@ struct Passes<L0: Tally, L1: Tally, L2: Tally, L3: Tally> {
     ticks: Pass<L0, L1, L2, L3>,
 }
 
-/// What the workers have come to.
-#[derive(Drop)]
-struct Worked<L0: Tally, L1: Tally, L2: Tally, L3: Tally> {
+/// What a client has come to.
+#[derive(Clone, Copy)]
+struct Talk {
+    tally: Answers,
+    auth_sent: u64,
+    acct_sent: u64,
+}
+
+/// What the workers and the client have come to.
+#[derive(Clone, Copy)]
+struct Outcome {
     auth: Counts,
     acct: Counts,
     ticks: u64,
-    client: Client,
-    passes: Passes<L0, L1, L2, L3>,
+    talk: Talk,
 }
 
 /// Opens a pass for each worker.
@@ -91,24 +97,24 @@ fn received<L0: Tally, L1: Tally, L2: Tally, L3: Tally, R: Wait>(
     rt: &R,
     alloc: Global,
     service: &Service<L0, L1, L2, L3, Open>,
-    mut pass: Pass<L0, L1, L2, L3>,
+    pass: &mut Pass<L0, L1, L2, L3>,
     port: Port,
     fresh: Fresh,
     scene: &Scene,
-) -> Option<(Counts, Pass<L0, L1, L2, L3>)> {
+) -> Option<Counts> {
     let mut datagrams = Watched::new(fresh, scene);
     let mut clock = Shown { scene };
     match receive(
         rt,
         alloc,
         service,
-        &mut pass,
+        pass,
         port,
         &mut datagrams,
         &mut clock,
         MOST_TURNS,
     ) {
-        Err(ReceiveFault::Down(counts)) => Some((counts, pass)),
+        Err(ReceiveFault::Down(counts)) => Some(counts),
         Ok(_) | Err(ReceiveFault::NoMemory) => None,
     }
 }
@@ -118,23 +124,24 @@ fn ticked<L0: Tally, L1: Tally, L2: Tally, L3: Tally, R: time::Clock + Wait>(
     rt: &R,
     alloc: Global,
     service: &Service<L0, L1, L2, L3, Open>,
-    mut pass: Pass<L0, L1, L2, L3>,
+    pass: &mut Pass<L0, L1, L2, L3>,
     scene: &Scene,
-) -> (u64, Pass<L0, L1, L2, L3>) {
+) -> u64 {
     let mut clock = Shown { scene };
     let mut rests = Rests { clock: rt, scene };
-    let ticks = expire_loop(
-        rt, alloc, service, &mut pass, &mut clock, &mut rests, MOST_TICKS,
-    );
-    (ticks, pass)
+    expire_loop(rt, alloc, service, pass, &mut clock, &mut rests, MOST_TICKS)
 }
 
 /// Runs the client, and then tells the others that it has ended.
-fn talked(alloc: Global, mut client: Client, scene: &Scene) -> Result<Client, Fail> {
+fn talked(alloc: Global, mut client: Client, scene: &Scene) -> Result<Talk, Fail> {
     let result = client.talk(alloc, scene);
     scene.end();
-    result?;
-    Ok(client)
+    let talk = Talk {
+        tally: client.tally,
+        auth_sent: client.auth.sent,
+        acct_sent: client.acct.sent,
+    };
+    result.map(|()| talk)
 }
 
 /// Runs two receivers, the worker that makes ticks and the client, on threads of their own.
@@ -142,9 +149,9 @@ fn run_workers<L0, L1, L2, L3, R>(
     rt: &R,
     alloc: Global,
     service: &Service<L0, L1, L2, L3, Open>,
-    passes: Passes<L0, L1, L2, L3>,
+    passes: &mut Passes<L0, L1, L2, L3>,
     sockets: Sockets,
-) -> Result<Worked<L0, L1, L2, L3>, Fail>
+) -> Result<Outcome, Fail>
 where
     L0: Tally + Send + Sync,
     L1: Tally + Send + Sync,
@@ -160,7 +167,7 @@ where
     let Sockets { auth, acct, client } = sockets;
     let scene = Scene::new();
     let scene = &scene;
-    let ((auth, acct), (ticks, client)) = thread::join(
+    let ((auth, acct), (ticks, talk)) = thread::join(
         rt,
         move || {
             thread::join(
@@ -177,21 +184,15 @@ where
             )
         },
     );
-    let client = client?;
-    let (ticks, ticks_pass) = ticks;
-    let (Some((auth, auth_pass)), Some((acct, acct_pass))) = (auth, acct) else {
+    let talk = talk?;
+    let (Some(auth), Some(acct)) = (auth, acct) else {
         return Err("a receiver has taken all its turns")?;
     };
-    Ok(Worked {
+    Ok(Outcome {
         auth,
         acct,
         ticks,
-        client,
-        passes: Passes {
-            auth: auth_pass,
-            acct: acct_pass,
-            ticks: ticks_pass,
-        },
+        talk,
     })
 }
 
@@ -201,7 +202,7 @@ fn crowd_of<R: Net + time::Clock + Threads + Wait + Sync>(
     alloc: Global,
     config: Config,
 ) -> Result<String, Fail> {
-    crowd::<Brand, Brand, Brand, Brand, R>(rt, alloc, blanks(), config)
+    crowd::<Brand, Brand, Brand, Brand, R>(rt, alloc, Blanks::new(), config)
 }
 
 /// What a server and its client come to.
@@ -227,21 +228,57 @@ where
         blanks.blank3.name blanks.blank3.parts L3.name L3.parts L3.setup L3.books }
 {
     let service: Service<L0, L1, L2, L3, Open> = Service::new(alloc, blanks, config, 1, Open)?;
-    let passes = opened(rt, alloc, &service)?;
-    let sockets = Sockets::bind(rt)?;
-    let worked = run_workers(rt, alloc, &service, passes, sockets)?;
-    let mut text = String::new(alloc);
-    push_client(&mut text, &worked.client, held(&service.report(rt, alloc)?))?;
-    push_counts(&mut text, &worked.auth, worked.client.auth.sent)?;
-    push_counts(&mut text, &worked.acct, worked.client.acct.sent)?;
-    let moves = moves_of(&worked);
-    let passes = listed(alloc, worked.passes)?;
-    let segments = service.close(alloc, passes, Vec::new(alloc))?.segments;
-    push_record(&mut text, alloc, &segments, moves)?;
-    Ok(text)
+    let worked = at_work(rt, alloc, &service)?;
+    closed(alloc, service, worked)
 }
 
-/// How many places all accounts hold.
+/// What the workers of a service have come to, the places that all accounts then hold, and the
+/// passes.
+struct Worked<L0: Tally, L1: Tally, L2: Tally, L3: Tally> {
+    outcome: Outcome,
+    held: u64,
+    passes: Vec<Pass<L0, L1, L2, L3>>,
+}
+
+/// Has the workers of a service and a client do all that they do.
+fn at_work<L0, L1, L2, L3, R>(
+    rt: &R,
+    alloc: Global,
+    service: &Service<L0, L1, L2, L3, Open>,
+) -> Result<Worked<L0, L1, L2, L3>, Fail>
+where
+    L0: Tally + Send + Sync,
+    L1: Tally + Send + Sync,
+    L2: Tally + Send + Sync,
+    L3: Tally + Send + Sync,
+    R: Net + time::Clock + Threads + Wait + Sync,
+{
+    let sockets = Sockets::bind(rt)?;
+    let mut passes = opened(rt, alloc, service)?;
+    let outcome = run_workers(rt, alloc, service, &mut passes, sockets)?;
+    let held = held_in(rt, alloc, service);
+    let Passes { auth, acct, ticks } = passes;
+    let passes = Vec::from_array(alloc, [auth, acct, ticks])?;
+    Ok(Worked {
+        outcome,
+        held,
+        passes,
+    })
+}
+
+/// How many places all accounts hold. Where memory is refused, more than there are.
+fn held_in<L0: Tally, L1: Tally, L2: Tally, L3: Tally, R: Wait>(
+    rt: &R,
+    alloc: Global,
+    service: &Service<L0, L1, L2, L3, Open>,
+) -> u64 {
+    match service.report(rt, alloc) {
+        Ok(rows) => held(&rows),
+        Err(_) => u64::MAX,
+    }
+}
+
+/// The sum of the places of rows.
 fn held(rows: &[Row]) -> u64 {
     let mut held = 0u64;
     for row in rows {
@@ -250,29 +287,41 @@ fn held(rows: &[Row]) -> u64 {
     held
 }
 
-/// How many lines there should be: one of each answer, and one of each tick in each shard.
-fn moves_of<L0: Tally, L1: Tally, L2: Tally, L3: Tally>(worked: &Worked<L0, L1, L2, L3>) -> u64 {
-    let answers = worked.auth.answered.saturating_add(worked.acct.answered);
-    answers.saturating_add(worked.ticks.saturating_mul(4))
+/// Closes a service, and tells all of it.
+fn closed<L0: Tally, L1: Tally, L2: Tally, L3: Tally>(
+    alloc: Global,
+    service: Service<L0, L1, L2, L3, Open>,
+    worked: Worked<L0, L1, L2, L3>,
+) -> Result<String, Fail> {
+    let Worked {
+        outcome,
+        held,
+        passes,
+    } = worked;
+    let closed = service.close(alloc, passes, Vec::new(alloc))?;
+    told(alloc, outcome, held, &closed.segments)
 }
 
-/// The passes, as a list.
-fn listed<L0: Tally, L1: Tally, L2: Tally, L3: Tally>(
-    alloc: Global,
-    passes: Passes<L0, L1, L2, L3>,
-) -> Result<Vec<Pass<L0, L1, L2, L3>>, Fail> {
-    let mut list = Vec::new(alloc);
-    list.push(passes.auth)?;
-    list.push(passes.acct)?;
-    list.push(passes.ticks)?;
-    Ok(list)
+/// What all of it comes to.
+fn told(alloc: Global, outcome: Outcome, held: u64, segments: &[Segment]) -> Result<String, Fail> {
+    let mut text = String::new(alloc);
+    push_client(&mut text, outcome.talk.tally, held)?;
+    push_counts(&mut text, &outcome.auth, outcome.talk.auth_sent)?;
+    push_counts(&mut text, &outcome.acct, outcome.talk.acct_sent)?;
+    push_record(&mut text, alloc, segments, moves_of(outcome))?;
+    Ok(text)
+}
+
+/// How many lines there should be: one of each answer, and one of each tick in each shard.
+fn moves_of(outcome: Outcome) -> u64 {
+    let answers = outcome.auth.answered.saturating_add(outcome.acct.answered);
+    answers.saturating_add(outcome.ticks.saturating_mul(4))
 }
 
 /// Tells what the client was answered, and how many places are then held.
-fn push_client(text: &mut String, client: &Client, held: u64) -> Result<(), Fail> {
-    let tally = client.tally;
+fn push_client(text: &mut String, tally: Answers, held: u64) -> Result<(), Fail> {
     push_printed(text, &(tally.accepts, tally.rejects, tally.notes, held))?;
-    push_printed(text, &(tally.repeats > 2000))
+    push_printed(text, &(tally.repeats > 4 * ACCOUNTS))
 }
 
 /// Tells how many of so many datagrams a receiver has not received and not answered, and how many
@@ -307,15 +356,25 @@ fn push_record(
     Ok(())
 }
 
+/// What the receivers have left out; that the record has the moves that were answered and no others;
+/// and the audit of each shard.
+const RECORD: &str = " [0, 0, 0, 0, 0] [0, 0, 0, 0, 0] true Ok(()) Ok(()) Ok(()) Ok(())";
+
 /// The asks accepted and rejected, the accounting answered and the places held, worked by hand from
-/// what is lost; that many requests came twice; what the receivers have left out; that the record
-/// has the moves that were answered and no others; and the audit of each shard.
-const EXPECTED: &str = "(2400, 50, 7200, 100) true [0, 0, 0, 0, 0] [0, 0, 0, 0, 0] \
-    true Ok(()) Ok(()) Ok(()) Ok(())";
+/// what is lost of each ten accounts, and that many requests came twice; and then the rest.
+fn expected(alloc: Global) -> Result<String, Fail> {
+    const TENS: u64 = ACCOUNTS / 10;
+    let mut text = String::new(alloc);
+    push_printed(&mut text, &(48 * TENS, TENS, 144 * TENS, 2 * TENS))?;
+    push_printed(&mut text, &true)?;
+    text.push_str(RECORD)?;
+    Ok(text)
+}
 
 #[test]
 fn five_hundred_accounts_over_two_sockets(rt: HostRuntime) -> Result<(), Fail> {
     let found = crowd_of(&rt, rt.alloc(), config_of(rt.alloc())?)?;
-    assert_eq!(rt; found.as_str(), EXPECTED);
+    let expected = expected(rt.alloc())?;
+    assert_eq!(rt; found.as_str(), expected.as_str());
     Ok(())
 }

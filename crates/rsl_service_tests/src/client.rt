@@ -30,7 +30,7 @@ const WAIT_SECS: u64 = 5;
 
 /// What a client has been told.
 #[derive(Clone, Copy, Debug)]
-pub(crate) struct Tally {
+pub(crate) struct Answers {
     /// Asks that were accepted.
     pub(crate) accepts: u64,
     /// Asks that were rejected.
@@ -123,14 +123,14 @@ fn is_answer(alloc: Global, answer: &[u8], request: &[u8]) -> Result<bool, Fail>
 pub(crate) struct Client {
     pub(crate) auth: Side,
     pub(crate) acct: Side,
-    pub(crate) tally: Tally,
+    pub(crate) tally: Answers,
     random: u64,
 }
 
 impl Client {
     /// A client that has sent nothing, and begins its random numbers with a seed.
     pub(crate) fn new(auth: Side, acct: Side, seed: u64) -> Client {
-        let tally = Tally {
+        let tally = Answers {
             accepts: 0,
             rejects: 0,
             notes: 0,

@@ -198,17 +198,43 @@ fn every_changed_packet_is_dropped_or_has_a_meaning(rt: HostRuntime) -> Result<(
     let rows = "
         the RFC's request | plain | auth | <rfc> | WrongCode 255 Own 2856 BadLength 474 Reject \
           9701 Bare 1046 BadSignature 4
-        with a CHAP-Challenge | plain | auth | 010000380f403f9473978057bd83d5cb98f4227a01066e656d\
-          6f03130746c00f99865014f26df7168dc66444033c0b6368616c6c656e6765 | WrongCode 255 Own \
-          4391 BadLength 474 Reject 8420 Bare 793 BadSignature 3
         signed | signed | auth | 0100004a0f403f9473978057bd83d5cb98f4227a50128f16b45f90d3494989a4\
           f14f4421c61801066e656d6f02120dbe708d93d413ce3196e43f782a0aee0406c0a80110050600000003 | \
           WrongCode 255 Own 74 BadSignature 16590 BadLength 456 Unsigned 1569
         a Start | plain | acct | 04000027d16ec3e2c1cc1cd9b6803bd0e9a1099f28060000000120036e01066e\
           656d6f2c047331 | WrongCode 255 Own 39 BadAuthenticator 9199 BadLength 491
+    ";
+    check_spelled(&rt, &Changes { config }, rows)
+}
+
+/// Whether other packets are changed, too.
+const OTHER_PACKETS: bool = true; // quick: false
+
+#[test]
+fn so_is_every_other_changed_packet(rt: HostRuntime) -> Result<(), Fail> {
+    if !OTHER_PACKETS {
+        return Ok(());
+    }
+    let config = Config::read(rt.alloc(), FILE.as_bytes())?;
+    let rows = "
+        with CHAP | plain | auth | 0100002d0f403f9473978057bd83d5cb98f4227a0313073f25c9ea76486dbb\
+          6e08f6da1baf940b01066e656d6f | WrongCode 255 Own 300 BadLength 485 Reject 9947 Bare 531 \
+          BadSignature 2
+        with a CHAP-Challenge | plain | auth | 010000380f403f9473978057bd83d5cb98f4227a01066e656d\
+          6f03130746c00f99865014f26df7168dc66444033c0b6368616c6c656e6765 | WrongCode 255 Own \
+          4391 BadLength 474 Reject 8420 Bare 793 BadSignature 3
+        an Interim-Update | plain | acct | 040000278ad775659b68d7f636bd815f06d3b4fb2c04733101066e\
+          656d6f20036e280600000003 | WrongCode 255 Own 39 BadAuthenticator 9199 BadLength 491
+        a Stop | plain | acct | 04000027274623da252c107a5cac2503f6557f5728060000000220036e01066e6\
+          56d6f2c047331 | WrongCode 255 Own 39 BadAuthenticator 9199 BadLength 491
         an Accounting-On | plain | acct | \
           0400001d52e8592f94d3ebe088794fd4f6c2a0c028060000000720036e | WrongCode 255 Restart 29 \
           BadAuthenticator 6639 BadLength 501
+        a stray | plain | acct | 040000288ba1a3a9916f12c12dd209a62f5a615428060000000120036e010767\
+          686f73742c047331 | WrongCode 255 Stray 40 BadAuthenticator 9455 BadLength 490
+        a Start with a bundle and a class | plain | acct | 0400003cf96891fcc68449155031a14581e948\
+          6f28060000000120036e01066e656d6f2c04733132036d191200000000000000010000000000000005 | \
+          WrongCode 255 Own 60 BadAuthenticator 14575 BadLength 470
     ";
     check_spelled(&rt, &Changes { config }, rows)
 }
@@ -268,7 +294,7 @@ fn attributes_may_be_empty_or_of_253_octets(rt: HostRuntime) -> Result<(), Fail>
           e656d6f2c02 | NoSession
         a status of 253 octets | acct | 040001201019c4d503b4adcbb369e77b02a0df0428ff 6e*253 \
           20036e01066e656d6f2c047331 | NoStatus
-        a access server of 253 octets | acct | \
+        an access server of 253 octets | acct | \
           040001231e8eddb18936dbb16916693e240f65df28060000000120ff 6e*253 01066e656d6f2c047331 | \
           Own
         a name of 253 octets | acct | 040001203f8da55369d296e5c577f034b689da4e28060000000120036e0\
@@ -288,7 +314,7 @@ fn attributes_may_be_empty_or_of_253_octets(rt: HostRuntime) -> Result<(), Fail>
         a password of 253 octets | auth | \
           010001250f403f9473978057bd83d5cb98f4227a01066e656d6f02ff 6e*253 \
           0406c0a80110050600000003 | Reject
-        a address of 253 octets | auth | 010001310f403f9473978057bd83d5cb98f4227a01066e656d6f0212\
+        an address of 253 octets | auth | 010001310f403f9473978057bd83d5cb98f4227a01066e656d6f0212\
           0dbe708d93d413ce3196e43f782a0aee04ff 6e*253 050600000003 | Own
         a port of 253 octets | auth | 010001310f403f9473978057bd83d5cb98f4227a01066e656d6f02120db\
           e708d93d413ce3196e43f782a0aee0406c0a8011005ff 6e*253 | Own

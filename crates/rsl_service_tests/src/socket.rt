@@ -1,6 +1,5 @@
 //! A receiver answers over a UDP socket. The request is that of RFC 2865 section 7.1.
 
-ghost use Rattle.std.specs.Prelude.{◌≡◌};
 ghost use Rattle.rsl_service.specs.Service.{IsLedgerOf};
 
 use crate::client::connected;
@@ -14,7 +13,6 @@ use std::alloc::Global;
 use std::marker::Brand;
 use std::net::{Net, UdpSocket};
 use std::sync::Wait;
-use std::sync::ledger::Blank;
 use std::test::Fail;
 use std::thread::{self, Threads};
 
@@ -50,19 +48,6 @@ struct Standing;
 impl Clock for Standing {
     fn now(&mut self) -> u64 {
         5
-    }
-}
-
-/// Blank ledgers of 1,025 parts.
-pub(crate) fn blanks() -> Blanks
-    ensures { (result.blank0.parts ≡ 1025) × (result.blank1.parts ≡ 1025)
-        × (result.blank2.parts ≡ 1025) × (result.blank3.parts ≡ 1025) }
-{
-    Blanks {
-        blank0: Blank::new(1025),
-        blank1: Blank::new(1025),
-        blank2: Blank::new(1025),
-        blank3: Blank::new(1025),
     }
 }
 
@@ -112,7 +97,7 @@ fn answered_of<R: Net + Threads + Wait + Sync>(
     config: Config,
     request: &[u8],
 ) -> Result<(Option<Vec<u8>>, Option<Counts>), Fail> {
-    answered::<Brand, Brand, Brand, Brand, R>(rt, alloc, blanks(), config, request)
+    answered::<Brand, Brand, Brand, Brand, R>(rt, alloc, Blanks::new(), config, request)
 }
 
 /// The last answer to who asks a receiver, and what that counts.

@@ -7,7 +7,7 @@ use std::alloc::Global;
 use std::test::Fail;
 
 /// How many accounts there are.
-pub(crate) const ACCOUNTS: u64 = 500;
+pub(crate) const ACCOUNTS: u64 = 500; // quick: 50
 
 /// The access server's secret.
 pub(crate) const SECRET: &[u8] = b"xyzzy5461";
@@ -36,7 +36,7 @@ pub(crate) enum Kind {
     Stop,
 }
 
-/// The accounts `u0` to `u499`, with a place each, in four shards.
+/// The accounts `u0`, `u1` and so on, with a place each, in four shards.
 pub(crate) fn config_of(alloc: Global) -> Result<Config, Fail> {
     let mut text = String::from_str(alloc, HEAD)?;
     for account in 0..ACCOUNTS {

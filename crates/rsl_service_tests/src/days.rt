@@ -11,7 +11,6 @@
 //! what the account then holds; and each line of the closed service's journals, as shard, moment and
 //! decision.
 
-ghost use Rattle.std.specs.Prelude.{◌≡◌};
 ghost use Rattle.rsl_service.specs.Service.{IsLedgerOf};
 
 use crate::datagrams::{coming_of, config_of, numbers_of, push_sent};
@@ -25,7 +24,6 @@ use rsl_shard::{Move, Segment};
 use std::alloc::Global;
 use std::marker::Brand;
 use std::sync::Wait;
-use std::sync::ledger::Blank;
 use std::test::Fail;
 
 /// The days of rows.
@@ -71,7 +69,7 @@ fn pair_of(text: &str) -> Result<(u64, u64), Fail> {
 }
 
 /// The port of a word.
-fn port_of(word: &str) -> Result<Port, Fail> {
+pub(crate) fn port_of(word: &str) -> Result<Port, Fail> {
     match word {
         "auth" => Ok(Port::Auth),
         "acct" => Ok(Port::Acct),
@@ -81,20 +79,7 @@ fn port_of(word: &str) -> Result<Port, Fail> {
 
 /// What a day tells, over ledgers of its own.
 fn day_of<R: Wait>(rt: &R, alloc: Global, config: Config, day: Day<'_>) -> Result<String, Fail> {
-    told::<Brand, Brand, Brand, Brand, R>(rt, alloc, blanks(), config, day)
-}
-
-/// Blank ledgers of 1,025 parts.
-fn blanks() -> Blanks
-    ensures { (result.blank0.parts ≡ 1025) × (result.blank1.parts ≡ 1025)
-        × (result.blank2.parts ≡ 1025) × (result.blank3.parts ≡ 1025) }
-{
-    Blanks {
-        blank0: Blank::new(1025),
-        blank1: Blank::new(1025),
-        blank2: Blank::new(1025),
-        blank3: Blank::new(1025),
-    }
+    told::<Brand, Brand, Brand, Brand, R>(rt, alloc, Blanks::new(), config, day)
 }
 
 /// What a day tells.
@@ -227,7 +212,10 @@ impl<L0: Tally, L1: Tally, L2: Tally, L3: Tally> Served<L0, L1, L2, L3> {
 }
 
 /// Tells what a receiver answers.
-fn push_counts(text: &mut String, answer: Result<Counts, ReceiveFault>) -> Result<(), Fail> {
+pub(crate) fn push_counts(
+    text: &mut String,
+    answer: Result<Counts, ReceiveFault>,
+) -> Result<(), Fail> {
     let counts = match answer {
         Ok(counts) => counts,
         Err(ReceiveFault::Down(counts)) => {
@@ -326,8 +314,9 @@ a tick frees a place that nobody took | 1 | auth | 1 | ask | | 5 60 | 1 9 \
     (0, 5, Accept(0)) (0, 65, Done)
 ";
 
-/// Each kind of datagram comes twice and once more. The first answer can't be sent, the second can,
-/// and then the port fails.
+/// Each kind of datagram comes twice, where the first answer can't be sent, and the second can. Then
+/// the port fails, and what would come after that does not come. In the last row five kinds come once
+/// each, and no answer can be sent.
 const KINDS: &str = "
 an ask | 1 | auth | 9 | ask ask fault ask | 0 | 5 1 | 0 0 \
     | Down [3, 2, 1, 0, 0, 1] [2, 3, 1, 2, 1, 0] accept to 1024, accept to 1024, \

@@ -1,0 +1,73 @@
+//! The configuration of tests, and the datagrams of its only access server.
+
+use rsl_accounts::Config;
+use rsl_auth::{hide, seal};
+use rsl_event::Source;
+use rsl_wire::Draft;
+use std::alloc::Global;
+use std::test::Fail;
+
+/// The access server's secret.
+const SECRET: &[u8] = b"xyzzy5461";
+
+/// The access server.
+pub(crate) const SOURCE: Source = Source {
+    address: [192, 168, 1, 16],
+    port: 1024,
+};
+
+/// So many shards, and the accounts `a`, `b`, `c` and `d` with so many places each.
+pub(crate) fn config_of(alloc: Global, shards: &str, places: &str) -> Result<Config, Fail> {
+    let text = format!(in alloc;
+        "version = 1\nshards = {shards}\nreserve_secs = 60\nlive_secs = 900\ngrace_secs = 900\n\
+         closed_secs = 3600\nkeep_secs = 10\n\
+         client = [{{ address = \"192.168.1.16\", secret = \"xyzzy5461\" }}]\n\
+         account = [\n\
+         {{ name = \"a\", password = \"pw\", places = {places}, ports = 1 }},\n\
+         {{ name = \"b\", password = \"pw\", places = {places}, ports = 1 }},\n\
+         {{ name = \"c\", password = \"pw\", places = {places}, ports = 1 }},\n\
+         {{ name = \"d\", password = \"pw\", places = {places}, ports = 1 }},\n\
+         ]\n"
+    )?;
+    Ok(Config::read(alloc, text.as_bytes())?)
+}
+
+/// An Access-Request of this user, with this identifier and Request Authenticator.
+pub(crate) fn ask(
+    alloc: Global,
+    name: &str,
+    id: u8,
+    authenticator: &[u8; 16],
+) -> Result<Vec<u8>, Fail> {
+    let hidden = hide(alloc, b"pw", SECRET, authenticator)?;
+    let mut draft = Draft::new(alloc, id)?;
+    draft.push(1, name.as_bytes())?;
+    draft.push(2, &hidden)?;
+    draft.push(32, b"n")?;
+    Ok(draft.finish(1, authenticator))
+}
+
+/// An Accounting-Request of the access server alone: it has restarted.
+pub(crate) fn on(alloc: Global) -> Result<Vec<u8>, Fail> {
+    accounting(Draft::new(alloc, 1)?, 7)
+}
+
+/// An Accounting-Request of a user that is no account's: a session has started.
+pub(crate) fn stray(alloc: Global) -> Result<Vec<u8>, Fail> {
+    let mut draft = Draft::new(alloc, 1)?;
+    draft.push(1, b"ghost")?;
+    draft.push(44, b"s")?;
+    accounting(draft, 1)
+}
+
+/// An Accounting-Request of what a draft has, with this status.
+fn accounting(mut draft: Draft, status: u8) -> Result<Vec<u8>, Fail> {
+    draft.push(40, &[0, 0, 0, status])?;
+    draft.push(32, b"n")?;
+    let mut octets = draft.finish(4, &[0; 16]);
+    if octets.len() < 20 {
+        return Err("a short packet")?;
+    }
+    seal(&mut octets, &[0; 16], SECRET);
+    Ok(octets)
+}
