@@ -17,13 +17,7 @@ trap 'kill "$server" 2> /dev/null || true; wait "$server" 2> /dev/null || true; 
 
 # Two UDP ports that nobody has.
 free_ports() {
-    python3 -c '
-from socket import AF_INET, SOCK_DGRAM, socket
-sockets = [socket(AF_INET, SOCK_DGRAM) for _ in range(2)]
-for one in sockets:
-    one.bind(("127.0.0.1", 0))
-print(*(one.getsockname()[1] for one in sockets))
-'
+    PYTHONPATH="$top/bench/radius" python3 -Bc 'from served import free_ports; print(*free_ports())'
 }
 
 # Whether a UDP socket is bound on this port.
@@ -86,7 +80,8 @@ class=$(sed -n 's/^[[:space:]]*\(Class = 0x[0-9a-f]*\)$/\1/p' <<< "$received")
 from_first 'a login beside it' Access-Reject 'Session limit reached' auth "$name" "$pap" "$nas"
 from_first 'the session starts' Accounting-Response '' acct \
     'Acct-Status-Type = Start' "$name" "$nas" "$session" "$class"
-from_first 'it goes on' Accounting-Response '' acct 'Acct-Status-Type = Interim-Update' "$name" "$nas" "$session" "$class"
+from_first 'it goes on' Accounting-Response '' acct \
+    'Acct-Status-Type = Interim-Update' "$name" "$nas" "$session" "$class"
 from_first 'a login beside it' Access-Reject 'Session limit reached' auth "$name" "$pap" "$nas"
 from_first 'it stops' Accounting-Response '' acct 'Acct-Status-Type = Stop' "$name" "$nas" "$session" "$class"
 from_first 'a login by CHAP' Access-Accept 'Class = ' auth "$name" 'CHAP-Password = "arctangent"' "$nas"

@@ -1,6 +1,7 @@
-/* failing.c - a library that stands before the C library, and has calls of one kind fail: CALL names the kind, NTH is the
- * number of the one that fails (0: every one), ERROR the errno that it gives, and PORT the UDP port of its socket (0: any
- * file). Every other call goes to the system.                              cc -shared -fPIC -o failing.so failing.c */
+/* failing.c - a library that stands before the C library, and has calls of one kind fail: CALL names the kind, NTH is
+ * the number of the one that fails (0: every one), ERROR the errno that it gives, and PORT the UDP port of its socket
+ * (0: any file). Every other call goes to the system.
+ * cc -shared -fPIC -o failing.so failing.c */
 #define _GNU_SOURCE
 #include <dlfcn.h>
 #include <errno.h>
@@ -16,71 +17,57 @@
 
 static atomic_long calls;
 
-static long number(const char *name)
-{
-	const char *text = getenv(name);
-	return text ? atol(text) : 0;
+static long number(const char *name) {
+    const char *text = getenv(name);
+    return text ? atol(text) : 0;
 }
 
-static int is_at(int fd, long port)
-{
-	struct sockaddr_in bound;
-	socklen_t len = sizeof bound;
-	return !getsockname(fd, (void *)&bound, &len) && len == sizeof bound && ntohs(bound.sin_port) == port;
+static int is_at(int fd, long port) {
+    struct sockaddr_in bound;
+    socklen_t len = sizeof bound;
+    return !getsockname(fd, (void *)&bound, &len) && len == sizeof bound && ntohs(bound.sin_port) == port;
 }
 
-static int fails(const char *call, int fd)
-{
-	const char *wanted = getenv("CALL");
-	long nth = number("NTH"), port = number("PORT");
-	if (!wanted || strcmp(wanted, call) || (port && !is_at(fd, port))) return 0;
-	if (nth && atomic_fetch_add(&calls, 1) + 1 != nth) return 0;
-	errno = number("ERROR");
-	return 1;
+static int fails(const char *call, int fd) {
+    const char *wanted = getenv("CALL");
+    long nth = number("NTH"), port = number("PORT");
+    if (!wanted || strcmp(wanted, call) || (port && !is_at(fd, port))) return 0;
+    if (nth && atomic_fetch_add(&calls, 1) + 1 != nth) return 0;
+    errno = number("ERROR");
+    return 1;
 }
 
-ssize_t recvfrom(int fd, void *room, size_t len, int flags, struct sockaddr *from, socklen_t *size)
-{
-	return fails("recvfrom", fd) ? -1 : syscall(SYS_recvfrom, fd, room, len, flags, from, size);
+ssize_t recvfrom(int fd, void *room, size_t len, int flags, struct sockaddr *from, socklen_t *size) {
+    return fails("recvfrom", fd) ? -1 : syscall(SYS_recvfrom, fd, room, len, flags, from, size);
 }
 
-ssize_t sendto(int fd, const void *octets, size_t len, int flags, const struct sockaddr *to, socklen_t size)
-{
-	return fails("sendto", fd) ? -1 : syscall(SYS_sendto, fd, octets, len, flags, to, size);
+ssize_t sendto(int fd, const void *octets, size_t len, int flags, const struct sockaddr *to, socklen_t size) {
+    return fails("sendto", fd) ? -1 : syscall(SYS_sendto, fd, octets, len, flags, to, size);
 }
 
-int socket(int domain, int type, int protocol)
-{
-	return fails("socket", -1) ? -1 : syscall(SYS_socket, domain, type, protocol);
+int socket(int domain, int type, int protocol) {
+    return fails("socket", -1) ? -1 : syscall(SYS_socket, domain, type, protocol);
 }
 
-int bind(int fd, const struct sockaddr *address, socklen_t size)
-{
-	return fails("bind", fd) ? -1 : syscall(SYS_bind, fd, address, size);
+int bind(int fd, const struct sockaddr *address, socklen_t size) {
+    return fails("bind", fd) ? -1 : syscall(SYS_bind, fd, address, size);
 }
 
-int setsockopt(int fd, int level, int option, const void *value, socklen_t size)
-{
-	return fails("setsockopt", fd) ? -1 : syscall(SYS_setsockopt, fd, level, option, value, size);
+int setsockopt(int fd, int level, int option, const void *value, socklen_t size) {
+    return fails("setsockopt", fd) ? -1 : syscall(SYS_setsockopt, fd, level, option, value, size);
 }
 
-ssize_t read(int fd, void *room, size_t len)
-{
-	return fails("read", fd) ? -1 : syscall(SYS_read, fd, room, len);
+ssize_t read(int fd, void *room, size_t len) { return fails("read", fd) ? -1 : syscall(SYS_read, fd, room, len); }
+
+ssize_t write(int fd, const void *octets, size_t len) {
+    return fails("write", fd) ? -1 : syscall(SYS_write, fd, octets, len);
 }
 
-ssize_t write(int fd, const void *octets, size_t len)
-{
-	return fails("write", fd) ? -1 : syscall(SYS_write, fd, octets, len);
+int clock_gettime(clockid_t clock, struct timespec *now) {
+    return clock == CLOCK_REALTIME && fails("clock_gettime", -1) ? -1 : syscall(SYS_clock_gettime, clock, now);
 }
 
-int clock_gettime(clockid_t clock, struct timespec *now)
-{
-	return clock == CLOCK_REALTIME && fails("clock_gettime", -1) ? -1 : syscall(SYS_clock_gettime, clock, now);
-}
-
-int pthread_create(pthread_t *thread, const pthread_attr_t *how, void *(*work)(void *), void *given)
-{
-	if (fails("pthread_create", -1)) return errno;
-	return ((__typeof__(&pthread_create))dlsym(RTLD_NEXT, "pthread_create"))(thread, how, work, given);
+int pthread_create(pthread_t *thread, const pthread_attr_t *how, void *(*work)(void *), void *given) {
+    if (fails("pthread_create", -1)) return errno;
+    return ((__typeof__(&pthread_create))dlsym(RTLD_NEXT, "pthread_create"))(thread, how, work, given);
 }

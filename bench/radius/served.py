@@ -3,6 +3,7 @@ Python's hashlib and hmac make. It wants Linux."""
 
 import hashlib
 import hmac
+import itertools
 import os
 import random
 import re
@@ -17,9 +18,14 @@ import time
 TOP = os.path.dirname(os.path.dirname(os.path.dirname(os.path.abspath(__file__))))
 PROGRAM = os.path.join(TOP, "crates", "rsl_app", "out", "rsl_app")
 HOST = "127.0.0.1"
-UNUSED = random.sample(range(20_000, 32_000), 12_000)
+UNUSED = itertools.cycle(random.sample(range(20_000, 32_000), 12_000))
 START, STOP, INTERIM = 1, 2, 3
 MESSAGE_AUTHENTICATOR = 80
+# the request of RFC 2865 section 7.1, whose User-Name is nemo, and its secret and password
+REQUEST = bytes.fromhex(
+    "010000380f403f9473978057bd83d5cb98f4227a01066e656d6f02120dbe708d93d413ce3196e43f782a0aee0406c0a80110050600000003"
+)
+SECRET, PASSWORD = b"xyzzy5461", b"arctangent"
 COUNTS = re.compile(r"^(auth|acct) received (\d+) answered (\d+) dropped (\d+) refused (\d+) unsent (\d+)$", re.M)
 
 HEAD = """version = 1
@@ -42,15 +48,35 @@ def udp_sockets():
     return found
 
 
+def are_bound(ports):
+    """Whether each of these UDP ports is bound."""
+    found = udp_sockets()
+    return all(int(port) in found for port in ports)
+
+
 def free_ports():
-    """Two UDP ports that nobody has, that the system gives nobody by itself, and that come once. No socket tries them:
-    a process that another thread starts would hold it for a while."""
+    """Two UDP ports that nobody has, that the system gives nobody by itself, and that come again only after all others.
+    No socket tries them: a process that another thread starts would hold it for a while."""
     found = []
     while len(found) < 2:
-        port = UNUSED.pop()
+        port = next(UNUSED)
         if port not in udp_sockets():
             found.append(str(port))
     return found
+
+
+def account_file(path, clients, accounts, **numbers):
+    """Writes an account file, and gives its name: of clients with their secrets and whether they have to sign, and of
+    accounts with their passwords, places and ports. The numbers are those that HEAD leaves open."""
+    with open(path, "w", encoding="ascii") as file:
+        file.write(HEAD.format(**numbers))
+        for address, secret, signed in clients:
+            file.write(f'[[client]]\naddress = "{address}"\nsecret = "{secret.decode()}"\n')
+            file.write(f"signed = {str(signed).lower()}\n")
+        for name, password, places, ports in accounts:
+            file.write(f'[[account]]\nname = "{name}"\npassword = "{password.decode()}"\n')
+            file.write(f"places = {places}\nports = {ports}\n")
+    return path
 
 
 def attribute(kind, value):
@@ -123,7 +149,7 @@ class Server:
         words = [PROGRAM, "serve", file, HOST, *self.ports, str(turns)]
         given = environment(self.ports) if environment else None
         self.process = subprocess.Popen(words, stdin=subprocess.DEVNULL, stdout=stdout, stderr=stderr, env=given)
-        while self.process.poll() is None and not all(int(port) in udp_sockets() for port in self.ports):
+        while self.process.poll() is None and not are_bound(self.ports):
             time.sleep(0.002)
 
     def close(self):
@@ -154,8 +180,13 @@ class Server:
 
     def resident(self):
         """The octets that are resident."""
-        with open(f"/proc/{self.process.pid}/status", encoding="ascii") as status:
-            return 1024 * int(re.search(r"VmRSS:\s+(\d+) kB", status.read())[1])
+        return resident(self.process)
+
+
+def resident(process):
+    """The octets that are resident of a process."""
+    with open(f"/proc/{process.pid}/status", encoding="ascii") as status:
+        return 1024 * int(re.search(r"VmRSS:\s+(\d+) kB", status.read())[1])
 
 
 def built(folder, name, *words):
