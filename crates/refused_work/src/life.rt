@@ -14,7 +14,6 @@ use rsl_wire::NoMemory;
 use std::alloc::Global;
 use std::marker::Brand;
 use std::sync::Wait;
-use std::sync::ledger::Blank;
 
 /// How a service gets what it is given.
 #[derive(Clone, Copy, Debug, PartialEq, Eq)]
@@ -25,6 +24,8 @@ pub(crate) enum Way {
     Cut,
     /// By two receivers.
     Received,
+    /// Step by step, but a worker makes the ticks, and each shard is cut after each of its turns.
+    Ticked,
 }
 
 /// What a service is given.
@@ -34,7 +35,7 @@ pub(crate) struct Life {
     pub config: Config,
     /// The steps of a script.
     pub steps: Vec<Step>,
-    /// The numbers of those that are left out, from 1.
+    /// The numbers of those that are left out, from 1; of a worker's, those of its turns.
     pub left_out: Vec<usize>,
     pub way: Way,
 }
@@ -70,12 +71,7 @@ fn is_lived<R: Print + Wait>(
     config: Config,
     life: &Life,
 ) -> Result<bool, Stop> {
-    let blanks = Blanks {
-        blank0: Blank::new(1025),
-        blank1: Blank::new(1025),
-        blank2: Blank::new(1025),
-        blank3: Blank::new(1025),
-    };
+    let blanks = Blanks::new();
     is_ended::<Brand, Brand, Brand, Brand, R>(rt, alloc, blanks, config, life)
 }
 
@@ -131,5 +127,6 @@ fn live<L0: Tally, L1: Tally, L2: Tally, L3: Tally, R: Print + Wait>(
     match life.way {
         Way::Uncut | Way::Cut => served.take_each(rt, alloc, life),
         Way::Received => served.receive_both(rt, alloc, life),
+        Way::Ticked => served.take_with_worker(rt, alloc, life),
     }
 }

@@ -10,9 +10,11 @@
 //! | `service` | gives the script's datagrams and ticks to a service, and closes it |
 //! | `cuts` | the same, but cuts each shard at each tick and at the end, and settles the record |
 //! | `receive` | has two receivers take the script's datagrams from ports over memory |
+//! | `expire` | the same as `service`, but a worker makes the ticks, and each shard is cut after each turn |
 //!
-//! After `receive` come the numbers of the steps to leave out, from 1. Without a WORK it does each
-//! in turn. A call that is refused memory is told, and is made again. Where memory is refused
+//! After `receive` come the numbers of the steps to leave out, from 1, and after `expire` those of
+//! the worker's turns, at which it then only pauses; a 0 leaves nothing out. Without a WORK it does
+//! each in turn. A call that is refused memory is told, and is made again. Where memory is refused
 //! outside of these calls the work is given up, and the status is 3. `bench/refused-memory` runs it.
 #![tactic(auto)]
 
@@ -26,6 +28,7 @@ mod served;
 mod shard;
 mod steps;
 mod stop;
+mod ticking;
 mod told;
 
 use life::Way;
@@ -46,7 +49,9 @@ const TRIES: u32 = 3;
 const BOOT: u64 = 1;
 
 /// The works, in the order in which they are done where none is named.
-const WORKS: [&str; 6] = ["calls", "steps", "shard", "service", "cuts", "receive"];
+const WORKS: [&str; 7] = [
+    "calls", "steps", "shard", "service", "cuts", "receive", "expire",
+];
 
 fn main(rt: HostRuntime) -> ExitCode {
     match worked(&rt) {
@@ -103,6 +108,7 @@ fn do_work<R: Print + Wait>(
         "service" => life::tell(rt, alloc, text, left_out, Way::Uncut),
         "cuts" => life::tell(rt, alloc, text, left_out, Way::Cut),
         "receive" => life::tell(rt, alloc, text, left_out, Way::Received),
+        "expire" => life::tell(rt, alloc, text, left_out, Way::Ticked),
         _ => Err(Stop::Usage),
     }
 }

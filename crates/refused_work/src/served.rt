@@ -83,6 +83,39 @@ fn lines_in(receipts: &[Receipt], shard: u32) -> usize {
         .count()
 }
 
+/// Tells what each account holds: of each the places, and the links that are reserved, live and
+/// stale, and the alives over.
+pub(crate) fn tell_held<L0: Tally, L1: Tally, L2: Tally, L3: Tally, R: Print + Wait>(
+    rt: &R,
+    alloc: Global,
+    service: &Service<L0, L1, L2, L3, Open>,
+) -> Result<(), Stop> {
+    let rows = reported(rt, alloc, service)?;
+    print!(rt; " |")?;
+    for row in &rows {
+        print!(rt;
+            " {}/{}/{}/{}/{}",
+            row.held, row.reserved, row.live, row.stale, row.over
+        )?;
+    }
+    Ok(())
+}
+
+/// What each account holds. Where it is refused, that stands in the line.
+fn reported<L0: Tally, L1: Tally, L2: Tally, L3: Tally, R: Print + Wait>(
+    rt: &R,
+    alloc: Global,
+    service: &Service<L0, L1, L2, L3, Open>,
+) -> Result<Vec<Row>, Stop> {
+    for _ in 0..TRIES {
+        match service.report(rt, alloc) {
+            Ok(rows) => return Ok(rows),
+            Err(NoMemory) => print!(rt; " (no report)")?,
+        }
+    }
+    Err(Stop::NoMemory)
+}
+
 impl<L0: Tally, L1: Tally, L2: Tally, L3: Tally> Served<L0, L1, L2, L3> {
     /// Gives the steps of a life to the service.
     pub(crate) fn take_each<R: Print + Wait>(
@@ -102,7 +135,12 @@ impl<L0: Tally, L1: Tally, L2: Tally, L3: Tally> Served<L0, L1, L2, L3> {
 
     /// Gives a step to the service, and tells what it came to. A restart sweeps each shard by
     /// itself, and one call makes the ticks of all shards.
-    fn take<R: Print + Wait>(&mut self, rt: &R, alloc: Global, step: &Step) -> Result<(), Stop> {
+    pub(crate) fn take<R: Print + Wait>(
+        &mut self,
+        rt: &R,
+        alloc: Global,
+        step: &Step,
+    ) -> Result<(), Stop> {
         for _ in 0..TRIES {
             let told = match step {
                 Step::Datagram {
@@ -166,18 +204,10 @@ impl<L0: Tally, L1: Tally, L2: Tally, L3: Tally> Served<L0, L1, L2, L3> {
         }
     }
 
-    /// Tells, at the end of a line, what each account holds: of each the places, and the links that
-    /// are reserved, live and stale, and the alives over; and for each shard how many receipts each
-    /// pass has.
+    /// Tells, at the end of a line, what each account holds, and for each shard how many receipts
+    /// each pass has.
     pub(crate) fn show<R: Print + Wait>(&self, rt: &R, alloc: Global) -> Result<(), Stop> {
-        let rows = self.reported(rt, alloc)?;
-        print!(rt; " |")?;
-        for row in &rows {
-            print!(rt;
-                " {}/{}/{}/{}/{}",
-                row.held, row.reserved, row.live, row.stale, row.over
-            )?;
-        }
+        tell_held(rt, alloc, &self.service)?;
         print!(rt; " | lines")?;
         for shard in 0..self.service.config().shards() {
             let auth = lines_in(self.auth.receipts(), shard);
@@ -188,39 +218,42 @@ impl<L0: Tally, L1: Tally, L2: Tally, L3: Tally> Served<L0, L1, L2, L3> {
         Ok(())
     }
 
-    /// What each account holds. Where it is refused, that stands in the line.
-    fn reported<R: Print + Wait>(&self, rt: &R, alloc: Global) -> Result<Vec<Row>, Stop> {
-        for _ in 0..TRIES {
-            match self.service.report(rt, alloc) {
-                Ok(rows) => return Ok(rows),
-                Err(NoMemory) => print!(rt; " (no report)")?,
-            }
-        }
-        Err(Stop::NoMemory)
-    }
-
     /// Cuts each shard.
     pub(crate) fn cut_each<R: Print + Wait>(&mut self, rt: &R, alloc: Global) -> Result<(), Stop> {
-        for shard in 0..self.service.config().shards() {
-            let segment = self.cut(rt, alloc, shard)?;
-            self.segments.push(segment)?;
-        }
-        Ok(())
+        cut_shards(rt, alloc, &self.service, &mut self.segments)
     }
+}
 
-    /// Cuts a shard.
-    fn cut<R: Print + Wait>(&self, rt: &R, alloc: Global, shard: u32) -> Result<Segment, Stop> {
-        for _ in 0..TRIES {
-            match self.service.cut(rt, alloc, shard) {
-                Ok(segment) => {
-                    let lines = segment.lines.len();
-                    println!(rt; "cut {shard}: {} and {lines} lines", segment.first)?;
-                    return Ok(segment);
-                }
-                Err(CutFault::NoMemory) => println!(rt; "cut {shard}: refused")?,
-                Err(CutFault::NoShard) => println!(rt; "cut {shard}: no shard")?,
-            }
-        }
-        Err(Stop::NoMemory)
+/// Cuts each shard of a service, and puts the segments behind the others.
+pub(crate) fn cut_shards<L0: Tally, L1: Tally, L2: Tally, L3: Tally, R: Print + Wait>(
+    rt: &R,
+    alloc: Global,
+    service: &Service<L0, L1, L2, L3, Open>,
+    segments: &mut Vec<Segment>,
+) -> Result<(), Stop> {
+    for shard in 0..service.config().shards() {
+        segments.push(cut(rt, alloc, service, shard)?)?;
     }
+    Ok(())
+}
+
+/// Cuts a shard.
+fn cut<L0: Tally, L1: Tally, L2: Tally, L3: Tally, R: Print + Wait>(
+    rt: &R,
+    alloc: Global,
+    service: &Service<L0, L1, L2, L3, Open>,
+    shard: u32,
+) -> Result<Segment, Stop> {
+    for _ in 0..TRIES {
+        match service.cut(rt, alloc, shard) {
+            Ok(segment) => {
+                let lines = segment.lines.len();
+                println!(rt; "cut {shard}: {} and {lines} lines", segment.first)?;
+                return Ok(segment);
+            }
+            Err(CutFault::NoMemory) => println!(rt; "cut {shard}: refused")?,
+            Err(CutFault::NoShard) => println!(rt; "cut {shard}: no shard")?,
+        }
+    }
+    Err(Stop::NoMemory)
 }

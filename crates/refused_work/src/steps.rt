@@ -87,7 +87,7 @@ fn book_of<'a>(config: &Config, shards: &'a [Shard], account: u32) -> Option<&'a
     shards.get(config.shard_of(account) as usize)?.book(account)
 }
 
-/// Whether the shards of two runs have the same books, and journals with as many lines.
+/// Whether two runs have as many shards, and the same books in them.
 fn are_same(config: &Config, first: &[Shard], second: &[Shard]) -> bool {
     for account in 0..config.accounts() {
         match (

@@ -10,7 +10,7 @@ use thiserror::Error;
 #[derive(Clone, Copy, Debug, PartialEq, Eq, Error)]
 pub(crate) enum Stop {
     /// The arguments are wrong.
-    #[error("usage: refused_work [calls | steps | shard | service | cuts | receive NUMBER..]")]
+    #[error("usage: refused_work [calls | steps | shard | service | cuts | receive NUMBER.. | expire NUMBER..]")]
     Usage,
     /// The script is wrong.
     #[error("bad script: {0}")]
