@@ -24,7 +24,7 @@ pub use event::{Act, Decision, Event, Key, Source};
 pub use meaning::{Dropped, Meaning, Note, Port, Prepared};
 pub use nas::{Nas, NasName};
 pub use preparing::prepare;
-pub use replying::{reply, room, said};
+pub use replying::{reply, room, room_in, said};
 pub use signature::{push_signature_if, signed_if};
 pub use words::Said;
 pub use writing::class_octets;

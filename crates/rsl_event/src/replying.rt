@@ -1,4 +1,4 @@
-ghost use Rattle.std.specs.Prelude.{◌≡◌, ◌<◌, ◌≤◌, [], length, replicate, vec_len, IfOk, IsTrue};
+ghost use Rattle.std.specs.Prelude.{◌≡◌, ◌<◌, ◌≤◌, [], length, replicate, vec_capacity, vec_len, IfOk, IsOk, IsTrue};
 ghost use Rattle.rsl_wire.specs.Attributes.{attributes_in, list_octets};
 ghost use Rattle.rsl_wire.specs.Packet.{packet_octets};
 ghost use Rattle.rsl_wire.specs.Seen.{fields_of};
@@ -50,7 +50,17 @@ pub fn room(alloc: Global, prepared: &Prepared<'_>) -> Result<Draft, NoMemory>
     ensures { IfOk result (λ draft.
         draft ≡ record { id = prepared.now.packet.id; attributes = [] }) }
 {
-    Draft::new(alloc, prepared.packet.id)
+    room_in(prepared, Vec::new(alloc))
+}
+
+/// The same in the room of an earlier reply, whose octets are let go: it takes memory only where
+/// there is room for less than 4,096 octets.
+pub fn room_in(prepared: &Prepared<'_>, earlier: Vec<u8>) -> Result<Draft, NoMemory>
+    ensures draft { IfOk result (λ draft.
+        draft ≡ record { id = prepared.now.packet.id; attributes = [] }) }
+    ensures enough { 4096 ≤ vec_capacity earlier → IsOk result }
+{
+    Draft::in_room(earlier, prepared.packet.id)
 }
 
 /// The octets of the reply: Code, the request's Identifier, the attributes, and the Response

@@ -116,9 +116,9 @@ const WORDS: &str = "\
 <alive> = Own { account: 0, act: Alive { <n>, <s1>, bundle: None, class: None } }
 <key> = key: Key { source: Source { address: [192, 168, 1, 16], port: 1024 }, id: 0, \
     authenticator: [15, 64, 63, 148, 115, 151, 128, 87, 189, 131, 213, 203, 152, 244, 34, 122] }
-<n> = nas: Nas { client: 0, name: Identifier(Octets { octets: [110] }) }
-<s1> = session: Octets { octets: [115, 49] }
-<m> = bundle: Some(Octets { octets: [109] })
+<n> = nas: Nas { client: 0, name: Identifier([110]) }
+<s1> = session: [115, 49]
+<m> = bundle: Some([109])
 <rfc> = 010000380f403f9473978057bd83d5cb98f4227a01066e656d6f02120dbe708d93d413ce3196e43f782a0aee\
     0406c0a80110050600000003
 <3900> = <3825>214b\

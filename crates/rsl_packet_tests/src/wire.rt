@@ -366,7 +366,8 @@ a value of 254 octets | 254 | 0 | (Err(TooLong), Ok(()))
     )
 }
 
-/// Two octet strings: whether they are equal, as copies that gave their octets back.
+/// Two octet strings: of the first and of its copy how many octets they have and whether none, and
+/// whether the copy is the first and the second.
 struct Same;
 
 impl Subject for Same {
@@ -374,11 +375,13 @@ impl Subject for Same {
         let [one, other] = fields else {
             return Err("two octet strings")?;
         };
-        let other = Octets::from(octets_of(alloc, other)?);
-        let copy = Octets::from(octets_of(alloc, one)?).try_copy(alloc)?;
-        let (len, is_empty) = (copy.len(), copy.is_empty());
-        let back = Octets::from(copy.into_vec());
-        printed(alloc, &(len, is_empty, back == other))
+        let other = Octets::from_slice(alloc, &octets_of(alloc, other)?)?;
+        let one = Octets::from_slice(alloc, &octets_of(alloc, one)?)?;
+        let copy = one.try_copy(alloc)?;
+        printed(
+            alloc,
+            &(copy.len(), copy.is_empty(), copy == one, copy == other),
+        )
     }
 }
 
@@ -388,14 +391,20 @@ fn octets_are_equal_octet_by_octet(rt: HostRuntime) -> Result<(), Fail> {
         &rt,
         &Same,
         "
-# How many octets the first has, whether it has none, and whether the second is equal.
-equal | 6e656d6f | 6e656d6f | (4, false, true)
-another octet | 6e656d6f | 6e656d61 | (4, false, false)
-a prefix | 6e656d6f | 6e656d | (4, false, false)
-a NUL more | 6e656d6f | 6e656d6f 00 | (4, false, false)
-none | | | (0, true, true)
-65535 octets | 6e*65535 | 6e*65535 | (65535, false, true)
-65535 and 65534 octets | 6e*65535 | 6e*65534 | (65535, false, false)
+# How many octets a copy of the first has, whether none, whether it is equal to the first, and to the
+# second. Up to 22 octets lie in the value.
+equal | 6e656d6f | 6e656d6f | (4, false, true, true)
+another octet | 6e656d6f | 6e656d61 | (4, false, true, false)
+a prefix | 6e656d6f | 6e656d | (4, false, true, false)
+a NUL more | 6e656d6f | 6e656d6f 00 | (4, false, true, false)
+none | | | (0, true, true, true)
+22 octets | 6e*22 | 6e*22 | (22, false, true, true)
+22 octets, another at the end | 6e*22 | 6e*21 6f | (22, false, true, false)
+22 and 23 octets | 6e*22 | 6e*23 | (22, false, true, false)
+23 octets | 6e*23 | 6e*23 | (23, false, true, true)
+23 and 22 octets | 6e*23 | 6e*22 | (23, false, true, false)
+65535 octets | 6e*65535 | 6e*65535 | (65535, false, true, true)
+65535 and 65534 octets | 6e*65535 | 6e*65534 | (65535, false, true, false)
 ",
     )
 }

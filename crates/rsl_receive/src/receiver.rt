@@ -127,10 +127,14 @@ fn take_turn<
         &buffer[..len],
         clock,
     ) {
-        Ok(octets) => match datagrams.send(octets.as_slice(), source) {
-            Ok(()) => Turn::Answered,
-            Err(PortFault) => Turn::Unsent,
-        },
+        Ok(octets) => {
+            let sent = datagrams.send(octets.as_slice(), source);
+            pass.take_back(octets);
+            match sent {
+                Ok(()) => Turn::Answered,
+                Err(PortFault) => Turn::Unsent,
+            }
+        }
         Err(Unanswered::Dropped) => Turn::Dropped,
         Err(Unanswered::Refused) => Turn::Refused,
     }

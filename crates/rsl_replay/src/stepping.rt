@@ -87,7 +87,7 @@ fn push_line(
     Ok(())
 }
 
-/// The datagram of an Access-Request, in room of its own length.
+/// The datagram of an Access-Request.
 fn access_datagram(
     alloc: Global,
     config: &Config,
@@ -100,12 +100,12 @@ fn access_datagram(
         request.now (is_signed_at config.now address) (secret_at config.now address))) }
 {
     let is_signed = is_signed_at(config, address);
-    let mut octets = access_octets(alloc, request, is_signed, secret_at(config, address))?;
-    octets.shrink_to_fit();
-    Ok(datagram(moment, Port::Auth, address, Octets::from(octets)))
+    let octets = access_octets(alloc, request, is_signed, secret_at(config, address))?;
+    let octets = Octets::from_slice(alloc, &octets)?;
+    Ok(datagram(moment, Port::Auth, address, octets))
 }
 
-/// The datagram of an Accounting-Request, in room of its own length.
+/// The datagram of an Accounting-Request.
 fn accounting_datagram(
     alloc: Global,
     config: &Config,
@@ -118,9 +118,9 @@ fn accounting_datagram(
         datagram moment Port.Acct address (accounting_octets
         boot request.now (secret_at config.now address))) }
 {
-    let mut octets = accounting_octets(alloc, boot, request, secret_at(config, address))?;
-    octets.shrink_to_fit();
-    Ok(datagram(moment, Port::Acct, address, Octets::from(octets)))
+    let octets = accounting_octets(alloc, boot, request, secret_at(config, address))?;
+    let octets = Octets::from_slice(alloc, &octets)?;
+    Ok(datagram(moment, Port::Acct, address, octets))
 }
 
 fn datagram(moment: u64, port: Port, address: [u8; 4], octets: Octets) -> Step

@@ -58,7 +58,7 @@ pub(crate) fn read_octets(alloc: Global, word: &str) -> Result<Octets, LineFault
         return Err(LineFault::Wrong);
     }
     match hex::decode(alloc, word) {
-        Ok(octets) => Ok(Octets::from(octets)),
+        Ok(octets) => Ok(Octets::from_slice(alloc, &octets)?),
         Err(FromHexError::OutOfMemory) => Err(LineFault::NoMemory),
         Err(_) => Err(LineFault::Wrong),
     }

@@ -10,10 +10,11 @@ use crate::gate::Gate;
 use crate::pass::Pass;
 use crate::service::Service;
 use crate::tally::Tally;
-use rsl_event::{Prepared, reply, room, said};
+use rsl_event::{Prepared, reply, room_in, said};
 use rsl_shard::Move;
 use rsl_wire::NoMemory;
 use std::alloc::Global;
+use std::mem::replace;
 use std::sync::Wait;
 
 impl<L0: Tally, L1: Tally, L2: Tally, L3: Tally, G: Gate> Service<L0, L1, L2, L3, G> {
@@ -61,7 +62,8 @@ impl<L0: Tally, L1: Tally, L2: Tally, L3: Tally, G: Gate> Service<L0, L1, L2, L3
             swept_before fault < self.now.config.settings.shards) }
     {
         let _shards = self.config.shards();
-        let draft = match room(alloc, prepared) {
+        let earlier = replace(&mut pass.room, Vec::new(alloc));
+        let draft = match room_in(prepared, earlier) {
             Ok(draft) => draft,
             Err(NoMemory) => return Err(ApplyFault::NoMemory { swept: 0 }),
         };

@@ -56,6 +56,7 @@ impl<L0: Tally, L1: Tally, L2: Tally, L3: Tally> Shares<L0, L1, L2, L3> {
             share3,
             receipts: _,
             spare: _,
+            room: _,
         } = pass;
         self.share0.merge(share0);
         self.share1.merge(share1);

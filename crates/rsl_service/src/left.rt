@@ -82,6 +82,7 @@ impl<L0: Tally, L1: Tally, L2: Tally, L3: Tally> Left<L0, L1, L2, L3> {
             share3: share3.split_off(1, 0),
             receipts,
             spare: Spare::new(alloc),
+            room: Vec::new(alloc),
         })
     }
 

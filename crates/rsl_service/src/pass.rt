@@ -1,3 +1,5 @@
+ghost use Rattle.std.specs.Prelude.{◌≡◌};
+
 use crate::tally::Tally;
 use rsl_settle::{HasReceipts, Receipt};
 use rsl_shard::Spare;
@@ -8,7 +10,7 @@ use std::sync::ledger::Share;
 ///
 /// A contract sees the receipts, in the order of the calls. Its type keeps that its share in each
 /// shard's ledger is the number of its receipts of that shard. Beside them it has the room for
-/// lines that its next step may need.
+/// lines that its next step may need, and for the octets of its next reply.
 #[derive(Drop)]
 pub struct Pass<L0: Tally, L1: Tally, L2: Tally, L3: Tally> {
     pub(crate) share0: Share<L0>,
@@ -17,6 +19,7 @@ pub struct Pass<L0: Tally, L1: Tally, L2: Tally, L3: Tally> {
     pub(crate) share3: Share<L3>,
     pub(crate) receipts: Vec<Receipt>,
     pub(crate) spare: Spare,
+    pub(crate) room: Vec<u8>,
 }
 
 impl<L0: Tally, L1: Tally, L2: Tally, L3: Tally> Model for Pass<L0, L1, L2, L3> {
@@ -37,6 +40,16 @@ impl<L0: Tally, L1: Tally, L2: Tally, L3: Tally> Model for Pass<L0, L1, L2, L3> 
         × (pass.share1.amount ≡ count_of 1 pass.receipts.items)
         × (pass.share2.amount ≡ count_of 2 pass.receipts.items)
         × (pass.share3.amount ≡ count_of 3 pass.receipts.items) };
+}
+
+impl<L0: Tally, L1: Tally, L2: Tally, L3: Tally> Pass<L0, L1, L2, L3> {
+    /// Takes back the octets of a reply that was sent: the next reply stands in their room, and so
+    /// takes no memory. The receipts are as they were.
+    pub fn take_back(&mut self, octets: Vec<u8>)
+        ensures { self.new ≡ self.old }
+    {
+        self.room = octets;
+    }
 }
 
 impl<L0: Tally, L1: Tally, L2: Tally, L3: Tally> HasReceipts for Pass<L0, L1, L2, L3> {

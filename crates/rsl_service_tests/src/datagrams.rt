@@ -99,7 +99,7 @@ fn datagram_of(alloc: Global, word: &str) -> Result<Datagram, Fail> {
         address: [192, 168, 1, 16],
         port: port_number(port)?,
     };
-    let octets = Octets::from(octets_of(alloc, digits_of(word)?)?);
+    let octets = Octets::from_slice(alloc, &octets_of(alloc, digits_of(word)?)?)?;
     Ok(Datagram { source, octets })
 }
 

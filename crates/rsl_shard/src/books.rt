@@ -84,6 +84,7 @@ fn is_of_one_account(act: &Act) -> bool
 }
 
 /// Steps the book at a place by an event.
+#[inline(always)]
 fn step_at(books: &mut [Book], place: usize, event: Event) -> Decision
     requires place { place < length books.old }
     requires limit { All IsWithinLimit books.old }
@@ -283,6 +284,7 @@ impl Books {
 
     /// Steps the books by a move as `step` does, with a copy of its event if it is an account's
     /// own.
+    #[inline(always)]
     pub(crate) fn step_ready(&mut self, moved: &Move, copy: Option<Event>) -> Decision
         requires taken { IsTaken self.old.setup moved.now }
         requires copy { copy ≡ event_in moved.now }
@@ -304,6 +306,7 @@ impl Books {
     }
 
     /// Steps the book of an account by an event of its own.
+    #[inline(always)]
     fn own(&mut self, account: u32, event: Event) -> Decision
         requires { IsOwn self.old.setup account event }
         ensures setup { self.new.setup ≡ self.old.setup }

@@ -100,6 +100,7 @@ impl Journal {
     /// Sees to it that there is room for a line. Where the last chunk is full, the spare room
     /// becomes the next one, and is taken here if there is none. Where memory is refused the lines
     /// are as they were.
+    #[inline(always)]
     pub(crate) fn make_room(&mut self, alloc: Global, spare: &mut Spare) -> Result<(), NoMemory>
         requires { length self.old.lines < 2 ^ 64 }
         ensures lines { self.new.lines ≡ self.old.lines }
@@ -118,6 +119,7 @@ impl Journal {
     }
 
     /// Puts a line after the others. There is room for it.
+    #[inline(always)]
     pub(crate) fn push(&mut self, line: Line)
         requires { 0 < self.old.room }
         ensures { self.new.lines ≡ self.old.lines ++ line ∷ [] }

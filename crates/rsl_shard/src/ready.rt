@@ -31,6 +31,7 @@ impl Model for Ready {
 
 /// A copy of the event of an account's own move, if it is one. It fails only where memory is
 /// refused.
+#[inline(always)]
 pub(crate) fn copy_of_event(alloc: Global, moved: &Move) -> Result<Option<Event>, NoMemory>
     ensures { IfOk result (λ copy. copy ≡ event_in moved.now) }
 {
@@ -42,6 +43,7 @@ pub(crate) fn copy_of_event(alloc: Global, moved: &Move) -> Result<Option<Event>
 
 impl Ready {
     /// A move that is ready for its step. It fails only where memory is refused.
+    #[inline(always)]
     pub fn new(alloc: Global, moved: Move) -> Result<Ready, NoMemory>
         ensures { IfOk result (λ ready. ready ≡ moved) }
     {
@@ -50,6 +52,7 @@ impl Ready {
     }
 
     /// The move, and the copy of its event.
+    #[inline(always)]
     pub(crate) fn into_parts(self) -> (Move, Option<Event>)
         ensures moved { result.0 ≡ self }
         ensures copy { result.1 ≡ event_in self }

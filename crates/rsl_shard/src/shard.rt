@@ -108,6 +108,7 @@ impl Shard {
     /// room for the journal. So where there is spare room no memory is taken for the move or its
     /// line, and none is let go; only where the chunks of the journal pass 1,024, and each time
     /// that they double, is their list moved. Where memory is refused nothing has changed.
+    #[inline(always)]
     pub fn step_ready(
         &mut self,
         alloc: Global,

@@ -1,4 +1,4 @@
-ghost use Rattle.std.specs.Prelude.{◌≡◌, ℕ, ◌≤◌, OnErr, OnOk, [], vec_capacity, vec_len};
+ghost use Rattle.std.specs.Prelude.{◌≡◌, ℕ, ◌≤◌, IsOk, OnErr, OnOk, [], vec_capacity, vec_len};
 
 use crate::line::Line;
 use rsl_wire::NoMemory;
@@ -29,7 +29,9 @@ impl Model for Spare {
 
 impl Spare {
     /// No room yet.
-    pub fn new(alloc: Global) -> Spare {
+    pub fn new(alloc: Global) -> Spare
+        ensures { result ≡ 0 }
+    {
         Spare {
             lines: Vec::new(alloc),
         }
@@ -39,6 +41,8 @@ impl Spare {
     /// then nothing has changed.
     pub fn fill(&mut self, alloc: Global) -> Result<(), NoMemory>
         ensures room { OnOk result (1024 ≤ self.new) }
+        ensures kept { self.old ≤ self.new }
+        ensures filled { 1024 ≤ self.old → IsOk result }
         ensures err { OnErr result (self.new ≡ self.old) }
     {
         self.lines.reserve(CHUNK)?;

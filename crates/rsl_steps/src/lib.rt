@@ -9,9 +9,11 @@
 mod deciding;
 pub mod laws;
 mod own_events;
+mod reply_octets;
 mod running;
 mod step;
 
 pub use own_events::own;
+pub use reply_octets::ReplyOctets;
 pub use running::run;
 pub use step::{Answer, Ran, Step};

@@ -12,11 +12,12 @@ ghost use Rattle.rsl_steps.specs.declared.step.Step.{Step};
 
 use crate::deciding::{decide_meaning, move_at};
 use crate::laws::{books_answer_as_looking_back, shards_obey_the_rule};
+use crate::reply_octets::ReplyOctets;
 use crate::step::{Answer, Ran, Step};
 use rsl_accounts::Config;
 use rsl_event::{Dropped, Nas, Port, Source, prepare, reply, room, said};
 use rsl_shard::{Move, Shard};
-use rsl_wire::{NoMemory, Octets};
+use rsl_wire::NoMemory;
 use std::alloc::Global;
 
 /// Answers steps in order, by shards that begin new: the time that a step takes does not grow with
@@ -125,7 +126,7 @@ fn take_datagram(
     let mut octets = reply(&prepared, config, boot, decision, draft);
     // The step is made: where a smaller room is refused, the octets stay in theirs.
     octets.shrink_to_fit();
-    Answer::Reply(said(&prepared.meaning, decision), Octets::from(octets))
+    Answer::Reply(said(&prepared.meaning, decision), ReplyOctets::from(octets))
 }
 
 /// Sweeps a shard, if it is there.

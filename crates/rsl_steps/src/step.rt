@@ -1,3 +1,4 @@
+use crate::reply_octets::ReplyOctets;
 use rsl_event::{Dropped, Nas, Port, Said, Source};
 use rsl_shard::Shard;
 use rsl_wire::Octets;
@@ -38,7 +39,7 @@ pub enum Step {
 #[derive(Debug, PartialEq, Eq, Drop)]
 pub enum Answer {
     /// A reply: its word, and its octets.
-    Reply(Said, Octets),
+    Reply(Said, ReplyOctets),
     /// The datagram was dropped. It is never `Dropped::NoMemory`, which is given as `Refused`.
     Dropped(Dropped),
     /// A sweep or a tick was taken: there is nothing to answer.

@@ -8,7 +8,6 @@ use rsl_replay::{ReplayFault, lines_of, replay, steps_of};
 use rsl_rows::{Subject, check_rows};
 use rsl_script::{EventLine, Script};
 use rsl_steps::{Answer, Step, run};
-use rsl_wire::Octets;
 use std::alloc::Global;
 use std::io::{ErrorKind, Read, Write};
 use std::test::Fail;
@@ -71,15 +70,15 @@ fn told_step(alloc: Global, step: &Step) -> Result<String, Fail> {
             let mut text = format!(in alloc; "{moment} {port:?} ")?;
             let [a, b, c, d] = source.address;
             write!(text, "{a}.{b}.{c}.{d}:{} ", source.port)?;
-            push_hex(&mut text, alloc, octets)?;
+            push_hex(&mut text, alloc, octets.as_slice())?;
             Ok(text)
         }
         other => Ok(format!(in alloc; "{other:?}")?),
     }
 }
 
-fn push_hex(text: &mut String, alloc: Global, octets: &Octets) -> Result<(), Fail> {
-    let digits = hex::encode(alloc, octets.as_slice())?;
+fn push_hex(text: &mut String, alloc: Global, octets: &[u8]) -> Result<(), Fail> {
+    let digits = hex::encode(alloc, octets)?;
     text.push_str(digits.as_str())?;
     Ok(())
 }
@@ -175,7 +174,7 @@ pub(crate) fn replies_in(alloc: Global, answers: &[Answer]) -> Result<String, Fa
     let mut text = String::new(alloc);
     for answer in answers {
         if let Answer::Reply(_, octets) = answer {
-            push_hex(&mut text, alloc, octets)?;
+            push_hex(&mut text, alloc, octets.as_slice())?;
         }
     }
     Ok(text)

@@ -57,7 +57,18 @@ impl Draft {
     pub fn new(alloc: Global, id: u8) -> Result<Draft, NoMemory>
         ensures { IfOk result (λ draft. draft ≡ record { id = id; attributes = [] }) }
     {
-        let mut octets = Vec::with_capacity(alloc, MAX_LEN)?;
+        Draft::in_room(Vec::new(alloc), id)
+    }
+
+    /// The same in the room of earlier octets, which are let go: it takes memory only where there
+    /// is room for less than 4,096 octets, and fails only where that is refused.
+    pub fn in_room(room: Vec<u8>, id: u8) -> Result<Draft, NoMemory>
+        ensures draft { IfOk result (λ draft. draft ≡ record { id = id; attributes = [] }) }
+        ensures enough { 4096 ≤ vec_capacity room → IsOk result }
+    {
+        let mut octets = room;
+        octets.clear();
+        octets.reserve(MAX_LEN)?;
         let mut header = [0; HEADER_LEN];
         header[1] = id;
         append(&mut octets, &header);
@@ -104,11 +115,9 @@ impl Draft {
 fn append(octets: &mut Vec<u8>, more: &[u8])
     requires { vec_len octets.old + length more.now ≤ vec_capacity octets.old }
     ensures items { octets.new.items ≡ octets.old.items ++ more.now }
-    ensures capacity { vec_capacity octets.new ≡ vec_capacity octets.old }
+    ensures capacity { vec_capacity octets.old ≤ vec_capacity octets.new }
 {
-    for octet in more {
-        octets.push_reserved(*octet);
-    }
+    octets.extend_from_slice(more).unwrap();
 }
 
 /// Writes the octets before the attributes; the Identifier stands there already.

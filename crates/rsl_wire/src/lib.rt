@@ -26,6 +26,7 @@ pub mod laws;
 mod octets;
 mod packet;
 mod reading;
+mod short;
 
 pub use attr::{ATTR_HEADER_LEN, Attr, MAX_VALUE_LEN};
 pub use attributes::{Attrs, BadAttribute};

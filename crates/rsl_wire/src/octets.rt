@@ -1,70 +1,96 @@
-ghost use Rattle.std.specs.Prelude.{◌≡◌, ◌≢◌, ◌↔◌, IsTrue, IfOk, OnErr, None, nat_eq, length};
+ghost use Rattle.std.specs.Prelude.{◌≡◌, ◌≢◌, ◌≤◌, ◌<◌, ◌↔◌, IsOk, IsTrue, IfOk, OnErr, None, nat_eq, length};
 ghost use Rattle.std.specs.Cmp.{partial_equiv_from_equiv};
 ghost use Rattle.std.specs.Cmp.Lexicographic.{pointwise, nat_list_eq_equiv};
 
 use crate::fault::NoMemory;
+use crate::short::Short;
 use std::alloc::Global;
+use std::fmt;
 use std::marker::Model;
+
+/// Where the octets of a string are.
+#[derive(Drop)]
+enum Held {
+    /// In the value itself, if they are few.
+    Short(Short),
+    /// In memory of their own.
+    Long(Box<Vec<u8>>),
+}
 
 /// A string of octets of any length. A contract sees it as the list of its octets, and not where it
 /// lies in memory or how much room it has.
-#[derive(Debug, Drop)]
+///
+/// A copy of at most 22 octets takes no memory: they lie in the value. Most names of access servers
+/// and most session ids are so short.
 pub struct Octets {
-    octets: Vec<u8>,
+    held: Held,
+}
+
+impl Drop for Octets {
+    fn drop(self) {
+        let Octets { held } = self;
+        drop(held);
+    }
 }
 
 impl Model for Octets {
     ghost use Rattle.std.specs.Prelude.{List, ℕ};
+    ghost use Rattle.rsl_wire.specs.OctetsHeld.{octets_held};
 
     ghost Value = { List ℕ };
 
-    ghost view = { λ s. s.octets.items };
+    ghost view = { λ s. octets_held s.held };
 }
 
 impl Octets {
-    /// A copy of the octets. It fails only where memory is refused.
+    /// A copy of the octets. It fails only where memory is refused, and takes none for up to 22
+    /// octets.
     pub fn from_slice(alloc: Global, octets: &[u8]) -> Result<Octets, NoMemory>
-        ensures { IfOk result (λ copy. copy ≡ octets.now) }
+        ensures copy { IfOk result (λ copy. copy ≡ octets.now) }
+        ensures short { length octets.now ≤ 22 → IsOk result }
     {
-        Ok(Octets {
-            octets: Vec::from_slice(alloc, octets)?,
-        })
+        let held = match Short::of(octets) {
+            Some(short) => Held::Short(short),
+            None => Held::Long(Box::new(alloc, Vec::from_slice(alloc, octets)?)?),
+        };
+        Ok(Octets { held })
     }
 
     /// The octets, lent.
     pub fn as_slice(&self) -> &[u8]
         ensures { result.now ≡ self.now }
     {
-        self.octets.as_slice()
+        match &self.held {
+            Held::Short(short) => short.as_slice(),
+            Held::Long(octets) => octets.as_slice(),
+        }
     }
 
     /// How many octets there are.
     pub fn len(&self) -> usize
         ensures { result ≡ length self.now }
     {
-        self.octets.len()
+        self.as_slice().len()
     }
 
     /// Whether there is no octet.
     pub fn is_empty(&self) -> bool
         ensures { IsTrue result ↔ (length self.now ≡ 0) }
     {
-        self.octets.is_empty()
+        self.as_slice().is_empty()
     }
 
-    /// The octets as a `Vec`. This takes no memory.
-    pub fn into_vec(self) -> Vec<u8>
-        ensures { result.items ≡ self }
-    {
-        let Octets { octets } = self;
-        octets
-    }
-
-    /// An equal string. It fails only where memory is refused.
+    /// An equal string. It fails only where memory is refused, and takes none for up to 22 octets.
     pub fn try_copy(&self, alloc: Global) -> Result<Octets, NoMemory>
-        ensures { IfOk result (λ copy. copy ≡ self.now) }
+        ensures copy { IfOk result (λ copy. copy ≡ self.now) }
+        ensures short { length self.now ≤ 22 → IsOk result }
     {
-        Octets::from_slice(alloc, self.as_slice())
+        match &self.held {
+            Held::Short(short) => Ok(Octets {
+                held: Held::Short(*short),
+            }),
+            Held::Long(octets) => Octets::from_slice(alloc, octets.as_slice()),
+        }
     }
 
     /// An equal string, if there is one. It fails only where memory is refused; none takes none.
@@ -82,12 +108,9 @@ impl Octets {
     }
 }
 
-impl From<Vec<u8>> for Octets {
-    ghost from_gives = { λ octets made. made ≡ octets.items };
-
-    /// The octets of a `Vec`. This takes no memory.
-    fn from(octets: Vec<u8>) -> Octets {
-        Octets { octets }
+impl fmt::Debug for Octets {
+    fn fmt<W: fmt::Write>(&self, f: &mut fmt::Formatter<W>) -> fmt::Result {
+        f.debug_list().entries(self.as_slice()).finish()
     }
 }
 

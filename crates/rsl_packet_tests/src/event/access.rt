@@ -6,24 +6,24 @@ use std::test::Fail;
 fn request_of_the_rfc_is_an_ask(rt: HostRuntime) -> Result<(), Fail> {
     let rows = "
         alone | auth | <rfc> | \
-          Own { account: 0, act: Ask { <key>, nas: Nas { client: 0, name: Address(Octets { \
-          octets: [192, 168, 1, 16] }) } } }
+          Own { account: 0, act: Ask { <key>, nas: Nas { client: 0, \
+          name: Address([192, 168, 1, 16]) } } }
         with 5 octets of padding | auth | <rfc>0000000000 | \
-          Own { account: 0, act: Ask { <key>, nas: Nas { client: 0, name: Address(Octets { \
-          octets: [192, 168, 1, 16] }) } } }
+          Own { account: 0, act: Ask { <key>, nas: Nas { client: 0, \
+          name: Address([192, 168, 1, 16]) } } }
         in 4,097 octets | auth | <rfc> 00*4041 | \
-          Own { account: 0, act: Ask { <key>, nas: Nas { client: 0, name: Address(Octets { \
-          octets: [192, 168, 1, 16] }) } } }
+          Own { account: 0, act: Ask { <key>, nas: Nas { client: 0, \
+          name: Address([192, 168, 1, 16]) } } }
         in 65,507 octets | auth | <rfc> ff*65451 | \
-          Own { account: 0, act: Ask { <key>, nas: Nas { client: 0, name: Address(Octets { \
-          octets: [192, 168, 1, 16] }) } } }
+          Own { account: 0, act: Ask { <key>, nas: Nas { client: 0, \
+          name: Address([192, 168, 1, 16]) } } }
         with another Identifier | auth | \
           01ff00380f403f9473978057bd83d5cb98f4227a01066e656d6f02120dbe708d93d413ce3196e43f782a0a\
           ee0406c0a80110050600000003 | \
           Own { account: 0, act: Ask { key: Key { source: Source { address: [192, 168, 1, 16], \
           port: 1024 }, id: 255, authenticator: [15, 64, 63, 148, 115, 151, 128, 87, 189, 131, \
-          213, 203, 152, 244, 34, 122] }, nas: Nas { client: 0, name: Address(Octets { octets: \
-          [192, 168, 1, 16] }) } } }
+          213, 203, 152, 244, 34, 122] }, nas: Nas { client: 0, \
+          name: Address([192, 168, 1, 16]) } } }
         with a second User-Name | auth | \
           0100003e0f403f9473978057bd83d5cb98f4227a01066e656d6f02120dbe708d93d413ce3196e43f782a0a\
           ee0406c0a8011005060000000301066e656d6f | Reject
@@ -148,18 +148,16 @@ fn access_server_is_named_by_the_first_identifier_or_else_the_first_address(
         an empty identifier | auth | \
           010000370f403f9473978057bd83d5cb98f4227a01066e656d6f02120dbe708d93d413ce3196e43f782a0a\
           ee04060a000001200220036e | \
-          Own { account: 0, act: Ask { <key>, nas: Nas { client: 0, name: Identifier(Octets { \
-          octets: [] }) } } }
+          Own { account: 0, act: Ask { <key>, nas: Nas { client: 0, name: Identifier([]) } } }
         two addresses | auth | \
           010000380f403f9473978057bd83d5cb98f4227a01066e656d6f02120dbe708d93d413ce3196e43f782a0a\
           ee04060a00000104060a000002 | \
-          Own { account: 0, act: Ask { <key>, nas: Nas { client: 0, name: Address(Octets { \
-          octets: [10, 0, 0, 1] }) } } }
+          Own { account: 0, act: Ask { <key>, nas: Nas { client: 0, \
+          name: Address([10, 0, 0, 1]) } } }
         an address of 3 octets | auth | \
           010000310f403f9473978057bd83d5cb98f4227a01066e656d6f02120dbe708d93d413ce3196e43f782a0a\
           ee04050a0000 | \
-          Own { account: 0, act: Ask { <key>, nas: Nas { client: 0, name: Address(Octets { \
-          octets: [10, 0, 0] }) } } }
+          Own { account: 0, act: Ask { <key>, nas: Nas { client: 0, name: Address([10, 0, 0]) } } }
     ";
     check(&rt, CLIENT, rows)
 }

@@ -94,30 +94,25 @@ fn other_accounting_is_a_stray(rt: HostRuntime) -> Result<(), Fail> {
     let rows = "
         a Start of a name that no account has | acct | \
           040000288ba1a3a9916f12c12dd209a62f5a615428060000000120036e010767686f73742c047331 | \
-          Stray(Note { <n>, status: 1, name: Octets { octets: [103, 104, 111, 115, 116] }, <s1> \
-          })
+          Stray(Note { <n>, status: 1, name: [103, 104, 111, 115, 116], <s1> })
         such a name before an account's | acct | \
           0400002e2d864cb5eb29ab21526eccf38fce44c828060000000120036e010767686f737401066e656d6f2c\
           047331 | \
-          Stray(Note { <n>, status: 1, name: Octets { octets: [103, 104, 111, 115, 116] }, <s1> \
-          })
+          Stray(Note { <n>, status: 1, name: [103, 104, 111, 115, 116], <s1> })
         a Start without a name | acct | \
           0400002193028aa7ed3568e49ba902db7fef8c9d28060000000120036e2c047331 | \
-          Stray(Note { <n>, status: 1, name: Octets { octets: [] }, <s1> })
+          Stray(Note { <n>, status: 1, name: [], <s1> })
         a Stop of a name that no account has | acct | \
           04000028afc4f5737cfa342e37234ba15ca6b15628060000000220036e010767686f73742c047331 | \
-          Stray(Note { <n>, status: 2, name: Octets { octets: [103, 104, 111, 115, 116] }, <s1> \
-          })
+          Stray(Note { <n>, status: 2, name: [103, 104, 111, 115, 116], <s1> })
         another status without a session | acct | \
           04000023e53384a3cd20a1e2c45b5d2958a8d43028060000000f20036e01066e656d6f | \
-          Stray(Note { <n>, status: 15, name: Octets { octets: [110, 101, 109, 111] }, session: \
-          Octets { octets: [] } })
+          Stray(Note { <n>, status: 15, name: [110, 101, 109, 111], session: [] })
         another status alone | acct | 0400001a985ee9191f60a3e19a7ce717b01628c528060000000f | \
-          Stray(Note { nas: Nas { client: 0, name: Unnamed }, status: 15, name: Octets { \
-          octets: [] }, session: Octets { octets: [] } })
+          Stray(Note { nas: Nas { client: 0, name: Unnamed }, status: 15, name: [], session: [] })
         a great status | acct | \
           040000277cfc311f30c1de76fe977caac219483728060100000120036e01066e656d6f2c047331 | \
-          Stray(Note { <n>, status: 16777217, name: Octets { octets: [110, 101, 109, 111] }, \
+          Stray(Note { <n>, status: 16777217, name: [110, 101, 109, 111], \
           <s1> })
     ";
     check(&rt, CLIENT, rows)
@@ -127,18 +122,18 @@ fn other_accounting_is_a_stray(rt: HostRuntime) -> Result<(), Fail> {
 fn accounting_on_and_off_restart_the_access_server(rt: HostRuntime) -> Result<(), Fail> {
     let rows = "
         On | acct | 0400001e18579ea377c6a7b88105566861ad8dba28060000000720046e31 | \
-          Restart { nas: Nas { client: 0, name: Identifier(Octets { octets: [110, 49] }) } }
+          Restart { nas: Nas { client: 0, name: Identifier([110, 49]) } }
         Off | acct | 04000022aba022f3e6683528d8cbebcfa309501c28060000000820046e3120046e32 | \
-          Restart { nas: Nas { client: 0, name: Identifier(Octets { octets: [110, 49] }) } }
+          Restart { nas: Nas { client: 0, name: Identifier([110, 49]) } }
         an address before an identifier | acct | \
           04000028a43a936819fb1ac27b076dbb727824dd28060000000704060a00000120046e3220046e31 | \
-          Restart { nas: Nas { client: 0, name: Identifier(Octets { octets: [110, 50] }) } }
+          Restart { nas: Nas { client: 0, name: Identifier([110, 50]) } }
         an empty identifier | acct | \
           04000022186027066e7f54a603b2edd98c9dd39528060000000704060a0000012002 | \
-          Restart { nas: Nas { client: 0, name: Identifier(Octets { octets: [] }) } }
+          Restart { nas: Nas { client: 0, name: Identifier([]) } }
         addresses alone | acct | \
           0400002697cad3492ba6e186ec9502333d2a916e28060000000704060a00000104060a000002 | \
-          Restart { nas: Nas { client: 0, name: Address(Octets { octets: [10, 0, 0, 1] }) } }
+          Restart { nas: Nas { client: 0, name: Address([10, 0, 0, 1]) } }
         neither | acct | 0400001a337a14cb7a2fa5b3d8964a8ded7b86ad280600000007 | \
           Restart { nas: Nas { client: 0, name: Unnamed } }
         a name and a session beside it | acct | \

@@ -117,23 +117,23 @@ fn message_authenticator_in_accounting_is_ignored(rt: HostRuntime) -> Result<(),
     let rows = "
         none | acct | \
           04000027d16ec3e2c1cc1cd9b6803bd0e9a1099f28060000000120036e01066e656d6f2c047331 | \
-          Own { account: 0, act: Alive { nas: Nas { client: 2, name: Identifier(Octets { \
-          octets: [110] }) }, <s1>, bundle: None, class: None } }
+          Own { account: 0, act: Alive { nas: Nas { client: 2, \
+          name: Identifier([110]) }, <s1>, bundle: None, class: None } }
         zeros | acct | \
           04000039ecf63f7e60890af0ff73e06a9630bd6a28060000000120036e01066e656d6f2c0473315012 \
           00*16 | \
-          Own { account: 0, act: Alive { nas: Nas { client: 2, name: Identifier(Octets { \
-          octets: [110] }) }, <s1>, bundle: None, class: None } }
+          Own { account: 0, act: Alive { nas: Nas { client: 2, \
+          name: Identifier([110]) }, <s1>, bundle: None, class: None } }
         15 octets | acct | \
           04000038fe93bd0e3c8151369bb908debd3bcc725011 00*15 \
           28060000000120036e01066e656d6f2c047331 | \
-          Own { account: 0, act: Alive { nas: Nas { client: 2, name: Identifier(Octets { \
-          octets: [110] }) }, <s1>, bundle: None, class: None } }
+          Own { account: 0, act: Alive { nas: Nas { client: 2, \
+          name: Identifier([110]) }, <s1>, bundle: None, class: None } }
         two | acct | \
           0400004b7ea540c7c7ee85601c2afa23f68f9fc65012 00*16 \
           28060000000120036e01066e656d6f2c0473315012 00*16 | \
-          Own { account: 0, act: Alive { nas: Nas { client: 2, name: Identifier(Octets { \
-          octets: [110] }) }, <s1>, bundle: None, class: None } }
+          Own { account: 0, act: Alive { nas: Nas { client: 2, \
+          name: Identifier([110]) }, <s1>, bundle: None, class: None } }
     ";
     check(&rt, SIGNED, rows)
 }
