@@ -183,6 +183,18 @@ class Server:
         return resident(self.process)
 
 
+def first_answer(port, request, secret, seconds):
+    """Asks a server that has just bound its sockets: whether the right answer comes within so many seconds."""
+    with socket.socket(socket.AF_INET, socket.SOCK_DGRAM) as one:
+        one.settimeout(seconds)
+        one.connect((HOST, int(port)))
+        one.send(request)
+        try:
+            return is_answer(one.recv(4096), request, secret)
+        except OSError:
+            return False
+
+
 def resident(process):
     """The octets that are resident of a process."""
     with open(f"/proc/{process.pid}/status", encoding="ascii") as status:

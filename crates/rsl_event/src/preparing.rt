@@ -13,9 +13,10 @@ use rsl_accounts::Config;
 use rsl_wire::{WireFault, read};
 use std::alloc::Global;
 
-/// What a datagram means that came from `source` to `port` of the server with this boot number, or
-/// why it is dropped. The first cause in the order of `Dropped` that is there is named, and
-/// `NoMemory` comes only where a growth is refused, after every other check has passed.
+/// What a datagram means that came from `source` to `port` of the server with this boot number (RFC
+/// 2865 sections 3 and 4.1, RFC 2866 sections 3 and 4.1), or why it is dropped. The first cause in
+/// the order of `Dropped` that is there is named, and `NoMemory` comes only where a growth is
+/// refused, after every other check has passed.
 #[tactic(auto, unfolding(crate::specs::Meaning::meaning))]
 pub fn prepare<'a>(
     alloc: Global,

@@ -54,7 +54,8 @@ pub fn room(alloc: Global, prepared: &Prepared<'_>) -> Result<Draft, NoMemory>
 }
 
 /// The same in the room of an earlier reply, whose octets are let go: it takes memory only where
-/// there is room for less than 4,096 octets.
+/// there is room for less than 4,096 octets, and fails only where that is refused. Then the room is
+/// let go too.
 pub fn room_in(prepared: &Prepared<'_>, earlier: Vec<u8>) -> Result<Draft, NoMemory>
     ensures draft { IfOk result (λ draft.
         draft ≡ record { id = prepared.now.packet.id; attributes = [] }) }
@@ -67,7 +68,7 @@ pub fn room_in(prepared: &Prepared<'_>, earlier: Vec<u8>) -> Result<Draft, NoMem
 /// Authenticator over them and the client's secret (RFC 2865 section 3). Where it answers an
 /// Access-Request that has a Message-Authenticator, its own stands first (RFC 3579 section 3.2),
 /// and Proxy-States stand last, as they came (RFC 2865 section 5.33). It takes no memory: the draft
-/// is that of `room`.
+/// is that of `room` or `room_in`.
 pub fn reply(
     prepared: &Prepared<'_>,
     config: &Config,

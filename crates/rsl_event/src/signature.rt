@@ -104,8 +104,8 @@ pub fn push_signature_if(is_signed: bool, draft: &mut Draft)
 }
 
 /// The octets of a packet, signed if it is to be: its first attribute is a Message-Authenticator,
-/// which gets its value, with this Request Authenticator (RFC 3579 section 3.2). It takes no
-/// memory.
+/// so that it has at least 38 octets, and that gets its value, with this Request Authenticator (RFC
+/// 3579 section 3.2). It takes no memory.
 pub fn signed_if(
     is_signed: bool,
     octets: Vec<u8>,

@@ -22,7 +22,8 @@ pub trait DatagramPort {
 
     /// Waits for a datagram for a while, and puts its octets at the start of the buffer. Gives how
     /// many they are, with the source, or `None` where none has come. A datagram longer than the
-    /// buffer is cut.
+    /// buffer is cut. It fails where the port can give no more, as a socket that the system closed.
+    /// What the port counts of its calls has to stay under 2^64 with this one.
     fn receive(&mut self, buffer: &mut [u8]) -> Result<Option<(usize, Source)>, PortFault>
         requires { CanReceive 1 (numbers self.old) }
         ensures within { IfOk result (λ received. IfSome received (λ found.
@@ -33,7 +34,8 @@ pub trait DatagramPort {
             taken self.new ≡ taken self.old ++ taken_by result buffer.new }
         ensures sent { tells self.new ≡ true → sent self.new ≡ sent self.old };
 
-    /// Sends these octets to a source. Where it fails, nothing is known to have been sent.
+    /// Sends these octets to a source. Where it fails, nothing is known to have been sent. What
+    /// the port counts of its calls has to stay under 2^64 with this one.
     fn send(&mut self, octets: &[u8], to: Source) -> Result<(), PortFault>
         requires { CanSend 1 (numbers self.old) }
         ensures numbers { numbers self.new ≡ after_send to result (numbers self.old) }

@@ -20,12 +20,16 @@ use std::sync::Wait;
 const BUFFER_LEN: usize = 4096;
 
 /// Takes datagrams from a port, and sends the service's answers to where they came from, for so
-/// many turns.
+/// many turns (RFC 2865 section 3, RFC 2866 section 3).
 ///
-/// Each turn calls the port's `receive` once. A datagram that is not dropped makes its moves in the
-/// service, with receipts in the pass, at the clock's present moment, and then its reply is sent.
-/// Where that fails the moves stand, and the next turn follows; so it does where memory is refused.
-/// `Down` where the port's `receive` fails, and `NoMemory` where there is no memory for the buffer.
+/// Each turn calls the port's `receive` once, with room for 4,096 octets. A datagram that is not
+/// dropped makes its moves in the service, with receipts in the pass, at the clock's present
+/// moment, and then its reply is sent. Where that fails the moves stand, and the next turn follows;
+/// so it does where memory is refused.
+///
+/// `Down` where the port's `receive` fails, with the counts up to then, and `NoMemory` where there
+/// is no memory for the buffer: then nothing has changed. What the port counts of its calls has to
+/// stay under 2^64 with as many more of each kind as there are turns.
 #[tactic(auto, using(crate::proofs::Calling::calling))]
 pub fn receive<
     L0: Tally,

@@ -109,8 +109,8 @@ abbrev pub IsFaultOfSegments : Configuration → (shard : ℕ) → List Segment 
 IsFaultOfSegments config shard segments fault =
     (number : ℕ) × (segment : Segment) × IsFaultAt config shard segments fault number segment
 
--- The fault is there, and no fault comes before it. The walk looks at how the first segment begins,
--- and then goes segment by segment, each one's gap before its lines.
+-- The fault is there, and no fault comes before it: how the first segment begins is looked at
+-- first, and then one segment after the other, first where it begins and then its lines.
 abbrev pub IsFirstFault : Configuration → List Segment → AuditFault → Type 0
 IsFirstFault config [] fault = ⊥
 IsFirstFault config (first ∷ segments) NotFromEmpty = BeginsNew config first → ⊥

@@ -5,6 +5,6 @@ use rsl_event::Said;
 pub struct Answered {
     /// Its word.
     pub said: Said,
-    /// The octets of the reply.
+    /// The octets of the reply: the whole packet, as it is sent.
     pub octets: Vec<u8>,
 }

@@ -18,10 +18,16 @@ use std::mem::replace;
 use std::sync::Wait;
 
 impl<L0: Tally, L1: Tally, L2: Tally, L3: Tally, G: Gate> Service<L0, L1, L2, L3, G> {
-    /// What a datagram is answered, with the moves that it makes at this moment.
+    /// What a datagram is answered (RFC 2865 section 2, RFC 2866 section 2), with the moves that it
+    /// makes at this moment, in seconds.
     ///
     /// An account's own moves its shard, and a stray shard 0. A restart sweeps the shards in turn,
-    /// and is answered after the last. A reject takes no lock. On a fault nothing is answered.
+    /// and is answered after the last. A reject takes no lock. Each move that was made has a
+    /// receipt in the pass; the octets may be given back to it (`Pass::take_back`).
+    ///
+    /// On a fault nothing is answered: `NoMemory` comes where memory is refused, and `Spent` where
+    /// a shard has made 2^64 - 1 moves. Either tells how many shards a restart had swept by then;
+    /// these moves stand, with their receipts, and all else is as it was.
     pub fn apply<R: Wait>(
         &self,
         rt: &R,
@@ -73,7 +79,12 @@ impl<L0: Tally, L1: Tally, L2: Tally, L3: Tally, G: Gate> Service<L0, L1, L2, L3
         Ok(Answered { said, octets })
     }
 
-    /// Makes a tick of this moment in each shard in turn.
+    /// Makes a tick of this moment, in seconds, in each shard in turn, so that what its deadlines
+    /// end is ended. Each tick has a receipt in the pass.
+    ///
+    /// `NoMemory` comes where memory is refused, and `Spent` where a shard has made 2^64 - 1 moves.
+    /// Either tells how many shards had their tick by then; these stand, with their receipts, and
+    /// all else is as it was.
     pub fn expire<R: Wait>(
         &self,
         rt: &R,

@@ -33,10 +33,10 @@ impl<L0: Tally, L1: Tally, L2: Tally, L3: Tally, G: Gate + Drop> Service<L0, L1,
     /// The first fault is the answer. `MissingPass` comes where not as many passes are given as
     /// were opened. `MissingSegment` names the lowest shard whose segments, with its journal last,
     /// don't join from its new books or have a move that it doesn't take, or a number that is no
-    /// shard's. `Mismatch` names a receipt that isn't the line at its position, that isn't above the
-    /// one before it of its pass and shard, or that isn't the only one there. `NoMemory` comes where
-    /// memory is refused, which may be before any of these. On a fault everything that was handed
-    /// in is dropped.
+    /// shard's. `Mismatch` names the position of a receipt that is not the line there, or not the
+    /// only receipt of it, or that comes in its pass after one of the same or a later position of
+    /// its shard. `NoMemory` comes where memory is refused, which may be before any of these. On a
+    /// fault everything that was handed in is dropped.
     pub fn close(
         self,
         alloc: Global,

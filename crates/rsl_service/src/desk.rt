@@ -90,8 +90,8 @@ impl<L: Tally> Desk<L> {
     }
 
     /// Makes a move in the shard, counts its line in the share, and then calls the gate. Where it
-    /// fails, nothing has changed but the spare room: `Spent` comes before the step's own want of
-    /// memory.
+    /// fails, nothing has changed but the spare room. A shard that is spent says so whether or not
+    /// there is memory.
     #[tactic(auto, using(crate::proofs::Ruled::ruled))]
     pub(crate) fn make<G: Gate>(
         &mut self,

@@ -1,4 +1,8 @@
 //! The service: shards behind locks, which several receivers and an expiry worker use at once.
+//!
+//! The promise: a datagram is answered only where the caller's pass has a receipt of each move that
+//! it made (`specs/Applied.antt`, `specs/Receipts.antt`); and `Service::close` says Ok only where
+//! the journals hold the moves of all passes, each once, and no others (`specs/Closed.antt`).
 #![tactic(auto)]
 
 mod answered;

@@ -83,7 +83,9 @@ impl<L0: Tally, L1: Tally, L2: Tally, L3: Tally, G: Gate + Drop> Service<L0, L1,
     /// A service whose shards have new books, and which has opened no pass. It fails only where
     /// memory is refused.
     ///
-    /// Each blank has 1,025 parts, and becomes the ledger of its shard.
+    /// Each blank has 1,025 parts, and becomes the ledger of its shard. The boot number tells this
+    /// run of the server from others: it stands in the Class of each accept. The gate is called at
+    /// each step; a server's is `Open`.
     pub fn new(
         alloc: Global,
         blanks: Blanks,
@@ -139,7 +141,8 @@ impl<L0: Tally, L1: Tally, L2: Tally, L3: Tally, G: Gate> Service<L0, L1, L2, L3
         self.left.lock(rt).open(alloc)
     }
 
-    /// Hands out the journal of a shard, which goes on from equal books. Where it fails, the
+    /// Hands out the journal of a shard, which goes on from equal books. `NoShard` comes where the
+    /// configuration has no shard of this number, and `NoMemory` where memory is refused; then the
     /// journal is as it was.
     pub fn cut<R: Wait>(&self, rt: &R, alloc: Global, shard: u32) -> Result<Segment, CutFault>
         ensures shard { IfOk result (λ segment. segment.shard ≡ shard) }

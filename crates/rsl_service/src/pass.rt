@@ -8,9 +8,9 @@ use std::sync::ledger::Share;
 
 /// What a caller of the service holds: a receipt for each move that it made.
 ///
-/// A contract sees the receipts, in the order of the calls. Its type keeps that its share in each
-/// shard's ledger is the number of its receipts of that shard. Beside them it has the room for
-/// lines that its next step may need, and for the octets of its next reply.
+/// A contract sees the receipts, in the order of the calls. Its type keeps that, for each shard, as
+/// many of its receipts are of that shard as its share in the ledger there counts. Beside them it
+/// has the room for lines that its next step may need, and for the octets of its next reply.
 #[derive(Drop)]
 pub struct Pass<L0: Tally, L1: Tally, L2: Tally, L3: Tally> {
     pub(crate) share0: Share<L0>,
@@ -43,8 +43,9 @@ impl<L0: Tally, L1: Tally, L2: Tally, L3: Tally> Model for Pass<L0, L1, L2, L3> 
 }
 
 impl<L0: Tally, L1: Tally, L2: Tally, L3: Tally> Pass<L0, L1, L2, L3> {
-    /// Takes back the octets of a reply that was sent: the next reply stands in their room, and so
-    /// takes no memory. The receipts are as they were.
+    /// Takes back the octets of a reply, whether or not it could be sent: the next reply stands in
+    /// their room, and takes no memory where that is of 4,096 octets, as each reply's is. The
+    /// receipts are as they were.
     pub fn take_back(&mut self, octets: Vec<u8>)
         ensures { self.new ≡ self.old }
     {

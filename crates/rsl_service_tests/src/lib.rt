@@ -1,8 +1,8 @@
 //! Tests of `rsl_service`, `rsl_receive` and `rsl_serve`: the life of a service, and what receivers
 //! and the worker that makes ticks make of one over a port of memory, as rows of text (`rsl_rows`);
-//! services that threads use at once, and servers over sockets of this machine. Expected values
-//! come from the session rule, worked by hand, and the octets from Python's hashlib; but the crowd's
-//! requests are made with `rsl_auth`.
+//! services that threads use at once, servers over sockets of this machine, and how a server ends.
+//! Expected values come from the session rule, worked by hand, and the octets from Python's hashlib;
+//! but the crowd's requests are made with `rsl_auth`.
 #![tactic(auto)]
 
 #[cfg(test)]
@@ -13,6 +13,8 @@ mod crowd;
 mod datagrams;
 #[cfg(test)]
 mod days;
+#[cfg(test)]
+mod endings;
 #[cfg(test)]
 mod fresh;
 #[cfg(test)]

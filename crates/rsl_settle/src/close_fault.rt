@@ -17,8 +17,8 @@ pub enum CloseFault {
         /// The shard's number.
         shard: u32,
     },
-    /// A receipt of this position isn't the line there, isn't above the receipt before it of the
-    /// same pass and shard, or isn't the only one there.
+    /// A receipt names this position, and is not the line there, or not the only receipt of it, or
+    /// an earlier receipt of its pass names the same or a later position of this shard.
     #[error("mismatch at {position} of shard {shard}")]
     Mismatch {
         /// The shard's number.

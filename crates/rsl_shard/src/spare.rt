@@ -37,8 +37,8 @@ impl Spare {
         }
     }
 
-    /// Takes room for 1,024 lines, where there is none. It fails only where memory is refused, and
-    /// then nothing has changed.
+    /// Takes room for 1,024 lines, where there is room for fewer. It fails only where that memory
+    /// is refused, and then nothing has changed.
     pub fn fill(&mut self, alloc: Global) -> Result<(), NoMemory>
         ensures room { OnOk result (1024 ≤ self.new) }
         ensures kept { self.old ≤ self.new }

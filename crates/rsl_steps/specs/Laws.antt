@@ -113,8 +113,8 @@ steps_to shards (Time moment) = map (λ shard. steps.Tick shard moment) (range_w
 abbrev pub with_shards : Configuration → (shards : ℕ) → Configuration
 with_shards config shards = record config { settings = record config.settings { shards = shards } }
 
--- for configurations that differ in the number of shards alone, and steps whose sweeps and ticks
--- each go together to every shard number of both, each account's own events are equal
+-- each account has the same own events under another number of shards, all else being equal, where
+-- each restart and each tick comes to all shards of either
 abbrev pub TheNumberOfShardsDoesNotMatter : Type 0
 TheNumberOfShardsDoesNotMatter =
     (config : Configuration) (boot account shards numbers : ℕ) (comings : List Coming)

@@ -26,8 +26,8 @@ pub fn packets_of_two_accounts_commute()
     ensures { PacketsOfTwoAccountsCommute }
 {}
 
-/// For two configurations that differ in the number of shards alone, and steps whose sweeps and
-/// ticks go together to every shard number of both, each account's own events are equal.
+/// Each account has the same own events under another number of shards, all else being equal, where
+/// each restart and each tick comes to all shards of either.
 pub fn the_number_of_shards_does_not_matter()
     ensures { TheNumberOfShardsDoesNotMatter }
 {}

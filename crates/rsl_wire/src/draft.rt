@@ -61,7 +61,8 @@ impl Draft {
     }
 
     /// The same in the room of earlier octets, which are let go: it takes memory only where there
-    /// is room for less than 4,096 octets, and fails only where that is refused.
+    /// is room for less than 4,096 octets, and fails only where that is refused. Then the room is
+    /// let go too.
     pub fn in_room(room: Vec<u8>, id: u8) -> Result<Draft, NoMemory>
         ensures draft { IfOk result (λ draft. draft ≡ record { id = id; attributes = [] }) }
         ensures enough { 4096 ≤ vec_capacity room → IsOk result }
