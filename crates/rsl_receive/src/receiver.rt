@@ -1,7 +1,7 @@
-ghost use Rattle.std.specs.Prelude.{◌≡◌, ◌≤◌, IfOk, Err, true};
+ghost use Rattle.std.specs.Prelude.{◌≡◌, ◌≤◌, IfOk, Err, true, [], ◌∷◌, ◌++◌};
 ghost use Rattle.rsl_receive.specs.Counted.{AddsUp, AreCounted, IfCounted, failed_in};
 ghost use Rattle.rsl_receive.specs.Served.{HasServed, state_of};
-ghost use Rattle.rsl_receive.specs.Told.{CanReceive, CanSend};
+ghost use Rattle.rsl_receive.specs.Told.{CanReceive, CanSend, after_send, datagram_of};
 ghost use Rattle.rsl_receive.specs.Turned.{HasCalled, HasTurned};
 ghost use Rattle.rsl_receive.specs.declared.fault.ReceiveFault.TheVariants as faults;
 
@@ -11,7 +11,7 @@ use crate::counts::Counts;
 use crate::datagram_port::DatagramPort;
 use crate::fault::{PortFault, ReceiveFault};
 use crate::turn::Turn;
-use rsl_event::Port;
+use rsl_event::{Port, Source};
 use rsl_service::{Gate, Pass, Service, Tally};
 use std::alloc::Global;
 use std::sync::Wait;
@@ -131,15 +131,34 @@ fn take_turn<
         &buffer[..len],
         clock,
     ) {
-        Ok(octets) => {
-            let sent = datagrams.send(octets.as_slice(), source);
-            pass.take_back(octets);
-            match sent {
-                Ok(()) => Turn::Answered,
-                Err(PortFault) => Turn::Unsent,
-            }
-        }
+        Ok(octets) => match send_back(pass, datagrams, octets, source) {
+            Ok(()) => Turn::Answered,
+            Err(PortFault) => Turn::Unsent,
+        },
         Err(Unanswered::Dropped) => Turn::Dropped,
         Err(Unanswered::Refused) => Turn::Refused,
     }
+}
+
+/// Sends the octets of an answer to where its datagram came from, and gives their room to the pass,
+/// whether or not they could be sent.
+fn send_back<L0: Tally, L1: Tally, L2: Tally, L3: Tally, P: DatagramPort>(
+    pass: &mut Pass<L0, L1, L2, L3>,
+    datagrams: &mut P,
+    octets: Vec<u8>,
+    source: Source,
+) -> Result<(), PortFault>
+    requires sends { CanSend 1 (P.numbers datagrams.old) }
+    ensures pass { pass.new ≡ pass.old }
+    ensures numbers { P.numbers datagrams.new ≡
+        after_send source result (P.numbers datagrams.old) }
+    ensures telling { P.tells datagrams.new ≡ true → P.tells datagrams.old ≡ true }
+    ensures taken { P.tells datagrams.new ≡ true →
+        P.taken datagrams.new ≡ P.taken datagrams.old }
+    ensures sent { P.tells datagrams.new ≡ true → P.sent datagrams.new ≡
+        P.sent datagrams.old ++ datagram_of source octets.items ∷ [] }
+{
+    let sent = datagrams.send(octets.as_slice(), source);
+    pass.take_back(octets);
+    sent
 }

@@ -40,6 +40,16 @@ pub(crate) struct Made {
     pub(crate) decision: Decision,
 }
 
+/// Counts a line of a shard in its ledger and in the share of who made it.
+fn count_line<L: Tally>(lines: &mut Book<L>, mine: &mut Share<L>)
+    requires part { 0 < mine.old.parts }
+    ensures total { lines.new.total ≡ lines.old.total + 1 }
+    ensures amount { mine.new.amount ≡ mine.old.amount + 1 }
+    ensures parts { mine.new.parts ≡ mine.old.parts }
+{
+    lines.add(mine, 1);
+}
+
 impl<L: Tally> Desk<L> {
     /// A shard of new books behind its ledger, with the share that has all of the ledger's parts.
     /// It fails only where memory is refused.
@@ -114,7 +124,7 @@ impl<L: Tally> Desk<L> {
             return Err(StepFault::Spent);
         }
         let decision = shard.step_ready(alloc, ready, spare)?;
-        lines.add(mine, 1);
+        count_line(lines, mine);
         gate.at(number);
         Ok(Made { position, decision })
     }

@@ -1,6 +1,6 @@
 use Rattle.rsl_shard.specs.Replay.{new_books}
 use Rattle.rsl_shard.specs.Setup.{setup_of}
-use Rattle.rsl_service_tests.proofs.days.day_of.Given as goal
+use Rattle.rsl_serve_tests.proofs.hostile.flood_of.Given as goal
 
 -- each ledger is that of its shard
 abbrev pub ghosts-told-L0-Ledger : goal.ghosts-told-L0-Ledger

@@ -124,7 +124,23 @@ where
         blanks.blank3.name blanks.blank3.parts L3.name L3.parts L3.setup L3.books }
 {
     let service: Service<L0, L1, L2, L3, Open> = Service::new(alloc, blanks, config, 1, Open)?;
-    let service = &service;
+    asked(rt, alloc, &service, request)
+}
+
+/// The last answer to who asks a receiver of a service, and what that counts.
+fn asked<L0, L1, L2, L3, R>(
+    rt: &R,
+    alloc: Global,
+    service: &Service<L0, L1, L2, L3, Open>,
+    request: &[u8],
+) -> Result<(Option<Vec<u8>>, Option<Counts>), Fail>
+where
+    L0: Tally + Send + Sync,
+    L1: Tally + Send + Sync,
+    L2: Tally + Send + Sync,
+    L3: Tally + Send + Sync,
+    R: Net + Threads + Wait + Sync,
+{
     let fresh = Fresh::bind(rt)?;
     let socket = connected(rt, fresh.number)?;
     Ok(thread::join(

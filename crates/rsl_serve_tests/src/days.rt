@@ -99,13 +99,11 @@ fn told<L0: Tally, L1: Tally, L2: Tally, L3: Tally, R: Wait>(
     requires ledger3 { IsLedgerOf config 3
         blanks.blank3.name blanks.blank3.parts L3.name L3.parts L3.setup L3.books }
 {
+    let (now, step) = pair_of(day.clock)?;
+    let mut text = String::new(alloc);
     let service: Service<L0, L1, L2, L3, Open> = Service::new(alloc, blanks, config, 1, Open)?;
     let mut served = opened(rt, alloc, service)?;
-    let (now, step) = pair_of(day.clock)?;
-    let mut clock = Steady { now, step };
-    let mut text = String::new(alloc);
-    served.receive(rt, alloc, day, &mut clock, &mut text)?;
-    served.tick(rt, alloc, day, &mut clock, &mut text)?;
+    served.work(rt, alloc, day, Steady { now, step }, &mut text)?;
     served.close(alloc, &mut text)?;
     Ok(text)
 }
@@ -135,6 +133,19 @@ fn opened<L0: Tally, L1: Tally, L2: Tally, L3: Tally, R: Wait>(
 }
 
 impl<L0: Tally, L1: Tally, L2: Tally, L3: Tally> Served<L0, L1, L2, L3> {
+    /// Takes the turns of the receiver, and then those of the worker.
+    fn work<R: Wait>(
+        &mut self,
+        rt: &R,
+        alloc: Global,
+        day: Day<'_>,
+        mut clock: Steady,
+        text: &mut String,
+    ) -> Result<(), Fail> {
+        self.receive(rt, alloc, day, &mut clock, text)?;
+        self.tick(rt, alloc, day, &mut clock, text)
+    }
+
     /// Takes the receiver's turns.
     fn receive<R: Wait>(
         &mut self,
