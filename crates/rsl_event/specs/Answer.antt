@@ -9,14 +9,14 @@ use Rattle.rsl_auth.specs.Authenticator.{sealed}
 use Rattle.rsl_auth.specs.Signature.{signed}
 use Rattle.rsl_wire.specs.Attributes.{Attribute, attribute_of, attributes_in, list_octets}
 use Rattle.rsl_wire.specs.Packet.{Fields, packet_octets}
+use Rattle.rsl_event.specs.Kind.{kind_of}
 use Rattle.rsl_event.specs.Request.{proxy_states, secret_of}
 use Rattle.rsl_event.specs.Signature.{is_reply_signed, signature_if}
-use Rattle.rsl_event.specs.declared.event.Act.{Act}
-use Rattle.rsl_event.specs.declared.event.Act.TheVariants.{Ask}
 use Rattle.rsl_event.specs.declared.event.Decision.{Decision}
 use Rattle.rsl_event.specs.declared.event.Decision.TheVariants as decisions
+use Rattle.rsl_event.specs.declared.kind.Kind.{Kind}
+use Rattle.rsl_event.specs.declared.kind.Kind.TheVariants as kinds
 use Rattle.rsl_event.specs.declared.meaning.Meaning.{Meaning}
-use Rattle.rsl_event.specs.declared.meaning.Meaning.TheVariants.{Bare, Reject, Own, Restart, Stray}
 use Rattle.rsl_event.specs.declared.words.Said.{Said}
 use Rattle.rsl_event.specs.declared.words.Said.TheVariants as words
 use Rattle.rsl_event.specs.declared.codes.TheConstants.{ACCESS_ACCEPT, ACCESS_REJECT, ACCOUNTING_RESPONSE, CLASS, PORT_LIMIT, SERVICE_TYPE, FRAMED_PROTOCOL, SESSION_TIMEOUT, IDLE_TIMEOUT, REPLY_MESSAGE}
@@ -27,18 +27,16 @@ said_of (decisions.Accept number) = words.Accept number
 said_of decisions.LimitReject = words.LimitReject
 said_of decisions.Done = words.LimitReject
 
--- the word for an act of an account: only an ask is decided
-abbrev pub said_of_act : Act → Decision → Said
-said_of_act (Ask key nas) decision = said_of decision
-said_of_act _ decision = words.Account
+-- the word for what is answered to a meaning of this kind; the decision tells of an ask alone
+abbrev pub said_to : Kind → Decision → Said
+said_to kinds.Bare decision = words.Reject
+said_to kinds.Reject decision = words.Reject
+said_to (kinds.Ask account) decision = said_of decision
+said_to kinds.Account decision = words.Account
 
--- the word for what is answered; the decision tells of an ask alone
+-- the word for what is answered
 abbrev pub said : Meaning → Decision → Said
-said Bare decision = words.Reject
-said Reject decision = words.Reject
-said (Own account act) decision = said_of_act act decision
-said (Restart nas) decision = words.Account
-said (Stray note) decision = words.Account
+said meaning decision = said_to (kind_of meaning) decision
 
 -- the Code of a reply
 abbrev pub code_of : Said → ℕ
@@ -86,40 +84,34 @@ decided_attributes config boot account (decisions.Accept number) =
 decided_attributes config boot account decisions.LimitReject = limit_attributes
 decided_attributes config boot account decisions.Done = limit_attributes
 
--- what is said to an act of an account
-abbrev pub own_attributes : Configuration → (boot account : ℕ) → Act → Decision → List Attribute
-own_attributes config boot account (Ask key nas) decision =
-    decided_attributes config boot account decision
-own_attributes config boot account _ decision = []
-
 -- what the server says in a reply
-abbrev pub said_attributes : Configuration → (boot : ℕ) → Meaning → Decision → List Attribute
-said_attributes config boot (Own account act) decision =
-    own_attributes config boot account act decision
+abbrev pub said_attributes : Configuration → (boot : ℕ) → Kind → Decision → List Attribute
+said_attributes config boot (kinds.Ask account) decision =
+    decided_attributes config boot account decision
 said_attributes config boot _ decision = []
 
 -- what a reply repeats of the request's attributes
-abbrev pub repeated_attributes : List Attribute → Meaning → List Attribute
-repeated_attributes attributes Bare = []
+abbrev pub repeated_attributes : List Attribute → Kind → List Attribute
+repeated_attributes attributes kinds.Bare = []
 repeated_attributes attributes _ = proxy_states attributes
 
 -- the attributes of a reply, its Message-Authenticator not yet signed: this stands first, and
 -- Proxy-States last, as they came
-abbrev pub reply_attributes : Configuration → (boot : ℕ) → List Attribute → Meaning → Decision
+abbrev pub reply_attributes : Configuration → (boot : ℕ) → List Attribute → Kind → Decision
     → List Attribute
-reply_attributes config boot attributes meaning decision =
-    signature_if (is_reply_signed (said meaning decision) attributes)
-    ++ said_attributes config boot meaning decision
-    ++ repeated_attributes attributes meaning
+reply_attributes config boot attributes kind decision =
+    signature_if (is_reply_signed (said_to kind decision) attributes)
+    ++ said_attributes config boot kind decision
+    ++ repeated_attributes attributes kind
 
 -- the reply before it is signed and sealed
-abbrev pub unsigned_reply : Configuration → (boot : ℕ) → Fields → Meaning → Decision → List ℕ
-unsigned_reply config boot fields meaning decision = packet_octets (record {
-  code = code_of (said meaning decision);
+abbrev pub unsigned_reply : Configuration → (boot : ℕ) → Fields → Kind → Decision → List ℕ
+unsigned_reply config boot fields kind decision = packet_octets (record {
+  code = code_of (said_to kind decision);
   id = fields.id;
   authenticator = replicate 16 0;
   attributes =
-      list_octets (reply_attributes config boot (attributes_in fields.attributes) meaning decision);
+      list_octets (reply_attributes config boot (attributes_in fields.attributes) kind decision);
 })
 
 -- a packet, signed if it is to be: the value of its Message-Authenticator stands at octet 22, and
@@ -128,13 +120,18 @@ abbrev pub signed_if : Bool → (packet request_auth secret : List ℕ) → List
 signed_if is_signed packet request_auth secret =
     if is_signed then signed packet 22 request_auth secret else packet
 
--- the octets of the reply to a packet of a client: signed if the request was, and then sealed, with
--- the client's secret
-unfoldable pub answer : Configuration → (boot client : ℕ) → Fields → Meaning → Decision → List ℕ
-answer config boot client fields meaning decision =
+-- the octets of the reply to a packet of a client with a meaning of this kind: signed if the
+-- request was, and then sealed, with the client's secret
+unfoldable pub answer_to : Configuration → (boot client : ℕ) → Fields → Kind → Decision → List ℕ
+answer_to config boot client fields kind decision =
     sealed
     (signed_if
-    (is_reply_signed (said meaning decision) (attributes_in fields.attributes))
-    (unsigned_reply config boot fields meaning decision)
+    (is_reply_signed (said_to kind decision) (attributes_in fields.attributes))
+    (unsigned_reply config boot fields kind decision)
     fields.authenticator (secret_of config client))
     fields.authenticator (secret_of config client)
+
+-- the octets of the reply to a packet of a client with this meaning
+abbrev pub answer : Configuration → (boot client : ℕ) → Fields → Meaning → Decision → List ℕ
+answer config boot client fields meaning decision =
+    answer_to config boot client fields (kind_of meaning) decision

@@ -5,6 +5,7 @@ pub mod Accounting
 pub mod Dropped
 pub mod Copied
 pub mod Meaning
+pub mod Kind
 pub mod Prepared
 pub mod Answer
 pub mod Draft

@@ -6,6 +6,8 @@ use Rattle.rsl_event.specs.Meaning.{Fails}
 use Rattle.rsl_event.specs.Request.{proxy_len}
 use Rattle.rsl_event.specs.declared.event.Act.{Act}
 use Rattle.rsl_event.specs.declared.event.Act.TheVariants.{Sweep, Tick}
+use Rattle.rsl_event.specs.declared.kind.Kind.{Kind}
+use Rattle.rsl_event.specs.declared.kind.Kind.TheVariants as kinds
 use Rattle.rsl_event.specs.declared.meaning.Dropped.{Dropped}
 use Rattle.rsl_event.specs.declared.meaning.Meaning.{Meaning}
 use Rattle.rsl_event.specs.declared.meaning.Meaning.TheVariants.{Bare, Own}
@@ -27,10 +29,20 @@ abbrev pub HasAccount : Configuration → Meaning → Type 0
 HasAccount config (Own account act) = account < length config.accounts
 HasAccount config _ = Unit {0}
 
+-- an account that asks is one of the configuration
+abbrev pub HasAsker : Configuration → Kind → Type 0
+HasAsker config (kinds.Ask account) = account < length config.accounts
+HasAsker config _ = Unit {0}
+
 -- a reply that repeats Proxy-States has room for them
 abbrev pub HasRoomForReply : (attributes : List ℕ) → Meaning → Type 0
 HasRoomForReply attributes Bare = Unit {0}
 HasRoomForReply attributes _ = HasProxyStates attributes
+
+-- the same of a reply to a meaning of this kind
+abbrev pub HasRoomFor : (attributes : List ℕ) → Kind → Type 0
+HasRoomFor attributes kinds.Bare = Unit {0}
+HasRoomFor attributes _ = HasProxyStates attributes
 
 -- an act of one account: an ask, an alive or a stop
 abbrev pub IsOfOneAccount : Act → Type 0
@@ -48,3 +60,10 @@ pub record IsPrepared (config : Configuration) (prepared : Prepared) : Type 0 wh
   pub client : prepared.client < length config.clients
   pub account : HasAccount config prepared.meaning
   pub room : HasRoomForReply prepared.packet.attrs.now prepared.meaning
+
+-- what a reply can be made to: a packet of a client, with a meaning of this kind
+pub record CanReply (config : Configuration) (client : ℕ) (attributes : List ℕ) (kind : Kind)
+    : Type 0 where
+  pub known : client < length config.clients
+  pub asker : HasAsker config kind
+  pub room : HasRoomFor attributes kind

@@ -1,4 +1,4 @@
-ghost use Rattle.std.specs.Prelude.{◌≡◌, ◌==◌, ◌+◌, ◌<◌, IfSome, length};
+ghost use Rattle.std.specs.Prelude.{◌≡◌, ◌<◌, IfSome, length};
 ghost use Rattle.rsl_wire.specs.Seen.{fields_of};
 ghost use Rattle.rsl_event.specs.Access.{asks_once, shows_password, asker, access_meaning};
 ghost use Rattle.rsl_event.specs.Meaning.{Gives};
@@ -82,23 +82,22 @@ fn asker(
 }
 
 /// Whether there is exactly one User-Name, exactly one password, of either kind, and at most one
-/// CHAP-Challenge.
+/// CHAP-Challenge. It goes over the attributes once.
 fn asks_once(attributes: &Attrs<'_>) -> bool
     ensures { result ≡ asks_once attributes.now }
 {
-    attributes.count(USER_NAME) == 1
-        && one_of_two(
-            attributes.count(USER_PASSWORD),
-            attributes.count(CHAP_PASSWORD),
-        )
-        && attributes.count(CHAP_CHALLENGE) <= 1
-}
-
-/// Whether the sum of two counts is one.
-fn one_of_two(first: usize, second: usize) -> bool
-    ensures { result ≡ (first + second == 1) }
-{
-    (first == 1 && second == 0) || (first == 0 && second == 1)
+    let mut names = 0usize;
+    let mut passwords = 0usize;
+    let mut challenges = 0usize;
+    for (kind, _) in attributes.iter() {
+        match kind {
+            USER_NAME => names += 1,
+            USER_PASSWORD | CHAP_PASSWORD => passwords += 1,
+            CHAP_CHALLENGE => challenges += 1,
+            _ => (),
+        }
+    }
+    names == 1 && passwords == 1 && challenges <= 1
 }
 
 /// Whether the User-Password or the CHAP-Password is right for this password.

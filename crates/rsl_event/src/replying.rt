@@ -1,9 +1,11 @@
-ghost use Rattle.std.specs.Prelude.{◌≡◌, ◌<◌, ◌≤◌, [], length, replicate, vec_capacity, vec_len, IfOk, IsOk, IsTrue};
-ghost use Rattle.rsl_wire.specs.Attributes.{attributes_in, list_octets};
+ghost use Rattle.std.specs.Prelude.{◌≡◌, ◌<◌, ◌≤◌, [], length, replicate, unwrap_or, vec_capacity, vec_len, IfOk, IfSome, IsOk, IsTrue};
+ghost use Rattle.std.specs.List.{AllByRecursion};
+ghost use Rattle.rsl_wire.specs.Attributes.{IsAttribute, attributes_in, list_octets};
 ghost use Rattle.rsl_wire.specs.Packet.{packet_octets};
 ghost use Rattle.rsl_wire.specs.Seen.{fields_of};
 ghost use Rattle.rsl_event.specs.Answer.{
   answer,
+  answer_to,
   code_of,
   decided_attributes,
   repeated_attributes,
@@ -12,18 +14,22 @@ ghost use Rattle.rsl_event.specs.Answer.{
   signed_if,
 };
 ghost use Rattle.rsl_event.specs.Draft.{with_more};
+ghost use Rattle.rsl_event.specs.Request.{proxy_len};
+ghost use Rattle.rsl_event.specs.declared.codes.TheConstants.{MAX_PROXY_STATE_LEN};
+ghost use Rattle.rsl_event.specs.declared.kind.Kind.TheVariants as kinds;
 ghost use Rattle.rsl_event.specs.Signature.{is_reply_signed};
-ghost use Rattle.rsl_event.specs.Prepared.{HasAccount, HasRoomForReply, IsPrepared};
+ghost use Rattle.rsl_event.specs.Prepared.{CanReply, HasAsker, HasRoomFor, IsPrepared};
 
 use crate::codes::{ACCESS_ACCEPT, ACCESS_REJECT, ACCOUNTING_RESPONSE};
-use crate::event::{Act, Decision};
+use crate::event::Decision;
+use crate::kind::Kind;
 use crate::meaning::{Meaning, Prepared};
 use crate::signature::{has_signature, push_signature_if, signed_if};
 use crate::words::Said;
 use crate::writing::{push_accept, push_limit_message, push_proxy_states};
 use rsl_accounts::Config;
 use rsl_auth::sealed;
-use rsl_wire::{Draft, NoMemory, Packet};
+use rsl_wire::{Attrs, Draft, NoMemory, Packet};
 use std::alloc::Global;
 
 /// What is answered to a meaning, in a word. The decision tells of an ask alone; an ask that is
@@ -31,17 +37,7 @@ use std::alloc::Global;
 pub fn said(meaning: &Meaning, decision: Decision) -> Said
     ensures { result ≡ said meaning.now decision }
 {
-    match meaning {
-        Meaning::Bare | Meaning::Reject => Said::Reject,
-        Meaning::Own {
-            act: Act::Ask { .. },
-            ..
-        } => match decision {
-            Decision::Accept(number) => Said::Accept(number),
-            Decision::LimitReject | Decision::Done => Said::LimitReject,
-        },
-        Meaning::Own { .. } | Meaning::Restart { .. } | Meaning::Stray(_) => Said::Account,
-    }
+    meaning.kind().said(decision)
 }
 
 /// Room for the longest reply to a request, taken before its step so that `reply` takes no memory.
@@ -81,29 +77,69 @@ pub fn reply(
     ensures { result.items ≡ answer config.now boot prepared.now.client
         (fields_of prepared.now.packet) prepared.now.meaning decision }
 {
-    let word = said(&prepared.meaning, decision);
-    let is_signed = is_reply_signed(word, &prepared.packet);
+    let kind = prepared.meaning.kind();
+    reply_to(
+        &prepared.packet,
+        prepared.client,
+        kind,
+        config,
+        boot,
+        decision,
+        draft,
+    )
+}
+
+/// The same to a packet of this client whose meaning is of this kind, where the meaning itself was
+/// handed on.
+pub fn reply_to(
+    request: &Packet<'_>,
+    client: u32,
+    kind: Kind,
+    config: &Config,
+    boot: u64,
+    decision: Decision,
+    draft: Draft,
+) -> Vec<u8>
+    requires prepared { CanReply config.now client request.now.attrs.now kind }
+    requires room { draft ≡ record { id = request.now.id; attributes = [] } }
+    ensures { result.items ≡
+        answer_to config.now boot client (fields_of request.now) kind decision }
+{
+    let word = kind.said(decision);
+    let attributes = attributes_of(request);
+    let is_signed = is_reply_signed(word, &attributes);
     let mut draft = draft;
     push_signature_if(is_signed, &mut draft);
-    write_said(config, boot, &prepared.meaning, decision, &mut draft);
-    write_repeated(prepared, &mut draft);
-    let request_auth = &prepared.packet.authenticator;
-    let secret = config.client_at(prepared.client).secret.expose();
+    write_said(config, boot, kind, decision, &mut draft);
+    write_repeated(&attributes, kind, &mut draft);
+    let request_auth = &request.authenticator;
+    let secret = config.client_at(client).secret.expose();
     let octets = finish(draft, code_of(word), is_signed, request_auth, secret);
     sealed(octets, request_auth, secret)
 }
 
+/// The attributes of a request, and none of a malformed list.
+fn attributes_of<'a>(request: &Packet<'a>) -> Option<Attrs<'a>>
+    ensures list { unwrap_or result [] ≡ attributes_in request.now.attrs.now }
+    ensures each { IfSome result (AllByRecursion IsAttribute) }
+{
+    match request.attributes() {
+        Ok(attributes) => Some(attributes),
+        Err(_) => None,
+    }
+}
+
 /// Whether a reply with this word is signed: it answers an Access-Request of which the well-formed
 /// list has a Message-Authenticator.
-fn is_reply_signed(word: Said, request: &Packet<'_>) -> bool
-    ensures { result ≡ is_reply_signed word (attributes_in request.now.attrs.now) }
+fn is_reply_signed(word: Said, request: &Option<Attrs<'_>>) -> bool
+    ensures { result ≡ is_reply_signed word (unwrap_or request.now []) }
 {
     if let Said::Account = word {
         return false;
     }
-    match request.attributes() {
-        Ok(attributes) => has_signature(&attributes),
-        Err(_) => false,
+    match request {
+        Some(attributes) => has_signature(attributes),
+        None => false,
     }
 }
 
@@ -143,36 +179,34 @@ fn code_of(said: Said) -> u8
 }
 
 /// Writes what the server says into a draft that has at most a Message-Authenticator.
-fn write_said(config: &Config, boot: u64, meaning: &Meaning, decision: Decision, draft: &mut Draft)
-    requires meant { HasAccount config.now meaning.now }
+fn write_said(config: &Config, boot: u64, kind: Kind, decision: Decision, draft: &mut Draft)
+    requires asker { HasAsker config.now kind }
     requires room { length draft.old.attributes ≤ 18 }
     ensures written { draft.new ≡ with_more draft.old
-        (list_octets (said_attributes config.now boot meaning.now decision)) }
+        (list_octets (said_attributes config.now boot kind decision)) }
     ensures short { length draft.new.attributes ≤ 66 }
     ensures kept { length draft.old.attributes ≤ length draft.new.attributes }
 {
-    if let Meaning::Own {
-        account,
-        act: Act::Ask { .. },
-    } = meaning
-    {
-        write_decision(config, boot, *account, decision, draft);
+    if let Kind::Ask(account) = kind {
+        write_decision(config, boot, account, decision, draft);
     }
 }
 
 /// Writes what the reply repeats of the request: its Proxy-States.
-fn write_repeated(prepared: &Prepared<'_>, draft: &mut Draft)
-    requires room { HasRoomForReply prepared.now.packet.attrs.now prepared.now.meaning }
+fn write_repeated(request: &Option<Attrs<'_>>, kind: Kind, draft: &mut Draft)
+    requires each { IfSome request.now (AllByRecursion IsAttribute) }
+    requires room { (kind ≡ kinds.Bare → ⊥) →
+        proxy_len (unwrap_or request.now []) ≤ MAX_PROXY_STATE_LEN }
     requires short { length draft.old.attributes ≤ 66 }
     ensures written { draft.new ≡ with_more draft.old (list_octets (repeated_attributes
-        (attributes_in prepared.now.packet.attrs.now) prepared.now.meaning)) }
+        (unwrap_or request.now []) kind)) }
     ensures kept { length draft.old.attributes ≤ length draft.new.attributes }
 {
-    if let Meaning::Bare = prepared.meaning {
+    if let Kind::Bare = kind {
         return;
     }
-    if let Ok(attributes) = prepared.packet.attributes() {
-        push_proxy_states(draft, &attributes);
+    if let Some(attributes) = request {
+        push_proxy_states(draft, attributes);
     }
 }
 

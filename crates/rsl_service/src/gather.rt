@@ -58,9 +58,17 @@ impl<L0: Tally, L1: Tally, L2: Tally, L3: Tally> Shares<L0, L1, L2, L3> {
             spare: _,
             room: _,
         } = pass;
-        self.share0.merge(share0);
-        self.share1.merge(share1);
-        self.share2.merge(share2);
-        self.share3.merge(share3);
+        merge(&mut self.share0, share0);
+        merge(&mut self.share1, share1);
+        merge(&mut self.share2, share2);
+        merge(&mut self.share3, share3);
     }
+}
+
+/// Puts the parts and the amount of a share to another.
+fn merge<L: Tally>(all: &mut Share<L>, share: Share<L>)
+    ensures parts { all.new.parts ≡ all.old.parts + share.parts }
+    ensures amount { all.new.amount ≡ all.old.amount + share.amount }
+{
+    all.merge(share);
 }

@@ -26,22 +26,20 @@ impl<L0: Tally, L1: Tally, L2: Tally, L3: Tally, G: Gate> Service<L0, L1, L2, L3
         alloc: Global,
         pass: &mut Pass<L0, L1, L2, L3>,
         moment: u64,
-        meaning: &Meaning,
+        meaning: Meaning,
     ) -> Result<Decision, ApplyFault>
-        requires account { HasAccount self.now.config meaning.now }
-        requires act { HasOwnAct meaning.now }
+        requires account { HasAccount self.now.config meaning }
+        requires act { HasOwnAct meaning }
         ensures decided { IfOk result (λ decision.
-            HasDecided self.now moment meaning.now decision pass.old pass.new) }
+            HasDecided self.now moment meaning decision pass.old pass.new) }
         ensures err { IfErr result (λ fault.
-            IsStopped moment meaning.now fault pass.old pass.new) }
+            IsStopped moment meaning fault pass.old pass.new) }
         ensures fewer { IfErr result (λ fault.
             swept_before fault < self.now.config.settings.shards) }
     {
         let _shards = self.config().shards();
         match meaning {
-            Meaning::Own { account, act } => self.decide_own(
-                rt, alloc, pass, moment, *account, act,
-            ),
+            Meaning::Own { account, act } => self.decide_own(rt, alloc, pass, moment, account, act),
             Meaning::Stray(note) => self.note_stray(rt, alloc, pass, moment, note),
             Meaning::Restart { nas } => self.sweep(rt, alloc, pass, moment, nas),
             Meaning::Bare | Meaning::Reject => Ok(Decision::Done),
@@ -56,21 +54,17 @@ impl<L0: Tally, L1: Tally, L2: Tally, L3: Tally, G: Gate> Service<L0, L1, L2, L3
         pass: &mut Pass<L0, L1, L2, L3>,
         moment: u64,
         account: u32,
-        act: &Act,
+        act: Act,
     ) -> Result<Decision, ApplyFault>
         requires account { account < length self.now.config.accounts }
-        requires act { IsOfOneAccount act.now }
+        requires act { IsOfOneAccount act }
         ensures noted { IfOk result (λ decision.
             IsNoted (account % self.now.config.settings.shards)
-            (moves.Own account (record { moment = moment; act = act.now }))
+            (moves.Own account (record { moment = moment; act = act }))
             decision pass.old pass.new) }
         ensures err { IfErr result (λ fault.
             (swept_before fault ≡ 0) × (pass.new ≡ pass.old)) }
     {
-        let act = match act.try_copy(alloc) {
-            Ok(act) => act,
-            Err(_) => return Err(ApplyFault::NoMemory { swept: 0 }),
-        };
         let event = Event { moment, act };
         let shard = self.config().shard_of(account);
         let moved = Move::Own { account, event };
@@ -84,17 +78,13 @@ impl<L0: Tally, L1: Tally, L2: Tally, L3: Tally, G: Gate> Service<L0, L1, L2, L3
         alloc: Global,
         pass: &mut Pass<L0, L1, L2, L3>,
         moment: u64,
-        note: &Note,
+        note: Note,
     ) -> Result<Decision, ApplyFault>
         ensures noted { IfOk result (λ decision.
-            IsNoted 0 (moves.Stray moment note.now) decision pass.old pass.new) }
+            IsNoted 0 (moves.Stray moment note) decision pass.old pass.new) }
         ensures err { IfErr result (λ fault.
             (swept_before fault ≡ 0) × (pass.new ≡ pass.old)) }
     {
-        let note = match note.try_copy(alloc) {
-            Ok(note) => note,
-            Err(_) => return Err(ApplyFault::NoMemory { swept: 0 }),
-        };
         let _shards = self.config().shards();
         self.step_first(rt, alloc, pass, 0, Move::Stray { moment, note })
     }
@@ -107,21 +97,17 @@ impl<L0: Tally, L1: Tally, L2: Tally, L3: Tally, G: Gate> Service<L0, L1, L2, L3
         alloc: Global,
         pass: &mut Pass<L0, L1, L2, L3>,
         moment: u64,
-        nas: &Nas,
+        nas: Nas,
     ) -> Result<Decision, ApplyFault>
         ensures swept { IfOk result (λ decision. (decision ≡ Done)
-            × AreNoted self.now.config.settings.shards (moves.Sweep moment nas.now)
+            × AreNoted self.now.config.settings.shards (moves.Sweep moment nas)
             pass.old pass.new) }
         ensures err { IfErr result (λ fault.
-            AreNoted (swept_before fault) (moves.Sweep moment nas.now) pass.old pass.new) }
+            AreNoted (swept_before fault) (moves.Sweep moment nas) pass.old pass.new) }
         ensures fewer { IfErr result (λ fault.
             swept_before fault < self.now.config.settings.shards) }
     {
         let _shards = self.config().shards();
-        let nas = match nas.try_copy(alloc) {
-            Ok(nas) => nas,
-            Err(_) => return Err(ApplyFault::NoMemory { swept: 0 }),
-        };
         let swept = self.step_each(rt, alloc, pass, &Move::Sweep { moment, nas });
         match swept {
             Ok(()) => Ok(Decision::Done),

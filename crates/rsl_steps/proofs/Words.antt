@@ -127,12 +127,12 @@ decision_found config boot number account moment act entry before same there =
     ap (λ (n : ℕ). decision_on config boot before moment (Own n act)) same
     ∙ ap (λ (o : Option Account). option_map_or (λ (found : Account). decision_after found.rules (own config boot account before) (record { moment = moment; act = act })) o Done) there
 
-word_found : (act : Act) (one other : Decision) → IsOfOneAccount act → one ≡ other → word_on act one ≡ Some (said (Own 0 act) other)
-word_found (Ask key nas) one other own same = ap (λ (d : Decision). Some (said_of d)) same
-word_found (Alive nas session bundle class) one other own same = refl
-word_found (Stop nas session) one other own same = refl
-word_found (acts.Sweep nas) one other own same = absurd own
-word_found acts.Tick one other own same = absurd own
+word_found : (number : ℕ) (act : Act) (one other : Decision) → IsOfOneAccount act → one ≡ other → word_on act one ≡ Some (said (Own number act) other)
+word_found number (Ask key nas) one other own same = ap (λ (d : Decision). Some (said_of d)) same
+word_found number (Alive nas session bundle class) one other own same = refl
+word_found number (Stop nas session) one other own same = refl
+word_found number (acts.Sweep nas) one other own same = absurd own
+word_found number acts.Tick one other own same = absurd own
 
 datagram_told : (config : Configuration) (boot account : ℕ) (entry : Account) (before : List Step) (moment : ℕ) (port : Port) (source : Source) (octets : List ℕ) → slice_get config.accounts account ≡ Some entry
     → (r : Result Meaning Dropped) → meaning config boot port source octets ≡ r
@@ -149,7 +149,7 @@ datagram_told config boot account entry before moment port source octets there (
         word_after entry.rules (own config boot account before) (cond b (Some event) None)
         ≡ cond (is_some (cond b (Some event) None)) (Some (said (Own number act) (decision_on config boot before moment (Own number act)))) None)
     by true same =
-        word_found act (decision_after entry.rules (own config boot account before) (record { moment = moment; act = act })) (decision_on config boot before moment (Own number act))
+        word_found number act (decision_after entry.rules (own config boot account before) (record { moment = moment; act = act })) (decision_on config boot before moment (Own number act))
         (own_act config boot port source octets number act is)
         (sym (decision_found config boot number account moment act entry before (eqb-true number account same) there))
     by false other = refl

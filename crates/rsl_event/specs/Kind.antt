@@ -1,0 +1,21 @@
+-- The kind of a meaning: all of it that its reply hangs on.
+use Rattle.std.specs.Prelude.{ℕ}
+use Rattle.rsl_event.specs.declared.event.Act.{Act}
+use Rattle.rsl_event.specs.declared.event.Act.TheVariants.{Ask}
+use Rattle.rsl_event.specs.declared.kind.Kind.{Kind}
+use Rattle.rsl_event.specs.declared.kind.Kind.TheVariants as kinds
+use Rattle.rsl_event.specs.declared.meaning.Meaning.{Meaning}
+use Rattle.rsl_event.specs.declared.meaning.Meaning.TheVariants.{Bare, Reject, Own, Restart, Stray}
+
+-- that of an act of an account: only an ask is decided
+abbrev pub kind_of_act : (account : ℕ) → Act → Kind
+kind_of_act account (Ask key nas) = kinds.Ask account
+kind_of_act account _ = kinds.Account
+
+-- that of a meaning
+abbrev pub kind_of : Meaning → Kind
+kind_of Bare = kinds.Bare
+kind_of Reject = kinds.Reject
+kind_of (Own account act) = kind_of_act account act
+kind_of (Restart nas) = kinds.Account
+kind_of (Stray note) = kinds.Account
