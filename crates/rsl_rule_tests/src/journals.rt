@@ -51,7 +51,7 @@ fn tick_ready(alloc: Global, shard: &mut Shard, ticks: u64) -> Result<(), Fail> 
         if shard.total() == u64::MAX {
             return Err("too many lines")?;
         }
-        spare.fill(alloc)?;
+        spare.fill()?;
         let ready = Ready::new(alloc, Move::Tick { moment })?;
         shard.step_ready(alloc, ready, &mut spare)?;
     }

@@ -52,7 +52,7 @@ pub(crate) fn enter<L: Tally, G: Gate, R: Wait>(
         count_of other receipts.new.items ≡ count_of other receipts.old.items }
     ensures err { OnErr result (receipts.new.items ≡ receipts.old.items) }
 {
-    take_room(alloc, receipts, spare)?;
+    take_room(receipts, spare)?;
     let (copy, ready) = copied(alloc, moved)?;
     let made = make_under_lock(rt, alloc, desk, gate, shard, mine, ready, spare)?;
     let line = Line {
@@ -73,12 +73,12 @@ pub(crate) fn enter<L: Tally, G: Gate, R: Wait>(
 
 /// Room for a receipt and for lines of the journal. Where it fails, nothing has changed but the
 /// room.
-fn take_room(alloc: Global, receipts: &mut Vec<Receipt>, spare: &mut Spare) -> Result<(), StepFault>
+fn take_room(receipts: &mut Vec<Receipt>, spare: &mut Spare) -> Result<(), StepFault>
     ensures receipts { receipts.new.items ≡ receipts.old.items }
     ensures room { OnOk result (vec_len receipts.new < vec_capacity receipts.new) }
 {
     receipts.reserve(1)?;
-    spare.fill(alloc)?;
+    spare.fill()?;
     Ok(())
 }
 

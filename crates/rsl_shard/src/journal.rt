@@ -108,7 +108,7 @@ impl Journal {
     {
         if self.last.len() == self.last.capacity() {
             self.full.reserve(1)?;
-            spare.fill(alloc)?;
+            spare.fill()?;
             self.earlier += self.last.len();
             let full = replace(&mut self.last, spare.take(alloc));
             if !full.is_empty() {

@@ -39,7 +39,7 @@ impl Spare {
 
     /// Takes room for 1,024 lines, where there is room for fewer. It fails only where that memory
     /// is refused, and then nothing has changed.
-    pub fn fill(&mut self, alloc: Global) -> Result<(), NoMemory>
+    pub fn fill(&mut self) -> Result<(), NoMemory>
         ensures room { OnOk result (1024 ≤ self.new) }
         ensures kept { self.old ≤ self.new }
         ensures filled { 1024 ≤ self.old → IsOk result }
