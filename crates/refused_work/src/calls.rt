@@ -1,5 +1,7 @@
 //! Calls that take memory, each made by itself.
 
+ghost use Rattle.rsl_accounts.specs.Limits.{RulesFit};
+
 use crate::given::Given;
 use crate::printed::Hex;
 use crate::stop::Stop;
@@ -132,10 +134,14 @@ fn request(alloc: Global) -> Result<Vec<u8>, Stop> {
 /// Tells how many own events a script's first account has, and what the session rule decides on
 /// them and holds after them.
 fn tell_own<R: Print>(rt: &R, alloc: Global, text: &[u8]) -> Result<(), Stop> {
-    let Given { config, steps } = Given::read(alloc, text)?;
-    let _accounts = config.accounts();
-    let events = own(alloc, &config, BOOT, 0, &steps)?;
-    tell_rule(rt, alloc, config.entry(0).rules, &events)
+    let given = Given::read(alloc, text)?;
+    tell_own_of(rt, alloc, &given)
+}
+
+fn tell_own_of<R: Print>(rt: &R, alloc: Global, given: &Given) -> Result<(), Stop> {
+    let _accounts = given.config.accounts();
+    let events = own(alloc, &given.config, BOOT, 0, &given.steps)?;
+    tell_rule(rt, alloc, given.config.entry(0).rules, &events)
 }
 
 /// Tells what the session rule decides on events, and holds after them, and a new book.
@@ -144,12 +150,18 @@ fn tell_rule<R: Print>(rt: &R, alloc: Global, rules: Rules, events: &[Event]) ->
         return Ok(());
     }
     let held = places(alloc, &rules, events)?;
-    let book = Book::new(alloc, rules)?;
-    let new = book.held();
+    let new = held_at_first(alloc, rules)?;
     let decisions = decide(alloc, &rules, events)?;
     println!(rt;
         "Own: {} events {decisions:?} held {held}, before {new}",
         events.len()
     )?;
     Ok(())
+}
+
+/// What a new book holds.
+fn held_at_first(alloc: Global, rules: Rules) -> Result<u64, Stop>
+    requires { RulesFit rules }
+{
+    Ok(Book::new(alloc, rules)?.held())
 }

@@ -52,10 +52,7 @@ fn listed<L0: Tally, L1: Tally, L2: Tally, L3: Tally>(
     auth: Pass<L0, L1, L2, L3>,
     acct: Pass<L0, L1, L2, L3>,
 ) -> Result<Vec<Pass<L0, L1, L2, L3>>, Stop> {
-    let mut passes = Vec::with_capacity(alloc, 2)?;
-    passes.push(auth)?;
-    passes.push(acct)?;
-    Ok(passes)
+    Ok(vec![in alloc; auth, acct]?)
 }
 
 /// Settles the record of two passes as it will be closed, where the last journals were cut too:

@@ -12,18 +12,43 @@ use std::alloc::Global;
 
 /// Gives the events of a script's first account to a shard, and cuts it in their midst.
 pub(crate) fn tell<R: Print>(rt: &R, alloc: Global, text: &[u8]) -> Result<(), Stop> {
-    let Given { config, steps } = Given::read(alloc, text)?;
-    let _accounts = config.accounts();
-    let events = own(alloc, &config, BOOT, 0, &steps)?;
-    let mut shard = new_shard(rt, alloc, &config)?;
+    let given = Given::read(alloc, text)?;
+    let events = first_events(alloc, &given)?;
+    tell_shard_of(rt, alloc, &given.config, &events)
+}
+
+/// The own events of a script's first account.
+fn first_events(alloc: Global, given: &Given) -> Result<Vec<Event>, Stop> {
+    let _accounts = given.config.accounts();
+    Ok(own(alloc, &given.config, BOOT, 0, &given.steps)?)
+}
+
+/// Gives events to the first shard of a configuration.
+fn tell_shard_of<R: Print>(
+    rt: &R,
+    alloc: Global,
+    config: &Config,
+    events: &[Event],
+) -> Result<(), Stop> {
+    let mut shard = new_shard(rt, alloc, config)?;
+    take_each(rt, alloc, &mut shard, events)
+}
+
+/// Gives events to the shard, and cuts it in their midst.
+fn take_each<R: Print>(
+    rt: &R,
+    alloc: Global,
+    shard: &mut Shard,
+    events: &[Event],
+) -> Result<(), Stop> {
     for (index, event) in events.iter().enumerate() {
         if index == events.len() / 2 {
-            cut(rt, alloc, &mut shard)?;
+            cut(rt, alloc, shard)?;
         }
-        step(rt, alloc, &mut shard, event)?;
+        step(rt, alloc, shard, event)?;
     }
-    tell_rows(rt, alloc, &shard)?;
-    copy_book(rt, alloc, &shard)
+    tell_rows(rt, alloc, shard)?;
+    copy_book(rt, alloc, shard)
 }
 
 /// The first shard of a configuration.

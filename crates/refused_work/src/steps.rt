@@ -14,9 +14,13 @@ use std::alloc::Global;
 /// steps that were not refused, and whether the books are the same.
 pub(crate) fn tell<R: Print>(rt: &R, alloc: Global, text: &[u8]) -> Result<(), Stop> {
     let Given { config, steps } = Given::read(alloc, text)?;
-    let Ran { answers, shards } = told_run(rt, alloc, &config, &steps)?;
+    tell_of(rt, alloc, &config, steps)
+}
+
+fn tell_of<R: Print>(rt: &R, alloc: Global, config: &Config, steps: Vec<Step>) -> Result<(), Stop> {
+    let Ran { answers, shards } = told_run(rt, alloc, config, &steps)?;
     let taken = taken_of(alloc, steps, &answers)?;
-    tell_again(rt, alloc, &config, &taken, &shards)
+    tell_again(rt, alloc, config, &taken, &shards)
 }
 
 /// The steps that were not refused.
@@ -48,10 +52,16 @@ fn tell_again<R: Print>(
     Ok(())
 }
 
-/// Has `run` answer steps, and tells each answer, what each account's book shows and stores, and how
-/// many lines each shard's journal has.
+/// Has `run` answer steps, and tells all that is seen of it.
 fn told_run<R: Print>(rt: &R, alloc: Global, config: &Config, steps: &[Step]) -> Result<Ran, Stop> {
     let ran = run(alloc, config, BOOT, steps)?;
+    tell_ran(rt, config, &ran)?;
+    Ok(ran)
+}
+
+/// Tells each answer of a run, what each account's book shows and stores, and how many lines each
+/// shard's journal has.
+fn tell_ran<R: Print>(rt: &R, config: &Config, ran: &Ran) -> Result<(), Stop> {
     for answer in &ran.answers {
         tell_answer(rt, answer)?;
     }
@@ -68,7 +78,7 @@ fn told_run<R: Print>(rt: &R, alloc: Global, config: &Config, steps: &[Step]) ->
     for shard in &ran.shards {
         println!(rt; "{} lines", shard.moves())?;
     }
-    Ok(ran)
+    Ok(())
 }
 
 /// Tells an answer.

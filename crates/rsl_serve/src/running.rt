@@ -226,9 +226,5 @@ fn listed<L0: Tally, L1: Tally, L2: Tally, L3: Tally>(
     alloc: Global,
     passes: Passes<L0, L1, L2, L3>,
 ) -> Result<Vec<Pass<L0, L1, L2, L3>>, ServeFault> {
-    let mut list = Vec::new(alloc);
-    list.push(passes.auth)?;
-    list.push(passes.acct)?;
-    list.push(passes.ticks)?;
-    Ok(list)
+    Ok(vec![in alloc; passes.auth, passes.acct, passes.ticks]?)
 }

@@ -67,10 +67,18 @@ impl<L0: Tally, L1: Tally, L2: Tally, L3: Tally, G: Gate + Drop> Service<L0, L1,
         } = self;
         let _shards = config.shards();
         let (opened, shares) = left.into_inner().into_shares();
-        let (journal0, lines0) = end(alloc, desk0)?;
-        let (journal1, lines1) = end_if_there(alloc, desk1)?;
-        let (journal2, lines2) = end_if_there(alloc, desk2)?;
-        let (journal3, lines3) = end_if_there(alloc, desk3)?;
+        let first = end(alloc, desk0);
+        let second = end_if_there(alloc, desk1);
+        let third = end_if_there(alloc, desk2);
+        let fourth = end_if_there(alloc, desk3);
+        let (
+            Ok((journal0, lines0)),
+            Ok((journal1, lines1)),
+            Ok((journal2, lines2)),
+            Ok((journal3, lines3)),
+        ) = (first, second, third, fourth) else {
+            return Err(NoMemory);
+        };
         let present = list(alloc, journal0, journal1, journal2, journal3)?;
         Ok(Ended {
             config,

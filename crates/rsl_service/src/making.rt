@@ -110,10 +110,15 @@ impl<L0: Tally, L1: Tally, L2: Tally, L3: Tally, G: Gate + Drop> Service<L0, L1,
             blank3,
         } = blanks;
         let _shards = config.shards();
-        let (desk0, share0) = Desk::new(alloc, &config, 0, blank0)?;
-        let (desk1, share1) = desk_if_there(alloc, &config, 1, blank1)?;
-        let (desk2, share2) = desk_if_there(alloc, &config, 2, blank2)?;
-        let (desk3, share3) = desk_if_there(alloc, &config, 3, blank3)?;
+        let first = Desk::new(alloc, &config, 0, blank0);
+        let second = desk_if_there(alloc, &config, 1, blank1);
+        let third = desk_if_there(alloc, &config, 2, blank2);
+        let fourth = desk_if_there(alloc, &config, 3, blank3);
+        let (Ok((desk0, share0)), Ok((desk1, share1)), Ok((desk2, share2)), Ok((desk3, share3))) = (
+            first, second, third, fourth,
+        ) else {
+            return Err(NoMemory);
+        };
         let left = Left::new(share0, share1, share2, share3);
         Ok(Service {
             config,

@@ -48,18 +48,15 @@ fn note_copied(alloc: Global, note: &Note) -> Result<String, Fail> {
     compared(alloc, note, &copy)
 }
 
-/// `the same` where a value and its copy print the same, and else both.
+/// `the same` where a value and its copy print the same, and else what the copy prints.
 fn compared<T: Debug>(alloc: Global, value: &T, copy: &T) -> Result<String, Fail> {
     let value = printed(alloc, value)?;
     let copy = printed(alloc, copy)?;
-    same_or_both(alloc, value.as_str(), copy.as_str())
-}
-
-fn same_or_both(alloc: Global, value: &str, copy: &str) -> Result<String, Fail> {
-    if value == copy {
-        return shown(alloc, &"the same");
+    if value.as_str() == copy.as_str() {
+        shown(alloc, &"the same")
+    } else {
+        Ok(copy)
     }
-    printed(alloc, &(copy, "in place of", value))
 }
 
 #[test]

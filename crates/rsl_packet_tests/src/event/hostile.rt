@@ -18,14 +18,19 @@ fn kind_of(
     datagram: &[u8],
 ) -> &'static str {
     match prepare(alloc, config, BOOT, port, source, datagram) {
-        Ok(prepared) => match &prepared.meaning {
-            Meaning::Bare => "Bare",
-            Meaning::Reject => "Reject",
-            Meaning::Own { .. } => "Own",
-            Meaning::Restart { .. } => "Restart",
-            Meaning::Stray(_) => "Stray",
-        },
+        Ok(prepared) => word_of(&prepared.meaning),
         Err(dropped) => dropped.name(),
+    }
+}
+
+/// The word for a meaning.
+fn word_of(meaning: &Meaning) -> &'static str {
+    match meaning {
+        Meaning::Bare => "Bare",
+        Meaning::Reject => "Reject",
+        Meaning::Own { .. } => "Own",
+        Meaning::Restart { .. } => "Restart",
+        Meaning::Stray(_) => "Stray",
     }
 }
 
