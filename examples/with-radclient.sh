@@ -92,6 +92,9 @@ from_second 'a signed login' Access-Accept 'Message-Authenticator = ' auth \
     'User-Name = "ishmael"' 'User-Password = "call me"' "$nas" 'Message-Authenticator = 0x00'
 from_second 'an unsigned one of the same client' '' '' auth \
     'User-Name = "ishmael"' 'User-Password = "call me"' "$nas"
+# that no answer came was the server's word, and not its end
+from_second 'a signed one after it' Access-Accept 'Message-Authenticator = ' auth \
+    'User-Name = "ishmael"' 'User-Password = "call me"' "$nas" 'Message-Authenticator = 0x00'
 
 if [ "$failed" = 0 ]; then echo "every answer was the right one"; fi
 exit "$failed"
