@@ -11,9 +11,13 @@ short_key key = if nat_le (length key) 64 then key else md5 key
 abbrev pub key_block : (key : List ℕ) → List ℕ
 key_block key = short_key key ++ replicate (64 - length (short_key key)) 0
 
--- K xor a pad, which is one octet again and again
+-- a block xor a pad, which is one octet again and again
+abbrev pub padded : (block : List ℕ) (pad : ℕ) → List ℕ
+padded block pad = map (λ octet. bit_xor octet pad) block
+
+-- K xor a pad
 abbrev pub key_xor : (key : List ℕ) (pad : ℕ) → List ℕ
-key_xor key pad = map (λ octet. bit_xor octet pad) (key_block key)
+key_xor key pad = padded (key_block key) pad
 
 -- ipad is 0x36 and opad 0x5c
 unfoldable pub hmac_md5 : (key message : List ℕ) → List ℕ

@@ -1,6 +1,6 @@
-ghost use Rattle.std.specs.Prelude.{◌≡◌, ◌++◌, List, ℕ, map, bit_xor};
+ghost use Rattle.std.specs.Prelude.{◌≡◌, ◌++◌, List, ℕ};
 ghost use Rattle.md5.specs.Md5.{Holds, md5};
-ghost use Rattle.rsl_auth.specs.Hmac.{hmac_md5, key_block, key_xor};
+ghost use Rattle.rsl_auth.specs.Hmac.{hmac_md5, key_block, key_xor, padded};
 
 use md5::{Digest, Md5};
 
@@ -22,42 +22,62 @@ const OUTER_PAD: u8 = 0x5c;
 pub fn hmac_md5(key: &[u8], message: &[u8]) -> [u8; 16]
     ensures { result ≡ hmac_md5 key.now message.now }
 {
-    let mut inner = begun(key);
-    inner.update(message);
-    ended(inner, key)
+    let mut hmac = Hmac::new(key);
+    hmac.inner.update(message);
+    hmac.finalize()
 }
 
-/// The inner digest before any of the message. `update` gives it the message part by part.
-pub(crate) fn begun(key: &[u8]) -> Md5
-    ensures { Holds result (key_xor key.now 0x36) }
-{
-    let mut inner = Md5::new();
-    inner.update(&key_xor(key, INNER_PAD));
-    inner
+/// The two digests of an HMAC. The inner one takes the message, part by part.
+pub(crate) struct Hmac {
+    /// The digest of the message.
+    pub inner: Md5,
+    /// The digest of the inner one.
+    outer: Md5,
 }
 
-/// The HMAC of the message that the inner digest was given.
-#[tactic(auto, unfolding(crate::specs::Hmac::hmac_md5))]
-pub(crate) fn ended(inner: Md5, key: &[u8]) -> [u8; 16]
-    ensures { (message : List ℕ) → Holds inner (key_xor key.now 0x36 ++ message) →
-        result ≡ hmac_md5 key.now message }
-{
-    let digest = inner.finalize();
-    let mut outer = Md5::new();
-    outer.update(&key_xor(key, OUTER_PAD));
-    outer.update(&digest);
-    outer.finalize()
+impl Hmac {
+    /// The digests before any of the message.
+    pub(crate) fn new(key: &[u8]) -> Hmac
+        ensures inner { Holds result.inner (key_xor key.now 0x36) }
+        ensures outer { Holds result.outer (key_xor key.now 0x5c) }
+    {
+        let block = key_block(key);
+        Hmac {
+            inner: begun(&block, INNER_PAD),
+            outer: begun(&block, OUTER_PAD),
+        }
+    }
+
+    /// The HMAC of the message that the inner digest was given.
+    #[tactic(auto, unfolding(crate::specs::Hmac::hmac_md5))]
+    pub(crate) fn finalize(self) -> [u8; 16]
+        ensures { (key message : List ℕ) → Holds self.inner (key_xor key 0x36 ++ message) →
+            Holds self.outer (key_xor key 0x5c) → result ≡ hmac_md5 key message }
+    {
+        let Hmac { inner, mut outer } = self;
+        outer.update(&inner.finalize());
+        outer.finalize()
+    }
 }
 
-// The key's block xor a pad.
-fn key_xor(key: &[u8], pad: u8) -> [u8; BLOCK_LEN]
-    ensures { result ≡ key_xor key.now pad }
+// A digest that was given a key's block xor a pad.
+fn begun(block: &[u8; BLOCK_LEN], pad: u8) -> Md5
+    ensures { Holds result (padded block.now pad) }
 {
-    let mut block = key_block(key);
-    for octet in block.iter_mut() {
+    let mut digest = Md5::new();
+    digest.update(&padded(block, pad));
+    digest
+}
+
+// A key's block xor a pad.
+fn padded(block: &[u8; BLOCK_LEN], pad: u8) -> [u8; BLOCK_LEN]
+    ensures { result ≡ padded block.now pad }
+{
+    let mut octets = *block;
+    for octet in octets.iter_mut() {
         *octet ^= pad;
     }
-    block
+    octets
 }
 
 // The key, or its digest where it is over a block, and zeros after it.

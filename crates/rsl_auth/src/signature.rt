@@ -3,7 +3,7 @@ ghost use Rattle.rsl_auth.specs.Authenticator.{authenticator};
 ghost use Rattle.rsl_auth.specs.Signature.{is_signed, signature, signed, value_at};
 
 use crate::authenticator::AUTHENTICATOR_START;
-use crate::hmac::{begun, ended};
+use crate::hmac::Hmac;
 use md5::Digest;
 use rsl_wire::HEADER_LEN;
 
@@ -48,11 +48,11 @@ fn signature_of(packet: &[u8], at: usize, request_auth: &[u8], secret: &[u8]) ->
     requires within { at + 16 ≤ length packet.now }
     ensures { result ≡ signature packet.now at request_auth.now secret.now }
 {
-    let mut inner = begun(secret);
-    inner.update(&packet[..AUTHENTICATOR_START]);
-    inner.update(request_auth);
-    inner.update(&packet[HEADER_LEN..at]);
-    inner.update(&[0; SIGNATURE_LEN]);
-    inner.update(&packet[at + SIGNATURE_LEN..]);
-    ended(inner, secret)
+    let mut hmac = Hmac::new(secret);
+    hmac.inner.update(&packet[..AUTHENTICATOR_START]);
+    hmac.inner.update(request_auth);
+    hmac.inner.update(&packet[HEADER_LEN..at]);
+    hmac.inner.update(&[0; SIGNATURE_LEN]);
+    hmac.inner.update(&packet[at + SIGNATURE_LEN..]);
+    hmac.finalize()
 }

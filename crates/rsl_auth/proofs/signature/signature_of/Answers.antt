@@ -10,8 +10,9 @@ pub returns : goal.returns
 unfolding signature
 returns c =
     let held =
-    c.update-5.ensures _ (c.update-4.ensures _ (c.update-3.ensures _ (c.update-2.ensures _ (c.update.ensures _ c.begun-inner.ensures)))) in
-    c.ended.ensures _
+    c.update-5.ensures _ (c.update-4.ensures _ (c.update-3.ensures _ (c.update-2.ensures _ (c.update.ensures _ c.new-hmac.ensures.inner)))) in
+    c.finalize.ensures c.args.secret.now _
     (subst (Holds c.update-5.new.self)
     (message_of_parts (key_xor c.args.secret.now 0x36) c.args.packet.now c.args.request_auth.now c.args.at c.requires.after_header c.requires.within)
     held)
+    c.new-hmac.ensures.outer

@@ -1,5 +1,5 @@
 use Rattle.std.proofs.Common.{◌≡◌, ◌++◌, map, take, drop, bit_xor}
-use Rattle.rsl_auth.proofs.hmac.key_xor.Given as goal
+use Rattle.rsl_auth.proofs.hmac.padded.Given as goal
 
 -- the octets that the loop has passed are xor the pad, and the others as before
 abbrev pub invariant-loop-octet : goal.invariant-loop-octet
