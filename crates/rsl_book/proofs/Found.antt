@@ -15,7 +15,7 @@ use Rattle.rsl_book.specs.declared.link.Hold.{Hold}
 use Rattle.rsl_book.specs.declared.link.Hold.TheVariants.{Number, Session as InSession}
 use Rattle.rsl_book.specs.First.{IsFirst, change_at}
 use Rattle.rsl_book.specs.Seen.{server_at, holder_at, bundle_with, link_seen, links_seen}
-use Rattle.rsl_book.specs.Changed.{bound_link, joined_link, touched_link}
+use Rattle.rsl_book.specs.Changed.{joined_link, taken_link, touched_link}
 use Rattle.rsl_book.specs.Steps.{server_of, touch_here, take_here, without_at}
 
 module _ {A : Type 0} where
@@ -77,6 +77,18 @@ joined_same bundle [] at x within is some = refl
 joined_same bundle (y ∷ ys) zero x within is some = ap (λ (one : Link). one ∷ ys) (sym (ap (λ b. record y { bundle = b }) (or_same y.bundle bundle (ap (λ (one : Link). is_some one.bundle) (sym is) ∙ some))))
 joined_same bundle (y ∷ ys) (suc at) x within is some = ap (λ zs. y ∷ zs) (joined_same bundle ys at x (omega (arith, within)) is some)
 
+-- and an alive that carries no bundle lets no link join one
+or_none : (old new : Option (List ℕ)) → is_some new ≡ false → option_or old new ≡ old
+or_none old (Some id) none = absurd (false≢true (sym none))
+or_none None None none = refl
+or_none (Some id) None none = refl
+
+pub joined_none : (bundle : Option (List ℕ)) (links : List Link) (at : ℕ) → is_some bundle ≡ false → links ≡ change_at at (joined_link bundle) links
+unfolding change_at joined_link
+joined_none bundle [] at none = refl
+joined_none bundle (x ∷ xs) zero none = ap (λ (one : Link). one ∷ xs) (sym (ap (λ b. record x { bundle = b }) (or_none x.bundle bundle none)))
+joined_none bundle (x ∷ xs) (suc at) none = ap (λ ys. x ∷ ys) (joined_none bundle xs at none)
+
 pub length-change_at : {A : Type 0} (f : A → A) (xs : List A) (at : ℕ) → length (change_at at f xs) ≡ length xs
 unfolding change_at
 length-change_at f [] at = refl
@@ -104,8 +116,8 @@ unfolding link_seen touched_link touch_here touch
 seen_touched servers now bundle link =
     rw (nas_kept (server_at servers link.nas) link.hold, bundle_or (server_at servers link.nas) link.bundle bundle) refl
 
-pub seen_taken : (servers : List Nas) (now : ℕ) (id : List ℕ) (bundle : Option (List ℕ)) (link : Link) → link_seen servers (touched_link now bundle (bound_link id link)) ≡ take_here now id bundle (link_seen servers link)
-unfolding link_seen touched_link bound_link take_here take_for
+pub seen_taken : (servers : List Nas) (now : ℕ) (id : List ℕ) (bundle : Option (List ℕ)) (link : Link) → link_seen servers (taken_link now id bundle link) ≡ take_here now id bundle (link_seen servers link)
+unfolding link_seen taken_link take_here take_for
 seen_taken servers now id bundle link =
     rw (nas_kept (server_at servers link.nas) link.hold, bundle_or (server_at servers link.nas) link.bundle bundle) refl
 

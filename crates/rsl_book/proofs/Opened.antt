@@ -18,7 +18,7 @@ use Rattle.rsl_session.proofs.Callers.{same_bundle-refl, places_of_front, places
 use Rattle.rsl_book.specs.declared.link.Link.{Link}
 use Rattle.rsl_book.specs.Seen.{link_seen, links_seen, server_at, bundle_with}
 use Rattle.rsl_book.specs.First.{change_at}
-use Rattle.rsl_book.specs.Changed.{touched_link, bound_link}
+use Rattle.rsl_book.specs.Changed.{taken_link, touched_link}
 
 -- a share that is less than one more is at most as much
 no_more : (a b p : ℕ) → a * p < suc b * p → a ≤ b
@@ -149,22 +149,21 @@ places_joined ports r b xs ys some is =
     let front : places_of ports (xs ++ b ∷ ys) ≡ places_of ports (b ∷ xs ++ ys) = places_of_front ports b xs ys some in
     omega arith
 
--- the links keep their number where one of them changes and keeps its bundle
-pub bundles_kept : (servers : List Nas) (f : Link → Link) (xs : List Link) (at : ℕ) → ((x : Link) → (link_seen servers (f x)).bundle ≡ (link_seen servers x).bundle)
-    → bundles_in (links_seen servers (change_at at f xs)) ≡ bundles_in (links_seen servers xs)
+-- two changes of a link that give it one bundle give the links the same bundles, as being taken and being touched do
+bundles_alike : (servers : List Nas) (f g : Link → Link) (xs : List Link) (at : ℕ) → ((x : Link) → (link_seen servers (f x)).bundle ≡ (link_seen servers (g x)).bundle)
+    → bundles_in (links_seen servers (change_at at f xs)) ≡ bundles_in (links_seen servers (change_at at g xs))
 unfolding bundles_in links_seen change_at
-bundles_kept servers f [] at same = refl
-bundles_kept servers f (x ∷ xs) zero same = ap (λ b. b ∷ map (λ (link : BookLink). link.bundle) (map (link_seen servers) xs)) (same x)
-bundles_kept servers f (x ∷ xs) (suc at) same = ap (λ bs. (link_seen servers x).bundle ∷ bs) (bundles_kept servers f xs at same)
+bundles_alike servers f g [] at same = refl
+bundles_alike servers f g (x ∷ xs) zero same = ap (λ b. b ∷ map (λ (link : BookLink). link.bundle) (map (link_seen servers) xs)) (same x)
+bundles_alike servers f g (x ∷ xs) (suc at) same = ap (λ bs. (link_seen servers x).bundle ∷ bs) (bundles_alike servers f g xs at same)
 
-bound_bundle : (servers : List Nas) (id : List ℕ) (link : Link) → (link_seen servers (bound_link id link)).bundle ≡ (link_seen servers link).bundle
-unfolding link_seen bound_link
-bound_bundle servers id link = refl
+taken_bundle : (servers : List Nas) (now : ℕ) (id : List ℕ) (bundle : Option (List ℕ)) (link : Link) → (link_seen servers (taken_link now id bundle link)).bundle ≡ (link_seen servers (touched_link now bundle link)).bundle
+unfolding link_seen taken_link touched_link
+taken_bundle servers now id bundle link = refl
 
-pub counted_bound : (servers : List Nas) (ports places : ℕ) (id : List ℕ) (xs ys : List Link) (at : ℕ) → ys ≡ change_at at (bound_link id) xs
-    → places ≡ places_of ports (bundles_in (links_seen servers xs)) → places ≡ places_of ports (bundles_in (links_seen servers ys))
-counted_bound servers ports places id xs ys at is counted =
-    counted ∙ ap (places_of ports) (sym (ap (λ zs. bundles_in (links_seen servers zs)) is ∙ bundles_kept servers (bound_link id) xs at (bound_bundle servers id)))
+pub bundles_taken : (servers : List Nas) (now : ℕ) (id : List ℕ) (bundle : Option (List ℕ)) (xs : List Link) (at : ℕ)
+    → bundles_in (links_seen servers (change_at at (taken_link now id bundle) xs)) ≡ bundles_in (links_seen servers (change_at at (touched_link now bundle) xs))
+bundles_taken servers now id bundle xs at = bundles_alike servers (taken_link now id bundle) (touched_link now bundle) xs at (taken_bundle servers now id bundle)
 
 -- a link that is touched keeps its bundle, if it has one
 or_some : (old new : Option Bundle) → is_none old ≡ false → option_or old new ≡ old

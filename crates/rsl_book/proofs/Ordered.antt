@@ -71,9 +71,9 @@ pub renewed_bundles : (now at : ℕ) (old new : Slots) (order : List ℕ) → at
 unfolding renewed_link
 renewed_bundles now at old new order within changes line = line_kept Bundles (renewed_link now) (λ one. refl) (λ one. refl) at old new order within changes line
 
-pub bound_bundles : (id : List ℕ) (at : ℕ) (old new : Slots) (order : List ℕ) → at < length (links_of old) → IsChanged at (bound_link id) old new → IsLineOf Bundles old order → IsLineOf Bundles new order
+pub bound_bundles : (now : ℕ) (id : List ℕ) (at : ℕ) (old new : Slots) (order : List ℕ) → at < length (links_of old) → IsChanged at (bound_link now id) old new → IsLineOf Bundles old order → IsLineOf Bundles new order
 unfolding bound_link
-bound_bundles id at old new order within changes line = line_kept Bundles (bound_link id) (λ one. refl) (λ one. refl) at old new order within changes line
+bound_bundles now id at old new order within changes line = line_kept Bundles (bound_link now id) (λ one. refl) (λ one. refl) at old new order within changes line
 
 pub joined_reserved : (bundle : Option (List ℕ)) (at : ℕ) (old new : Slots) (order : List ℕ) → at < length (links_of old) → IsChanged at (joined_link bundle) old new → IsLineOf Reserved old order → IsLineOf Reserved new order
 unfolding joined_link

@@ -17,7 +17,7 @@ use Rattle.rsl_session.proofs.Callers.{nas_is_same, same_nas-true}
 use Rattle.rsl_book.specs.declared.link.Link.{Link}
 use Rattle.rsl_book.specs.declared.link.Hold.{Hold}
 use Rattle.rsl_book.specs.declared.link.Hold.TheVariants.{Number, Session}
-use Rattle.rsl_book.specs.Changed.{bound_link, touched_link}
+use Rattle.rsl_book.specs.Changed.{taken_link, touched_link}
 use Rattle.rsl_book.specs.First.{IsFirst, change_at}
 use Rattle.rsl_book.specs.LinkList.{is_bundle_id, is_for, is_held, is_id, is_member, is_wanted_hold}
 use Rattle.rsl_book.specs.Named.{ArePlaced, IsPlace, named_by_links}
@@ -64,9 +64,9 @@ pub placed_touched : (servers : List Nas) (now : ℕ) (bundle : Option (List ℕ
 unfolding touched_link
 placed_touched servers now bundle xs ys at is placed = placed_changed servers (touched_link now bundle) xs ys at is (λ x. refl) placed
 
-pub placed_bound : (servers : List Nas) (id : List ℕ) (xs ys : List Link) (at : ℕ) → ys ≡ change_at at (bound_link id) xs → ArePlaced servers xs → ArePlaced servers ys
-unfolding bound_link
-placed_bound servers id xs ys at is placed = placed_changed servers (bound_link id) xs ys at is (λ x. refl) placed
+pub placed_taken : (servers : List Nas) (now : ℕ) (id : List ℕ) (bundle : Option (List ℕ)) (xs ys : List Link) (at : ℕ) → ys ≡ change_at at (taken_link now id bundle) xs → ArePlaced servers xs → ArePlaced servers ys
+unfolding taken_link
+placed_taken servers now id bundle xs ys at is placed = placed_changed servers (taken_link now id bundle) xs ys at is (λ x. refl) placed
 
 pub placed_none : (servers : List Nas) (xs : List Link) → xs ≡ [] → ArePlaced servers xs
 placed_none servers xs none x within = absurd (let long = ap length none in omega (arith, within, long))

@@ -7,12 +7,17 @@ use Rattle.rsl_book.specs.declared.link.Hold.TheVariants.{Session}
 unfoldable pub touched_link : ℕ → Option (List ℕ) → Link → Link
 touched_link now bundle link = record link { bundle = option_or link.bundle bundle; touched = now }
 
--- the bundle that it then has, if it had none, and the clock
+-- and how it changes the link that its session takes
+unfoldable pub taken_link : ℕ → List ℕ → Option (List ℕ) → Link → Link
+taken_link now id bundle link =
+    record link { hold = Session id; bundle = option_or link.bundle bundle; touched = now }
+
+-- the bundle that it then has, if it had none; the clock; and the session and the clock
 unfoldable pub joined_link : Option (List ℕ) → Link → Link
 joined_link bundle link = record link { bundle = option_or link.bundle bundle }
 
 unfoldable pub renewed_link : ℕ → Link → Link
 renewed_link now link = record link { touched = now }
 
-unfoldable pub bound_link : List ℕ → Link → Link
-bound_link id link = record link { hold = Session id }
+unfoldable pub bound_link : ℕ → List ℕ → Link → Link
+bound_link now id link = record link { hold = Session id; touched = now }

@@ -525,8 +525,8 @@ impl Book {
           };
         } }
     {
-        self.links.bind_at(&self.servers, at, id);
-        self.links.touch_at(&self.servers, at, self.clock, bundle);
+        self.links
+            .take_at(&self.servers, at, self.clock, id, bundle);
     }
 
     /// Opens a link for a session, if the places then are within the limit.

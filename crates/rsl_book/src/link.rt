@@ -131,11 +131,12 @@ impl Link {
         }
     }
 
-    /// Binds it to the session of this id.
+    /// Binds it to the session of this id, which touches it at this clock.
     #[tactic(auto, unfolding(crate::specs::Changed::bound_link))]
-    pub(crate) fn bind(&mut self, id: Octets)
-        ensures { self.new ≡ bound_link id self.old }
+    pub(crate) fn bind(&mut self, now: u64, id: Octets)
+        ensures { self.new ≡ bound_link now id self.old }
     {
         self.hold = Hold::Session(id);
+        self.touched = now;
     }
 }

@@ -11,7 +11,7 @@ ghost use Rattle.rsl_session.specs.Book.{is_stale_at};
 ghost use Rattle.rsl_session.specs.BookLinks.{lapses_at, is_link_of, can_be_taken, can_yield};
 ghost use Rattle.rsl_book.specs.Seen.{server_at, links_seen, link_seen, bundle_with};
 ghost use Rattle.rsl_book.specs.First.{IsFirst, change_at};
-ghost use Rattle.rsl_book.specs.Changed.{touched_link, bound_link};
+ghost use Rattle.rsl_book.specs.Changed.{taken_link, touched_link};
 ghost use Rattle.rsl_book.specs.Counted.{AreCounted};
 ghost use Rattle.rsl_book.specs.Named.{IsPlace};
 
@@ -172,17 +172,26 @@ impl Links {
         self.list.touch(at, now, bundle);
     }
 
-    /// Binds a link to the session of this id.
-    pub(crate) fn bind_at(&mut self, servers: &Servers, at: usize, id: Octets)
+    /// Takes a link for the session of this id, by an alive that may carry a bundle.
+    pub(crate) fn take_at(
+        &mut self,
+        servers: &Servers,
+        at: usize,
+        now: u64,
+        id: Octets,
+        bundle: Option<Octets>,
+    )
         requires within { at < length self.old.list.items }
         requires counted { AreCounted servers.now self.old }
         ensures counted { AreCounted servers.now self.new }
-        ensures links { self.new.list.items ≡ change_at at (bound_link id) self.old.list.items }
-        ensures fewer { self.new.places ≡ self.old.places }
+        ensures links { self.new.list.items ≡ change_at at
+            (taken_link now id bundle) self.old.list.items }
+        ensures fewer { self.new.places ≤ self.old.places }
         ensures ports { self.new.ports ≡ self.old.ports }
         ensures room { self.new.list.room ≡ self.old.list.room }
     {
-        self.list.bind(at, id);
+        self.places -= one_if(self.joins_a_place(servers, at, &bundle));
+        self.list.take(at, now, id, bundle);
     }
 
     /// Ends each link that lapses at this clock.

@@ -5,7 +5,8 @@ ghost use Rattle.std.specs.Prelude.{count_by, drop, false, get_or, length, take,
 ghost use Rattle.std.specs.List.{list_any};
 ghost use Rattle.rsl_accounts.specs.Limits.{RulesFit};
 ghost use Rattle.rsl_session.specs.BookLinks.{lapses_at};
-ghost use Rattle.rsl_book.specs.Changed.{bound_link, joined_link, renewed_link, touched_link};
+ghost use Rattle.rsl_book.specs.Changed.{bound_link, joined_link, renewed_link, taken_link};
+ghost use Rattle.rsl_book.specs.Changed.{touched_link};
 ghost use Rattle.rsl_book.specs.First.{IsFirst, change_at};
 ghost use Rattle.rsl_book.specs.Lines.{IsLineOf};
 ghost use Rattle.rsl_book.specs.Order.{is_by_touch, is_of, holds_session, link_at};
@@ -166,13 +167,32 @@ impl LinkList {
         Kind::Bound.enter(&mut self.orders.bound, &self.slots, at);
     }
 
+    /// Binds a link to the session of this id, which touches it at this clock. What its bundle
+    /// stands by stays.
+    fn bind(&mut self, at: usize, now: u64, id: Octets)
+        requires { at < length self.old.items }
+        ensures items { self.new.items ≡ change_at at (bound_link now id) self.old.items }
+        ensures room { self.new.room ≡ self.old.room }
+    {
+        Kind::Reserved.withdraw(&mut self.orders.reserved, &self.slots, at);
+        Kind::Bound.withdraw(&mut self.orders.bound, &self.slots, at);
+        Kind::Numbers.withdraw(&mut self.orders.numbers, &self.slots, at);
+        Kind::Sessions.withdraw(&mut self.orders.sessions, &self.slots, at);
+        self.slots.bind(at, now, id);
+        Kind::Reserved.enter(&mut self.orders.reserved, &self.slots, at);
+        Kind::Bound.enter(&mut self.orders.bound, &self.slots, at);
+        Kind::Numbers.enter(&mut self.orders.numbers, &self.slots, at);
+        Kind::Sessions.enter(&mut self.orders.sessions, &self.slots, at);
+    }
+
     /// Puts a link that is in no bundle into one, if an alive carries it.
     fn join(&mut self, at: usize, bundle: Option<Octets>)
         requires { at < length self.old.items }
         ensures items { self.new.items ≡ change_at at (joined_link bundle) self.old.items }
         ensures room { self.new.room ≡ self.old.room }
     {
-        if self.slots.link(at).bundle.is_none() {
+        // A link whose bundle stays keeps its place in the order of bundles.
+        if bundle.is_some() && self.slots.link(at).bundle.is_none() {
             Kind::Bundles.withdraw(&mut self.orders.bundles, &self.slots, at);
             self.slots.join(at, bundle);
             Kind::Bundles.enter(&mut self.orders.bundles, &self.slots, at);
@@ -189,21 +209,14 @@ impl LinkList {
         self.renew(at, now);
     }
 
-    /// Binds a link to the session of this id.
-    pub(crate) fn bind(&mut self, at: usize, id: Octets)
+    /// Takes a link for the session of this id, by an alive that may carry a bundle.
+    pub(crate) fn take(&mut self, at: usize, now: u64, id: Octets, bundle: Option<Octets>)
         requires { at < length self.old.items }
-        ensures items { self.new.items ≡ change_at at (bound_link id) self.old.items }
+        ensures items { self.new.items ≡ change_at at (taken_link now id bundle) self.old.items }
         ensures room { self.new.room ≡ self.old.room }
     {
-        Kind::Reserved.withdraw(&mut self.orders.reserved, &self.slots, at);
-        Kind::Bound.withdraw(&mut self.orders.bound, &self.slots, at);
-        Kind::Numbers.withdraw(&mut self.orders.numbers, &self.slots, at);
-        Kind::Sessions.withdraw(&mut self.orders.sessions, &self.slots, at);
-        self.slots.bind(at, id);
-        Kind::Reserved.enter(&mut self.orders.reserved, &self.slots, at);
-        Kind::Bound.enter(&mut self.orders.bound, &self.slots, at);
-        Kind::Numbers.enter(&mut self.orders.numbers, &self.slots, at);
-        Kind::Sessions.enter(&mut self.orders.sessions, &self.slots, at);
+        self.join(at, bundle);
+        self.bind(at, now, id);
     }
 
     /// The first link that is bound to the session of this id at the access server of a place.

@@ -222,13 +222,13 @@ impl Slots {
         self.slots[slot].link.join(bundle);
     }
 
-    /// Binds a link to the session of this id.
-    pub(crate) fn bind(&mut self, at: usize, id: Octets)
+    /// Binds a link to the session of this id, which touches it at this clock.
+    pub(crate) fn bind(&mut self, at: usize, now: u64, id: Octets)
         requires kept { IsKept self.old }
         requires within { at < self.old.count }
-        ensures { IsChanged at (bound_link id) self.old self.new }
+        ensures { IsChanged at (bound_link now id) self.old self.new }
     {
         let slot = self.slot(at);
-        self.slots[slot].link.bind(id);
+        self.slots[slot].link.bind(now, id);
     }
 }

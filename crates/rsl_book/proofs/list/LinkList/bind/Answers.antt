@@ -16,19 +16,19 @@ withdraw-requires-clause-within c =
 
 pub enter-requires-clause-order : goal.enter-requires-clause-order
 enter-requires-clause-order c =
-    line_changed Reserved (bound_link c.args.id) c.args.at c.self.inside.slots c.bind.new.self c.withdraw.new.order.items c.bind.ensures c.withdraw.ensures.order
+    line_changed Reserved (bound_link c.args.now c.args.id) c.args.at c.self.inside.slots c.bind.new.self c.withdraw.new.order.items c.bind.ensures c.withdraw.ensures.order
 
 pub enter-requires-2-clause-order : goal.enter-requires-2-clause-order
 enter-requires-2-clause-order c =
-    line_changed Bound (bound_link c.args.id) c.args.at c.self.inside.slots c.bind.new.self c.withdraw-2.new.order.items c.bind.ensures c.withdraw-2.ensures.order
+    line_changed Bound (bound_link c.args.now c.args.id) c.args.at c.self.inside.slots c.bind.new.self c.withdraw-2.new.order.items c.bind.ensures c.withdraw-2.ensures.order
 
 pub enter-requires-3-clause-order : goal.enter-requires-3-clause-order
 enter-requires-3-clause-order c =
-    line_changed Numbers (bound_link c.args.id) c.args.at c.self.inside.slots c.bind.new.self c.withdraw-3.new.order.items c.bind.ensures c.withdraw-3.ensures.order
+    line_changed Numbers (bound_link c.args.now c.args.id) c.args.at c.self.inside.slots c.bind.new.self c.withdraw-3.new.order.items c.bind.ensures c.withdraw-3.ensures.order
 
 pub enter-requires-4-clause-order : goal.enter-requires-4-clause-order
 enter-requires-4-clause-order c =
-    line_changed Sessions (bound_link c.args.id) c.args.at c.self.inside.slots c.bind.new.self c.withdraw-4.new.order.items c.bind.ensures c.withdraw-4.ensures.order
+    line_changed Sessions (bound_link c.args.now c.args.id) c.args.at c.self.inside.slots c.bind.new.self c.withdraw-4.new.order.items c.bind.ensures c.withdraw-4.ensures.order
 
 pub invariant_of-self : goal.invariant_of-self
 invariant_of-self c =
@@ -42,7 +42,7 @@ invariant_of-self c =
         bound = c.enter-2.ensures.order;
         numbers = c.enter-3.ensures.order;
         sessions = c.enter-4.ensures.order;
-        bundles = bound_bundles c.args.id c.args.at inside.slots c.bind.new.self inside.orders.bundles.items (omega (arith, few, c.requires)) c.bind.ensures c.self.invariant.orders.bundles;
+        bundles = bound_bundles c.args.now c.args.id c.args.at inside.slots c.bind.new.self inside.orders.bundles.items (omega (arith, few, c.requires)) c.bind.ensures c.self.invariant.orders.bundles;
       };
       room = record {
         reserved = let one = c.withdraw.ensures.room in let two = c.enter.ensures.room in let room = c.self.invariant.room.reserved in omega (arith, one, two, room, capacity);
@@ -54,7 +54,7 @@ invariant_of-self c =
     }
 
 pub returns-clause-items : goal.returns-clause-items
-returns-clause-items c = c.bind.ensures.links ∙ ap (λ (value : RoomyList). change_at c.args.at (bound_link c.args.id) value.items) c.self.view_is
+returns-clause-items c = c.bind.ensures.links ∙ ap (λ (value : RoomyList). change_at c.args.at (bound_link c.args.now c.args.id) value.items) c.self.view_is
 
 pub returns-clause-room : goal.returns-clause-room
 returns-clause-room c = c.bind.ensures.room ∙ ap (λ (value : RoomyList). value.room) c.self.view_is

@@ -1,4 +1,4 @@
-use Rattle.std.proofs.Common.{length, not, ap, ◌∙◌, arith}
+use Rattle.std.proofs.Common.{length, not, ap, sym, ◌∙◌, arith}
 use Rattle.rsl_book.specs.declared.order.Kind.TheVariants.{Bundles}
 use Rattle.rsl_book.specs.Changed.{joined_link}
 use Rattle.rsl_book.specs.First.{change_at}
@@ -6,10 +6,11 @@ use Rattle.rsl_book.specs.LinkList.{RoomyList}
 use Rattle.rsl_book.specs.Slots.{links_of}
 use Rattle.std.proofs.lemmas.List.{get_or_default}
 use Rattle.rsl_book.specs.Order.{no_link}
-use Rattle.rsl_book.proofs.Found.{joined_same}
+use Rattle.rsl_book.proofs.Found.{joined_none, joined_same}
 use Rattle.rsl_book.proofs.Lined.{line_changed}
 use Rattle.rsl_book.proofs.Ordered.{joined_reserved, joined_bound, joined_numbers, joined_sessions}
 use Rattle.rsl_book.proofs.Slotted.{long_links}
+use Rattle.rsl_book.proofs.list.LinkList.join.Goals.{else-is_some-via-then-is_some+else-is_none, else-is_some-via-else-is_some}
 use Rattle.rsl_book.proofs.list.LinkList.join.Goals as goal
 
 pub link-requires-clause-within : goal.link-requires-clause-within
@@ -51,9 +52,13 @@ returns-then-is_none-clause-items c = c.join.ensures.links ∙ ap (λ (value : R
 pub returns-then-is_none-clause-room : goal.returns-then-is_none-clause-room
 returns-then-is_none-clause-room c = c.join.ensures.room ∙ ap (λ (value : RoomyList). value.room) c.self.view_is
 
-pub returns-else-is_none-clause-items : goal.returns-else-is_none-clause-items
-returns-else-is_none-clause-items c =
+pub returns-else-is_some-clause-items : goal.returns-else-is_some-clause-items
+returns-else-is_some-clause-items c =
     let few = ap (λ (value : RoomyList). length value.items) c.self.view_is in
     let links = links_of c.self.inside.slots in
     rw (← c.self.view_is)
-    (joined_same c.args.bundle links c.args.at c.link.result.now (omega (arith, few, c.requires)) (c.link.ensures ∙ get_or_default links c.args.at no_link c.link.result.now (omega (arith, few, c.requires))) (c.is_none.ensures ∙ ap not c.if-is_none.false))
+    (elim c.else-is_some.branch [
+      | else-is_some-via-then-is_some+else-is_none w ↦ joined_same c.args.bundle links c.args.at w.link.result.now (omega (arith, few, c.requires))
+          (w.link.ensures ∙ get_or_default links c.args.at no_link w.link.result.now (omega (arith, few, c.requires))) (w.is_none.ensures ∙ ap not w.if-is_none.false)
+      | else-is_some-via-else-is_some w ↦ joined_none c.args.bundle links c.args.at (sym c.is_some.ensures ∙ w.if-is_some.false)
+    ])
