@@ -7,7 +7,7 @@ use Rattle.rsl_accounts.specs.declared.entry.Entry.{Entry}
 use Rattle.rsl_receive.specs.declared.counts.Counts.{Counts}
 use Rattle.rsl_report.specs.Table.{table}
 use Rattle.rsl_serve.specs.Output.{counts_line}
-use Rattle.rsl_serve.specs.Served.{HasReceived, IsServed}
+use Rattle.rsl_serve.specs.Served.{HasReceived, HasReported, IsServed}
 use Rattle.rsl_service.specs.Report.{IsReport}
 use Rattle.rsl_shard.specs.declared.row.Row.{Row}
 
@@ -24,21 +24,29 @@ rows_of_accounts accounts rows report k d within = by (slice_get_cases accounts 
     by (inl (entry, below, is, same)) = let row = report.each k entry (get_or rows k d) is here in omega (arith, row.numbered, below)
     by (inr (past, none)) = absurd (omega (arith, report.one_each, within, past))
 
--- what both receivers did and what the accounts hold is what a server prints
-pub is_served : (config : Configuration) (turns : ℕ) (auth acct : Counts) (rows : List Row) (lines report : List ℕ)
-    → IsReport config.accounts rows
+-- the octets of a report's rows are a report
+pub has_reported : (config : Configuration) (rows : List Row) (report : List ℕ) → IsReport config.accounts rows → report ≡ table config rows
+    → HasReported config report
+has_reported config rows report reported printed = record {
+  rows = rows;
+  reported = reported;
+  printed = printed;
+}
+
+-- what both receivers did, and a report, is what a server prints
+pub is_served : (config : Configuration) (turns : ℕ) (auth acct : Counts) (lines report : List ℕ)
+    → HasReported config report
     → lines ≡ counts_line (codes "auth") auth ++ counts_line (codes "acct") acct
-    → report ≡ table config rows
     → HasReceived turns auth → HasReceived turns acct
     → IsServed config turns (lines ++ report)
-is_served config turns auth acct rows lines report reported line table_is first second = record {
+is_served config turns auth acct lines report reported line first second = record {
   auth = auth;
   acct = acct;
-  rows = rows;
+  report = report;
   auth_received = first;
   acct_received = second;
   reported = reported;
-  printed = ap (λ xs. xs ++ report) line ∙ ap (λ xs. counts_line (codes "auth") auth ++ counts_line (codes "acct") acct ++ xs) table_is;
+  printed = ap (λ xs. xs ++ report) line;
 }
 
-pub ruleset reported = (rows_of_accounts, is_served)
+pub ruleset reported = rows_of_accounts

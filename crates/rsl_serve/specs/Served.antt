@@ -13,14 +13,18 @@ pub record HasReceived (turns : ℕ) (counts : Counts) : Type 0 where
   pub all : counts.turns ≡ turns
   pub sum : AddsUp counts
 
--- What is printed: what the receivers did, a line for each, and a report with a row for each
--- account in file order, with its places and no more held.
+-- a report with a row for each account in file order, with its places and no more held
+pub record HasReported (config : Configuration) (report : List ℕ) : Type 0 where
+  pub rows : List Row
+  pub reported : IsReport config.accounts rows
+  pub printed : report ≡ table config rows
+
+-- What is printed: what the receivers did, a line for each, and the report.
 pub record IsServed (config : Configuration) (turns : ℕ) (written : List ℕ) : Type 0 where
   pub auth : Counts
   pub acct : Counts
-  pub rows : List Row
+  pub report : List ℕ
   pub auth_received : HasReceived turns auth
   pub acct_received : HasReceived turns acct
-  pub reported : IsReport config.accounts rows
-  pub printed : written ≡ counts_line (codes "auth") auth ++ counts_line (codes "acct") acct
-      ++ table config rows
+  pub reported : HasReported config report
+  pub printed : written ≡ counts_line (codes "auth") auth ++ counts_line (codes "acct") acct ++ report

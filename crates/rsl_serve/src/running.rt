@@ -1,7 +1,7 @@
 ghost use Rattle.std.specs.Prelude.{◌≡◌, ℕ, IfOk};
 ghost use Rattle.rsl_receive.specs.Told.{no_numbers};
 ghost use Rattle.rsl_serve.specs.Output.{output_octets};
-ghost use Rattle.rsl_serve.specs.Served.{HasReceived, IsServed};
+ghost use Rattle.rsl_serve.specs.Served.{HasReceived, HasReported, IsServed};
 ghost use Rattle.rsl_service.specs.Service.{IsLedgerOf};
 
 use crate::ending::Ending;
@@ -150,7 +150,6 @@ where
         span,
         ending: &ending,
     };
-    let shared = &shared;
     let auth = Receiver {
         port: Port::Auth,
         datagrams: sockets.auth,
@@ -161,7 +160,29 @@ where
         datagrams: sockets.acct,
         pass: passes.acct,
     };
-    let ticks = passes.ticks;
+    all_worked(rt, alloc, &shared, auth, acct, passes.ticks)
+}
+
+/// What the receivers and the worker that makes ticks have come to, each on a thread of its own.
+fn all_worked<L0, L1, L2, L3, R>(
+    rt: &R,
+    alloc: Global,
+    shared: &Shared<'_, L0, L1, L2, L3>,
+    auth: Receiver<L0, L1, L2, L3>,
+    acct: Receiver<L0, L1, L2, L3>,
+    ticks: Pass<L0, L1, L2, L3>,
+) -> Result<Worked<L0, L1, L2, L3>, ServeFault>
+where
+    L0: Tally + Send + Sync,
+    L1: Tally + Send + Sync,
+    L2: Tally + Send + Sync,
+    L3: Tally + Send + Sync,
+    R: time::Clock + Threads + Wait + Sync,
+    requires auth { auth.datagrams.numbers ≡ no_numbers }
+    requires acct { acct.datagrams.numbers ≡ no_numbers }
+    ensures auth { IfOk result (λ worked. HasReceived shared.now.span.turns worked.auth) }
+    ensures acct { IfOk result (λ worked. HasReceived shared.now.span.turns worked.acct) }
+{
     // where no thread can be made the first comes last: the worker that makes ticks, which then
     // ends at once
     let (ticks, (auth, acct)) = thread::join(
@@ -187,8 +208,20 @@ where
     })
 }
 
-/// What is printed of a service, as it stands, and of its receivers.
+/// The octets of the report of a service, as it stands.
 #[tactic(auto, using(crate::proofs::Reported::reported))]
+fn report_of<L0: Tally, L1: Tally, L2: Tally, L3: Tally, R: Wait>(
+    rt: &R,
+    alloc: Global,
+    service: &Service<L0, L1, L2, L3, Open>,
+) -> Result<Vec<u8>, ServeFault>
+    ensures { IfOk result (λ report. HasReported service.now.config report.items) }
+{
+    let rows = service.report(rt, alloc)?;
+    table_of(alloc, service.config(), rows.as_slice())
+}
+
+/// What is printed of a service, as it stands, and of its receivers.
 fn output_of<L0: Tally, L1: Tally, L2: Tally, L3: Tally, R: Wait>(
     rt: &R,
     alloc: Global,
@@ -199,8 +232,7 @@ fn output_of<L0: Tally, L1: Tally, L2: Tally, L3: Tally, R: Wait>(
     ensures { (turns : ℕ) → HasReceived turns auth.now → HasReceived turns acct.now →
         IfOk result (λ output. IsServed service.now.config turns (output_octets output)) }
 {
-    let rows = service.report(rt, alloc)?;
-    let report = table_of(alloc, service.config(), rows.as_slice())?;
+    let report = report_of(rt, alloc, service)?;
     let lines = counts_of(alloc, auth, acct)?;
     Ok(Output { lines, report })
 }

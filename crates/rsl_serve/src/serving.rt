@@ -56,7 +56,7 @@ where
 {
     let alloc = rt.alloc();
     let (file, plan) = match env::args(rt) {
-        Ok(words) => asked(words)?,
+        Ok(words) => asked(alloc, words)?,
         Err(error) if error.kind() == ErrorKind::OutOfMemory => return Err(ServeFault::NoMemory),
         Err(_) => return Err(ServeFault::Usage),
     };
@@ -74,17 +74,9 @@ where
 }
 
 /// The file and the plan that the arguments name.
-fn asked(mut words: Args<Global>) -> Result<(String, Plan), ServeFault> {
-    let _program = words.next();
-    let _serve = words.next();
-    let (Some(file), Some(address), Some(auth), Some(acct), Some(turns), None) = (
-        words.next(),
-        words.next(),
-        words.next(),
-        words.next(),
-        words.next(),
-        words.next(),
-    ) else {
+fn asked(alloc: Global, words: Args<Global>) -> Result<(String, Plan), ServeFault> {
+    let words: Vec<String> = words.collect(alloc)?;
+    let [_program, _serve, file, address, auth, acct, turns] = words.as_slice() else {
         return Err(ServeFault::Usage);
     };
     match Plan::read(
@@ -93,7 +85,7 @@ fn asked(mut words: Args<Global>) -> Result<(String, Plan), ServeFault> {
         acct.as_str(),
         turns.as_str(),
     ) {
-        Some(plan) => Ok((file, plan)),
+        Some(plan) => Ok((file.clone()?, plan)),
         None => Err(ServeFault::Usage),
     }
 }

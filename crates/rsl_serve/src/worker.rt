@@ -53,31 +53,48 @@ pub(crate) fn received<L0: Tally, L1: Tally, L2: Tally, L3: Tally, R: time::Cloc
     requires { receiver.datagrams.numbers ≡ no_numbers }
     ensures { IfOk result (λ received. HasReceived shared.now.span.turns received.0) }
 {
-    let Shared {
-        service,
-        span,
-        ending,
-    } = shared;
     let Receiver {
         port,
         datagrams,
         mut pass,
     } = receiver;
+    match counted(rt, alloc, shared, port, datagrams, &mut pass) {
+        Ok(counts) => Ok((counts, pass)),
+        Err(fault) => Err(fault),
+    }
+}
+
+/// Has a receiver take its turns, and then tells the other workers of its end.
+fn counted<L0: Tally, L1: Tally, L2: Tally, L3: Tally, R: time::Clock + Wait>(
+    rt: &R,
+    alloc: Global,
+    shared: &Shared<'_, L0, L1, L2, L3>,
+    port: Port,
+    datagrams: UdpPort,
+    pass: &mut Pass<L0, L1, L2, L3>,
+) -> Result<Counts, ServeFault>
+    requires { datagrams.numbers ≡ no_numbers }
+    ensures { IfOk result (λ counts. HasReceived shared.now.span.turns counts) }
+{
+    let Shared {
+        service,
+        span,
+        ending,
+    } = shared;
     let mut datagrams = Paired::new(datagrams, ending);
     let mut clock = SystemClock::new(rt, span.boot);
     let result = receive(
         rt,
         alloc,
         service,
-        &mut pass,
+        pass,
         port,
         &mut datagrams,
         &mut clock,
         span.turns,
     );
     ending.note(result.is_err());
-    let counts = result?;
-    Ok((counts, pass))
+    Ok(result?)
 }
 
 /// Runs the worker that makes a tick of every shard each second, until both receivers have ended.
