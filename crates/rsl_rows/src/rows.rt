@@ -16,7 +16,8 @@ pub trait Subject {
 /// A row is a line: its name, its fields, and the text that is expected, with `|` between them and
 /// blanks around each left out. Empty lines and those that begin with `#` are no rows. In the
 /// source a long row goes on after a `\` at the end of a line. The first row that fails stops the
-/// test: its name and both texts are printed on standard error.
+/// test: its name and both texts are printed on standard error, or, where the subject has no answer
+/// to it, its name and what is expected, and the test ends with the subject's error.
 pub fn check_rows<R: AllocGlobal + Eprint, S: Subject>(
     rt: &R,
     subject: &S,
@@ -50,7 +51,13 @@ fn check_fields<R: AllocGlobal + Eprint, S: Subject>(
     let [name, given @ .., expected] = fields else {
         return Err("a row without a name or an expected text")?;
     };
-    let found = subject.found(rt.alloc(), given)?;
+    let found = match subject.found(rt.alloc(), given) {
+        Ok(found) => found,
+        Err(fail) => {
+            let _ = rt.eprintln(format_args!("{name}\nexpected: {expected}\nfound:    an error"));
+            return Err(fail);
+        }
+    };
     if found.as_str() == *expected {
         return Ok(());
     }

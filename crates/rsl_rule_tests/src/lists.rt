@@ -11,7 +11,7 @@ mod full;
 use account::difference;
 use draw::Draw;
 use found::Found;
-use full::is_filled_twice;
+use full::wrong_when_filled_twice;
 use std::test::Fail;
 
 /// The lists that are drawn, each with rules of its own.
@@ -37,6 +37,6 @@ fn books_decide_as_the_rule_on_random_lists(rt: HostRuntime) -> Result<(), Fail>
 
 #[test]
 fn all_links_of_the_greatest_account_open_and_end_twice(rt: HostRuntime) -> Result<(), Fail> {
-    assert!(rt; is_filled_twice(rt.alloc())?);
+    assert_eq!(rt; wrong_when_filled_twice(rt.alloc())?, None);
     Ok(())
 }

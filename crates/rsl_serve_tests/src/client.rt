@@ -22,7 +22,7 @@ use std::time::Duration;
 /// How many sessions each account has.
 const ROUNDS: u64 = 5;
 
-/// The most reads for an answer: those of earlier requests are passed over.
+/// The most reads for an answer: what answers another request is passed over.
 const MOST_READS: u64 = 8;
 
 /// How long a read waits, in seconds.
@@ -89,21 +89,29 @@ impl Side {
         self.answer(alloc, request)
     }
 
-    /// The answer to a request that is sent again once it is answered, with the same octets.
+    /// The answer to a request that is sent again once it is answered: both answers are the same
+    /// octets.
     fn twice(&mut self, alloc: Global, request: &[u8]) -> Result<Vec<u8>, Fail> {
         let first = self.once(alloc, request)?;
         let second = self.once(alloc, request)?;
-        if first != second {
-            return Err("another answer to a repeat")?;
-        }
-        Ok(second)
+        same_of(first, second)
     }
 
-    /// The answer to a request that is sent again before it is read. The other answer is not read.
+    /// The same of a request that is sent again before its answer is read.
     fn hastily(&mut self, alloc: Global, request: &[u8]) -> Result<Vec<u8>, Fail> {
         self.send(request)?;
-        self.once(alloc, request)
+        let first = self.once(alloc, request)?;
+        let second = self.answer(alloc, request)?;
+        same_of(first, second)
     }
+}
+
+/// The answer to a request and to its repeat, which have to be the same octets.
+fn same_of(first: Vec<u8>, second: Vec<u8>) -> Result<Vec<u8>, Fail> {
+    if first != second {
+        return Err("another answer to a repeat")?;
+    }
+    Ok(second)
 }
 
 /// Whether these octets are an answer to a request: its Identifier and the Response Authenticator.

@@ -1,5 +1,5 @@
-//! A server of 500 accounts over two sockets, whose client loses requests and answers and sends
-//! some requests twice, while a worker makes ticks.
+//! A server of 500 accounts over two sockets, whose client loses requests and sends some requests
+//! twice, while a worker makes ticks.
 
 ghost use Rattle.rsl_service.specs.Service.{IsLedgerOf};
 
@@ -308,6 +308,7 @@ fn told(alloc: Global, outcome: Outcome, held: u64, segments: &[Segment]) -> Res
     push_client(&mut text, outcome.talk.tally, held)?;
     push_counts(&mut text, &outcome.auth, outcome.talk.auth_sent)?;
     push_counts(&mut text, &outcome.acct, outcome.talk.acct_sent)?;
+    push_printed(&mut text, &(outcome.ticks > 0))?;
     push_record(&mut text, alloc, segments, moves_of(outcome))?;
     Ok(text)
 }
@@ -356,9 +357,9 @@ fn push_record(
     Ok(())
 }
 
-/// What the receivers have left out; that the record has the moves that were answered and no others;
-/// and the audit of each shard.
-const RECORD: &str = " [0, 0, 0, 0, 0] [0, 0, 0, 0, 0] true Ok(()) Ok(()) Ok(()) Ok(())";
+/// What the receivers have left out; that there were ticks; that the record has these and the moves
+/// that were answered and no others; and the audit of each shard.
+const RECORD: &str = " [0, 0, 0, 0, 0] [0, 0, 0, 0, 0] true true Ok(()) Ok(()) Ok(()) Ok(())";
 
 /// The asks accepted and rejected, the accounting answered and the places held, worked by hand from
 /// what is lost of each ten accounts, and that many requests came twice; and then the rest.

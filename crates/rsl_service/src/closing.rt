@@ -67,6 +67,7 @@ impl<L0: Tally, L1: Tally, L2: Tally, L3: Tally, G: Gate + Drop> Service<L0, L1,
         } = self;
         let _shards = config.shards();
         let (opened, shares) = left.into_inner().into_shares();
+        // All four are looked at together, as in `new`.
         let first = end(alloc, desk0);
         let second = end_if_there(alloc, desk1);
         let third = end_if_there(alloc, desk2);

@@ -110,6 +110,8 @@ impl<L0: Tally, L1: Tally, L2: Tally, L3: Tally, G: Gate + Drop> Service<L0, L1,
             blank3,
         } = blanks;
         let _shards = config.shards();
+        // All four are looked at together: a `?` after each would let go of the others in a way of
+        // its own, and each way is proved.
         let first = Desk::new(alloc, &config, 0, blank0);
         let second = desk_if_there(alloc, &config, 1, blank1);
         let third = desk_if_there(alloc, &config, 2, blank2);

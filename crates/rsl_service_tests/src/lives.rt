@@ -138,7 +138,7 @@ impl<L0: Tally, L1: Tally, L2: Tally, L3: Tally> Served<L0, L1, L2, L3> {
     /// The accounts that hold places, with these.
     fn told_report<R: Wait>(&self, rt: &R, alloc: Global) -> Result<String, Fail> {
         let rows = self.service.report(rt, alloc)?;
-        let mut text = format!(in alloc; "held")?;
+        let mut text = String::from_str(alloc, "held")?;
         for row in &rows {
             if row.held > 0 {
                 text.push_str(printed(alloc, &(row.account, row.held))?.as_str())?;

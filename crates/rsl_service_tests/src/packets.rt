@@ -16,19 +16,28 @@ pub(crate) const SOURCE: Source = Source {
     port: 1024,
 };
 
-/// So many shards, and the accounts `a`, `b`, `c` and `d` with so many places each.
+/// The accounts `a`, `b`, `c` and `d`, with PLACES each in SHARDS shards.
+const FILE: &str = r#"
+version = 1
+shards = SHARDS
+reserve_secs = 60
+live_secs = 900
+grace_secs = 900
+closed_secs = 3600
+keep_secs = 10
+client = [{ address = "192.168.1.16", secret = "xyzzy5461" }]
+account = [
+    { name = "a", password = "pw", places = PLACES, ports = 1 },
+    { name = "b", password = "pw", places = PLACES, ports = 1 },
+    { name = "c", password = "pw", places = PLACES, ports = 1 },
+    { name = "d", password = "pw", places = PLACES, ports = 1 },
+]
+"#;
+
+/// So many shards, and the four accounts with so many places each.
 pub(crate) fn config_of(alloc: Global, shards: &str, places: &str) -> Result<Config, Fail> {
-    let text = format!(in alloc;
-        "version = 1\nshards = {shards}\nreserve_secs = 60\nlive_secs = 900\ngrace_secs = 900\n\
-         closed_secs = 3600\nkeep_secs = 10\n\
-         client = [{{ address = \"192.168.1.16\", secret = \"xyzzy5461\" }}]\n\
-         account = [\n\
-         {{ name = \"a\", password = \"pw\", places = {places}, ports = 1 }},\n\
-         {{ name = \"b\", password = \"pw\", places = {places}, ports = 1 }},\n\
-         {{ name = \"c\", password = \"pw\", places = {places}, ports = 1 }},\n\
-         {{ name = \"d\", password = \"pw\", places = {places}, ports = 1 }},\n\
-         ]\n"
-    )?;
+    let text = FILE.replace(alloc, "SHARDS", shards)?;
+    let text = text.replace(alloc, "PLACES", places)?;
     Ok(Config::read(alloc, text.as_bytes())?)
 }
 

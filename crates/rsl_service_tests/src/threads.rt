@@ -65,9 +65,13 @@ fn asked<L0: Tally, L1: Tally, L2: Tally, L3: Tally, G: Gate, R: Wait>(
     moment: u64,
     octets: &[u8],
 ) -> Option<Said> {
-    let prepared = service.prepare(alloc, Port::Auth, SOURCE, octets).ok()?;
-    let answered = service.apply(rt, alloc, pass, moment, prepared).ok()?;
-    Some(answered.said)
+    match service.prepare(alloc, Port::Auth, SOURCE, octets) {
+        Ok(prepared) => match service.apply(rt, alloc, pass, moment, prepared) {
+            Ok(answered) => Some(answered.said),
+            Err(_) => None,
+        },
+        Err(_) => None,
+    }
 }
 
 /// What two callers are told, over ledgers of their own.

@@ -94,13 +94,17 @@ fn decided<R: AllocGlobal + Abort>(rt: &R, book: &mut Book, line: &str) -> Resul
 /// Goes over each timeline of a text, line by line.
 fn check<R: AllocGlobal + Abort>(rt: &R, timelines: &str) -> Result<(), Fail> {
     let mut book = book_of(rt, "")?;
+    let mut timeline = String::new(rt.alloc());
     for line in timelines.lines() {
         match line.split_once(": ") {
-            Some((_, rules)) => book = book_of(rt, rules)?,
+            Some((name, rules)) => {
+                timeline = String::from_str(rt.alloc(), name)?;
+                book = book_of(rt, rules)?;
+            }
             None => {
                 let decision = decided(rt, &mut book, line)?;
                 let found = told(rt, line, decision, &book)?;
-                assert_eq!(rt; found.as_str(), line);
+                assert_eq!(rt; found.as_str(), line, "{}", timeline.as_str());
             }
         }
     }

@@ -239,37 +239,6 @@ a CHAP ask's | chap 0 1.2.3.4 n u Sesame 1 | hidden
     )
 }
 
-/// Lines: what the fault of a script of them prints. With no lines, that there is no memory.
-struct Wrong;
-
-impl Subject for Wrong {
-    fn found(&self, alloc: Global, fields: &[&str]) -> Result<String, Fail> {
-        let [lines] = fields else {
-            return shown(alloc, &ScriptFault::NoMemory);
-        };
-        match read_lines(alloc, lines)? {
-            Ok(script) => printed(alloc, &script),
-            Err(fault) => shown(alloc, &fault),
-        }
-    }
-}
-
-#[test]
-fn faults_name_the_first_wrong_line(rt: HostRuntime) -> Result<(), Fail> {
-    check_rows(
-        &rt,
-        &Wrong,
-        "
-empty lines before | // no word | line 3
-a comment before | tick 1/# comment/set keep 1/unknown | line 3
-the first of two | wrong/wrong | line 1
-a carriage return | tick 1\r/ | line 1
-a control character | tick 1/\u{7f} | line 2
-no memory | no memory
-",
-    )
-}
-
 /// A line with `WORD` in it, what stands there, so many times over, and how many such lines there
 /// are: how many clients, accounts and events are read of them.
 struct Counted;
@@ -323,7 +292,7 @@ events | ask 0 1.2.3.4 n u p 1 | | 0 | 5000 | (0, 0, 5000)
 }
 
 /// So many ticks that a script of them is nearly as long as one may be.
-const TICKS: usize = 149_000; // quick: 5_000
+const TICKS: usize = 149_000; // quick: 1_000
 
 #[test]
 fn as_many_ticks_as_fit_are_read(rt: HostRuntime) -> Result<(), Fail> {

@@ -203,9 +203,6 @@ fn every_changed_packet_is_dropped_or_has_a_meaning(rt: HostRuntime) -> Result<(
     let rows = "
         the RFC's request | plain | auth | <rfc> | WrongCode 255 Own 2856 BadLength 474 Reject \
           9701 Bare 1046 BadSignature 4
-        signed | signed | auth | 0100004a0f403f9473978057bd83d5cb98f4227a50128f16b45f90d3494989a4\
-          f14f4421c61801066e656d6f02120dbe708d93d413ce3196e43f782a0aee0406c0a80110050600000003 | \
-          WrongCode 255 Own 74 BadSignature 16590 BadLength 456 Unsigned 1569
         a Start | plain | acct | 04000027d16ec3e2c1cc1cd9b6803bd0e9a1099f28060000000120036e01066e\
           656d6f2c047331 | WrongCode 255 Own 39 BadAuthenticator 9199 BadLength 491
     ";
@@ -228,6 +225,9 @@ fn so_is_every_other_changed_packet(rt: HostRuntime) -> Result<(), Fail> {
         with a CHAP-Challenge | plain | auth | 010000380f403f9473978057bd83d5cb98f4227a01066e656d\
           6f03130746c00f99865014f26df7168dc66444033c0b6368616c6c656e6765 | WrongCode 255 Own \
           4391 BadLength 474 Reject 8420 Bare 793 BadSignature 3
+        signed | signed | auth | 0100004a0f403f9473978057bd83d5cb98f4227a50128f16b45f90d3494989a4\
+          f14f4421c61801066e656d6f02120dbe708d93d413ce3196e43f782a0aee0406c0a80110050600000003 | \
+          WrongCode 255 Own 74 BadSignature 16590 BadLength 456 Unsigned 1569
         an Interim-Update | plain | acct | 040000278ad775659b68d7f636bd815f06d3b4fb2c04733101066e\
           656d6f20036e280600000003 | WrongCode 255 Own 39 BadAuthenticator 9199 BadLength 491
         a Stop | plain | acct | 04000027274623da252c107a5cac2503f6557f5728060000000220036e01066e6\

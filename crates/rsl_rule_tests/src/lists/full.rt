@@ -12,9 +12,18 @@ const LINKS: u64 = 1024;
 /// The links of a place, which share a bundle.
 const PORTS: u64 = 16;
 
-/// Whether all links open, and end again one after the other by stops; and then open once more, and
-/// end at once by a tick.
-pub(crate) fn is_filled_twice(alloc: Global) -> Result<bool, NoMemory> {
+/// A book that has not come to what it should, after what was done with it.
+#[derive(Clone, Copy, Debug, PartialEq, Eq)]
+pub(crate) struct Wrong {
+    /// What was done last.
+    after: &'static str,
+    /// The link with which it was done, by its number, or how many there are.
+    link: u64,
+}
+
+/// The first thing that is wrong where all links open, and end one after the other by stops; and
+/// then open once more, and end at once by a tick.
+pub(crate) fn wrong_when_filled_twice(alloc: Global) -> Result<Option<Wrong>, NoMemory> {
     let rules = Rules {
         places: LINKS / PORTS,
         ports: PORTS,
@@ -25,12 +34,29 @@ pub(crate) fn is_filled_twice(alloc: Global) -> Result<bool, NoMemory> {
         keep: 10,
     };
     let mut book = Book::new(alloc, rules)?;
-    let by_stops = fills(alloc, &mut book, 0)? && empties(alloc, &mut book)?;
-    let again = fills(alloc, &mut book, 4000)?;
+    if let Some(wrong) = wrong_in_filling(alloc, &mut book, 0)? {
+        return Ok(Some(wrong));
+    }
+    if let Some(wrong) = wrong_in_emptying(alloc, &mut book)? {
+        return Ok(Some(wrong));
+    }
+    if let Some(wrong) = wrong_in_filling(alloc, &mut book, 4000)? {
+        return Ok(Some(wrong));
+    }
     book.tick(5799);
-    let held = shows(&book, LINKS);
+    if !shows(&book, LINKS) {
+        return Ok(wrong_after("a tick before the deadline", LINKS));
+    }
     book.tick(5800);
-    Ok(by_stops && again && held && shows(&book, 0))
+    if !shows(&book, 0) {
+        return Ok(wrong_after("a tick at the deadline", LINKS));
+    }
+    Ok(None)
+}
+
+/// That a book is wrong after this.
+fn wrong_after(after: &'static str, link: u64) -> Option<Wrong> {
+    Some(Wrong { after, link })
 }
 
 /// Whether a book has this many links, in bundles that are full but for the last.
@@ -38,30 +64,42 @@ fn shows(book: &Book, links: u64) -> bool {
     book.stored().links as u64 == links && book.held() == links.div_ceil(PORTS)
 }
 
-/// Whether each link opens, and one more is over.
-fn fills(alloc: Global, book: &mut Book, moment: u64) -> Result<bool, NoMemory> {
+/// The first thing that is wrong where each link opens, and one more is over.
+fn wrong_in_filling(
+    alloc: Global,
+    book: &mut Book,
+    moment: u64,
+) -> Result<Option<Wrong>, NoMemory> {
     let over = book.over();
-    let mut is_right = shows(book, 0);
     for link in 0..LINKS {
         let _ = book.apply(alive(alloc, moment, link)?);
-        is_right = is_right && shows(book, link + 1) && book.over() == over;
+        if !shows(book, link + 1) || book.over() != over {
+            return Ok(wrong_after("the alive of a link", link));
+        }
     }
     let _ = book.apply(alive(alloc, moment, LINKS)?);
-    Ok(is_right && shows(book, LINKS) && book.over() > over)
+    if !shows(book, LINKS) || book.over() <= over {
+        return Ok(wrong_after("the alive of one link more", LINKS));
+    }
+    Ok(None)
 }
 
-/// Whether each link ends by its stop.
-fn empties(alloc: Global, book: &mut Book) -> Result<bool, NoMemory> {
-    let mut is_right = true;
+/// The first thing that is wrong where each link ends by its stop.
+fn wrong_in_emptying(alloc: Global, book: &mut Book) -> Result<Option<Wrong>, NoMemory> {
     for link in 0..LINKS {
         let act = Act::Stop {
             nas: nas_of(alloc, link)?,
             session: session_of(alloc, link)?,
         };
         let _ = book.apply(Event { moment: 1, act });
-        is_right = is_right && book.stored().links as u64 == LINKS - 1 - link;
+        if book.stored().links as u64 != LINKS - 1 - link {
+            return Ok(wrong_after("the stop of a link", link));
+        }
     }
-    Ok(is_right && shows(book, 0))
+    if !shows(book, 0) {
+        return Ok(wrong_after("the last stop", LINKS - 1));
+    }
+    Ok(None)
 }
 
 /// The alive of a link by its number.
