@@ -14,15 +14,20 @@ pub struct Client {
     pub signed: bool,
 }
 
-impl Fields for Client {
+/// Reads the fields of a client.
+pub(crate) enum Clients {}
+
+impl Fields for Clients {
+    type Part = Client;
+
     ghost use Rattle.rsl_accounts.specs.Client.{given_in_client};
 
     ghost given_of = { given_in_client };
 
-    fn given(&self, field: Field) -> Given {
+    fn given(part: &Client, field: Field) -> Given {
         match field {
             Field::Address => Given::Right,
-            Field::Secret => Given::text(field, self.secret.expose()),
+            Field::Secret => Given::text(field, part.secret.expose()),
             Field::Signed => Given::Right,
             _ => Given::Absent,
         }

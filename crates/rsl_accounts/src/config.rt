@@ -32,12 +32,12 @@ ghost use Rattle.rsl_accounts.specs.File.{configuration_of_text};
 ghost use Rattle.rsl_accounts.specs.Walk.{first_fault};
 ghost use Rattle.rsl_accounts.specs.Limits.{IsConfiguration, IsAccount, IsSecret};
 
-use crate::client::Client;
-use crate::entry::Entry;
+use crate::client::{Client, Clients};
+use crate::entry::{Entries, Entry};
 use crate::fault::ConfigFault;
 use crate::field::Field;
-use crate::file::{parse, read_clients, read_entries, settings, tables, version};
-use crate::settings::{Head, Settings};
+use crate::file::{FileParts, parse, read_clients, read_entries, settings, tables, version};
+use crate::settings::{Head, Heads, Settings};
 use crate::walk::walk;
 use indexmap::IndexSet;
 use std::alloc::Global;
@@ -103,7 +103,7 @@ impl Config {
         let clients = tables(&file, Field::Client);
         let accounts = tables(&file, Field::Account);
         let version = version(&file);
-        walk(version, &file, clients, accounts)?;
+        walk::<FileParts, FileParts, FileParts>(version, &file, clients, accounts)?;
         let settings = settings(&file);
         let clients = read_clients(alloc, clients)?;
         let accounts = read_entries(alloc, version, accounts)?;
@@ -218,7 +218,7 @@ fn walk_over(settings: Settings, clients: &[Client], accounts: &[Entry]) -> Resu
         clients: clients.len(),
         accounts: accounts.len(),
     };
-    walk(settings.version, &head, clients, accounts)
+    walk::<Heads, Clients, Entries>(settings.version, &head, clients, accounts)
 }
 
 /// The place of the first client with the address.

@@ -30,23 +30,28 @@ pub struct Entry {
     pub own_grace: Option<u64>,
 }
 
-impl Fields for Entry {
+/// Reads the fields of an account.
+pub(crate) enum Entries {}
+
+impl Fields for Entries {
+    type Part = Entry;
+
     ghost use Rattle.rsl_accounts.specs.Entry.{given_in_entry};
 
     ghost given_of = { given_in_entry };
 
-    fn given(&self, field: Field) -> Given {
+    fn given(part: &Entry, field: Field) -> Given {
         match field {
-            Field::Name => Given::text(field, self.name.as_bytes()),
-            Field::Password => Given::text(field, self.password.expose()),
-            Field::Places => Given::number(field, self.rules.places),
-            Field::Ports => Given::number(field, self.rules.ports),
-            Field::ServiceType => short(field, self.service_type),
-            Field::FramedProtocol => short(field, self.framed_protocol),
-            Field::SessionTimeout => short(field, self.session_timeout),
-            Field::IdleTimeout => short(field, self.idle_timeout),
-            Field::OwnLive => optional(field, self.own_live),
-            Field::OwnGrace => optional(field, self.own_grace),
+            Field::Name => Given::text(field, part.name.as_bytes()),
+            Field::Password => Given::text(field, part.password.expose()),
+            Field::Places => Given::number(field, part.rules.places),
+            Field::Ports => Given::number(field, part.rules.ports),
+            Field::ServiceType => short(field, part.service_type),
+            Field::FramedProtocol => short(field, part.framed_protocol),
+            Field::SessionTimeout => short(field, part.session_timeout),
+            Field::IdleTimeout => short(field, part.idle_timeout),
+            Field::OwnLive => optional(field, part.own_live),
+            Field::OwnGrace => optional(field, part.own_grace),
             _ => Given::Absent,
         }
     }

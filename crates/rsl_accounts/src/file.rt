@@ -66,11 +66,16 @@ pub(crate) fn parse(alloc: Global, text: &[u8]) -> Result<Value, ConfigFault>
     }
 }
 
-impl Fields for Value {
+/// Reads the fields of a part of an account file, a table.
+pub(crate) enum FileParts {}
+
+impl Fields for FileParts {
+    type Part = Value;
+
     ghost given_of = { λ value. given_in (view value) };
 
-    fn given(&self, field: Field) -> Given {
-        match member(self, field) {
+    fn given(part: &Value, field: Field) -> Given {
+        match member(part, field) {
             None => Given::Absent,
             Some(value) => given(value, field),
         }

@@ -63,13 +63,19 @@ impl Given {
     }
 }
 
-/// A part of an account file, or what stands for one.
+/// How the fields of one kind of part of an account file are read, or of what stands for one.
+///
+/// A private type of its own reads each kind: a public type with an `impl` would tell every crate
+/// above of the others, and so of the TOML library.
 pub(crate) trait Fields {
-    ghost given_of: { Self → FieldValue → GivenValue };
+    /// The part.
+    type Part;
 
-    /// What is given for the field here.
-    fn given(&self, field: Field) -> Given
-        ensures { result ≡ given_of self.now field };
+    ghost given_of: { Self.Part → FieldValue → GivenValue };
+
+    /// What is given for the field in the part.
+    fn given(part: &Self::Part, field: Field) -> Given
+        ensures { result ≡ given_of part.now field };
 }
 
 fn given_if(is_right: bool) -> Given

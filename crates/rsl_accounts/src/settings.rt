@@ -65,22 +65,27 @@ pub(crate) struct Head {
     pub(crate) accounts: usize,
 }
 
-impl Fields for Head {
+/// Reads the fields of a head.
+pub(crate) enum Heads {}
+
+impl Fields for Heads {
+    type Part = Head;
+
     ghost use Rattle.rsl_accounts.specs.Settings.{given_in_head};
 
     ghost given_of = { λ head. given_in_head head.settings head.clients head.accounts };
 
-    fn given(&self, field: Field) -> Given {
+    fn given(part: &Head, field: Field) -> Given {
         match field {
-            Field::Version => Given::number(field, self.settings.version),
-            Field::Shards => Given::number(field, self.settings.shards),
-            Field::ReserveSecs => Given::number(field, self.settings.reserve),
-            Field::LiveSecs => Given::number(field, self.settings.live),
-            Field::GraceSecs => Given::number(field, self.settings.grace),
-            Field::ClosedSecs => Given::number(field, self.settings.closed),
-            Field::KeepSecs => Given::number(field, self.settings.keep),
-            Field::Client => Given::count(field, self.clients),
-            Field::Account => Given::count(field, self.accounts),
+            Field::Version => Given::number(field, part.settings.version),
+            Field::Shards => Given::number(field, part.settings.shards),
+            Field::ReserveSecs => Given::number(field, part.settings.reserve),
+            Field::LiveSecs => Given::number(field, part.settings.live),
+            Field::GraceSecs => Given::number(field, part.settings.grace),
+            Field::ClosedSecs => Given::number(field, part.settings.closed),
+            Field::KeepSecs => Given::number(field, part.settings.keep),
+            Field::Client => Given::count(field, part.clients),
+            Field::Account => Given::count(field, part.accounts),
             _ => Given::Absent,
         }
     }

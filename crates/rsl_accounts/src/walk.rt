@@ -70,35 +70,35 @@ fn account_fields(version: u64) -> &'static [Field]
 #[tactic(auto, using(crate::proofs::Faults::walk_steps), unfolding(crate::specs::Walk::file_fields, crate::specs::Walk::client_fields))]
 pub(crate) fn walk<H: Fields, C: Fields, A: Fields>(
     version: u64,
-    head: &H,
-    clients: &[C],
-    accounts: &[A],
+    head: &H::Part,
+    clients: &[C::Part],
+    accounts: &[A::Part],
 ) -> Result<(), ConfigFault>
     ensures { result_err result ≡ first_fault (walk version
         (H.given_of head.now) (map C.given_of clients.now) (map A.given_of accounts.now)) }
 {
-    walk_one(&FILE_FIELDS, head)?;
-    walk_each(&CLIENT_FIELDS, clients)?;
-    walk_each(account_fields(version), accounts)
+    walk_one::<H>(&FILE_FIELDS, head)?;
+    walk_each::<C>(&CLIENT_FIELDS, clients)?;
+    walk_each::<A>(account_fields(version), accounts)
 }
 
 #[tactic(auto, using(crate::proofs::Faults::loop_steps))]
-fn walk_each<F: Fields>(fields: &[Field], each: &[F]) -> Result<(), ConfigFault>
+fn walk_each<F: Fields>(fields: &[Field], each: &[F::Part]) -> Result<(), ConfigFault>
     ensures { result_err result ≡
         first_fault (flat_map (checks fields.now) (map F.given_of each.now)) }
 {
     for one in each {
-        walk_one(fields, one)?;
+        walk_one::<F>(fields, one)?;
     }
     Ok(())
 }
 
 #[tactic(auto, using(crate::proofs::Faults::loop_steps))]
-fn walk_one<F: Fields>(fields: &[Field], one: &F) -> Result<(), ConfigFault>
+fn walk_one<F: Fields>(fields: &[Field], one: &F::Part) -> Result<(), ConfigFault>
     ensures { result_err result ≡ first_fault (checks fields.now (F.given_of one.now)) }
 {
     for field in fields {
-        one.given(*field).check(*field)?;
+        F::given(one, *field).check(*field)?;
     }
     Ok(())
 }
