@@ -4,9 +4,9 @@ use Rattle.rsl_app.specs.declared.fault.Fault.{Fault}
 use Rattle.rsl_app.specs.declared.fault.Fault.TheVariants.{Usage, Replay, Serve}
 use Rattle.rsl_replay.specs.Fault.{status_of}
 use Rattle.rsl_replay.specs.Replay.{IsFaultOf}
-use Rattle.rsl_serve.specs.Fault.{status_of as status_of_server}
-use Rattle.rsl_serve.specs.declared.fault.ServeFault.{ServeFault}
-use Rattle.rsl_serve.specs.declared.fault.ServeFault.TheVariants.{Usage as server_usage}
+use Rattle.rsl_edges.specs.Fault.{status_of as status_of_server}
+use Rattle.rsl_edges.specs.declared.fault.ServeFault.{ServeFault}
+use Rattle.rsl_edges.specs.declared.fault.ServeFault.TheVariants.{Usage as server_usage}
 
 -- wrong arguments of a server are the program's
 abbrev pub fault_of_server : ServeFault → Fault

@@ -1,5 +1,5 @@
+use rsl_edges::ServeFault;
 use rsl_replay::ReplayFault;
-use rsl_serve::ServeFault;
 use thiserror::Error;
 
 /// Why the program does not end well. It prints as the line for standard error.

@@ -6,7 +6,7 @@ use Rattle.rsl_accounts.specs.Configuration.{Configuration}
 use Rattle.rsl_accounts.specs.declared.entry.Entry.{Entry}
 use Rattle.rsl_receive.specs.declared.counts.Counts.{Counts}
 use Rattle.rsl_report.specs.Table.{table}
-use Rattle.rsl_serve.specs.Output.{counts_line}
+use Rattle.rsl_edges.specs.Output.{counts_line}
 use Rattle.rsl_serve.specs.Served.{HasReceived, HasReported, IsServed}
 use Rattle.rsl_service.specs.Report.{IsReport}
 use Rattle.rsl_shard.specs.declared.row.Row.{Row}

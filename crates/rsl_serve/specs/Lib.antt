@@ -1,4 +1,1 @@
-pub mod Fault
-pub mod Output
-pub mod Plan
 pub mod Served

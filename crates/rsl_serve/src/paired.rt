@@ -1,5 +1,5 @@
 use crate::ending::Ending;
-use crate::port::UdpPort;
+use rsl_edges::UdpPort;
 use rsl_event::Source;
 use rsl_receive::{DatagramPort, PortFault};
 

@@ -1,15 +1,13 @@
 ghost use Rattle.std.specs.Prelude.{◌≡◌, ℕ, IfOk};
 ghost use Rattle.rsl_receive.specs.Told.{no_numbers};
-ghost use Rattle.rsl_serve.specs.Output.{output_octets};
+ghost use Rattle.rsl_edges.specs.Output.{output_octets};
 ghost use Rattle.rsl_serve.specs.Served.{HasReceived, HasReported, IsServed};
 ghost use Rattle.rsl_service.specs.Service.{IsLedgerOf};
 
 use crate::ending::Ending;
-use crate::fault::ServeFault;
-use crate::output::{Output, counts_of, table_of};
-use crate::port::UdpPort;
 use crate::worker::{Received, Receiver, Shared, Span, received, ticked};
 use rsl_accounts::Config;
+use rsl_edges::{Output, ServeFault, UdpPort, counts_of, table_of};
 use rsl_event::Port;
 use rsl_receive::Counts;
 use rsl_service::{Blanks, Open, Pass, Service, Tally};

@@ -1,16 +1,12 @@
 ghost use Rattle.std.specs.Prelude.{◌≢◌, ℕ, List, IfErr, IfOk, OnOk};
 ghost use Rattle.std.specs.Io.KnownBytes.{Appends, Keeps};
 ghost use Rattle.rsl_accounts.specs.Configuration.{Configuration};
-ghost use Rattle.rsl_serve.specs.Output.{output_octets};
+ghost use Rattle.rsl_edges.specs.Output.{output_octets};
 ghost use Rattle.rsl_serve.specs.Served.{IsServed};
 
-use crate::fault::ServeFault;
-use crate::file::config_of_file;
-use crate::output::{Output, write_output};
-use crate::plan::Plan;
-use crate::port::UdpPort;
 use crate::running::{Sockets, run};
 use crate::worker::Span;
+use rsl_edges::{Output, Plan, ServeFault, UdpPort, config_of_file, write_output};
 use rsl_service::Blanks;
 use std::alloc::Global;
 use std::env::{self, Args, Env};

@@ -4,9 +4,8 @@ ghost use Rattle.rsl_serve.specs.Served.{HasReceived};
 
 use crate::clock::{Second, SystemClock};
 use crate::ending::Ending;
-use crate::fault::ServeFault;
 use crate::paired::Paired;
-use crate::port::UdpPort;
+use rsl_edges::{ServeFault, UdpPort};
 use rsl_event::Port;
 use rsl_receive::{Counts, expire_loop, receive};
 use rsl_service::{Open, Pass, Service, Tally};

@@ -3,7 +3,7 @@
 ghost use Rattle.std.specs.Prelude.{◌≡◌};
 ghost use Rattle.rsl_receive.specs.Told.{no_numbers};
 
-use rsl_serve::UdpPort;
+use rsl_edges::UdpPort;
 use std::io;
 use std::net::{Net, UdpSocket};
 

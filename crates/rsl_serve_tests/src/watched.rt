@@ -5,9 +5,9 @@ ghost use Rattle.rsl_receive.specs.Told.{no_numbers};
 
 use crate::fresh::Fresh;
 use crate::scene::Scene;
+use rsl_edges::UdpPort;
 use rsl_event::Source;
 use rsl_receive::{DatagramPort, Numbers, PortFault};
-use rsl_serve::UdpPort;
 
 /// The most turns in a row without a datagram, of a second each.
 const MOST_IDLE: u64 = 10;

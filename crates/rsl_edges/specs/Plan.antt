@@ -2,7 +2,7 @@
 use Rattle.std.specs.Prelude.{ℕ, ◌&&◌, nat_lt, nat_le, List, Option, None, Some, if◌then◌else◌, option_and_then}
 use Rattle.rsl_accounts.specs.Address.{address_of}
 use Rattle.rsl_script.specs.Values.{read_number}
-use Rattle.rsl_serve.specs.declared.plan.Plan.{Plan}
+use Rattle.rsl_edges.specs.declared.plan.Plan.{Plan}
 
 -- a UDP port: a number 1 to 65,535 in decimal digits
 unfoldable pub read_port : List ℕ → Option ℕ

@@ -12,7 +12,7 @@ ghost use Rattle.std.specs.Prelude.{
 };
 ghost use Rattle.std.specs.Io.KnownBytes.{Appends};
 ghost use Rattle.rsl_report.specs.Table.{table};
-ghost use Rattle.rsl_serve.specs.Output.{counted, counts_line, output_octets};
+ghost use Rattle.rsl_edges.specs.Output.{counted, counts_line, output_octets};
 
 use crate::fault::ServeFault;
 use rsl_accounts::Config;
@@ -24,15 +24,15 @@ use std::io::Write;
 
 /// What a server prints once it has ended well.
 #[derive(Drop)]
-pub(crate) struct Output {
+pub struct Output {
     /// What both receivers did.
-    pub(crate) lines: String,
+    pub lines: String,
     /// What each account holds.
-    pub(crate) report: Vec<u8>,
+    pub report: Vec<u8>,
 }
 
-/// The octets of a report.
-pub(crate) fn table_of(alloc: Global, config: &Config, rows: &[Row]) -> Result<Vec<u8>, ServeFault>
+/// The octets of a report with these rows. It fails only where memory is refused.
+pub fn table_of(alloc: Global, config: &Config, rows: &[Row]) -> Result<Vec<u8>, ServeFault>
     requires { All (λ row. row.account < length config.now.accounts) rows.now }
     ensures { IfOk result (λ octets. octets.items ≡ table config.now rows.now) }
 {
@@ -44,8 +44,9 @@ pub(crate) fn table_of(alloc: Global, config: &Config, rows: &[Row]) -> Result<V
     }
 }
 
-/// What both receivers did, a line for each.
-pub(crate) fn counts_of(alloc: Global, auth: &Counts, acct: &Counts) -> Result<String, ServeFault>
+/// What both receivers did, a line for each, that of the authentication port first. It fails only
+/// where memory is refused.
+pub fn counts_of(alloc: Global, auth: &Counts, acct: &Counts) -> Result<String, ServeFault>
     ensures { IfOk result (λ text. string_bytes text
         ≡ counts_line (codes "auth") auth.now ++ counts_line (codes "acct") acct.now) }
 {
@@ -86,8 +87,9 @@ fn write_count(text: &mut String, word: &str, number: u64) -> Result<(), AllocEr
     write!(text, " {word} {number}")
 }
 
-/// Writes the lines and the report, and has the writer pass them on.
-pub(crate) fn write_output<W: Write>(writer: &mut W, output: &Output) -> Result<(), ServeFault>
+/// Writes the lines and the report, and has the writer pass them on. `InputOutput` comes where the
+/// writer fails; what it took before may have been written.
+pub fn write_output<W: Write>(writer: &mut W, output: &Output) -> Result<(), ServeFault>
     ensures written { OnOk result
         (Appends (W.contents writer.old) (W.contents writer.new) (output_octets output.now)) }
     ensures fault { IfErr result (λ fault. fault ≡ ServeFault.InputOutput) }

@@ -15,7 +15,7 @@ const MAX_FILE_LEN: u64 = 16_777_216;
 ///
 /// `Unreadable` comes where it can't be opened, a read of it fails or it has over 16,777,216 octets,
 /// `Config` where its text is refused, and `NoMemory` where memory is refused for it.
-pub(crate) fn config_of_file<F: Files>(
+pub fn config_of_file<F: Files>(
     files: &F,
     alloc: Global,
     name: &str,

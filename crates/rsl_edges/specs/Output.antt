@@ -2,7 +2,7 @@
 use Rattle.std.specs.Prelude.{ℕ, List, [], ◌∷◌, ◌++◌, codes, string_bytes}
 use Rattle.std.specs.Fmt.{decimal}
 use Rattle.rsl_receive.specs.declared.counts.Counts.{Counts}
-use Rattle.rsl_serve.specs.declared.output.Output.{Output}
+use Rattle.rsl_edges.specs.declared.output.Output.{Output}
 
 -- a word and a number, after a space each
 abbrev pub counted : (word : List ℕ) → (number : ℕ) → List ℕ

@@ -8,8 +8,8 @@ use Rattle.rsl_service.specs.declared.fault.PassFault.{PassFault}
 use Rattle.rsl_service.specs.declared.fault.PassFault.TheVariants.{NoMemory as pass_no_memory}
 use Rattle.rsl_settle.specs.declared.close_fault.CloseFault.{CloseFault}
 use Rattle.rsl_settle.specs.declared.close_fault.CloseFault.TheVariants.{NoMemory as close_no_memory}
-use Rattle.rsl_serve.specs.declared.fault.ServeFault.{ServeFault}
-use Rattle.rsl_serve.specs.declared.fault.ServeFault.TheVariants.{Usage, Unreadable, Config, InputOutput, NoMemory}
+use Rattle.rsl_edges.specs.declared.fault.ServeFault.{ServeFault}
+use Rattle.rsl_edges.specs.declared.fault.ServeFault.TheVariants.{Usage, Unreadable, Config, InputOutput, NoMemory}
 
 -- want of memory is named as such, and every other fault is the account file's
 abbrev pub fault_of_config : ConfigFault → ServeFault

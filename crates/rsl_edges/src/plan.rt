@@ -1,5 +1,5 @@
 ghost use Rattle.std.specs.Prelude.{◌≡◌};
-ghost use Rattle.rsl_serve.specs.Plan.{plan_of, read_port};
+ghost use Rattle.rsl_edges.specs.Plan.{plan_of, read_port};
 
 use rsl_accounts::address_of;
 use rsl_script::read_number;

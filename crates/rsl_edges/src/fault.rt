@@ -1,5 +1,5 @@
 ghost use Rattle.std.specs.Prelude.{◌≡◌};
-ghost use Rattle.rsl_serve.specs.declared.fault.ServeFault.TheVariants.{
+ghost use Rattle.rsl_edges.specs.declared.fault.ServeFault.TheVariants.{
   InputOutput,
   NoMemory as no_memory,
 };
@@ -37,7 +37,7 @@ pub enum ServeFault {
 }
 
 impl ServeFault {
-    ghost use Rattle.rsl_serve.specs.Fault.{status_of};
+    ghost use Rattle.rsl_edges.specs.Fault.{status_of};
 
     /// The status with which the process ends.
     pub fn status(self) -> u8
@@ -52,7 +52,7 @@ impl ServeFault {
 }
 
 impl From<ConfigFault> for ServeFault {
-    ghost use Rattle.rsl_serve.specs.Fault.{fault_of_config};
+    ghost use Rattle.rsl_edges.specs.Fault.{fault_of_config};
 
     ghost from_gives = { λ fault made. made ≡ fault_of_config fault };
 
@@ -97,7 +97,7 @@ impl From<io::Error> for ServeFault {
 }
 
 impl From<PassFault> for ServeFault {
-    ghost use Rattle.rsl_serve.specs.Fault.{fault_of_pass};
+    ghost use Rattle.rsl_edges.specs.Fault.{fault_of_pass};
 
     ghost from_gives = { λ fault made. made ≡ fault_of_pass fault };
 
@@ -110,7 +110,7 @@ impl From<PassFault> for ServeFault {
 }
 
 impl From<ReceiveFault> for ServeFault {
-    ghost use Rattle.rsl_serve.specs.Fault.{fault_of_receive};
+    ghost use Rattle.rsl_edges.specs.Fault.{fault_of_receive};
 
     ghost from_gives = { λ fault made. made ≡ fault_of_receive fault };
 
@@ -123,7 +123,7 @@ impl From<ReceiveFault> for ServeFault {
 }
 
 impl From<CloseFault> for ServeFault {
-    ghost use Rattle.rsl_serve.specs.Fault.{fault_of_close};
+    ghost use Rattle.rsl_edges.specs.Fault.{fault_of_close};
 
     ghost from_gives = { λ fault made. made ≡ fault_of_close fault };
 

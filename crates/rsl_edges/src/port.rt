@@ -15,7 +15,8 @@ const WAIT_SECS: u64 = 1;
 #[derive(Drop)]
 pub struct UdpPort {
     socket: UdpSocket,
-    pub(crate) numbers: Numbers,
+    /// The numbers of its calls, as its `DatagramPort` has them.
+    pub numbers: Numbers,
 }
 
 impl UdpPort {
@@ -36,7 +37,7 @@ impl UdpPort {
 
     /// What the socket has for a `receive`, which is not counted yet. `PortFault` comes where the
     /// system's read fails; that no datagram comes in time is no failure.
-    pub(crate) fn read(&self, buffer: &mut [u8]) -> Result<Option<(usize, Source)>, PortFault>
+    pub fn read(&self, buffer: &mut [u8]) -> Result<Option<(usize, Source)>, PortFault>
         ensures { IfOk result (λ received. IfSome received (λ found.
             found.0 ≤ length buffer.new)) }
     {
