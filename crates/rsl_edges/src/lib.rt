@@ -5,7 +5,7 @@
 //! values alone.
 //!
 //! The promise: what the arguments ask for is exactly `specs/Plan.antt`, what is printed
-//! `specs/Output.antt`, and the status `specs/Fault.antt`; and a file that is too long is refused.
+//! `specs/Output.antt`, and the status `specs/Fault.antt`.
 #![tactic(auto)]
 
 mod fault;
