@@ -193,6 +193,10 @@ where
             ensures acct { IfOk result.1 (λ received. HasReceived shared.entry.now.span.turns received.0) }
         { both_received(rt, alloc, shared, auth, acct) },
     );
+    // the other receiver fails too, but only since this one was refused memory
+    if matches!(&acct, Err(ServeFault::NoMemory)) {
+        return Err(ServeFault::NoMemory);
+    }
     let (auth, auth_pass) = auth?;
     let (acct, acct_pass) = acct?;
     Ok(Worked {

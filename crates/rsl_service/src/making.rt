@@ -155,6 +155,7 @@ impl<L0: Tally, L1: Tally, L2: Tally, L3: Tally, G: Gate> Service<L0, L1, L2, L3
         ensures shard { IfOk result (λ segment. segment.shard ≡ shard) }
         ensures journal { IfOk result (λ segment.
             IsJournal (setup_of self.now.config shard) segment.opening.items segment.lines.items) }
+        ensures known { IfOk result (λ _. shard < self.now.config.settings.shards) }
         ensures missing { IfErr result (λ fault.
             fault ≡ faults.NoShard → self.now.config.settings.shards ≤ shard) }
         ensures there { IfErr result (λ fault.
