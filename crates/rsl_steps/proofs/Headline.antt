@@ -53,6 +53,7 @@ module _ (are_of : BooksAreThoseOfThePast) (hold : BooksHoldThePlacesOfTheRule) 
     looked_back = are_of rules events;
     places = hold rules events;
     limit = within rules events fit;
+    never_more = λ n. subst (λ (places : ℕ). places ≤ rules.places) (hold rules (take n events)) (stay rules events n fit);
   }
 
   pub shards_obey : ShardsObeyTheRule

@@ -1,6 +1,6 @@
 -- What the shards of a run are after some steps: the journal of each has the moves that the steps
 -- are to it, and so each account's book is the one that its own events make of a new book.
-use Rattle.std.specs.Prelude.{◌≡◌, ℕ, ◌%◌, ◌≤◌, List, length, map, slice_get, Option, Some, None}
+use Rattle.std.specs.Prelude.{◌≡◌, ℕ, ◌%◌, ◌≤◌, List, length, map, slice_get, take, Option, Some, None}
 use Rattle.rsl_accounts.specs.Configuration.{Configuration}
 use Rattle.rsl_accounts.specs.declared.rules.Rules.{Rules}
 use Rattle.rsl_book.specs.RuledBook.{RuledBook}
@@ -50,6 +50,8 @@ pub record IsBookOf (rules : Rules) (events : List Event) (ruled : RuledBook) : 
   -- the places that it holds are those of the session rule, and at most the account's
   pub places : places_in ruled.rules ruled.book ≡ places_after rules events
   pub limit : places_in ruled.rules ruled.book ≤ rules.places
+  -- and so after each of the events, not only after the last
+  pub never_more : (n : ℕ) → places_after rules (take n events) ≤ rules.places
 
 -- the account has such a book among the shards
 pub record HasBookOf (config : Configuration) (account : ℕ) (rules : Rules) (events : List Event)

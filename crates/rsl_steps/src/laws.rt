@@ -67,7 +67,7 @@ pub fn books_answer_as_looking_back()
 
 /// Where the journals of shards that began new have the moves of some steps, each account's book is
 /// that of its own events among them: it holds the places that the session rule finds by looking
-/// back over them, and at most the account's.
+/// back over them, and these are at most the account's after each of the events.
 pub fn shards_obey_the_rule()
     ensures { ShardsObeyTheRule }
 {

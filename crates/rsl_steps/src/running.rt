@@ -38,7 +38,8 @@ pub fn run(alloc: Global, config: &Config, boot: u64, steps: &[Step]) -> Result<
     ensures shards { IfOk result (λ ran. AreShards config.now boot
         (steps_taken [] steps.now ran.answers.items) ran.shards.items) }
     // Each account's book is there, and is that of its own events: it holds the places that the
-    // session rule finds by looking back over them, and at most the account's.
+    // session rule finds by looking back over them, and these are at most the account's, as they
+    // were after each of the events before.
     ensures books { IfOk result (λ ran. (account : ℕ) (entry : Entry) →
         slice_get config.now.accounts account ≡ Some entry →
         HasBookOf config.now account entry.rules
