@@ -25,8 +25,7 @@ bound() {
     grep -q "^ *[0-9]*: [0-9A-F]*:$(printf %04X "$1") " /proc/net/udp
 }
 
-# Starts the server, and waits for its sockets. A build of the program may come first, so this waits as long as the
-# process is there.
+# Starts the server, and waits for its sockets as long as the process is there.
 start() {
     read -r auth acct < <(free_ports)
     "$program" serve "$top/examples/with-radclient.toml" 127.0.0.1 "$auth" "$acct" 18446744073709551615 2> "$said" &
@@ -36,6 +35,11 @@ start() {
         sleep 0.1
     done
 }
+
+# the first use of ./radlimit proves and builds the program, and says on standard error how far it is
+if [ $# = 0 ]; then
+    "$program" replay < "$top/examples/access-request.script" > /dev/null
+fi
 
 # another program may take a port in between
 start || start || start || {
