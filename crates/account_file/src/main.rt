@@ -2,21 +2,26 @@
 //! output, in a line for each, what is in it or what is wrong with it; `-` is standard input.
 //! Without a FILE it reads standard input alone, and says on standard error what is wrong.
 //!
-//! It tries a file before a server is started with it, and times how reading grows. What is right
-//! and what is wrong is the business of `Config::read`.
+//! It tries a file before a server is started with it; `bench/accounts` times with it how reading
+//! grows. What is right and what is wrong is the business of `Config::read`.
 #![tactic(auto)]
 
 mod trial;
 
 use std::alloc::Global;
 use std::env::Args;
+use std::io::ErrorKind;
 use std::process::ExitCode;
 use std::{env, io};
-use trial::{NO_MEMORY, NO_OUTPUT, trial, trial_of_file};
+use trial::{NO_OUTPUT, Problem, trial, trial_of_file};
 
 fn main(rt: HostRuntime) -> ExitCode {
-    let Ok(mut words) = env::args(&rt) else {
-        return ExitCode::from(NO_MEMORY);
+    let mut words = match env::args(&rt) {
+        Ok(words) => words,
+        Err(error) if error.kind() == ErrorKind::OutOfMemory => {
+            return refused(&rt, Problem::NoMemory);
+        }
+        Err(_) => return refused(&rt, Problem::Unreadable),
     };
     let _ = words.next();
     match trials(&rt, words) {
@@ -59,9 +64,12 @@ fn stdin_tried(rt: &HostRuntime) -> ExitCode {
             Ok(()) => ExitCode::SUCCESS,
             Err(_) => ExitCode::from(NO_OUTPUT),
         },
-        Err(problem) => {
-            let _ = eprintln!(rt; "{problem}");
-            ExitCode::from(problem.status())
-        }
+        Err(problem) => refused(rt, problem),
     }
+}
+
+/// Says on standard error what is wrong, and gives its status.
+fn refused(rt: &HostRuntime, problem: Problem) -> ExitCode {
+    let _ = eprintln!(rt; "{problem}");
+    ExitCode::from(problem.status())
 }

@@ -2,15 +2,12 @@ ghost use Rattle.std.specs.Prelude.{◌≡◌, ◌<◌, ◌↔◌, Ok, Err, IfEr
 ghost use Rattle.rsl_accounts.specs.declared.fault.ConfigFault.{ConfigFault};
 ghost use Rattle.account_file.specs.Trial.{counts_of_text, status_of_problem};
 
-use rsl_accounts::{Config, ConfigFault};
+use rsl_accounts::{Config, ConfigFault, MAX_FILE_LEN};
 use std::alloc::Global;
 use std::fmt;
 use std::fs::{self, Files};
 use std::io::{ErrorKind, Read};
 use thiserror::Error;
-
-/// The most octets that a file may have.
-const MAX_FILE_LEN: u64 = 16_777_216;
 
 /// The status where a file is refused or cannot be read.
 const BAD_FILE: u8 = 1;
@@ -19,7 +16,7 @@ const BAD_FILE: u8 = 1;
 pub(crate) const NO_OUTPUT: u8 = 2;
 
 /// The status where memory is refused.
-pub(crate) const NO_MEMORY: u8 = 3;
+const NO_MEMORY: u8 = 3;
 
 /// What is in a file.
 #[derive(Clone, Copy, Debug, PartialEq, Eq)]

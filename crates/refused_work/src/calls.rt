@@ -10,6 +10,7 @@ use rsl_accounts::{Config, Rules};
 use rsl_auth::hide;
 use rsl_book::Book;
 use rsl_event::Event;
+use rsl_event::codes::{ACCESS_REJECT, ACCESS_REQUEST, NAS_IP_ADDRESS, USER_NAME};
 use rsl_rule::{decide, places};
 use rsl_steps::own;
 use rsl_wire::{Attr, BuildFault, Draft, build};
@@ -105,7 +106,7 @@ fn tell_octets<R: Print>(rt: &R, call: Call, octets: Result<Vec<u8>, Stop>) -> R
 
 /// An Access-Reject without attributes, which is not sealed.
 fn draft(alloc: Global) -> Result<Vec<u8>, Stop> {
-    Ok(Draft::new(alloc, 15)?.finish(3, &AUTHENTICATOR))
+    Ok(Draft::new(alloc, 15)?.finish(ACCESS_REJECT, &AUTHENTICATOR))
 }
 
 /// The User-Password of the request of RFC 2865 section 7.1.
@@ -117,14 +118,14 @@ fn hidden(alloc: Global) -> Result<Vec<u8>, Stop> {
 /// long.
 fn request(alloc: Global) -> Result<Vec<u8>, Stop> {
     let name = Attr {
-        kind: 1,
+        kind: USER_NAME,
         value: b"nemo",
     };
     let address = Attr {
-        kind: 4,
+        kind: NAS_IP_ADDRESS,
         value: &[192, 168, 1, 16],
     };
-    match build(alloc, 1, 0, &AUTHENTICATOR, &[name, address]) {
+    match build(alloc, ACCESS_REQUEST, 0, &AUTHENTICATOR, &[name, address]) {
         Ok(octets) => Ok(octets),
         Err(BuildFault::NoMemory) => Err(Stop::NoMemory),
         Err(BuildFault::TooLong) => Ok(Vec::new(alloc)),

@@ -111,7 +111,7 @@ impl Config {
     }
 
     /// The configuration of what has passed the walk: `make` from `TwiceClient` on.
-    pub(crate) fn assemble(
+    fn assemble(
         alloc: Global,
         settings: Settings,
         clients: Vec<Client>,

@@ -57,6 +57,7 @@ impl Fields for Entries {
     }
 }
 
+/// What is given for a field where there may be a number of 32 bits.
 fn short(field: Field, number: Option<u32>) -> Given
     ensures { result ≡ given_option field number }
 {
@@ -66,6 +67,7 @@ fn short(field: Field, number: Option<u32>) -> Given
     }
 }
 
+/// What is given for a field where there may be a number.
 fn optional(field: Field, number: Option<u64>) -> Given
     ensures { result ≡ given_option field number }
 {

@@ -17,6 +17,9 @@ use crate::address::address_of;
 use crate::rules::{MAX_PLACES, MAX_PORTS, MAX_TIME};
 use std::fmt;
 
+/// The most shards of a server.
+const MAX_SHARDS: u64 = 4;
+
 /// The most clients of a file.
 const MAX_CLIENTS: u64 = 256;
 
@@ -109,6 +112,7 @@ impl Field {
         }
     }
 
+    /// Whether a file may leave the field out.
     pub(crate) fn is_optional(self) -> bool
         ensures { result ≡ is_optional self }
     {
@@ -130,7 +134,7 @@ impl Field {
     {
         match self {
             Field::Version => is_between(1, 2, number),
-            Field::Shards => is_between(1, 4, number),
+            Field::Shards => is_between(1, MAX_SHARDS, number),
             Field::ReserveSecs
             | Field::LiveSecs
             | Field::GraceSecs
@@ -187,6 +191,7 @@ impl fmt::Display for Field {
     }
 }
 
+/// Whether a number is from the least to the most.
 fn is_between(least: u64, most: u64, number: u64) -> bool
     ensures { result ≡ is_between least most number }
 {
@@ -207,14 +212,17 @@ fn is_name(text: &[u8]) -> bool
     is_between(1, MAX_NAME_LEN, text.len() as u64) && is_visible(text)
 }
 
+/// Whether no octet is NUL.
 fn has_no_nul(text: &[u8]) -> bool
     ensures { result ≡ has_no_nul text.now }
 {
     text.iter().all(|octet| *octet != 0)
 }
 
+/// Whether each octet is a visible character of ASCII.
 fn is_visible(text: &[u8]) -> bool
     ensures { result ≡ is_visible text.now }
 {
-    text.iter().all(|octet| is_between(33, 126, *octet as u64))
+    text.iter()
+        .all(|octet| is_between(0x21, 0x7e, *octet as u64))
 }

@@ -53,6 +53,12 @@ use rsl_wire::NoMemory;
 use std::alloc::Global;
 use toml::Value;
 
+/// The most octets of an account file, for who reads one from outside.
+pub const MAX_FILE_LEN: u64 = 16_777_216;
+
+// The number that the definitions of the programs have.
+const _: () = prove!(MAX_FILE_LEN == 16777216);
+
 /// The table that the text is.
 pub(crate) fn parse(alloc: Global, text: &[u8]) -> Result<Value, ConfigFault>
     ensures ok { IfOk result (λ file. file_of text.now ≡ Some (view file)) }
@@ -120,6 +126,7 @@ fn natural(number: i64) -> Option<u64>
     }
 }
 
+/// What an array is for a field.
 fn given_items(items: &[Value], field: Field) -> Given
     ensures { result ≡ given_items field (map view items.now) }
 {
@@ -130,6 +137,7 @@ fn given_items(items: &[Value], field: Field) -> Given
     }
 }
 
+/// Whether each item is a table.
 fn are_tables(items: &[Value]) -> bool
     ensures { result ≡ list_all (λ item. is_some (as_table (view item))) items.now }
 {
@@ -225,6 +233,7 @@ fn address(table: &Value) -> [u8; 4]
     }
 }
 
+/// The client of a table. It fails only where memory is refused.
 #[tactic(auto, unfolding(crate::specs::File::client_in))]
 fn read_client(alloc: Global, table: &Value) -> Result<Client, NoMemory>
     ensures { IfOk result (λ client. client ≡ client_in (view table.now)) }
@@ -236,6 +245,7 @@ fn read_client(alloc: Global, table: &Value) -> Result<Client, NoMemory>
     })
 }
 
+/// The clients of tables, in their order. It fails only where memory is refused.
 pub(crate) fn read_clients(alloc: Global, tables: &[Value]) -> Result<Vec<Client>, NoMemory>
     ensures { IfOk result (λ clients. clients.items ≡ map client_in (map view tables.now)) }
 {
@@ -273,6 +283,7 @@ fn own_number(version: u64, table: &Value, field: Field) -> Option<u64>
     }
 }
 
+/// The account of a table. It fails only where memory is refused.
 #[tactic(auto, unfolding(crate::specs::File::entry_in))]
 fn read_entry(alloc: Global, version: u64, table: &Value) -> Result<Entry, NoMemory>
     ensures { IfOk result (λ entry. entry ≡ entry_in version (view table.now)) }
@@ -290,6 +301,7 @@ fn read_entry(alloc: Global, version: u64, table: &Value) -> Result<Entry, NoMem
     })
 }
 
+/// The accounts of tables, in their order. It fails only where memory is refused.
 pub(crate) fn read_entries(
     alloc: Global,
     version: u64,

@@ -26,24 +26,28 @@ pub(crate) enum Given {
 }
 
 impl Given {
+    /// What a number is for the field.
     pub(crate) fn number(field: Field, number: u64) -> Given
         ensures { result ≡ given_number field number }
     {
         given_if(field.takes_number(number))
     }
 
+    /// What true or false is for the field.
     pub(crate) fn boolean(field: Field) -> Given
         ensures { result ≡ given_boolean field }
     {
         given_if(field.takes_boolean())
     }
 
+    /// What so many tables are for the field.
     pub(crate) fn count(field: Field, count: usize) -> Given
         ensures { result ≡ given_count field count }
     {
         given_if(field.takes_count(count))
     }
 
+    /// What a text is for the field.
     pub(crate) fn text(field: Field, text: &[u8]) -> Given
         ensures { result ≡ given_text field text.now }
     {

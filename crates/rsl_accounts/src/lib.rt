@@ -28,6 +28,7 @@ pub use config::Config;
 pub use entry::Entry;
 pub use fault::ConfigFault;
 pub use field::Field;
+pub use file::MAX_FILE_LEN;
 pub use rules::Rules;
 pub use secret::Secret;
 pub use settings::Settings;

@@ -47,6 +47,7 @@ impl Rules {
     }
 }
 
+/// Whether a time is 1 to 86,400 seconds.
 fn is_time(seconds: u64) -> bool
     ensures { IsTrue result ↔ IsTime seconds }
 {

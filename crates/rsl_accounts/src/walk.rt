@@ -15,6 +15,7 @@ use crate::fault::ConfigFault;
 use crate::field::Field;
 use crate::given::Fields;
 
+/// The fields at the head of a file, in the order of the walk.
 const FILE_FIELDS: [Field; 9] = [
     Field::Version,
     Field::Shards,
@@ -27,6 +28,7 @@ const FILE_FIELDS: [Field; 9] = [
     Field::Account,
 ];
 
+/// The fields of a client, in the order of the walk.
 const CLIENT_FIELDS: [Field; 3] = [Field::Address, Field::Secret, Field::Signed];
 
 /// How many fields an account has in every version.
@@ -82,6 +84,7 @@ pub(crate) fn walk<H: Fields, C: Fields, A: Fields>(
     walk_each::<A>(account_fields(version), accounts)
 }
 
+/// Walks over the fields of each part in turn.
 #[tactic(auto, using(crate::proofs::Faults::loop_steps))]
 fn walk_each<F: Fields>(fields: &[Field], each: &[F::Part]) -> Result<(), ConfigFault>
     ensures { result_err result ≡
@@ -93,6 +96,7 @@ fn walk_each<F: Fields>(fields: &[Field], each: &[F::Part]) -> Result<(), Config
     Ok(())
 }
 
+/// Walks over the fields of one part.
 #[tactic(auto, using(crate::proofs::Faults::loop_steps))]
 fn walk_one<F: Fields>(fields: &[Field], one: &F::Part) -> Result<(), ConfigFault>
     ensures { result_err result ≡ first_fault (checks fields.now (F.given_of one.now)) }

@@ -8,10 +8,7 @@ ghost use Rattle.rsl_auth.specs.Authenticator.{
 };
 
 use md5::{Digest, Md5};
-use rsl_wire::HEADER_LEN;
-
-/// Octets of Code, Identifier and Length (RFC 2865 section 3).
-pub(crate) const AUTHENTICATOR_START: usize = 4;
+use rsl_wire::{AUTHENTICATOR_START, HEADER_LEN};
 
 /// Writes the Response Authenticator, MD5(Code, Identifier, Length, Request Authenticator,
 /// Attributes, Secret), into octets 4 to 19 of a packet (RFC 2865 section 3). The other octets
@@ -51,7 +48,7 @@ pub fn accounting_ok(packet: &[u8], secret: &[u8]) -> bool
     &packet[AUTHENTICATOR_START..HEADER_LEN] == digest.as_slice()
 }
 
-// The Response Authenticator of a packet.
+/// The Response Authenticator of a packet.
 #[tactic(auto, unfolding(crate::specs::Authenticator::response_authenticator))]
 fn authenticator_of(packet: &[u8], request_auth: &[u8; 16], secret: &[u8]) -> [u8; 16]
     requires { 20 ≤ length packet.now }

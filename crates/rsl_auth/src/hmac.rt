@@ -60,7 +60,7 @@ impl Hmac {
     }
 }
 
-// A digest that was given a key's block xor a pad.
+/// A digest that was given a key's block xor a pad.
 fn begun(block: &[u8; BLOCK_LEN], pad: u8) -> Md5
     ensures { Holds result (padded block.now pad) }
 {
@@ -69,7 +69,7 @@ fn begun(block: &[u8; BLOCK_LEN], pad: u8) -> Md5
     digest
 }
 
-// A key's block xor a pad.
+/// A key's block xor a pad.
 fn padded(block: &[u8; BLOCK_LEN], pad: u8) -> [u8; BLOCK_LEN]
     ensures { result ≡ padded block.now pad }
 {
@@ -80,7 +80,7 @@ fn padded(block: &[u8; BLOCK_LEN], pad: u8) -> [u8; BLOCK_LEN]
     octets
 }
 
-// The key, or its digest where it is over a block, and zeros after it.
+/// The key, or its digest where it is over a block, and zeros after it.
 fn key_block(key: &[u8]) -> [u8; BLOCK_LEN]
     ensures { result ≡ key_block key.now }
 {

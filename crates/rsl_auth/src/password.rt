@@ -74,7 +74,7 @@ pub fn pap_ok(value: &[u8], secret: &[u8], request_auth: &[u8; 16], password: &[
     is_followed_by_nuls(&buffer[..value.len()], password)
 }
 
-// How many octets a password of n octets has with its NULs.
+/// How many octets a password of n octets has with its NULs.
 fn padded_len(len: usize) -> usize
     requires { len ≤ 128 }
     ensures { result ≡ len + nuls_after len }
@@ -86,7 +86,7 @@ fn padded_len(len: usize) -> usize
     }
 }
 
-// The password, and NULs after it.
+/// The password, and NULs after it.
 fn pad(password: &[u8]) -> [u8; MAX_PASSWORD_LEN]
     requires { length password.now ≤ 128 }
     ensures { result ≡ password.now ++ replicate (128 - length password.now) 0 }
@@ -96,7 +96,7 @@ fn pad(password: &[u8]) -> [u8; MAX_PASSWORD_LEN]
     buffer
 }
 
-// The hidden blocks of octets, joined.
+/// The hidden blocks of octets, joined.
 fn hide_blocks(
     alloc: Global,
     octets: &[u8],
@@ -116,7 +116,7 @@ fn hide_blocks(
     Ok(value)
 }
 
-// Whether a value has 16, 32, .. or 128 octets.
+/// Whether a value has 16, 32, .. or 128 octets.
 fn has_password_len(value: &[u8]) -> bool
     ensures { result ≡ is_password_length (length value.now) }
 {
@@ -124,7 +124,7 @@ fn has_password_len(value: &[u8]) -> bool
     len % BLOCK_LEN == 0 && BLOCK_LEN <= len && len <= MAX_PASSWORD_LEN
 }
 
-// The octets that a value hides, at the start of a buffer.
+/// The octets that a value hides, at the start of a buffer.
 fn reveal(value: &[u8], secret: &[u8], request_auth: &[u8; 16]) -> [u8; MAX_PASSWORD_LEN]
     requires { IsPasswordLength (length value.now) }
     ensures { take (length value.now) result ≡ revealed value.now secret.now request_auth.now }
@@ -140,7 +140,7 @@ fn reveal(value: &[u8], secret: &[u8], request_auth: &[u8; 16]) -> [u8; MAX_PASS
     buffer
 }
 
-// A block xor MD5(secret, before).
+/// A block xor MD5(secret, before).
 #[tactic(auto, using(crate::proofs::PasswordLemmas::masked_from_reads))]
 fn mask(block: &[u8], secret: &[u8], before: &[u8]) -> [u8; BLOCK_LEN]
     requires { length block.now ≡ 16 }
@@ -157,13 +157,14 @@ fn mask(block: &[u8], secret: &[u8], before: &[u8]) -> [u8; BLOCK_LEN]
     octets
 }
 
-// Whether octets are the password and NULs alone after it.
+/// Whether octets are the password and NULs alone after it.
 fn is_followed_by_nuls(octets: &[u8], password: &[u8]) -> bool
     ensures { result ≡ is_padded octets.now password.now }
 {
     octets.starts_with(password) && are_nuls(&octets[password.len()..])
 }
 
+/// Whether each octet is NUL.
 fn are_nuls(octets: &[u8]) -> bool
     ensures { result ≡ are_nuls octets.now }
 {

@@ -2,10 +2,9 @@ ghost use Rattle.std.specs.Prelude.{◌≡◌, ◌↔◌, ◌≤◌, ◌+◌, Is
 ghost use Rattle.rsl_auth.specs.Authenticator.{authenticator};
 ghost use Rattle.rsl_auth.specs.Signature.{is_signed, signature, signed, value_at};
 
-use crate::authenticator::AUTHENTICATOR_START;
 use crate::hmac::Hmac;
 use md5::Digest;
-use rsl_wire::HEADER_LEN;
+use rsl_wire::{AUTHENTICATOR_START, HEADER_LEN};
 
 /// Octets of the value of a Message-Authenticator (RFC 3579 section 3.2).
 pub const SIGNATURE_LEN: usize = 16;
@@ -41,7 +40,7 @@ pub fn signature_ok(packet: &[u8], at: usize, secret: &[u8]) -> bool
     &packet[at..at + SIGNATURE_LEN] == value.as_slice()
 }
 
-// The value that belongs at a place of a packet.
+/// The value that belongs at a place of a packet.
 #[tactic(auto, unfolding(crate::specs::Signature::signature))]
 fn signature_of(packet: &[u8], at: usize, request_auth: &[u8], secret: &[u8]) -> [u8; 16]
     requires after_header { 20 ≤ at }

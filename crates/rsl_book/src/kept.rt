@@ -1,10 +1,10 @@
-ghost use Rattle.std.specs.Prelude.{◌≡◌, ◌↔◌, ◌+◌, ◌≤◌, IfOk, ◌∷◌, ◌++◌, ◌<◌, ◌||◌, Option, find};
-ghost use Rattle.std.specs.Prelude.{map, take, length, IsTrue};
-ghost use Rattle.std.specs.Option.{option_map, option_or};
+ghost use Rattle.std.specs.Prelude.{◌≡◌, ◌↔◌, ◌+◌, ◌≤◌, IfOk, ◌++◌, ◌<◌, ◌||◌, Option, find};
+ghost use Rattle.std.specs.Prelude.{map, length, IsTrue};
+ghost use Rattle.std.specs.Option.{option_map};
 ghost use Rattle.std.specs.List.{list_any};
 ghost use Rattle.circular_buffer.specs.Buffer.{buffer};
 ghost use Rattle.rsl_session.specs.declared.kept.KeptAsk.{KeptAsk};
-ghost use Rattle.rsl_session.specs.Same.{same_nas, same_key};
+ghost use Rattle.rsl_session.specs.Same.{same_nas};
 ghost use Rattle.rsl_session.specs.Ask.{repeats};
 ghost use Rattle.rsl_session.specs.Closed.{closes};
 ghost use Rattle.rsl_session.specs.BookStep.{sweep_ask, sweep_stop};
@@ -45,20 +45,13 @@ pub(crate) struct StoredStop {
     pub swept: bool,
 }
 
-/// Whether two keys are the same.
-fn is_same_key(one: &Key, other: &Key) -> bool
-    ensures { result ≡ same_key one.now other.now }
-{
-    one.is_same(other)
-}
-
 impl StoredAsk {
     /// Whether an ask of this key, at this clock, repeats it.
     #[tactic(auto, unfolding(crate::specs::Seen::ask_seen, rsl_session::specs::Ask::repeats))]
     fn is_repeated(&self, servers: &Servers, rules: &Rules, key: &Key, now: u64) -> bool
         ensures { result ≡ repeats rules.now key.now now (ask_seen servers.now self.now) }
     {
-        is_same_key(&self.key, key) && now.saturating_sub(self.at) < rules.keep && !self.swept
+        self.key.is_same(key) && now.saturating_sub(self.at) < rules.keep && !self.swept
     }
 
     /// Whether it is the same as one of another book.

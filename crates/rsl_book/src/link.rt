@@ -3,7 +3,7 @@ ghost use Rattle.rsl_accounts.specs.Limits.{RulesFit};
 ghost use Rattle.rsl_session.specs.Same.{same_nas};
 ghost use Rattle.rsl_session.specs.Book.{is_stale_at};
 ghost use Rattle.rsl_session.specs.BookLinks.{lapses_at};
-ghost use Rattle.rsl_book.specs.Seen.{server_at, link_seen};
+ghost use Rattle.rsl_book.specs.Seen.{link_seen};
 ghost use Rattle.rsl_book.specs.Changed.{bound_link, joined_link, renewed_link};
 
 use crate::servers::Servers;
@@ -33,16 +33,6 @@ impl Hold {
     }
 }
 
-/// An equal Acct-Multi-Session-Id, if there is one.
-fn copy_of_bundle(alloc: Global, bundle: &Option<Octets>) -> Result<Option<Octets>, NoMemory>
-    ensures { IfOk result (λ copy. copy ≡ bundle.now) }
-{
-    match bundle {
-        Some(id) => Ok(Some(id.try_copy(alloc)?)),
-        None => Ok(None),
-    }
-}
-
 /// A link of a book.
 #[derive(Drop)]
 pub(crate) struct Link {
@@ -64,7 +54,7 @@ impl Link {
         Ok(Link {
             nas: self.nas,
             hold: self.hold.try_copy(alloc)?,
-            bundle: copy_of_bundle(alloc, &self.bundle)?,
+            bundle: Octets::try_copy_option(alloc, &self.bundle)?,
             touched: self.touched,
         })
     }

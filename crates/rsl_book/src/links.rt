@@ -1,7 +1,6 @@
 ghost use Rattle.std.specs.Prelude.{◌≡◌, ℕ, IfOk, ◌+◌, ◌-◌, ◌<◌, ◌≤◌, [], ◌∷◌, ◌++◌, Option, Some};
-ghost use Rattle.std.specs.Prelude.{List, None, map, filter, not, find, nat_le, count_by, take};
-ghost use Rattle.std.specs.Prelude.{drop, length, vec_capacity, if◌then◌else◌, IfSome, IfNone};
-ghost use Rattle.std.specs.List.{list_all};
+ghost use Rattle.std.specs.Prelude.{List, None, filter, not, find, count_by, take};
+ghost use Rattle.std.specs.Prelude.{drop, length, if◌then◌else◌, IfSome, IfNone};
 ghost use Rattle.std.specs.Int.{div_ceil};
 ghost use Rattle.rsl_accounts.specs.Limits.{RulesFit};
 ghost use Rattle.rsl_session.specs.Places.{places_of};
@@ -9,7 +8,7 @@ ghost use Rattle.rsl_session.specs.Same.{same_nas};
 ghost use Rattle.rsl_session.specs.Book.{BookLink, bundles_in, is_live_at, is_reservation};
 ghost use Rattle.rsl_session.specs.Book.{is_stale_at};
 ghost use Rattle.rsl_session.specs.BookLinks.{lapses_at, is_link_of, can_be_taken, can_yield};
-ghost use Rattle.rsl_book.specs.Seen.{server_at, links_seen, link_seen, bundle_with};
+ghost use Rattle.rsl_book.specs.Seen.{server_at, links_seen, bundle_with};
 ghost use Rattle.rsl_book.specs.First.{IsFirst, change_at};
 ghost use Rattle.rsl_book.specs.Changed.{taken_link, touched_link};
 ghost use Rattle.rsl_book.specs.Counted.{AreCounted};

@@ -357,9 +357,10 @@ fn first_lapsed(
     if order.is_empty() {
         return None;
     }
-    let at = slots.position(order[0]);
-    if slots.link(at).lapses(servers, rules, now) {
-        Some(at)
+    // The position is wanted only where the link lapses, which its slot alone tells.
+    let first = order[0];
+    if slots.slots[first].link.lapses(servers, rules, now) {
+        Some(slots.position(first))
     } else {
         None
     }

@@ -1,6 +1,6 @@
 //! Where a book keeps its links, and the order in which they opened.
 
-ghost use Rattle.std.specs.Prelude.{◌≡◌, ℕ, ◌<◌, ◌≤◌, ◌+◌, get_or, length, vec_capacity, IfOk, []};
+ghost use Rattle.std.specs.Prelude.{◌≡◌, ℕ, ◌<◌, ◌+◌, get_or, length, vec_capacity, IfOk, []};
 ghost use Rattle.rsl_book.specs.Changed.{bound_link, joined_link, renewed_link};
 ghost use Rattle.rsl_book.specs.Order.{Stands, link_at};
 ghost use Rattle.rsl_book.specs.Slots.{AreSame, IsChanged, IsKept, IsLess, IsMore, links_of, no_slot};

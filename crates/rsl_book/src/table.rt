@@ -1,4 +1,4 @@
-ghost use Rattle.std.specs.Prelude.{◌≡◌, ◌+◌, ◌<◌, ◌≤◌, false, length};
+ghost use Rattle.std.specs.Prelude.{◌≡◌, ◌+◌, ◌<◌, false, length};
 ghost use Rattle.rsl_book.specs.Seen.{server_at, links_seen, asks_seen, stops_seen};
 ghost use Rattle.rsl_book.specs.Named.{ArePlaced, IsPlace, is_named, named_by_asks, named_by_stops};
 
@@ -74,8 +74,8 @@ fn free_place(
     at
 }
 
-/// Where an access server stands in the table; one that does not stand there yet is put where
-/// nothing is named.
+/// Where an access server stands in the table; one that does not stand there yet is put at the first
+/// place that nothing names.
 pub(crate) fn place_for(
     servers: &mut Servers,
     links: &LinkList,

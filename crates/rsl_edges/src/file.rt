@@ -3,13 +3,10 @@ ghost use Rattle.rsl_accounts.specs.File.{configuration_of_text};
 ghost use Rattle.rsl_accounts.specs.declared.fault.ConfigFault.{ConfigFault};
 
 use crate::fault::ServeFault;
-use rsl_accounts::Config;
+use rsl_accounts::{Config, MAX_FILE_LEN};
 use std::alloc::Global;
 use std::fs::{self, Files};
 use std::io::{ErrorKind, Read};
-
-/// The most octets that an account file may have.
-const MAX_FILE_LEN: u64 = 16_777_216;
 
 /// The configuration that the account file of this name gives.
 ///

@@ -39,7 +39,7 @@ pub fn table_of(alloc: Global, config: &Config, rows: &[Row]) -> Result<Vec<u8>,
     let mut octets = Vec::new(alloc);
     match write_table(config, rows, &mut octets) {
         Ok(()) => Ok(octets),
-        // a list of octets takes none only where memory is refused
+        // A write to a list of octets fails only where memory is refused.
         Err(_) => Err(ServeFault::NoMemory),
     }
 }

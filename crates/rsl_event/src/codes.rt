@@ -1,4 +1,4 @@
-//! The numbers of the RFCs.
+//! The numbers of the RFCs, and two of this server's own: `CLASS_LEN` and `MAX_PROXY_STATE_LEN`.
 
 /// Access-Request (RFC 2865 section 4.1).
 pub const ACCESS_REQUEST: u8 = 1;

@@ -106,7 +106,7 @@ pub enum Dropped {
 impl Dropped {
     ghost use Rattle.rsl_event.specs.Dropped.{drop_name};
 
-    /// The name of the cause, as logs and the program print it.
+    /// The name of the cause, as `radlimit replay` prints it.
     pub fn name(self) -> &'static str
         ensures { result.now ≡ drop_name self }
     {

@@ -15,8 +15,8 @@ use std::alloc::Global;
 
 /// What a datagram means that came from `source` to `port` of the server with this boot number (RFC
 /// 2865 sections 3 and 4.1, RFC 2866 sections 3 and 4.1), or why it is dropped. The first cause in
-/// the order of `Dropped` that is there is named, and `NoMemory` comes only where a growth is
-/// refused, after every other check has passed.
+/// the order of `Dropped` that is there is named, and `NoMemory` comes only where memory is
+/// refused for a meaning that has octets of its own, after every other check has passed.
 #[tactic(auto, unfolding(crate::specs::Meaning::meaning))]
 pub fn prepare<'a>(
     alloc: Global,

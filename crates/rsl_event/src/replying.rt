@@ -18,7 +18,7 @@ ghost use Rattle.rsl_event.specs.Request.{proxy_len};
 ghost use Rattle.rsl_event.specs.declared.codes.TheConstants.{MAX_PROXY_STATE_LEN};
 ghost use Rattle.rsl_event.specs.declared.kind.Kind.TheVariants as kinds;
 ghost use Rattle.rsl_event.specs.Signature.{is_reply_signed};
-ghost use Rattle.rsl_event.specs.Prepared.{CanReply, HasAsker, HasRoomFor, IsPrepared};
+ghost use Rattle.rsl_event.specs.Prepared.{CanReply, HasAsker, IsPrepared};
 
 use crate::codes::{ACCESS_ACCEPT, ACCESS_REJECT, ACCOUNTING_RESPONSE};
 use crate::event::Decision;

@@ -19,8 +19,8 @@ use rsl_accounts::Config;
 use rsl_auth::{SIGNATURE_LEN, sign, signature_ok};
 use rsl_wire::{ATTR_HEADER_LEN, Attrs, Draft, HEADER_LEN, Packet};
 
-/// Where that value stands in a packet of which the Message-Authenticator is the first attribute:
-/// after the header, its Type and its Length.
+/// Where the value of a Message-Authenticator that is a packet's first attribute stands: after the
+/// header, its Type and its Length.
 const FIRST_SIGNATURE_PLACE: usize = HEADER_LEN + ATTR_HEADER_LEN;
 
 /// Why a request with these attributes is dropped, if it is for its Message-Authenticator.

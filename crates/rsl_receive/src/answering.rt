@@ -35,6 +35,7 @@ pub(crate) fn answer<L0: Tally, L1: Tally, L2: Tally, L3: Tally, G: Gate, C: Clo
     ensures unanswered { IfErr result (λ why. IsUnanswered service.now port why
         (datagram_of source datagram.now) pass.old pass.new) }
 {
+    // A configuration is within its limits: this call tells it.
     let _config = service.config();
     let prepared = match service.prepare(alloc, port, source, datagram) {
         Ok(prepared) => prepared,

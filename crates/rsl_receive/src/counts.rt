@@ -15,7 +15,7 @@ pub struct Counts {
     pub answered: u64,
     /// Those that were dropped, by a cause of their own.
     pub dropped: u64,
-    /// Those that were understood, and not answered: memory was refused, or a shard has made
+    /// Those that were neither dropped nor answered: memory was refused, or a shard has made
     /// 2^64 - 1 moves.
     pub refused: u64,
     /// Those whose reply could not be sent. What they did stands.

@@ -13,11 +13,9 @@ use crate::fault::{PortFault, ReceiveFault};
 use crate::turn::Turn;
 use rsl_event::{Port, Source};
 use rsl_service::{Gate, Pass, Service, Tally};
+use rsl_wire::MAX_LEN;
 use std::alloc::Global;
 use std::sync::Wait;
-
-/// The most octets of a datagram that are looked at: the longest packet (RFC 2865 section 3).
-const BUFFER_LEN: usize = 4096;
 
 /// Takes datagrams from a port, and sends the service's answers to where they came from, for so
 /// many turns (RFC 2865 section 3, RFC 2866 section 3).
@@ -64,7 +62,7 @@ pub fn receive<
     ensures unmade { result ≡ Err faults.NoMemory →
         (datagrams.new ≡ datagrams.old) × (pass.new ≡ pass.old) }
 {
-    let mut buffer = match Vec::from_elem(alloc, 0u8, BUFFER_LEN) {
+    let mut buffer = match Vec::from_elem(alloc, 0u8, MAX_LEN) {
         Ok(buffer) => buffer,
         Err(_) => return Err(ReceiveFault::NoMemory),
     };

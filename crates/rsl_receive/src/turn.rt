@@ -10,7 +10,8 @@ pub(crate) enum Turn {
     Nothing,
     /// One came and was dropped.
     Dropped,
-    /// One came and was understood, and has no answer.
+    /// One came that is not dropped, and has no answer: memory was refused, or a shard has made
+    /// 2^64 - 1 moves.
     Refused,
     /// One came, and its answer was sent.
     Answered,

@@ -1,4 +1,4 @@
-ghost use Rattle.std.specs.Prelude.{◌≡◌, ◌+◌, ◌≤◌, ◌++◌, [], length, replicate, vec_len, IfOk};
+ghost use Rattle.std.specs.Prelude.{◌≡◌, ◌+◌, ◌≤◌, ◌++◌, [], length, IfOk};
 ghost use Rattle.rsl_auth.specs.Authenticator.{sealed};
 ghost use Rattle.rsl_wire.specs.Attributes.{attribute_octets, list_octets};
 ghost use Rattle.rsl_event.specs.Answer.{number_attribute};

@@ -34,7 +34,7 @@ const BOOT: u64 = 1;
 
 /// What a replay prints: its lines, and the rows of its report.
 #[derive(Drop)]
-pub(crate) struct Output {
+struct Output {
     config: Config,
     lines: String,
     rows: Vec<Row>,

@@ -123,6 +123,7 @@ fn accounting_datagram(
     Ok(datagram(moment, Port::Acct, address, octets))
 }
 
+/// A datagram that comes to a port from a client.
 fn datagram(moment: u64, port: Port, address: [u8; 4], octets: Octets) -> Step
     ensures { result ≡ datagram moment port address octets }
 {
@@ -236,6 +237,7 @@ pub(crate) fn step_count(config: &Config, line: &EventLine) -> usize
     step_count_of(config, &line.happening)
 }
 
+/// How many steps a line has that says this.
 fn step_count_of(config: &Config, happening: &Happening) -> usize
     ensures { result ≡ step_count_of config.now happening.now }
 {

@@ -1,8 +1,7 @@
 use std::io;
 use thiserror::Error;
 
-/// A writer failed: a write or flush of it was an error, or it took no octet where there was one to
-/// take.
+/// A writer failed: a write to it was an error, or it took no octet where there was one to take.
 #[derive(Clone, Copy, Debug, PartialEq, Eq, Error)]
 #[error("write fault")]
 pub struct WriteFault;

@@ -1,8 +1,7 @@
-ghost use Rattle.std.specs.Prelude.{◌≡◌, ◌<◌, ◌++◌, ◌∷◌, [], All, OnOk, decimal, length, map};
-ghost use Rattle.std.specs.List.{flat_map};
+ghost use Rattle.std.specs.Prelude.{◌<◌, All, OnOk, decimal, length, map};
 ghost use Rattle.std.specs.Io.KnownBytes.{Appends};
 ghost use Rattle.rsl_accounts.specs.Limits.{IsName};
-ghost use Rattle.rsl_report.specs.Table.{column, header, name_column, line, row_line, table};
+ghost use Rattle.rsl_report.specs.Table.{column, name_column, line, row_line, table};
 
 use crate::fault::WriteFault;
 use rsl_accounts::Config;

@@ -30,5 +30,5 @@ mod texts;
 
 pub use numbers::{length, number, octet, port_number, short_number};
 pub use octets::{Hex, front, octets_of};
-pub use rows::{Subject, check_rows, fields_of};
+pub use rows::{Subject, check_rows};
 pub use texts::{Plain, printed, push_printed, replaced, shown};

@@ -34,7 +34,7 @@ pub fn check_rows<R: AllocGlobal + Eprint, S: Subject>(
 }
 
 /// The fields of a row, its name and what is expected among them.
-pub fn fields_of<'a>(alloc: Global, row: &'a str) -> Result<Vec<&'a str>, Fail> {
+fn fields_of<'a>(alloc: Global, row: &'a str) -> Result<Vec<&'a str>, Fail> {
     let mut fields = Vec::new(alloc);
     for field in row.split('|') {
         fields.push(field.trim())?;

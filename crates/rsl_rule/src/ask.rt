@@ -21,7 +21,7 @@ use crate::link::accept_number;
 use crate::sweep::is_swept_in;
 use crate::yielding::yielding_link;
 use rsl_accounts::Rules;
-use rsl_event::{Act, Decision, Event, Key, Nas};
+use rsl_event::{Act, Decision, Event, Key};
 use rsl_session::{KEPT_ASKS, KeptAsk, Outcome, PastEvent};
 use rsl_wire::NoMemory;
 use std::alloc::Global;

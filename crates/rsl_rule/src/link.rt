@@ -1,10 +1,9 @@
-ghost use Rattle.std.specs.Prelude.{◌≡◌, if◌then◌else◌, is_some};
+ghost use Rattle.std.specs.Prelude.{◌≡◌, if◌then◌else◌};
 ghost use Rattle.std.specs.Option.{option_copied};
 ghost use Rattle.rsl_session.specs.Past.{looking_back, entry_at};
-ghost use Rattle.rsl_session.specs.Link.{opens, number_of, number_at};
+ghost use Rattle.rsl_session.specs.Link.{nas_of, number_at, number_of, opens};
 ghost use Rattle.rsl_session.specs.Binding.{touches};
 ghost use Rattle.rsl_session.specs.Held.{is_nas, is_at};
-ghost use Rattle.rsl_session.specs.Link.{nas_of};
 
 use rsl_event::{Act, Nas};
 use rsl_session::{Outcome, PastEvent};
@@ -62,7 +61,7 @@ pub(crate) fn touch_after(
 
 /// The entry at a place.
 #[tactic(auto, using(crate::proofs::Looking::entry_steps))]
-pub(crate) fn entry_at(place: usize, history: &[PastEvent]) -> Option<&PastEvent>
+fn entry_at(place: usize, history: &[PastEvent]) -> Option<&PastEvent>
     ensures { option_copied result ≡ entry_at place (looking_back history.now) }
 {
     if place == 0 {

@@ -27,7 +27,7 @@ impl<R: AllocGlobal> Subject for Ticked<'_, R> {
 
 /// What is found after so many ticks.
 fn after_ticks(alloc: Global, config: &Config, ticks: u64) -> Result<String, Fail> {
-    // a configuration has a shard: this call tells it
+    // A configuration has a shard: this call tells it.
     let _shards = config.shards();
     let mut shard = Shard::new(alloc, config, 0)?;
     tick_ready(alloc, &mut shard, ticks)?;

@@ -22,7 +22,7 @@ use std::alloc::Global;
 
 /// What ties a session to its bundle and to its accept.
 #[derive(Drop)]
-pub(crate) struct Ties {
+struct Ties {
     /// The Acct-Multi-Session-Id, where the line has a word `multi=`.
     bundle: Option<AttributeText>,
     /// The number of the Class, where the line has a word `class=`.

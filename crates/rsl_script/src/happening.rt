@@ -27,6 +27,7 @@ pub(crate) fn read_event(alloc: Global, kind: Kind, words: &[&str]) -> Result<Ev
     }
 }
 
+/// What the words after the moment of a line say.
 #[tactic(auto, unfolding(crate::specs::Event::read_happening))]
 fn read_happening(alloc: Global, kind: Kind, words: &[&str]) -> Result<Happening, LineFault>
     ensures { Reads (read_happening kind (map (λ word. word.now) words.now)) result }

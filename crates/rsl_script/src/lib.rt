@@ -19,8 +19,9 @@
 //! | `raw-auth MOMENT CLIENT HEX`, `raw-acct` the same | a datagram comes to that port |
 //! | `tick MOMENT` | time passes |
 //!
-//! An account has one port if no `PORTS` are given, and the times of the settings in place of those
-//! that its line does not give.
+//! The settings are `shards`, `reserve`, `live`, `grace`, `closed` and `keep`: 1, 60, 900, 900, 3600
+//! and 10 where no line gives them, the last five in seconds. An account has one port if no `PORTS`
+//! are given, and the times of the settings in place of those that its line does not give.
 //!
 //! A text is cut into lines at each LF, and a line into words at each space. Every octet of a line
 //! is 0x20 to 0x7E, and no word is empty. An empty line says nothing, nor does one that begins with

@@ -17,8 +17,8 @@ pub struct Script {
     pub settings: Settings,
     /// The clients, in the order of their lines.
     pub clients: Vec<Client>,
-    /// The accounts, in the order of their lines. Their times are 0, for the configuration to fill
-    /// in.
+    /// The accounts, in the order of their lines. The times of their rules are 0, for the
+    /// configuration to fill in; `live=N` and `grace=N` of a line are times of the account's own.
     pub accounts: Vec<Entry>,
     /// What happens, in the order of its lines.
     pub events: Vec<EventLine>,
@@ -92,6 +92,7 @@ impl Script {
         Ok(())
     }
 
+    /// Gives a setting its value.
     fn set(&mut self, setting: Setting, value: u64)
         ensures { contents self.new ≡ contents_with (contents self.old) (Line.Set setting value) }
     {

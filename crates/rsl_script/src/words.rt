@@ -29,6 +29,7 @@ pub(crate) fn text_of(line: &[u8]) -> Option<&str>
     str::from_utf8(line).ok()
 }
 
+/// Whether each octet is 0x20 to 0x7E.
 fn is_printed(line: &[u8]) -> bool
     ensures { result ≡ is_printed line.now }
 {

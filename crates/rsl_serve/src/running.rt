@@ -181,8 +181,8 @@ where
     ensures auth { IfOk result (λ worked. HasReceived shared.now.span.turns worked.auth) }
     ensures acct { IfOk result (λ worked. HasReceived shared.now.span.turns worked.acct) }
 {
-    // where no thread can be made the first comes last: the worker that makes ticks, which then
-    // ends at once
+    // Where no thread can be made the first comes last: the worker that makes ticks, which then
+    // ends at once.
     let (ticks, (auth, acct)) = thread::join(
         rt,
         move || ticked(rt, alloc, shared, ticks),
@@ -193,7 +193,7 @@ where
             ensures acct { IfOk result.1 (λ received. HasReceived shared.entry.now.span.turns received.0) }
         { both_received(rt, alloc, shared, auth, acct) },
     );
-    // the other receiver fails too, but only since this one was refused memory
+    // The other receiver fails too, but only since this one was refused memory.
     if matches!(&acct, Err(ServeFault::NoMemory)) {
         return Err(ServeFault::NoMemory);
     }

@@ -61,6 +61,7 @@ impl<L0: Tally, L1: Tally, L2: Tally, L3: Tally, G: Gate> Service<L0, L1, L2, L3
         ensures fewer { IfErr result (λ fault.
             swept_before fault < self.now.config.settings.shards) }
     {
+        // A configuration has 1 to 4 shards: this call tells it.
         let _shards = self.config.shards();
         let draft = match draft_for(alloc, pass, &prepared) {
             Ok(draft) => draft,

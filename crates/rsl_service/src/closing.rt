@@ -65,6 +65,7 @@ impl<L0: Tally, L1: Tally, L2: Tally, L3: Tally, G: Gate + Drop> Service<L0, L1,
             desk3,
             left,
         } = self;
+        // A configuration has 1 to 4 shards: this call tells it.
         let _shards = config.shards();
         let (opened, shares) = left.into_inner().into_shares();
         // All four are looked at together, as in `new`.

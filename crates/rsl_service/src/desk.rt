@@ -85,6 +85,7 @@ impl<L: Tally> Desk<L> {
         ensures shard { IfOk result (λ loose. loose.shard ≡ L.setup.shard) }
         ensures journal { IfOk result (λ loose. IsJournal L.setup loose.opening loose.lines) }
     {
+        // What is kept of every shard: this call tells it.
         let _total = self.shard.total();
         self.shard.cut_loose(alloc, room)
     }

@@ -18,7 +18,6 @@ ghost use Rattle.rsl_service.specs.Receipts.{IsNoted, count_of};
 use crate::desk::{Desk, Made};
 use crate::fault::StepFault;
 use crate::gate::Gate;
-use crate::moves::copy_of;
 use crate::tally::Tally;
 use rsl_event::Decision;
 use rsl_settle::Receipt;
@@ -87,7 +86,7 @@ fn copied(alloc: Global, moved: Move) -> Result<(Move, Ready), StepFault>
     ensures copy { IfOk result (λ taken. taken.0 ≡ moved) }
     ensures ready { IfOk result (λ taken. taken.1 ≡ moved) }
 {
-    let copy = copy_of(alloc, &moved)?;
+    let copy = moved.try_copy(alloc)?;
     let ready = Ready::new(alloc, moved)?;
     Ok((copy, ready))
 }

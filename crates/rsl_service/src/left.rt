@@ -9,7 +9,7 @@ use std::alloc::Global;
 use std::sync::ledger::Share;
 
 /// The most passes that a service opens.
-pub const MAX_PASSES: u64 = 1024;
+pub(crate) const MAX_PASSES: u64 = 1024;
 
 /// How many receipts a new pass has room for.
 const FIRST_RECEIPTS: usize = 64;

@@ -109,6 +109,7 @@ impl<L0: Tally, L1: Tally, L2: Tally, L3: Tally, G: Gate + Drop> Service<L0, L1,
             blank2,
             blank3,
         } = blanks;
+        // A configuration has 1 to 4 shards: this call tells it.
         let _shards = config.shards();
         // All four are looked at together: a `?` after each would let go of the others in a way of
         // its own, and each way is proved.
@@ -136,8 +137,8 @@ impl<L0: Tally, L1: Tally, L2: Tally, L3: Tally, G: Gate + Drop> Service<L0, L1,
 }
 
 impl<L0: Tally, L1: Tally, L2: Tally, L3: Tally, G: Gate> Service<L0, L1, L2, L3, G> {
-    /// A new pass, with no receipts. It fails where 1,024 were opened, and else where memory is
-    /// refused.
+    /// A new pass, with no receipts. `TooMany` comes where 1,024 were opened, and else `NoMemory`
+    /// where memory is refused.
     pub fn open_pass<R: Wait>(
         &self,
         rt: &R,
@@ -161,6 +162,7 @@ impl<L0: Tally, L1: Tally, L2: Tally, L3: Tally, G: Gate> Service<L0, L1, L2, L3
         ensures there { IfErr result (λ fault.
             fault ≡ faults.NoMemory → shard < self.now.config.settings.shards) }
     {
+        // A configuration has 1 to 4 shards: this call tells it.
         let _shards = self.config.shards();
         match shard {
             0 => cut_under_lock(rt, alloc, &self.desk0),

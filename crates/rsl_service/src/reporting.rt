@@ -35,7 +35,7 @@ fn rows_of_none(alloc: Global, config: &Config) -> Result<Vec<Row>, NoMemory>
 
 impl<L: Tally> Desk<L> {
     /// Puts what each account of the shard holds into its row.
-    pub(crate) fn show(&self, config: &Config, number: u32, rows: &mut [Row])
+    fn show(&self, config: &Config, number: u32, rows: &mut [Row])
         requires setup { L.setup ≡ setup_of config.now number }
         requires books { L.books ≡ new_books config.now number }
         requires rows { IsReport config.now.accounts rows.old }
@@ -56,8 +56,10 @@ impl<L: Tally> Desk<L> {
         requires rows { IsReport config.now.accounts rows.old }
         ensures { IsReport config.now.accounts rows.new }
     {
+        // What is kept of every shard: this call tells it.
         let _total = self.shard.total();
         if let Some(book) = self.shard.book(account as u32) {
+            // No book holds more than its places: this call tells it.
             let _held = book.held();
             rows[account] = Row::of(account as u32, book);
         }

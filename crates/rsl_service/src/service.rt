@@ -74,6 +74,7 @@ impl<L0: Tally, L1: Tally, L2: Tally, L3: Tally, G: Gate> Service<L0, L1, L2, L3
         ensures config { result.now ≡ self.now.config }
         ensures limits { IsConfiguration self.now.config }
     {
+        // A configuration has 1 to 4 shards: this call tells it.
         let _shards = self.config.shards();
         &self.config
     }
@@ -113,6 +114,7 @@ impl<L0: Tally, L1: Tally, L2: Tally, L3: Tally, G: Gate> Service<L0, L1, L2, L3
         ensures noted { IfOk result (λ decision. IsNoted shard moved decision pass.old pass.new) }
         ensures err { OnErr result (pass.new ≡ pass.old) }
     {
+        // A configuration has 1 to 4 shards: this call tells it.
         let _shards = self.config.shards();
         let gate = &self.gate;
         let receipts = &mut pass.receipts;

@@ -1,4 +1,4 @@
-ghost use Rattle.std.specs.Prelude.{◌≡◌, ◌<◌, ◌%◌, IfErr, IfOk, OnErr, length};
+ghost use Rattle.std.specs.Prelude.{◌≡◌, ◌<◌, ◌%◌, IfErr, IfOk, length};
 ghost use Rattle.rsl_event.specs.declared.event.Decision.TheVariants.{Done};
 ghost use Rattle.rsl_event.specs.Prepared.{HasAccount, HasOwnAct, IsOfOneAccount};
 ghost use Rattle.rsl_shard.specs.Moves.{IsTaken};
@@ -7,9 +7,8 @@ ghost use Rattle.rsl_shard.specs.declared.moved.Move.TheVariants as moves;
 ghost use Rattle.rsl_service.specs.Applied.{HasDecided, IsStopped, swept_before};
 ghost use Rattle.rsl_service.specs.Receipts.{AreNoted, HasOneMore, IsNoted, IsOfAll};
 
-use crate::fault::{ApplyFault, StepFault};
+use crate::fault::ApplyFault;
 use crate::gate::Gate;
-use crate::moves::copy_of;
 use crate::pass::Pass;
 use crate::service::Service;
 use crate::tally::Tally;
@@ -37,6 +36,7 @@ impl<L0: Tally, L1: Tally, L2: Tally, L3: Tally, G: Gate> Service<L0, L1, L2, L3
         ensures fewer { IfErr result (λ fault.
             swept_before fault < self.now.config.settings.shards) }
     {
+        // A configuration has 1 to 4 shards: this call tells it.
         let _shards = self.config().shards();
         match meaning {
             Meaning::Own { account, act } => self.decide_own(rt, alloc, pass, moment, account, act),
@@ -85,6 +85,7 @@ impl<L0: Tally, L1: Tally, L2: Tally, L3: Tally, G: Gate> Service<L0, L1, L2, L3
         ensures err { IfErr result (λ fault.
             (swept_before fault ≡ 0) × (pass.new ≡ pass.old)) }
     {
+        // A configuration has 1 to 4 shards: this call tells it.
         let _shards = self.config().shards();
         self.step_first(rt, alloc, pass, 0, Move::Stray { moment, note })
     }
@@ -107,6 +108,7 @@ impl<L0: Tally, L1: Tally, L2: Tally, L3: Tally, G: Gate> Service<L0, L1, L2, L3
         ensures fewer { IfErr result (λ fault.
             swept_before fault < self.now.config.settings.shards) }
     {
+        // A configuration has 1 to 4 shards: this call tells it.
         let _shards = self.config().shards();
         let swept = self.step_each(rt, alloc, pass, &Move::Sweep { moment, nas });
         match swept {
@@ -174,7 +176,7 @@ impl<L0: Tally, L1: Tally, L2: Tally, L3: Tally, G: Gate> Service<L0, L1, L2, L3
         ensures err { IfErr result (λ fault.
             (swept_before fault ≡ shard) × (pass.new ≡ pass.old)) }
     {
-        let copy = match copy_of(alloc, moved) {
+        let copy = match moved.try_copy(alloc) {
             Ok(copy) => copy,
             Err(_) => return Err(ApplyFault::NoMemory { swept: shard }),
         };

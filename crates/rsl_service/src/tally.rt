@@ -16,6 +16,8 @@ pub trait Tally: Ledger {
     ghost books: { List RuledBook };
 }
 
+// Who passes a `Brand` says in a proof of which shard it is; the members here are of one that is of
+// none.
 impl Tally for Brand {
     ghost setup = { record { shard = 0; shards = 0; accounts = 0 } };
 

@@ -5,7 +5,6 @@ ghost use Rattle.std.specs.Prelude.{
   ◌<◌,
   ◌≤◌,
   IfOk,
-  OnErr,
   OnOk,
   [],
   ◌∷◌,
@@ -18,7 +17,7 @@ ghost use Rattle.std.specs.Prelude.{
 ghost use Rattle.std.specs.List.{flat_map};
 
 use crate::line::Line;
-use crate::spare::{CHUNK, Spare};
+use crate::spare::Spare;
 use rsl_wire::NoMemory;
 use std::alloc::Global;
 use std::marker::Model;
@@ -128,7 +127,7 @@ impl Journal {
     }
 
     /// Room for all the lines. It fails only where memory is refused.
-    pub(crate) fn room_for_all(&self, alloc: Global) -> Result<Vec<Line>, NoMemory>
+    fn room_for_all(&self, alloc: Global) -> Result<Vec<Line>, NoMemory>
         requires { length self.now.lines < 2 ^ 64 }
         ensures empty { IfOk result (λ room. room.items ≡ []) }
         ensures room { IfOk result (λ room. length self.now.lines ≤ vec_capacity room) }

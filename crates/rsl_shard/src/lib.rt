@@ -1,5 +1,8 @@
 //! Shards: the books of some accounts, with the journal of what was done to them.
 //!
+//! The promise: a shard's books are what the lines of its journal make of those that the journal
+//! begins with, and each line has the decision of the books at that point.
+//!
 //! What a journal means is defined in `specs/`: `Moves.antt` says which lines concern an account,
 //! `Replay.antt` what moves make of the books of a shard, `Journal.antt` what the lines of a
 //! journal are, and `Seen.antt` what is kept of every shard.

@@ -1,4 +1,8 @@
+ghost use Rattle.std.specs.Prelude.{◌≡◌, IfOk};
+
 use rsl_event::{Event, Nas, Note};
+use rsl_wire::NoMemory;
+use std::alloc::Global;
 
 /// What happens to a shard, in one step.
 #[derive(Debug, PartialEq, Eq, Drop)]
@@ -29,4 +33,27 @@ pub enum Move {
         /// What is noted of it.
         note: Note,
     },
+}
+
+impl Move {
+    /// An equal move. It fails only where memory is refused.
+    pub fn try_copy(&self, alloc: Global) -> Result<Move, NoMemory>
+        ensures { IfOk result (λ copy. copy ≡ self.now) }
+    {
+        Ok(match self {
+            Move::Own { account, event } => Move::Own {
+                account: *account,
+                event: event.try_copy(alloc)?,
+            },
+            Move::Sweep { moment, nas } => Move::Sweep {
+                moment: *moment,
+                nas: nas.try_copy(alloc)?,
+            },
+            Move::Tick { moment } => Move::Tick { moment: *moment },
+            Move::Stray { moment, note } => Move::Stray {
+                moment: *moment,
+                note: note.try_copy(alloc)?,
+            },
+        })
+    }
 }

@@ -7,7 +7,7 @@ use std::marker::Model;
 use std::mem::replace;
 
 /// How many lines stand in a chunk of a journal.
-pub(crate) const CHUNK: usize = 1024;
+const CHUNK: usize = 1024;
 
 /// Room for lines of a journal, which is taken before the step that needs it.
 ///

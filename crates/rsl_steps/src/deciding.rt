@@ -70,6 +70,7 @@ fn note_stray(
         IsMovedAt 0 (moves.Stray moment note.now) decision shards.old shards.new) }
     ensures err { OnErr result (shards.new ≡ shards.old) }
 {
+    // A configuration has 1 to 4 shards: this call tells it.
     let _shards = config.shards();
     let note = note.try_copy(alloc)?;
     move_at(alloc, shards, 0, Move::Stray { moment, note })

@@ -119,7 +119,8 @@ impl<'a> Attrs<'a> {
     }
 
     /// The value of the first attribute of this Type as a number, the high octet first. There is
-    /// none where that value does not have four octets (RFC 2865 section 5).
+    /// none where no attribute is of this Type, or where that value does not have four octets (RFC
+    /// 2865 section 5).
     pub fn number(&self, kind: u8) -> Option<u32>
         ensures { result ≡ number_in (first_of kind self.now) }
     {

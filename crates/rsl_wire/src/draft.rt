@@ -20,7 +20,7 @@ ghost use Rattle.rsl_wire.specs.Packet.{packet_octets};
 
 use crate::attr::{ATTR_HEADER_LEN, MAX_VALUE_LEN};
 use crate::fault::NoMemory;
-use crate::packet::{HEADER_LEN, MAX_LEN};
+use crate::packet::{AUTHENTICATOR_START, HEADER_LEN, MAX_LEN};
 use std::alloc::Global;
 use std::marker::Model;
 use thiserror::Error;
@@ -136,5 +136,5 @@ fn write_header(octets: &mut [u8], code: u8, authenticator: &[u8; 16])
     octets[0] = code;
     octets[2] = high;
     octets[3] = low;
-    octets[4..HEADER_LEN].copy_from_slice(authenticator);
+    octets[AUTHENTICATOR_START..HEADER_LEN].copy_from_slice(authenticator);
 }

@@ -34,5 +34,5 @@ pub use building::{BuildFault, build};
 pub use draft::{Draft, TooLong};
 pub use fault::NoMemory;
 pub use octets::Octets;
-pub use packet::{HEADER_LEN, MAX_LEN, Packet, WireFault};
+pub use packet::{AUTHENTICATOR_START, HEADER_LEN, MAX_LEN, Packet, WireFault};
 pub use reading::read;

@@ -4,6 +4,9 @@ ghost use Rattle.rsl_wire.specs.Packet.{IsPacket, packet_octets};
 use crate::attributes::{Attrs, BadAttribute};
 use thiserror::Error;
 
+/// Octets of Code, Identifier and Length, after which the Authenticator stands (RFC 2865 section 3).
+pub const AUTHENTICATOR_START: usize = 4;
+
 /// Octets of a packet without its attributes, and the least Length (RFC 2865 section 3).
 pub const HEADER_LEN: usize = 20;
 
@@ -12,6 +15,8 @@ pub const HEADER_LEN: usize = 20;
 pub const MAX_LEN: usize = 4096;
 
 // The numbers of RFC 2865, which definitions have as they stand.
+const _: () = prove!(AUTHENTICATOR_START == 4);
+
 const _: () = prove!(HEADER_LEN == 20);
 
 const _: () = prove!(MAX_LEN == 4096);
@@ -93,6 +98,7 @@ impl<'a> Packet<'a> {
         Attrs::in_octets(self.attrs)
     }
 
+    /// The packet at the start of a datagram, as `read` gives it.
     #[tactic(auto, unfolding(crate::specs::Packet::packet_of))]
     pub(crate) fn in_datagram(datagram: &'a [u8]) -> Result<Packet<'a>, WireFault>
         ensures { MatchResult result
@@ -108,7 +114,7 @@ impl<'a> Packet<'a> {
         }
         let octets = &datagram[..length];
         let mut authenticator = [0u8; 16];
-        authenticator.copy_from_slice(&datagram[4..HEADER_LEN]);
+        authenticator.copy_from_slice(&datagram[AUTHENTICATOR_START..HEADER_LEN]);
         Ok(Packet {
             code: datagram[0],
             id: datagram[1],

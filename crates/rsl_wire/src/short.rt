@@ -1,7 +1,7 @@
 ghost use Rattle.std.specs.Prelude.{◌≡◌, ◌≤◌, ◌↔◌, IfSome, IsSome, length, take};
 
-/// The most octets that lie in the value: with how many they are, and what tells that they do, three
-/// words.
+/// The most octets that lie in the value: with their number, and with the tag that tells them from
+/// octets on the heap, they take three words.
 const SHORT_LEN: usize = 22;
 
 /// At most 22 octets, in the value itself: the first ones of the array.

@@ -168,14 +168,15 @@ pub(crate) fn mixed(alloc: Global, turn: u64) -> Result<Event, NoMemory> {
     })
 }
 
-fn key_of(turn: u64) -> Key {
+/// The key of an ask by its number.
+pub(crate) fn key_of(number: u64) -> Key {
     let source = Source {
         address: [192, 168, 1, 16],
         port: 1024,
     };
     Key {
         source,
-        id: (turn % 256) as u8,
+        id: (number % 256) as u8,
         authenticator: [0; 16],
     }
 }

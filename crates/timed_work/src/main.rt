@@ -27,7 +27,7 @@ mod work;
 
 use events::Size;
 use record::record_of;
-use rsl_accounts::Config;
+use rsl_accounts::{Config, MAX_FILE_LEN};
 use rsl_report::audit;
 use rsl_wire::NoMemory;
 use std::alloc::Global;
@@ -35,9 +35,6 @@ use std::env::Args;
 use std::io::{ErrorKind, Read};
 use std::process::ExitCode;
 use std::{env, io};
-
-/// The most octets of an account file that are read.
-const MAX_FILE_LEN: u64 = 16_777_216;
 
 fn main(rt: HostRuntime) -> ExitCode {
     match worked(&rt) {

@@ -1,5 +1,6 @@
+use crate::events::key_of;
 use rsl_accounts::Config;
-use rsl_event::{Act, Event, Key, Nas, NasName, Source};
+use rsl_event::{Act, Event, Nas, NasName};
 use rsl_shard::{Move, Segment, Shard};
 use rsl_wire::{NoMemory, Octets};
 use std::alloc::Global;
@@ -10,7 +11,7 @@ pub(crate) fn record_of(
     config: &Config,
     lines: u64,
 ) -> Result<Vec<Segment>, NoMemory> {
-    // a configuration has a shard: this call tells it
+    // A configuration has a shard: this call tells it.
     let _shards = config.shards();
     let mut shard = Shard::new(alloc, config, 0)?;
     let mut segments = Vec::new(alloc);
@@ -65,16 +66,4 @@ fn act_of(alloc: Global, turn: u64) -> Result<Act, NoMemory> {
             class: None,
         }
     })
-}
-
-fn key_of(number: u64) -> Key {
-    let source = Source {
-        address: [192, 168, 1, 16],
-        port: 1024,
-    };
-    Key {
-        source,
-        id: (number % 256) as u8,
-        authenticator: [0; 16],
-    }
 }

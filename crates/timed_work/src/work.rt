@@ -3,7 +3,6 @@ ghost use Rattle.rsl_accounts.specs.Limits.{RulesFit};
 use crate::events::{Size, Work, mixed, tick_of};
 use rsl_accounts::Rules;
 use rsl_book::Book;
-use rsl_event::Event;
 use rsl_wire::NoMemory;
 use std::alloc::Global;
 
