@@ -20,12 +20,15 @@ impl Ending {
         }
     }
 
-    /// A receiver has ended, because it failed or after its last turn.
-    pub(crate) fn note(&self, has_failed: bool) {
-        if has_failed {
-            self.has_failed.store(true, Ordering::SeqCst);
-        }
+    /// A receiver has taken its last turn.
+    pub(crate) fn note_end(&self) {
         self.ended.fetch_add(1, Ordering::SeqCst);
+    }
+
+    /// A receiver has failed, and so has ended.
+    pub(crate) fn note_failure(&self) {
+        self.has_failed.store(true, Ordering::SeqCst);
+        self.note_end();
     }
 
     /// Whether a receiver has failed.

@@ -92,7 +92,10 @@ fn counted<L0: Tally, L1: Tally, L2: Tally, L3: Tally, R: time::Clock + Wait>(
         &mut clock,
         span.turns,
     );
-    ending.note(result.is_err());
+    match &result {
+        Ok(_) => ending.note_end(),
+        Err(_) => ending.note_failure(),
+    }
     Ok(result?)
 }
 

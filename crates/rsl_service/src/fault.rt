@@ -5,6 +5,7 @@ ghost use Rattle.rsl_service.specs.declared.fault.StepFault.TheVariants.{NoMemor
 
 use rsl_wire::NoMemory;
 use std::alloc::AllocError;
+use thiserror::Error;
 
 /// Why a step was not made.
 #[derive(Debug, Clone, Copy, PartialEq, Eq, Drop)]
@@ -32,20 +33,24 @@ impl From<AllocError> for StepFault {
 }
 
 /// Why a pass was not opened.
-#[derive(Debug, Clone, Copy, PartialEq, Eq, Drop)]
+#[derive(Debug, Clone, Copy, PartialEq, Eq, Drop, Error)]
 pub enum PassFault {
     /// 1,024 passes were opened.
+    #[error("too many passes")]
     TooMany,
     /// Memory was refused.
+    #[error("no memory")]
     NoMemory,
 }
 
 /// Why a journal was not handed out.
-#[derive(Debug, Clone, Copy, PartialEq, Eq, Drop)]
+#[derive(Debug, Clone, Copy, PartialEq, Eq, Drop, Error)]
 pub enum CutFault {
     /// The configuration has no shard of this number.
+    #[error("no such shard")]
     NoShard,
     /// Memory was refused. The journal is as it was.
+    #[error("no memory")]
     NoMemory,
 }
 
@@ -61,14 +66,16 @@ impl From<NoMemory> for CutFault {
 ///
 /// The moves of so many shards, from shard 0 on, had been made by then, and stand: those of a
 /// restart or of a tick, each with its receipt. All else is as it was.
-#[derive(Debug, Clone, Copy, PartialEq, Eq, Drop)]
+#[derive(Debug, Clone, Copy, PartialEq, Eq, Drop, Error)]
 pub enum ApplyFault {
     /// Memory was refused.
+    #[error("no memory, after {swept} shards")]
     NoMemory {
         /// The number of shards that had made their moves.
         swept: u32,
     },
     /// A shard has made 2^64 - 1 moves.
+    #[error("a shard is spent, after {swept} shards")]
     Spent {
         /// The number of shards that had made their moves.
         swept: u32,

@@ -116,61 +116,22 @@ impl<L0: Tally, L1: Tally, L2: Tally, L3: Tally, G: Gate> Service<L0, L1, L2, L3
     {
         // A configuration has 1 to 4 shards: this call tells it.
         let _shards = self.config.shards();
-        let gate = &self.gate;
-        let receipts = &mut pass.receipts;
-        let spare = &mut pass.spare;
+        let (gate, desk0) = (&self.gate, &self.desk0);
+        let (receipts, spare) = (&mut pass.receipts, &mut pass.spare);
+        let (share0, share1) = (&mut pass.share0, &mut pass.share1);
+        let (share2, share3) = (&mut pass.share2, &mut pass.share3);
         match shard {
-            0 => enter(
-                rt,
-                alloc,
-                &self.desk0,
-                gate,
-                0,
-                &mut pass.share0,
-                receipts,
-                spare,
-                moved,
-            ),
+            0 => enter(rt, alloc, desk0, gate, 0, share0, receipts, spare, moved),
             1 => match &self.desk1 {
-                Some(desk) => enter(
-                    rt,
-                    alloc,
-                    desk,
-                    gate,
-                    1,
-                    &mut pass.share1,
-                    receipts,
-                    spare,
-                    moved,
-                ),
+                Some(desk) => enter(rt, alloc, desk, gate, 1, share1, receipts, spare, moved),
                 None => unreachable!(),
             },
             2 => match &self.desk2 {
-                Some(desk) => enter(
-                    rt,
-                    alloc,
-                    desk,
-                    gate,
-                    2,
-                    &mut pass.share2,
-                    receipts,
-                    spare,
-                    moved,
-                ),
+                Some(desk) => enter(rt, alloc, desk, gate, 2, share2, receipts, spare, moved),
                 None => unreachable!(),
             },
             3 => match &self.desk3 {
-                Some(desk) => enter(
-                    rt,
-                    alloc,
-                    desk,
-                    gate,
-                    3,
-                    &mut pass.share3,
-                    receipts,
-                    spare,
-                    moved,
-                ),
+                Some(desk) => enter(rt, alloc, desk, gate, 3, share3, receipts, spare, moved),
                 None => unreachable!(),
             },
             _ => unreachable!(),
