@@ -16,8 +16,8 @@ use Rattle.rsl_event.specs.Signature.{is_reply_signed, signature_if}
 use Rattle.rsl_event.specs.Request.{proxy_states, proxy_len, secret_of}
 use Rattle.rsl_event.specs.declared.event.Decision.{Decision}
 use Rattle.rsl_event.specs.Prepared.{HasRoomFor}
-use Rattle.rsl_event.specs.declared.kind.Kind.{Kind}
-use Rattle.rsl_event.specs.declared.kind.Kind.TheVariants as kinds
+use Rattle.rsl_event.specs.declared.meaning_kind.MeaningKind.{MeaningKind}
+use Rattle.rsl_event.specs.declared.meaning_kind.MeaningKind.TheVariants as kinds
 use Rattle.rsl_event.specs.declared.words.Said.{Said}
 use Rattle.rsl_event.specs.declared.codes.TheConstants.{PORT_LIMIT, SERVICE_TYPE, FRAMED_PROTOCOL, SESSION_TIMEOUT, IDLE_TIMEOUT}
 
@@ -66,7 +66,7 @@ pub length-proxy_states : (attributes : List Attribute) → length (list_octets 
 length-proxy_states attributes = length-flat_map attribute_octets (proxy_states attributes)
 
 -- what a reply repeats has room, unless nothing is repeated
-pub repeated_short : (octets : List ℕ) (attributes : List Attribute) (kind : Kind) → attributes ≡ attributes_in octets → HasRoomFor octets kind
+pub repeated_short : (octets : List ℕ) (attributes : List Attribute) (kind : MeaningKind) → attributes ≡ attributes_in octets → HasRoomFor octets kind
     → (kind ≡ kinds.Bare → ⊥) → proxy_len attributes ≤ 3900
 repeated_short octets attributes kinds.Bare e has other = absurd (other refl)
 repeated_short octets attributes kinds.Reject e has other = subst (λ (x : List Attribute). proxy_len x ≤ 3900) (sym e) has.short
@@ -92,7 +92,7 @@ put_back n was now e f =
     ap (λ (x : List ℕ). take n (now ++ x)) none ∙ ap (take n) (append-nil now) ∙ take_all n now (omega arith)
 
 -- the reply, from the drafts before it
-pub answer_is : (config : Configuration) (boot client : ℕ) (fields : Fields) (kind : Kind) (decision : Decision) (word : Said) (code : ℕ) (is_signed : Bool)
+pub answer_is : (config : Configuration) (boot client : ℕ) (fields : Fields) (kind : MeaningKind) (decision : Decision) (word : Said) (code : ℕ) (is_signed : Bool)
     (start first second third : Begun) (packet secret result : List ℕ) (found : Client)
     → start ≡ record { id = fields.id; attributes = [] } → first ≡ with_attributes start (start.attributes ++ list_octets (signature_if is_signed))
     → second ≡ with_attributes first (first.attributes ++ list_octets (said_attributes config boot kind decision))

@@ -9,13 +9,13 @@ use Rattle.rsl_auth.specs.Authenticator.{sealed}
 use Rattle.rsl_auth.specs.Signature.{signed}
 use Rattle.rsl_wire.specs.Attributes.{Attribute, attribute_of, attributes_in, list_octets}
 use Rattle.rsl_wire.specs.Packet.{Fields, packet_octets}
-use Rattle.rsl_event.specs.Kind.{kind_of}
+use Rattle.rsl_event.specs.MeaningKind.{kind_of}
 use Rattle.rsl_event.specs.Request.{proxy_states, secret_of}
 use Rattle.rsl_event.specs.Signature.{is_reply_signed, signature_if}
 use Rattle.rsl_event.specs.declared.event.Decision.{Decision}
 use Rattle.rsl_event.specs.declared.event.Decision.TheVariants as decisions
-use Rattle.rsl_event.specs.declared.kind.Kind.{Kind}
-use Rattle.rsl_event.specs.declared.kind.Kind.TheVariants as kinds
+use Rattle.rsl_event.specs.declared.meaning_kind.MeaningKind.{MeaningKind}
+use Rattle.rsl_event.specs.declared.meaning_kind.MeaningKind.TheVariants as kinds
 use Rattle.rsl_event.specs.declared.meaning.Meaning.{Meaning}
 use Rattle.rsl_event.specs.declared.words.Said.{Said}
 use Rattle.rsl_event.specs.declared.words.Said.TheVariants as words
@@ -28,7 +28,7 @@ said_of decisions.LimitReject = words.LimitReject
 said_of decisions.Done = words.LimitReject
 
 -- the word for what is answered to a meaning of this kind; the decision tells of an ask alone
-abbrev pub said_to : Kind → Decision → Said
+abbrev pub said_to : MeaningKind → Decision → Said
 said_to kinds.Bare decision = words.Reject
 said_to kinds.Reject decision = words.Reject
 said_to (kinds.Ask account) decision = said_of decision
@@ -85,19 +85,19 @@ decided_attributes config boot account decisions.LimitReject = limit_attributes
 decided_attributes config boot account decisions.Done = limit_attributes
 
 -- what the server says in a reply
-abbrev pub said_attributes : Configuration → (boot : ℕ) → Kind → Decision → List Attribute
+abbrev pub said_attributes : Configuration → (boot : ℕ) → MeaningKind → Decision → List Attribute
 said_attributes config boot (kinds.Ask account) decision =
     decided_attributes config boot account decision
 said_attributes config boot _ decision = []
 
 -- what a reply repeats of the request's attributes
-abbrev pub repeated_attributes : List Attribute → Kind → List Attribute
+abbrev pub repeated_attributes : List Attribute → MeaningKind → List Attribute
 repeated_attributes attributes kinds.Bare = []
 repeated_attributes attributes _ = proxy_states attributes
 
 -- the attributes of a reply, its Message-Authenticator not yet signed: this stands first, and
 -- Proxy-States last, as they came
-abbrev pub reply_attributes : Configuration → (boot : ℕ) → List Attribute → Kind → Decision
+abbrev pub reply_attributes : Configuration → (boot : ℕ) → List Attribute → MeaningKind → Decision
     → List Attribute
 reply_attributes config boot attributes kind decision =
     signature_if (is_reply_signed (said_to kind decision) attributes)
@@ -105,7 +105,7 @@ reply_attributes config boot attributes kind decision =
     ++ repeated_attributes attributes kind
 
 -- the reply before it is signed and sealed
-abbrev pub unsigned_reply : Configuration → (boot : ℕ) → Fields → Kind → Decision → List ℕ
+abbrev pub unsigned_reply : Configuration → (boot : ℕ) → Fields → MeaningKind → Decision → List ℕ
 unsigned_reply config boot fields kind decision = packet_octets (record {
   code = code_of (said_to kind decision);
   id = fields.id;
@@ -122,7 +122,7 @@ signed_if is_signed packet request_auth secret =
 
 -- the octets of the reply to a packet of a client with a meaning of this kind: signed if the
 -- request was, and then sealed, with the client's secret
-unfoldable pub answer_to : Configuration → (boot client : ℕ) → Fields → Kind → Decision → List ℕ
+unfoldable pub answer_to : Configuration → (boot client : ℕ) → Fields → MeaningKind → Decision → List ℕ
 answer_to config boot client fields kind decision =
     sealed
     (signed_if

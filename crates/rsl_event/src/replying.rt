@@ -16,13 +16,13 @@ ghost use Rattle.rsl_event.specs.Answer.{
 ghost use Rattle.rsl_event.specs.Draft.{with_more};
 ghost use Rattle.rsl_event.specs.Request.{proxy_len};
 ghost use Rattle.rsl_event.specs.declared.codes.TheConstants.{MAX_PROXY_STATE_LEN};
-ghost use Rattle.rsl_event.specs.declared.kind.Kind.TheVariants as kinds;
+ghost use Rattle.rsl_event.specs.declared.meaning_kind.MeaningKind.TheVariants as kinds;
 ghost use Rattle.rsl_event.specs.Signature.{is_reply_signed};
 ghost use Rattle.rsl_event.specs.Prepared.{CanReply, HasAsker, IsPrepared};
 
 use crate::codes::{ACCESS_ACCEPT, ACCESS_REJECT, ACCOUNTING_RESPONSE};
 use crate::event::Decision;
-use crate::kind::Kind;
+use crate::meaning_kind::MeaningKind;
 use crate::meaning::{Meaning, Prepared};
 use crate::signature::{has_signature, push_signature_if, signed_if};
 use crate::words::Said;
@@ -94,7 +94,7 @@ pub fn reply(
 pub fn reply_to(
     request: &Packet<'_>,
     client: u32,
-    kind: Kind,
+    kind: MeaningKind,
     config: &Config,
     boot: u64,
     decision: Decision,
@@ -179,7 +179,7 @@ fn code_of(said: Said) -> u8
 }
 
 /// Writes what the server says into a draft that has at most a Message-Authenticator.
-fn write_said(config: &Config, boot: u64, kind: Kind, decision: Decision, draft: &mut Draft)
+fn write_said(config: &Config, boot: u64, kind: MeaningKind, decision: Decision, draft: &mut Draft)
     requires asker { HasAsker config.now kind }
     requires room { length draft.old.attributes ≤ 18 }
     ensures written { draft.new ≡ with_more draft.old
@@ -187,13 +187,13 @@ fn write_said(config: &Config, boot: u64, kind: Kind, decision: Decision, draft:
     ensures short { length draft.new.attributes ≤ 66 }
     ensures kept { length draft.old.attributes ≤ length draft.new.attributes }
 {
-    if let Kind::Ask(account) = kind {
+    if let MeaningKind::Ask(account) = kind {
         write_decision(config, boot, account, decision, draft);
     }
 }
 
 /// Writes what the reply repeats of the request: its Proxy-States.
-fn write_repeated(request: &Option<Attrs<'_>>, kind: Kind, draft: &mut Draft)
+fn write_repeated(request: &Option<Attrs<'_>>, kind: MeaningKind, draft: &mut Draft)
     requires each { IfSome request.now (AllByRecursion IsAttribute) }
     requires room { (kind ≡ kinds.Bare → ⊥) →
         proxy_len (unwrap_or request.now []) ≤ MAX_PROXY_STATE_LEN }
@@ -202,7 +202,7 @@ fn write_repeated(request: &Option<Attrs<'_>>, kind: Kind, draft: &mut Draft)
         (unwrap_or request.now []) kind)) }
     ensures kept { length draft.old.attributes ≤ length draft.new.attributes }
 {
-    if let Kind::Bare = kind {
+    if let MeaningKind::Bare = kind {
         return;
     }
     if let Some(attributes) = request {
