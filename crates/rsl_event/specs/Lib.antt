@@ -1,4 +1,5 @@
 pub mod Request
+pub mod Occurrences
 pub mod Signature
 pub mod Status
 pub mod Access

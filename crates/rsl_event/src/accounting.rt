@@ -93,7 +93,7 @@ fn session_meaning(
     if text_of(attributes, ACCT_SESSION_ID).is_empty() {
         return Err(Dropped::NoSession);
     }
-    Ok(match account_named(config, attributes) {
+    Ok(match account_named(config, attributes.first(USER_NAME)) {
         Some(account) => Meaning::Own {
             account,
             act: session_act(alloc, boot, client, status, attributes)?,

@@ -55,7 +55,8 @@ impl Meaning {
                 account,
                 act: Act::Ask { .. },
             } => MeaningKind::Ask(*account),
-            Meaning::Own { .. } | Meaning::Restart { .. } | Meaning::Stray(_) => MeaningKind::Account,
+            Meaning::Own { .. } | Meaning::Restart { .. } | Meaning::Stray(_) =>
+                MeaningKind::Account,
         }
     }
 }
