@@ -15,20 +15,27 @@ pub trait Subject {
 ///
 /// A row is a line: its name, its fields, and the text that is expected, with `|` between them and
 /// blanks around each left out. Empty lines and those that begin with `#` are no rows. In the
-/// source a long row goes on after a `\` at the end of a line. The first row that fails stops the
-/// test: its name and both texts are printed on standard error, or, where the subject has no answer
-/// to it, its name and what is expected, and the test ends with the subject's error.
+/// source a long row goes on after a `\` at the end of a line. Of each row whose texts differ its name
+/// and both texts are printed on standard error, and the test ends with an error once all were
+/// tried. Where the subject has no answer to a row, its name and what is expected are printed, and
+/// the test ends there, with the subject's error.
 pub fn check_rows<R: AllocGlobal + Eprint, S: Subject>(
     rt: &R,
     subject: &S,
     rows: &str,
 ) -> Result<(), Fail> {
+    let mut has_failed = false;
     for line in rows.lines() {
         let row = line.trim();
         if !row.is_empty() && !row.starts_with('#') {
             let fields = fields_of(rt.alloc(), row)?;
-            check_fields(rt, subject, fields.as_slice())?;
+            if !is_as_expected(rt, subject, fields.as_slice())? {
+                has_failed = true;
+            }
         }
+    }
+    if has_failed {
+        return Err("a row fails")?;
     }
     Ok(())
 }
@@ -42,12 +49,13 @@ fn fields_of<'a>(alloc: Global, row: &'a str) -> Result<Vec<&'a str>, Fail> {
     Ok(fields)
 }
 
-/// Compares what the subject gives for the fields of a row with the last of them.
-fn check_fields<R: AllocGlobal + Eprint, S: Subject>(
+/// Whether what the subject gives for the fields of a row is the last of them; if not, both are
+/// printed.
+fn is_as_expected<R: AllocGlobal + Eprint, S: Subject>(
     rt: &R,
     subject: &S,
     fields: &[&str],
-) -> Result<(), Fail> {
+) -> Result<bool, Fail> {
     let [name, given @ .., expected] = fields else {
         return Err("a row without a name or an expected text")?;
     };
@@ -59,8 +67,8 @@ fn check_fields<R: AllocGlobal + Eprint, S: Subject>(
         }
     };
     if found.as_str() == *expected {
-        return Ok(());
+        return Ok(true);
     }
     rt.eprintln(format_args!("{name}\nexpected: {expected}\nfound:    {found}"))?;
-    Err("a row fails")?
+    Ok(false)
 }
