@@ -4,8 +4,6 @@ pub mod Field
 pub mod Version
 pub mod Walk
 pub mod Settings
-pub mod Client
-pub mod Entry
 pub mod Configuration
-pub mod Inside
+pub mod Seen
 pub mod File
