@@ -5,5 +5,6 @@ pub mod Version
 pub mod Walk
 pub mod Settings
 pub mod Configuration
-pub mod Seen
+pub mod TextSeen
+pub mod ConfigSeen
 pub mod File

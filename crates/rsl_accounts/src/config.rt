@@ -57,7 +57,7 @@ impl Model for Config {
 
     ghost Value = { Configuration };
 
-    ghost use Rattle.rsl_accounts.specs.Seen.{configuration_in, IsKept};
+    ghost use Rattle.rsl_accounts.specs.ConfigSeen.{configuration_in, IsKept};
 
     ghost view = { configuration_in };
 

@@ -14,15 +14,11 @@ use crate::secret::Secret;
 use crate::settings::knows_own_times;
 use crate::text::Text;
 
-/// An account.
+/// An account. What each login reads of it stands first, as fields lie in memory in their order.
 #[derive(Debug, PartialEq, Eq, Drop)]
 pub struct Entry {
-    /// The User-Name: 1 to 64 octets, each 0x21 to 0x7E.
-    pub name: Text,
     /// The password: 1 to 128 octets of UTF-8 without NUL.
     pub password: Secret,
-    /// The session limit.
-    pub rules: Rules,
     /// The Service-Type of the account's accepts (RFC 2865 section 5.6), at least 1.
     pub service_type: Option<u32>,
     /// The Framed-Protocol of the account's accepts (RFC 2865 section 5.7), at least 1.
@@ -31,6 +27,10 @@ pub struct Entry {
     pub session_timeout: Option<u32>,
     /// The Idle-Timeout of the account's accepts in seconds (RFC 2865 section 5.28), at least 1.
     pub idle_timeout: Option<u32>,
+    /// The session limit.
+    pub rules: Rules,
+    /// The User-Name: 1 to 64 octets, each 0x21 to 0x7E.
+    pub name: Text,
     /// The live time of the account's own in seconds, 1 to 86,400; in version 1 it is passed over.
     pub own_live: Option<u64>,
     /// The grace time of the account's own in seconds, 1 to 86,400; in version 1 it is passed over.

@@ -19,6 +19,7 @@ mod file;
 mod rules;
 mod secret;
 mod settings;
+mod short;
 mod table;
 mod text;
 mod walk;
