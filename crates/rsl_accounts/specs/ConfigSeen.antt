@@ -1,4 +1,4 @@
--- What a `Config` holds.
+-- How a `Config` is seen.
 use Rattle.std.specs.Prelude.{◌≡◌, map}
 use Rattle.rsl_accounts.specs.declared.config.Config.TheInside.{Inside}
 use Rattle.rsl_accounts.specs.Configuration.{Configuration, names}
