@@ -1,6 +1,7 @@
 -- What a line of a script says.
 use Rattle.std.specs.Prelude.{ℕ, ◌==◌, Bool, true, false, List, [], ◌∷◌, length, codes, bytes_eq, if◌then◌else◌, Option, None, Some, option_map, unwrap_or}
 use Rattle.rsl_accounts.specs.Address.{address_of}
+use Rattle.rsl_accounts.specs.Settings.{rules_of_places}
 use Rattle.rsl_accounts.specs.declared.entry.Entry.{Entry}
 use Rattle.rsl_script.specs.declared.line.ScriptLine.{ScriptLine}
 use Rattle.rsl_script.specs.declared.line.Options.{Options}
@@ -51,16 +52,7 @@ abbrev pub account_with : (name password : List ℕ) → (places : ℕ) → Opti
 account_with name password places options = record {
   name = name;
   password = password;
-  rules =
-      record {
-        places = places;
-        ports = unwrap_or options.ports 1;
-        reserve = 0;
-        live = 0;
-        grace = 0;
-        closed = 0;
-        keep = 0;
-      };
+  rules = rules_of_places places (unwrap_or options.ports 1);
   service_type = None;
   framed_protocol = None;
   session_timeout = None;

@@ -179,15 +179,7 @@ fn account_with(
     Ok(Entry {
         name: Text::from_str(alloc, name)?,
         password: Secret::from_str(alloc, password)?,
-        rules: Rules {
-            places,
-            ports: options.ports.unwrap_or(1),
-            reserve: 0,
-            live: 0,
-            grace: 0,
-            closed: 0,
-            keep: 0,
-        },
+        rules: Rules::of_places(places, options.ports.unwrap_or(1)),
         service_type: None,
         framed_protocol: None,
         session_timeout: None,
