@@ -1,0 +1,13 @@
+use Rattle.std.proofs.Common.{◌∙◌}
+use Rattle.rsl_wire.specs.Seen.{fields_of}
+use Rattle.rsl_steps.proofs.Shards.{takes_drop, takes_reply}
+use Rattle.rsl_steps.proofs.answers.take_datagram.Goals as goal
+
+pub returns-in-Err : goal.returns-in-Err
+returns-in-Err c = λ before are.
+    rw c.answer_to_drop.ensures (takes_drop c.args.config.now c.args.boot before c.args.moment c.args.port c.args.source c.args.octets.now c.in-Err.dropped c.args.shards.now c.in-Err.ensures.meaning are)
+
+pub returns : goal.returns
+returns c = λ before are.
+    takes_reply c.args.config.now c.args.boot before c.args.moment c.args.port c.args.source c.args.octets.now c.in-Ok.prepared.meaning (fields_of c.in-Ok.prepared.packet) c.in-Ok.prepared.client c.in-Ok-decide_meaning.decision c.said.result c.from.result
+    c.args.shards.now c.decide_meaning.new.shards c.in-Ok.ensures.meaning c.in-Ok.ensures.packet c.in-Ok.ensures.client c.in-Ok.ensures.prepared.account are c.in-Ok-decide_meaning.ensures.decided c.said.ensures (c.from.ensures ∙ c.shrink_to_fit.ensures.items ∙ c.reply-octets.ensures)
