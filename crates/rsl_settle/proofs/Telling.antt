@@ -7,7 +7,7 @@ use Rattle.std.proofs.lemmas.Bool.{cases_lt, ne_eqb}
 use Rattle.std.proofs.lemmas.List.{flat_map_more, map_more, take_all}
 use Rattle.std.proofs.lemmas.List.Elements.{All-contains, All-nil, All-push, All-tail, Contains-get_or}
 use Rattle.rsl_accounts.specs.Configuration.{Configuration}
-use Rattle.rsl_settle.specs.Faults.{IsAmong, IsFaultOfPass, IsFaultOfPasses, IsFaultOfReceipts, IsSegmentFault, IsNumberFaultOfPass, IsNumberFaultOfPasses, IsOfNoShard, IsMismatch}
+use Rattle.rsl_settle.specs.Faults.{IsAmong, IsFaultOfPass, IsFaultOfPasses, IsFaultOfReceipts, IsSegmentFault, IsNumberFaultOfPass, IsNumberFaultOfPasses, IsOfNoShard, IsMismatchIn}
 use Rattle.rsl_settle.specs.Receipts.{FallsAt, FallsTo, IsItsLine, positions_of, times}
 use Rattle.rsl_settle.specs.Segments.{HasJoined, shard_lines, of_shard}
 use Rattle.rsl_settle.specs.Settled.{IsCloseFault, IsMismatch, IsNoLine, IsSettled}
@@ -19,7 +19,7 @@ use Rattle.rsl_shard.specs.declared.segment.Segment.{Segment}
 
 -- ---- one pass
 
-pub mismatch_told : (lines : List Line) (shard : ℕ) (receipts : List Receipt) (position : ℕ) → ((receipt : Receipt) × IsMismatch lines shard receipts position receipt)
+pub mismatch_told : (lines : List Line) (shard : ℕ) (receipts : List Receipt) (position : ℕ) → ((receipt : Receipt) × IsMismatchIn lines shard receipts position receipt)
     → IsFaultOfPass lines shard receipts (Mismatch shard position)
 mismatch_told lines shard receipts position found = (refl, inl found)
 
@@ -77,7 +77,7 @@ fault_of_shard segments lines shard passes MissingPass are found = found.2
 fault_of_shard segments lines shard passes (MissingSegment named) are found = found.2
 fault_of_shard segments lines shard passes (Mismatch named position) are found = by found.2.1
   where
-    by : (((receipt : Receipt) × IsMismatch lines shard found.0 position receipt) ⊎ FallsTo (positions_of shard found.0) position)
+    by : (((receipt : Receipt) × IsMismatchIn lines shard found.0 position receipt) ⊎ FallsTo (positions_of shard found.0) position)
         → IsMismatch segments passes named position
     by (inl mismatch) =
         inl (
