@@ -14,7 +14,7 @@ use Rattle.rsl_shard.specs.Restep.{AreBooks, book_of_entry, new_books, new_books
 use Rattle.rsl_shard.specs.Setup.{IsSetup, setup_of}
 use Rattle.rsl_shard.proofs.Numbers.{apart, differs, next_of_shard, there}
 
--- the book at a index is that of the entry of its account; `ahead` is how far the first account of the shard is
+-- the book at an index is that of the entry of its account; `ahead` is how far the first account of the shard is
 pub new_at : (shards shard number ahead index account : ℕ) (entries : List Entry) → ahead < shards → (number + ahead) % shards ≡ shard → account ≡ ahead + index * shards
     → slice_get (new_books_from shards shard number entries) index ≡ option_map book_of_entry (slice_get entries account)
 unfolding new_books_from

@@ -1,6 +1,6 @@
 -- What a move makes of the books of a shard, book by book.
 use Rattle.std.proofs.Common.{◌≡◌, ℕ, zero, suc, ◌+◌, ◌*◌, ◌/◌, ◌%◌, ◌<◌, ◌≤◌, ◌⊎◌, List, [], ◌∷◌, ◌++◌, take, drop, set, get_or, length, map, Bool, true, false, ◌==◌, cond, Option, Some, None, inl, inr, refl, sym, ap, subst, ◌∙◌, arith, append-nil}
-use Rattle.std.specs.Prelude.{IfSome, slice_get}
+use Rattle.std.specs.Prelude.{slice_get}
 use Rattle.std.specs.Option.{option_map, option_map_or}
 use Rattle.std.proofs.Math.Nat.{mod-eq_of_lt, suc-mul}
 use Rattle.std.proofs.lemmas.Bool.{cases_lt, eqb-true, eq-eqb}
@@ -20,7 +20,7 @@ use Rattle.rsl_shard.specs.Restep.{AreBooks, HaveStepped, book_at, book_from, bo
 use Rattle.rsl_shard.specs.Setup.{Setup}
 use Rattle.rsl_shard.specs.declared.moved.Move.{Move}
 use Rattle.rsl_shard.specs.declared.moved.Move.TheVariants.{Own}
-use Rattle.rsl_shard.proofs.Numbers.{account_is, differs, next_of_shard, there, unequal}
+use Rattle.rsl_shard.proofs.Numbers.{account_is, differs, next_of_shard, unequal}
 
 -- books before which the account stands stay as they are
 pub moved_past : (first shards account : ℕ) (event : Event) (books : List RuledBook) → account < first → moved_from first shards (Own account event) books ≡ books
@@ -186,30 +186,19 @@ no_book setup books account are other = by (account % setup.shards == setup.shar
         ∙ slice_get_past books (account / setup.shards) (past (cases_lt (account / setup.shards) (length books)) of_shard at)
 
 -- an own move, where the book at the account's index was stepped
-at_index : (books : List RuledBook) (index : ℕ) (P : RuledBook → Type 0) → index < length books → IfSome (slice_get books index) P
-    → (ruled : RuledBook) × (slice_get books index ≡ Some ruled) × P ruled
-at_index books index P within said = by (slice_get books index) refl
-  where
-    by : (o : Option RuledBook) → slice_get books index ≡ o → (ruled : RuledBook) × (slice_get books index ≡ Some ruled) × P ruled
-    by None is = absurd (there books index within is)
-    by (Some ruled) is = (ruled, is, subst (λ (o : Option RuledBook). IfSome o P) is said)
+pub own_books : (setup : Setup) (books : List RuledBook) (account index : ℕ) (event : Event) (ruled new : RuledBook) (decision : Decision) → 0 < setup.shards
+    → account ≡ setup.shard + index * setup.shards → index < length books → ruled ≡ get_or books index ruled
+    → (new.book, decision) ≡ step ruled.rules ruled.book event → new.rules ≡ ruled.rules → set books index new ≡ books_after setup books (Own account event)
+own_books setup books account index event ruled new decision some at within is by same =
+    ap (set books index) (stepped_is event ruled new decision by same)
+    ∙ sym (moved_own setup.shard setup.shards account index event books ruled some at (slice_get_read books (length books) index ruled refl within is))
 
-pub own_books : (setup : Setup) (books new : List RuledBook) (account index : ℕ) (event : Event) → 0 < setup.shards → account ≡ setup.shard + index * setup.shards
-    → index < length books → IfSome (slice_get books index) (λ (ruled : RuledBook). new ≡ set books index (step_by (Some event) ruled))
-    → new ≡ books_after setup books (Own account event)
-own_books setup books new account index event some at within said =
-    let found = at_index books index (λ (ruled : RuledBook). new ≡ set books index (step_by (Some event) ruled)) within said in
-    found.2 ∙ sym (moved_own setup.shard setup.shards account index event books found.0 some at found.1)
-
-pub own_decision : (setup : Setup) (books : List RuledBook) (decision : Decision) (account index : ℕ) (event : Event) → 0 < setup.shards
-    → account ≡ setup.shard + index * setup.shards → index < length books
-    → IfSome (slice_get books index) (λ (ruled : RuledBook). decision ≡ (step ruled.rules ruled.book event).1)
-    → decision ≡ decision_by setup books (Own account event)
-own_decision setup books decision account index event some at within said =
-    let found = at_index books index (λ (ruled : RuledBook). decision ≡ (step ruled.rules ruled.book event).1) within said in
-    found.2
-    ∙ ap (λ (o : Option RuledBook). option_map_or (λ (ruled : RuledBook). (step ruled.rules ruled.book event).1) o Done)
-    (sym (book_at_index setup.shard setup.shards account index books some at ∙ found.1))
+pub own_decision : (setup : Setup) (books : List RuledBook) (account index : ℕ) (event : Event) (ruled : RuledBook) (next : Book) (decision : Decision) → 0 < setup.shards
+    → account ≡ setup.shard + index * setup.shards → index < length books → ruled ≡ get_or books index ruled
+    → (next, decision) ≡ step ruled.rules ruled.book event → decision ≡ decision_by setup books (Own account event)
+own_decision setup books account index event ruled next decision some at within is by =
+    ap (λ (stepped : Book × Decision). stepped.1) by
+    ∙ sym (ap (λ (o : Option RuledBook). option_map_or (λ (one : RuledBook). (step one.rules one.book event).1) o Done) (stands setup books account index ruled some at within is))
 
 -- books that are copied, or compared, one by one
 pub ruleset copy_steps = (take_more, take_all)

@@ -83,21 +83,6 @@ fn is_of_one_account(act: &Act) -> bool
     }
 }
 
-/// Steps the book at a index by an event.
-#[inline(always)]
-fn step_at(books: &mut [Book], index: usize, event: Event) -> Decision
-    requires index { index < length books.old }
-    requires limit { All IsWithinLimit books.old }
-    ensures books { IfSome (slice_get books.old index) (λ book.
-        books.new ≡ set books.old index (step_by (Some event) book)) }
-    ensures decision { IfSome (slice_get books.old index) (λ book.
-        result ≡ (step book.rules book.book event).1) }
-    ensures limit { All IsWithinLimit books.new }
-    ensures len { length books.new ≡ length books.old }
-{
-    books[index].apply(event)
-}
-
 /// Sweeps each book.
 #[tactic(auto, using(crate::proofs::Moving::each_steps))]
 fn sweep_each(books: &mut [Book], moment: u64, nas: &Nas)
@@ -316,7 +301,7 @@ impl Books {
             decision_by self.old.setup self.old.books (moves.Own account event) }
     {
         let index = self.index_of(account);
-        step_at(&mut self.list, index, event)
+        self.list[index].apply(event)
     }
 
     /// Sweeps each book.
