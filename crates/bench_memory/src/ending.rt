@@ -33,7 +33,7 @@ impl<L0: Tally, L1: Tally, L2: Tally, L3: Tally> Served<L0, L1, L2, L3> {
             acct,
             segments,
         } = self;
-        let passes = listed(alloc, auth, acct)?;
+        let passes = into_vec(alloc, auth, acct)?;
         match tell_settled(rt, alloc, life, &passes, &segments, given) {
             Ok(()) => is_closed(
                 rt,
@@ -47,7 +47,7 @@ impl<L0: Tally, L1: Tally, L2: Tally, L3: Tally> Served<L0, L1, L2, L3> {
 }
 
 /// Two passes, as a list.
-fn listed<L0: Tally, L1: Tally, L2: Tally, L3: Tally>(
+fn into_vec<L0: Tally, L1: Tally, L2: Tally, L3: Tally>(
     alloc: Global,
     auth: Pass<L0, L1, L2, L3>,
     acct: Pass<L0, L1, L2, L3>,

@@ -11,8 +11,8 @@ use Rattle.std.proofs.lemmas.Option.{slice_get-map, slice_get_cases, slice_get_p
 use Rattle.rsl_accounts.specs.Configuration.{Configuration}
 use Rattle.rsl_accounts.specs.declared.entry.Entry.{Entry}
 use Rattle.rsl_book.specs.RuledBook.{RuledBook}
-use Rattle.rsl_shard.proofs.Callers.{account_is, book_placed}
-use Rattle.rsl_shard.specs.Replay.{book_at}
+use Rattle.rsl_shard.proofs.Callers.{account_is, book_at_index}
+use Rattle.rsl_shard.specs.Restep.{book_at}
 use Rattle.rsl_shard.specs.Rows.{row_of, rows_from, rows_of}
 use Rattle.rsl_shard.specs.Seen.{ShardSeen, books_of}
 use Rattle.rsl_shard.specs.Setup.{Setup}
@@ -51,7 +51,7 @@ row_in_shard setup books account ruled some is has =
     let at : account ≡ setup.shard + account / setup.shards * setup.shards = account_is setup.shards setup.shard account is in
     row_placed setup.shard setup.shards (account / setup.shards) books
     ∙ ap (λ (n : ℕ). option_map (row_of n) (slice_get books (account / setup.shards))) (sym at)
-    ∙ ap (option_map (row_of account)) (sym (book_placed setup.shard setup.shards account (account / setup.shards) books some at) ∙ has)
+    ∙ ap (option_map (row_of account)) (sym (book_at_index setup.shard setup.shards account (account / setup.shards) books some at) ∙ has)
 
 -- the row of an account among those of all shards
 row_of_shards : (config : Configuration) (boot : ℕ) (before : List Step) (shards : List ShardSeen) (account : ℕ) (ruled : RuledBook) (found : Option ShardSeen)

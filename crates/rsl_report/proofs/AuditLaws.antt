@@ -18,13 +18,13 @@ use Rattle.rsl_session.specs.BookStep.{book_after, step}
 use Rattle.rsl_session.specs.Rule.{decision_of, outcome_of, past_of}
 use Rattle.rsl_session.proofs.Callers.{IsRuled-past_of, books_are, joins}
 use Rattle.rsl_shard.specs.Moves.{IsOwn, IsTaken, event_to, own_in}
-use Rattle.rsl_shard.specs.Replay.{book_at, book_from, book_of_entry, books_after, decision_by, moved_from, new_books, replay, step_by}
+use Rattle.rsl_shard.specs.Restep.{book_at, book_from, book_of_entry, books_after, decision_by, moved_from, new_books, restep, step_by}
 use Rattle.rsl_shard.specs.Setup.{Setup, setup_of}
 use Rattle.rsl_shard.specs.declared.line.Line.{Line}
 use Rattle.rsl_shard.specs.declared.moved.Move.{Move}
 use Rattle.rsl_shard.specs.declared.moved.Move.TheVariants.{Own, Sweep, Tick, Stray}
-use Rattle.rsl_shard.proofs.Callers.{account_is, book_placed, moved_book, new_book_at}
-use Rattle.rsl_report.specs.Replayed.{books_by_replay, rule_decision}
+use Rattle.rsl_shard.proofs.Callers.{account_is, book_at_index, moved_book, new_book_at}
+use Rattle.rsl_report.specs.Restep.{books_by_restep, rule_decision}
 
 -- ---- the books
 
@@ -35,16 +35,16 @@ stepped_decision rules events event =
     ap (λ (book : Book). (step rules book event).1) (books_are rules events)
     ∙ ap (λ (next : Book × Decision). next.1) (joins rules (past_of rules events) event (IsRuled-past_of rules events))
 
-replay-append : (setup : Setup) (opening : List RuledBook) (xs ys : List Line) → replay setup opening (xs ++ ys) ≡ replay setup (replay setup opening xs) ys
-unfolding replay
-replay-append setup opening [] ys = refl
-replay-append setup opening (x ∷ xs) ys = replay-append setup (books_after setup opening x.moved) xs ys
+restep-append : (setup : Setup) (opening : List RuledBook) (xs ys : List Line) → restep setup opening (xs ++ ys) ≡ restep setup (restep setup opening xs) ys
+unfolding restep
+restep-append setup opening [] ys = refl
+restep-append setup opening (x ∷ xs) ys = restep-append setup (books_after setup opening x.moved) xs ys
 
 -- the books after one line more
-pub replayed-more : (config : Configuration) (shard : ℕ) (before : List Line) (line : Line)
-    → books_by_replay config shard (before ++ line ∷ []) ≡ books_after (setup_of config shard) (books_by_replay config shard before) line.moved
-unfolding books_by_replay replay
-replayed-more config shard before line = replay-append (setup_of config shard) (new_books config shard) before (line ∷ [])
+pub restepped-more : (config : Configuration) (shard : ℕ) (before : List Line) (line : Line)
+    → books_by_restep config shard (before ++ line ∷ []) ≡ books_after (setup_of config shard) (books_by_restep config shard before) line.moved
+unfolding books_by_restep restep
+restepped-more config shard before line = restep-append (setup_of config shard) (new_books config shard) before (line ∷ [])
 
 -- a book of an account after its own events among lines
 book_past : (account : ℕ) → List Line → RuledBook → RuledBook
@@ -71,12 +71,12 @@ book_past-more : (account : ℕ) (line : Line) (lines : List Line) (o : Option R
 book_past-more account line lines None = refl
 book_past-more account line lines (Some ruled) = ap (λ (book : RuledBook). Some book) (book_past-first account line lines ruled)
 
-book_at-replay : (setup : Setup) (opening : List RuledBook) (lines : List Line) (account : ℕ)
-    → book_at setup (replay setup opening lines) account ≡ option_map (book_past account lines) (book_at setup opening account)
-unfolding replay
-book_at-replay setup opening [] account = book_past-none account (book_at setup opening account)
-book_at-replay setup opening (line ∷ lines) account =
-    book_at-replay setup (books_after setup opening line.moved) lines account
+book_at-restep : (setup : Setup) (opening : List RuledBook) (lines : List Line) (account : ℕ)
+    → book_at setup (restep setup opening lines) account ≡ option_map (book_past account lines) (book_at setup opening account)
+unfolding restep
+book_at-restep setup opening [] account = book_past-none account (book_at setup opening account)
+book_at-restep setup opening (line ∷ lines) account =
+    book_at-restep setup (books_after setup opening line.moved) lines account
     ∙ ap (option_map (book_past account lines)) (moved_book setup.shard setup.shards account line.moved opening)
     ∙ book_past-more account line lines (book_at setup opening account)
 
@@ -84,19 +84,19 @@ book_at-replay setup opening (line ∷ lines) account =
 book_at-new : (config : Configuration) (shard account : ℕ) → shard < config.settings.shards → account % config.settings.shards ≡ shard
     → book_at (setup_of config shard) (new_books config shard) account ≡ option_map book_of_entry (slice_get config.accounts account)
 book_at-new config shard account less is =
-    let place : ℕ = account / config.settings.shards in
+    let index : ℕ = account / config.settings.shards in
     let at : account ≡ shard + account / config.settings.shards * config.settings.shards = account_is config.settings.shards shard account is in
-    book_placed shard config.settings.shards account (account / config.settings.shards) (new_books config shard) (omega (arith, less)) at
+    book_at_index shard config.settings.shards account (account / config.settings.shards) (new_books config shard) (omega (arith, less)) at
     ∙ new_book_at config shard (account / config.settings.shards) less
     ∙ ap (λ (n : ℕ). option_map book_of_entry (slice_get config.accounts n)) (sym at)
 
 -- what the books decide on a move that the shard takes is what the rule decides
 pub decided_as_ruled : (config : Configuration) (shard : ℕ) (before : List Line) (moved : Move) → shard < config.settings.shards → IsTaken (setup_of config shard) moved
-    → decision_by (setup_of config shard) (books_by_replay config shard before) moved ≡ rule_decision config before moved
-unfolding books_by_replay book_past
+    → decision_by (setup_of config shard) (books_by_restep config shard before) moved ≡ rule_decision config before moved
+unfolding books_by_restep book_past
 decided_as_ruled config shard before (Own account event) less own =
     ap (λ (o : Option RuledBook). option_map_or (λ (ruled : RuledBook). (step ruled.rules ruled.book event).1) o Done)
-    (book_at-replay (setup_of config shard) (new_books config shard) before account
+    (book_at-restep (setup_of config shard) (new_books config shard) before account
     ∙ ap (option_map (book_past account before)) (book_at-new config shard account less own.own_account.of_shard))
     ∙ by (slice_get config.accounts account)
   where

@@ -8,61 +8,61 @@ use Rattle.rsl_accounts.specs.Configuration.{Configuration}
 use Rattle.rsl_book.specs.RuledBook.{RuledBook}
 use Rattle.rsl_event.specs.declared.event.Decision.{Decision}
 use Rattle.rsl_shard.specs.Moves.{IsTaken}
-use Rattle.rsl_shard.specs.Replay.{BooksSeen, books_after, decision_by, new_books, new_books_seen, replay}
+use Rattle.rsl_shard.specs.Restep.{BooksSeen, books_after, decision_by, new_books, new_books_seen, restep}
 use Rattle.rsl_shard.specs.Setup.{Setup, setup_of}
 use Rattle.rsl_shard.specs.declared.line.Line.{Line}
 use Rattle.rsl_shard.specs.declared.moved.Move.{Move}
-use Rattle.rsl_report.proofs.AuditLaws.{decided_as_ruled, replayed-more}
+use Rattle.rsl_report.proofs.AuditLaws.{decided_as_ruled, restepped-more}
 use Rattle.rsl_report.specs.Audit.{AreJoined, AreRight, BeginsNew, IsFaultAt, IsFaultOfLines, IsFaultOfSegment, IsFaultOfSegments, IsFirstFault, IsFirstWrong, IsRecord, IsRight, Joins, account_of, lines_of}
-use Rattle.rsl_report.specs.Replayed.{books_by_replay, rule_decision}
-use Rattle.rsl_report.specs.Walk.{IsFaultOfBeginning, IsFaultOfLine, IsReplay}
+use Rattle.rsl_report.specs.Restep.{books_by_restep, rule_decision}
+use Rattle.rsl_report.specs.Walk.{IsFaultOfBeginning, IsFaultOfLine, IsRestep}
 use Rattle.rsl_report.specs.declared.audit_fault.AuditFault.{AuditFault}
 use Rattle.rsl_report.specs.declared.audit_fault.AuditFault.TheVariants.{NotFromEmpty, Gap, WrongDecision, NoMemory}
-use Rattle.rsl_report.specs.declared.replay.Replay.{Replay}
+use Rattle.rsl_report.specs.declared.restep.Restep.{Restep}
 use Rattle.rsl_shard.specs.declared.segment.Segment.{Segment}
 
 -- ---- a first segment
 
-pub new_replayed : (config : Configuration) (shard : ℕ) → new_books config shard ≡ books_by_replay config shard []
-unfolding books_by_replay replay
-new_replayed config shard = refl
+pub new_restepped : (config : Configuration) (shard : ℕ) → new_books config shard ≡ books_by_restep config shard []
+unfolding books_by_restep restep
+new_restepped config shard = refl
 
 pub begins : (config : Configuration) (first : Segment) (books : BooksSeen) → first.shard < config.settings.shards → first.first ≡ 0
     → books ≡ new_books_seen config first.shard → books.books ≡ first.opening.items → BeginsNew config first
 begins config first books within none new same = record {
   shard = within;
   first = none;
-  opening = sym same ∙ ap (λ (seen : BooksSeen). seen.books) new ∙ new_replayed config first.shard;
+  opening = sym same ∙ ap (λ (seen : BooksSeen). seen.books) new ∙ new_restepped config first.shard;
 }
 
 pub begins_otherwise : (config : Configuration) (first : Segment) (books : BooksSeen) → books ≡ new_books_seen config first.shard
     → (books.books ≡ first.opening.items → ⊥) → BeginsNew config first → ⊥
 begins_otherwise config first books new other begins =
-    other (ap (λ (seen : BooksSeen). seen.books) new ∙ new_replayed config first.shard ∙ sym begins.opening)
+    other (ap (λ (seen : BooksSeen). seen.books) new ∙ new_restepped config first.shard ∙ sym begins.opening)
 
 pub begun : (config : Configuration) (shard : ℕ) (books : BooksSeen) → shard < config.settings.shards → books ≡ new_books_seen config shard
-    → IsReplay config shard [] (record { shard = shard; books = books; lines = 0 })
+    → IsRestep config shard [] (record { shard = shard; books = books; lines = 0 })
 begun config shard books within new = record {
   within = within;
   of_shard = refl;
   setup = ap (λ (seen : BooksSeen). seen.setup) new;
-  books = ap (λ (seen : BooksSeen). seen.books) new ∙ new_replayed config shard;
+  books = ap (λ (seen : BooksSeen). seen.books) new ∙ new_restepped config shard;
   lines = refl;
 }
 
 -- ---- a line
 
 -- the shard of the record takes the move
-taken_so : (config : Configuration) (shard : ℕ) (before : List Line) (old : Replay) (moved : Move) → IsReplay config shard before old
+taken_so : (config : Configuration) (shard : ℕ) (before : List Line) (old : Restep) (moved : Move) → IsRestep config shard before old
     → IsTaken old.books.setup moved → IsTaken (setup_of config shard) moved
 taken_so config shard before old moved is taken = subst (λ (setup : Setup). IsTaken setup moved) is.setup taken
 
-pub not_taken : (config : Configuration) (shard : ℕ) (before : List Line) (old : Replay) (line : Line) → IsReplay config shard before old
+pub not_taken : (config : Configuration) (shard : ℕ) (before : List Line) (old : Restep) (line : Line) → IsRestep config shard before old
     → (IsTaken old.books.setup line.moved → ⊥) → IsRight config shard before line → ⊥
 not_taken config shard before old line is other right = other (subst (λ (setup : Setup). IsTaken setup line.moved) (sym is.setup) right.taken)
 
 -- the decision of the books is the rule's
-ruled_so : (config : Configuration) (shard : ℕ) (before : List Line) (old : Replay) (moved : Move) (decision : Decision) → IsReplay config shard before old
+ruled_so : (config : Configuration) (shard : ℕ) (before : List Line) (old : Restep) (moved : Move) (decision : Decision) → IsRestep config shard before old
     → IsTaken old.books.setup moved → decision ≡ decision_by old.books.setup old.books.books moved → decision ≡ rule_decision config before moved
 ruled_so config shard before old moved decision is taken decided =
     decided
@@ -70,7 +70,7 @@ ruled_so config shard before old moved decision is taken decided =
     ∙ ap (λ (books : List RuledBook). decision_by (setup_of config shard) books moved) is.books
     ∙ decided_as_ruled config shard before moved is.within (taken_so config shard before old moved is taken)
 
-pub line_right : (config : Configuration) (shard : ℕ) (before : List Line) (old : Replay) (line : Line) (decision : Decision) → IsReplay config shard before old
+pub line_right : (config : Configuration) (shard : ℕ) (before : List Line) (old : Restep) (line : Line) (decision : Decision) → IsRestep config shard before old
     → IsTaken old.books.setup line.moved → decision ≡ decision_by old.books.setup old.books.books line.moved → decision ≡ line.decision
     → IsRight config shard before line
 line_right config shard before old line decision is taken decided same = record {
@@ -78,17 +78,17 @@ line_right config shard before old line decision is taken decided same = record 
   ruled = sym same ∙ ruled_so config shard before old line.moved decision is taken decided;
 }
 
-pub line_wrong : (config : Configuration) (shard : ℕ) (before : List Line) (old : Replay) (line : Line) (decision : Decision) → IsReplay config shard before old
+pub line_wrong : (config : Configuration) (shard : ℕ) (before : List Line) (old : Restep) (line : Line) (decision : Decision) → IsRestep config shard before old
     → IsTaken old.books.setup line.moved → decision ≡ decision_by old.books.setup old.books.books line.moved → (decision ≡ line.decision → ⊥)
     → IsRight config shard before line → ⊥
 line_wrong config shard before old line decision is taken decided other right =
     other (ruled_so config shard before old line.moved decision is taken decided ∙ sym right.ruled)
 
--- the replay of one line more
-pub replay_more : (config : Configuration) (shard : ℕ) (before : List Line) (old new : Replay) (line : Line) → IsReplay config shard before old
+-- the restep of one line more
+pub restep_more : (config : Configuration) (shard : ℕ) (before : List Line) (old new : Restep) (line : Line) → IsRestep config shard before old
     → new.shard ≡ old.shard → new.books.setup ≡ old.books.setup → new.books.books ≡ books_after old.books.setup old.books.books line.moved
-    → new.lines ≡ old.lines + 1 → IsReplay config shard (before ++ line ∷ []) new
-replay_more config shard before old new line is shard_is setup_is books_is lines_is = record {
+    → new.lines ≡ old.lines + 1 → IsRestep config shard (before ++ line ∷ []) new
+restep_more config shard before old new line is shard_is setup_is books_is lines_is = record {
   within = is.within;
   of_shard = shard_is ∙ is.of_shard;
   setup = setup_is ∙ is.setup;
@@ -96,7 +96,7 @@ replay_more config shard before old new line is shard_is setup_is books_is lines
       books_is
       ∙ ap (λ (setup : Setup). books_after setup old.books.books line.moved) is.setup
       ∙ ap (λ (books : List RuledBook). books_after (setup_of config shard) books line.moved) is.books
-      ∙ sym (replayed-more config shard before line);
+      ∙ sym (restepped-more config shard before line);
   lines = omega (arith, lines_is, is.lines, length-append before (line ∷ []));
 }
 
@@ -113,59 +113,59 @@ AreRight-more config shard before (first ∷ lines) line right more = (
 )
 
 -- what the loop over lines keeps
-pub record AreTaken (config : Configuration) (lines : List Line) (old now : Replay) (at : ℕ) : Type 0 where
+pub record AreTaken (config : Configuration) (lines : List Line) (old now : Restep) (at : ℕ) : Type 0 where
   pub count : now.lines ≡ old.lines + at
-  pub right : (shard : ℕ) (before : List Line) → IsReplay config shard before old → AreRight config shard before (take at lines)
-  pub replayed : (shard : ℕ) (before : List Line) → IsReplay config shard before old → IsReplay config shard (before ++ take at lines) now
+  pub right : (shard : ℕ) (before : List Line) → IsRestep config shard before old → AreRight config shard before (take at lines)
+  pub restepped : (shard : ℕ) (before : List Line) → IsRestep config shard before old → IsRestep config shard (before ++ take at lines) now
 
-pub taken_none : (config : Configuration) (lines : List Line) (old : Replay) → AreTaken config lines old old 0
+pub taken_none : (config : Configuration) (lines : List Line) (old : Restep) → AreTaken config lines old old 0
 unfolding AreRight
 taken_none config lines old = record {
   count = omega arith;
   right = λ shard before is. tt;
-  replayed = λ shard before is. subst (λ (b : List Line). IsReplay config shard b old) (sym (append-nil before)) is;
+  restepped = λ shard before is. subst (λ (b : List Line). IsRestep config shard b old) (sym (append-nil before)) is;
 }
 
 take_one_more : (lines : List Line) (at : ℕ) (line : Line) → at < length lines → line ≡ get_or lines at line → take at lines ++ line ∷ [] ≡ take (at + 1) lines
 take_one_more lines at line within is = ap (λ (l : Line). take at lines ++ l ∷ []) is ∙ sym (take_more lines at line within)
 
-pub taken_more : (config : Configuration) (lines : List Line) (old now new : Replay) (at : ℕ) (line : Line) → at < length lines → line ≡ get_or lines at line
+pub taken_more : (config : Configuration) (lines : List Line) (old now new : Restep) (at : ℕ) (line : Line) → at < length lines → line ≡ get_or lines at line
     → AreTaken config lines old now at → new.lines ≡ now.lines + 1
-    → ((shard : ℕ) (before : List Line) → IsReplay config shard before now → IsRight config shard before line)
-    → ((shard : ℕ) (before : List Line) → IsReplay config shard before now → IsReplay config shard (before ++ line ∷ []) new)
+    → ((shard : ℕ) (before : List Line) → IsRestep config shard before now → IsRight config shard before line)
+    → ((shard : ℕ) (before : List Line) → IsRestep config shard before now → IsRestep config shard (before ++ line ∷ []) new)
     → AreTaken config lines old new (at + 1)
 taken_more config lines old now new at line within is so_far count right more = record {
   count = omega (arith, so_far.count, count);
   right = λ shard before start.
       subst (AreRight config shard before) (take_one_more lines at line within is)
-      (AreRight-more config shard before (take at lines) line (so_far.right shard before start) (right shard (before ++ take at lines) (so_far.replayed shard before start)));
-  replayed = λ shard before start.
-      subst (λ (b : List Line). IsReplay config shard b new)
+      (AreRight-more config shard before (take at lines) line (so_far.right shard before start) (right shard (before ++ take at lines) (so_far.restepped shard before start)));
+  restepped = λ shard before start.
+      subst (λ (b : List Line). IsRestep config shard b new)
       (append_assoc before (take at lines) (line ∷ []) ∙ ap (λ (ls : List Line). before ++ ls) (take_one_more lines at line within is))
-      (more shard (before ++ take at lines) (so_far.replayed shard before start));
+      (more shard (before ++ take at lines) (so_far.restepped shard before start));
 }
 
-pub taken_right : (config : Configuration) (lines : List Line) (old now : Replay) (at : ℕ) → length lines ≤ at → AreTaken config lines old now at
-    → (shard : ℕ) (before : List Line) → IsReplay config shard before old → AreRight config shard before lines
+pub taken_right : (config : Configuration) (lines : List Line) (old now : Restep) (at : ℕ) → length lines ≤ at → AreTaken config lines old now at
+    → (shard : ℕ) (before : List Line) → IsRestep config shard before old → AreRight config shard before lines
 taken_right config lines old now at past so_far shard before start =
     subst (AreRight config shard before) (take_all at lines past) (so_far.right shard before start)
 
-pub taken_replay : (config : Configuration) (lines : List Line) (old now : Replay) (at : ℕ) → length lines ≤ at → AreTaken config lines old now at
-    → (shard : ℕ) (before : List Line) → IsReplay config shard before old → IsReplay config shard (before ++ lines) now
-taken_replay config lines old now at past so_far shard before start =
-    subst (λ (ls : List Line). IsReplay config shard (before ++ ls) now) (take_all at lines past) (so_far.replayed shard before start)
+pub taken_restep : (config : Configuration) (lines : List Line) (old now : Restep) (at : ℕ) → length lines ≤ at → AreTaken config lines old now at
+    → (shard : ℕ) (before : List Line) → IsRestep config shard before old → IsRestep config shard (before ++ lines) now
+taken_restep config lines old now at past so_far shard before start =
+    subst (λ (ls : List Line). IsRestep config shard (before ++ ls) now) (take_all at lines past) (so_far.restepped shard before start)
 
 -- a fault of a line is one of the lines among which it stands
-pub fault_of_lines : (config : Configuration) (lines : List Line) (old now : Replay) (at : ℕ) (line : Line) (fault : AuditFault) → at < length lines
+pub fault_of_lines : (config : Configuration) (lines : List Line) (old now : Restep) (at : ℕ) (line : Line) (fault : AuditFault) → at < length lines
     → line ≡ get_or lines at line → AreTaken config lines old now at
-    → ((shard : ℕ) (before : List Line) → IsReplay config shard before now → IsFaultOfLine config shard before line fault)
-    → (shard : ℕ) (before : List Line) → IsReplay config shard before old → IsFaultOfLines config shard before lines fault
+    → ((shard : ℕ) (before : List Line) → IsRestep config shard before now → IsFaultOfLine config shard before line fault)
+    → (shard : ℕ) (before : List Line) → IsRestep config shard before old → IsFaultOfLines config shard before lines fault
 fault_of_lines config lines old now at line NotFromEmpty within is so_far wrong shard before start =
-    wrong shard (before ++ take at lines) (so_far.replayed shard before start)
+    wrong shard (before ++ take at lines) (so_far.restepped shard before start)
 fault_of_lines config lines old now at line (Gap number) within is so_far wrong shard before start =
-    wrong shard (before ++ take at lines) (so_far.replayed shard before start)
+    wrong shard (before ++ take at lines) (so_far.restepped shard before start)
 fault_of_lines config lines old now at line (WrongDecision account position) within is so_far wrong shard before start =
-    let found = wrong shard (before ++ take at lines) (so_far.replayed shard before start) in (
+    let found = wrong shard (before ++ take at lines) (so_far.restepped shard before start) in (
       at,
       line,
       record {
@@ -180,7 +180,7 @@ fault_of_lines config lines old now at line NoMemory within is so_far wrong shar
 
 -- ---- a segment
 
-pub joins_so : (config : Configuration) (shard : ℕ) (before : List Line) (now : Replay) (segment : Segment) → IsReplay config shard before now
+pub joins_so : (config : Configuration) (shard : ℕ) (before : List Line) (now : Restep) (segment : Segment) → IsRestep config shard before now
     → segment.shard ≡ now.shard → segment.first ≡ now.lines → now.lines + length segment.lines.items < 2 ^ 64 → now.books.books ≡ segment.opening.items
     → Joins config shard before segment
 joins_so config shard before now segment is of_shard first count same = record {
@@ -191,13 +191,13 @@ joins_so config shard before now segment is of_shard first count same = record {
 }
 
 -- what a segment that goes on there has to be
-pub record GoesOn (now : Replay) (segment : Segment) : Type 0 where
+pub record GoesOn (now : Restep) (segment : Segment) : Type 0 where
   pub of_shard : segment.shard ≡ now.shard
   pub first : segment.first ≡ now.lines
   pub count : now.lines + length segment.lines.items < 2 ^ 64
   pub opening : now.books.books ≡ segment.opening.items
 
-pub goes_on : (config : Configuration) (shard : ℕ) (before : List Line) (now : Replay) (segment : Segment) → IsReplay config shard before now
+pub goes_on : (config : Configuration) (shard : ℕ) (before : List Line) (now : Restep) (segment : Segment) → IsRestep config shard before now
     → Joins config shard before segment → GoesOn now segment
 goes_on config shard before now segment is joins = record {
   of_shard = joins.of_shard ∙ sym is.of_shard;
@@ -233,13 +233,13 @@ AreJoined-more config shard before (first ∷ segments) segment joined joins rig
     )
 
 -- what the loop over segments keeps
-pub record AreWalked (config : Configuration) (segments : List Segment) (old now : Replay) (number : ℕ) : Type 0 where
-  pub joined : (shard : ℕ) → IsReplay config shard [] old → AreJoined config shard [] (take number segments)
-  pub replayed : (shard : ℕ) → IsReplay config shard [] old → IsReplay config shard (lines_of (take number segments)) now
+pub record AreWalked (config : Configuration) (segments : List Segment) (old now : Restep) (number : ℕ) : Type 0 where
+  pub joined : (shard : ℕ) → IsRestep config shard [] old → AreJoined config shard [] (take number segments)
+  pub restepped : (shard : ℕ) → IsRestep config shard [] old → IsRestep config shard (lines_of (take number segments)) now
 
-pub walked_none : (config : Configuration) (segments : List Segment) (old : Replay) → AreWalked config segments old old 0
+pub walked_none : (config : Configuration) (segments : List Segment) (old : Restep) → AreWalked config segments old old 0
 unfolding AreJoined
-walked_none config segments old = record { joined = λ shard start. tt; replayed = λ shard start. start }
+walked_none config segments old = record { joined = λ shard start. tt; restepped = λ shard start. start }
 
 segment_one_more : (segments : List Segment) (number : ℕ) (segment : Segment) → number < length segments → segment ≡ get_or segments number segment
     → take number segments ++ segment ∷ [] ≡ take (number + 1) segments
@@ -249,40 +249,40 @@ segment_one_more segments number segment within is =
 lines_one_more : (segments : List Segment) (segment : Segment) → lines_of segments ++ segment.lines.items ≡ lines_of (segments ++ segment ∷ [])
 lines_one_more segments segment = flat_map_more (λ (s : Segment). s.lines.items) [] segments segment
 
-pub walked_more : (config : Configuration) (segments : List Segment) (old now new : Replay) (number : ℕ) (segment : Segment) → number < length segments
+pub walked_more : (config : Configuration) (segments : List Segment) (old now new : Restep) (number : ℕ) (segment : Segment) → number < length segments
     → segment ≡ get_or segments number segment → AreWalked config segments old now number
-    → ((shard : ℕ) (before : List Line) → IsReplay config shard before now → Joins config shard before segment)
-    → ((shard : ℕ) (before : List Line) → IsReplay config shard before now → AreRight config shard before segment.lines.items)
-    → ((shard : ℕ) (before : List Line) → IsReplay config shard before now → IsReplay config shard (before ++ segment.lines.items) new)
+    → ((shard : ℕ) (before : List Line) → IsRestep config shard before now → Joins config shard before segment)
+    → ((shard : ℕ) (before : List Line) → IsRestep config shard before now → AreRight config shard before segment.lines.items)
+    → ((shard : ℕ) (before : List Line) → IsRestep config shard before now → IsRestep config shard (before ++ segment.lines.items) new)
     → AreWalked config segments old new (number + 1)
 walked_more config segments old now new number segment within is so_far joins right more = record {
   joined = λ shard start.
-      let at = so_far.replayed shard start in
+      let at = so_far.restepped shard start in
       subst (AreJoined config shard []) (segment_one_more segments number segment within is)
       (AreJoined-more config shard [] (take number segments) segment (so_far.joined shard start)
       (joins shard (lines_of (take number segments)) at) (right shard (lines_of (take number segments)) at));
-  replayed = λ shard start.
-      subst (λ (b : List Line). IsReplay config shard b new)
+  restepped = λ shard start.
+      subst (λ (b : List Line). IsRestep config shard b new)
       (lines_one_more (take number segments) segment ∙ ap lines_of (segment_one_more segments number segment within is))
-      (more shard (lines_of (take number segments)) (so_far.replayed shard start));
+      (more shard (lines_of (take number segments)) (so_far.restepped shard start));
 }
 
-pub walked_joined : (config : Configuration) (segments : List Segment) (old now : Replay) (number : ℕ) → length segments ≤ number
-    → AreWalked config segments old now number → (shard : ℕ) → IsReplay config shard [] old → AreJoined config shard [] segments
+pub walked_joined : (config : Configuration) (segments : List Segment) (old now : Restep) (number : ℕ) → length segments ≤ number
+    → AreWalked config segments old now number → (shard : ℕ) → IsRestep config shard [] old → AreJoined config shard [] segments
 walked_joined config segments old now number past so_far shard start =
     subst (AreJoined config shard []) (take_all number segments past) (so_far.joined shard start)
 
-pub fault_of_segments : (config : Configuration) (segments : List Segment) (old now : Replay) (number : ℕ) (segment : Segment) (fault : AuditFault)
+pub fault_of_segments : (config : Configuration) (segments : List Segment) (old now : Restep) (number : ℕ) (segment : Segment) (fault : AuditFault)
     → number < length segments → segment ≡ get_or segments number segment → AreWalked config segments old now number
-    → ((shard : ℕ) (before : List Line) → IsReplay config shard before now → IsFaultOfSegment config shard before number segment fault)
-    → (shard : ℕ) → IsReplay config shard [] old → IsFaultOfSegments config shard segments fault
+    → ((shard : ℕ) (before : List Line) → IsRestep config shard before now → IsFaultOfSegment config shard before number segment fault)
+    → (shard : ℕ) → IsRestep config shard [] old → IsFaultOfSegments config shard segments fault
 fault_of_segments config segments old now number segment fault within is so_far wrong shard start = (
   number,
   segment,
   record {
     joined = so_far.joined shard start;
     there = slice_get-get_or segments number segment within ∙ ap (λ (s : Segment). Some s) (sym is);
-    told = wrong shard (lines_of (take number segments)) (so_far.replayed shard start);
+    told = wrong shard (lines_of (take number segments)) (so_far.restepped shard start);
   },
 )
 
@@ -367,9 +367,9 @@ told_exactly config all (Err fault) found = fault_is_there config all fault foun
 
 pub ruleset beginning = (begins, begins_otherwise, begun)
 
-pub ruleset line_taken = (not_taken, line_right, line_wrong, replay_more)
+pub ruleset line_taken = (not_taken, line_right, line_wrong, restep_more)
 
-pub ruleset lines_taken = (taken_none, taken_more, taken_right, taken_replay, fault_of_lines)
+pub ruleset lines_taken = (taken_none, taken_more, taken_right, taken_restep, fault_of_lines)
 
 pub ruleset segment_joined = (joins_so, goes_on)
 

@@ -6,7 +6,7 @@
 use Rattle.std.specs.Prelude.{◌≡◌, ℕ, ◌+◌, ◌^◌, ◌<◌, ⊤, List, [], ◌∷◌, ◌++◌, length, slice_get, take, Option, Some, None}
 use Rattle.std.specs.List.{flat_map}
 use Rattle.rsl_accounts.specs.Configuration.{Configuration}
-use Rattle.rsl_report.specs.Replayed.{books_by_replay, rule_decision}
+use Rattle.rsl_report.specs.Restep.{books_by_restep, rule_decision}
 use Rattle.rsl_report.specs.declared.audit_fault.AuditFault.{AuditFault}
 use Rattle.rsl_report.specs.declared.audit_fault.AuditFault.TheVariants.{NotFromEmpty, Gap, WrongDecision, NoMemory}
 use Rattle.rsl_shard.specs.declared.segment.Segment.{Segment}
@@ -36,7 +36,7 @@ pub record Joins (config : Configuration) (shard : ℕ) (before : List Line) (se
   pub of_shard : segment.shard ≡ shard
   pub first : segment.first ≡ length before
   pub count : length before + length segment.lines.items < 2 ^ 64
-  pub opening : segment.opening.items ≡ books_by_replay config shard before
+  pub opening : segment.opening.items ≡ books_by_restep config shard before
 
 -- the segments go on where the lines before them end, one after another, and their lines are right
 unfoldable pub AreJoined : Configuration → (shard : ℕ) → (before : List Line) → List Segment
@@ -50,7 +50,7 @@ AreJoined config shard before (segment ∷ segments) =
 pub record BeginsNew (config : Configuration) (segment : Segment) : Type 0 where
   pub shard : segment.shard < config.settings.shards
   pub first : segment.first ≡ 0
-  pub opening : segment.opening.items ≡ books_by_replay config segment.shard []
+  pub opening : segment.opening.items ≡ books_by_restep config segment.shard []
 
 -- a record that was kept right; one without segments is
 abbrev pub IsRecord : Configuration → List Segment → Type 0
@@ -69,7 +69,7 @@ abbrev pub account_of : Move → Option ℕ
 account_of (Own account event) = Some account
 account_of _ = None
 
--- the line at a place is not right, and those ahead of it are
+-- the line at an index is not right, and those ahead of it are
 pub record IsFirstWrong (config : Configuration) (shard : ℕ) (before lines : List Line) (at : ℕ)
     (line : Line) : Type 0 where
   pub right : AreRight config shard before (take at lines)
@@ -85,7 +85,7 @@ IsFaultOfLines config shard before lines (WrongDecision account position) =
 IsFaultOfLines config shard before lines NoMemory = ⊤
 IsFaultOfLines config shard before lines _ = ⊥
 
--- a fault of the segment with a number: it does not go on where the lines before it end, or it
+-- a fault of the segment of a number: it does not go on where the lines before it end, or it
 -- does, and the fault is one of its lines
 abbrev pub IsFaultOfSegment : Configuration → (shard : ℕ) → (before : List Line) → (number : ℕ)
     → Segment → AuditFault → Type 0
@@ -97,7 +97,7 @@ IsFaultOfSegment config shard before number segment (WrongDecision account posit
 IsFaultOfSegment config shard before number segment NoMemory = ⊤
 IsFaultOfSegment config shard before number segment NotFromEmpty = ⊥
 
--- a fault of the segment at a place, where those ahead of it are joined and right
+-- a fault of the segment of a number, where those ahead of it are joined and right
 pub record IsFaultAt (config : Configuration) (shard : ℕ) (segments : List Segment)
     (fault : AuditFault) (number : ℕ) (segment : Segment) : Type 0 where
   pub joined : AreJoined config shard [] (take number segments)

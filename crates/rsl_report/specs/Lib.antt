@@ -1,4 +1,4 @@
 pub mod Audit
-pub mod Replayed
+pub mod Restep
 pub mod Table
 pub mod Walk

@@ -25,7 +25,7 @@ pub enum AuditFault {
     WrongDecision {
         /// The account whose own move it is.
         account: Option<u32>,
-        /// The line's place, counted from 0 over all segments.
+        /// The line's position, counted from 0 over all segments.
         position: u64,
     },
     /// Memory was refused.

@@ -7,12 +7,12 @@
 #![tactic(auto)]
 
 mod audit_fault;
-mod auditing;
+mod audit_walk;
 mod fault;
-mod replay;
+mod restep;
 mod table;
 
 pub use audit_fault::AuditFault;
-pub use auditing::audit;
+pub use audit_walk::audit;
 pub use fault::WriteFault;
 pub use table::write_table;

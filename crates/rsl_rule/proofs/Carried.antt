@@ -61,22 +61,22 @@ left_no p past next links items same i x within is misses =
     ap (λ ls. standings next ls) (filter_no p links i x.link at.0 at.1 misses)
 
 -- a link that has not opened is bound only where an event took its number
-binds-none : (link place : ℕ) (outcome : Outcome) → place < link → taken_by outcome < link → binds link place outcome ≡ false
+binds-none : (link number : ℕ) (outcome : Outcome) → number < link → taken_by outcome < link → binds link number outcome ≡ false
 unfolding binds taken_by
-binds-none link place Opened later beyond = ne_eqb link place (λ same. omega (arith, same))
-binds-none link place (Took taken) later beyond = ne_eqb link taken (λ same. omega (arith, same))
-binds-none link place (Accepted number) later beyond = refl
-binds-none link place (AcceptedInPlace number yielded) later beyond = refl
-binds-none link place Refused later beyond = refl
-binds-none link place (Repeated decision) later beyond = refl
-binds-none link place (Renewed renewed) later beyond = refl
-binds-none link place Ignored later beyond = refl
-binds-none link place Over later beyond = refl
-binds-none link place Passed later beyond = refl
+binds-none link number Opened later beyond = ne_eqb link number (λ same. omega (arith, same))
+binds-none link number (Took taken) later beyond = ne_eqb link taken (λ same. omega (arith, same))
+binds-none link number (Accepted accept) later beyond = refl
+binds-none link number (AcceptedInPlace accept yielded) later beyond = refl
+binds-none link number Refused later beyond = refl
+binds-none link number (Repeated decision) later beyond = refl
+binds-none link number (Renewed renewed) later beyond = refl
+binds-none link number Ignored later beyond = refl
+binds-none link number Over later beyond = refl
+binds-none link number Passed later beyond = refl
 
-bound_by-none : (link place : ℕ) (entry : PastEvent) → place < link → taken_by entry.outcome < link → bound_by link place entry ≡ None
+bound_by-none : (link number : ℕ) (entry : PastEvent) → number < link → taken_by entry.outcome < link → bound_by link number entry ≡ None
 unfolding bound_by
-bound_by-none link place entry later beyond = rw (binds-none link place entry.outcome later beyond) refl
+bound_by-none link number entry later beyond = rw (binds-none link number entry.outcome later beyond) refl
 
 bound-none : (past : Past) (link : ℕ) → length past < link → furthest_taken past < link → session_at link past ≡ None
 unfolding session_at furthest_taken
@@ -88,25 +88,25 @@ pub unbound : (xs : List PastEvent) (link furthest : ℕ) → length xs < link �
 unbound xs link furthest later is beyond = bound-none (looking_back xs) link (omega (arith, length_all xs)) (omega arith)
 
 -- a link is touched by the event that opens it
-touches_own : (place : ℕ) (outcome : Outcome) → opens outcome ≡ true → touches place place outcome ≡ true
+touches_own : (number : ℕ) (outcome : Outcome) → opens outcome ≡ true → touches number number outcome ≡ true
 unfolding opens touches
-touches_own place (Accepted number) opened = eq-eqb place place refl
-touches_own place (AcceptedInPlace number yielded) opened = eq-eqb place place refl
-touches_own place Opened opened = eq-eqb place place refl
-touches_own place Refused opened = cc
-touches_own place (Repeated decision) opened = cc
-touches_own place (Took taken) opened = cc
-touches_own place (Renewed renewed) opened = cc
-touches_own place Ignored opened = cc
-touches_own place Over opened = cc
-touches_own place Passed opened = cc
+touches_own number (Accepted accept) opened = eq-eqb number number refl
+touches_own number (AcceptedInPlace accept yielded) opened = eq-eqb number number refl
+touches_own number Opened opened = eq-eqb number number refl
+touches_own number Refused opened = cc
+touches_own number (Repeated decision) opened = cc
+touches_own number (Took taken) opened = cc
+touches_own number (Renewed renewed) opened = cc
+touches_own number Ignored opened = cc
+touches_own number Over opened = cc
+touches_own number Passed opened = cc
 
 pub opened_stands : (xs : List PastEvent) (x : PastEvent) (link now : ℕ) (before session : Option Session) → opens x.outcome ≡ true → link ≡ length xs + 1 → now ≡ max (clock (looking_back xs)) x.event.moment
     → before ≡ session_at link (looking_back xs) → session ≡ option_or before (bound_by link link x)
     → (let opened : Standing = record { clock = now; touched = now; session = session } in opened) ≡ standing_of (length xs + 1) (x ∷ looking_back xs)
-opened_stands xs x link now before session opened place at was is =
+opened_stands xs x link now before session opened number at was is =
     let own = touches_own (length xs + 1) x.outcome opened in
-    rw (is, was, at, place) (sym (standing_next (length xs + 1) xs x ∙ rw own refl))
+    rw (is, was, at, number) (sym (standing_next (length xs + 1) xs x ∙ rw own refl))
 
 -- what is held before the first event
 pub standings_none : (rules : Rules) → standings (looking_back []) (held_links rules (looking_back [])) ≡ []
@@ -133,8 +133,8 @@ pub carried_opened : (rules : Rules) (xs : List PastEvent) (x : PastEvent) (stan
 unfolding standings
 carried_opened rules xs x standing opened stands =
     let as_item : ℕ → HeldLink = λ link. record { link = link; standing = standing_of link (x ∷ looking_back xs) } in
-    let place : suc (length (looking_back xs)) ≡ length xs + 1 = omega (arith, length_all xs) in
-    rw stands (ap (map as_item) (held-opened rules x (looking_back xs) opened ∙ ap (λ ls. ls ++ suc (length (looking_back xs)) ∷ []) (left_by-lasting rules x (looking_back xs)) ∙ ap (λ n. lasting rules x (looking_back xs) ++ n ∷ []) place)
+    let number : suc (length (looking_back xs)) ≡ length xs + 1 = omega (arith, length_all xs) in
+    rw stands (ap (map as_item) (held-opened rules x (looking_back xs) opened ∙ ap (λ ls. ls ++ suc (length (looking_back xs)) ∷ []) (left_by-lasting rules x (looking_back xs)) ∙ ap (λ n. lasting rules x (looking_back xs) ++ n ∷ []) number)
     ∙ map-append as_item (lasting rules x (looking_back xs)) ((length xs + 1) ∷ []))
 
 pub clock_next : (past : Past) (x : PastEvent) → clock (x ∷ past) ≡ max (clock past) x.event.moment

@@ -68,58 +68,58 @@ unfolding standing_of
 standing_pushed link xs x before now touch session is at last found =
     rw (last, at, found, is) (sym (standing_next link xs x))
 
--- the entry at a place
+-- the entry of a number
 pub entry_at_none : (past : Past) → entry_at 0 past ≡ None
 unfolding entry_at
 entry_at_none [] = refl
 entry_at_none (entry ∷ past) = rw (ne_eqb 0 (suc (length past)) (λ same. omega arith)) (entry_at_none past)
 
-entry_at-cons : (place : ℕ) (entry : PastEvent) (past : Past) → entry_at place (entry ∷ past) ≡ cond (eqb place (suc (length past))) (Some entry) (entry_at place past)
+entry_at-cons : (number : ℕ) (entry : PastEvent) (past : Past) → entry_at number (entry ∷ past) ≡ cond (eqb number (suc (length past))) (Some entry) (entry_at number past)
 unfolding entry_at
-entry_at-cons place entry past = refl
+entry_at-cons number entry past = refl
 
-entry_at_newer : (past : Past) (place : ℕ) → length past < place → entry_at place past ≡ None
+entry_at_newer : (past : Past) (number : ℕ) → length past < number → entry_at number past ≡ None
 unfolding entry_at
-entry_at_newer [] place newer = refl
-entry_at_newer (entry ∷ past) place newer =
-    rw (ne_eqb place (suc (length past)) (λ same. omega arith)) (entry_at_newer past place (omega arith))
+entry_at_newer [] number newer = refl
+entry_at_newer (entry ∷ past) number newer =
+    rw (ne_eqb number (suc (length past)) (λ same. omega arith)) (entry_at_newer past number (omega arith))
 
-entry_at-slice_get : (x : PastEvent) (xs : List PastEvent) (i : ℕ) → i ≤ length (x ∷ xs) → (place : ℕ) → 0 < place → place ≤ i → entry_at place (looking_back (take i (x ∷ xs))) ≡ slice_get (x ∷ xs) (place - 1)
-entry_at-slice_get x xs zero within place some at = absurd (omega arith)
-entry_at-slice_get x xs (suc i) within place some at =
+entry_at-slice_get : (x : PastEvent) (xs : List PastEvent) (i : ℕ) → i ≤ length (x ∷ xs) → (number : ℕ) → 0 < number → number ≤ i → entry_at number (looking_back (take i (x ∷ xs))) ≡ slice_get (x ∷ xs) (number - 1)
+entry_at-slice_get x xs zero within number some at = absurd (omega arith)
+entry_at-slice_get x xs (suc i) within number some at =
     let last : PastEvent = get_or (x ∷ xs) i x in
     let same : last ≡ get_or (x ∷ xs) i last = get_or_default (x ∷ xs) i x last (omega arith) in
     let more : looking_back (take (suc i) (x ∷ xs)) ≡ last ∷ looking_back (take i (x ∷ xs)) =
     ap (λ n. looking_back (take n (x ∷ xs))) (sym (add-one i)) ∙ looking_back-more (x ∷ xs) i last (omega arith) same in
-    ap (entry_at place) more ∙ entry_at_last x xs i last place (omega arith) some at (slice_get-get_or (x ∷ xs) i x (omega arith)) (entry_at-slice_get x xs i (omega arith) place some) where
-      entry_at_last : (x : PastEvent) (xs : List PastEvent) (i : ℕ) (last : PastEvent) (place : ℕ) → i < length (x ∷ xs) → 0 < place → place ≤ suc i → slice_get (x ∷ xs) i ≡ Some last
-          → (place ≤ i → entry_at place (looking_back (take i (x ∷ xs))) ≡ slice_get (x ∷ xs) (place - 1))
-          → entry_at place (last ∷ looking_back (take i (x ∷ xs))) ≡ slice_get (x ∷ xs) (place - 1)
-      entry_at_last x xs i last place within some at is older =
-          entry_at-cons place last (looking_back (take i (x ∷ xs))) ∙ ap (λ n. cond (eqb place (suc n)) (Some last) (entry_at place (looking_back (take i (x ∷ xs))))) (length-looking_back (x ∷ xs) i (omega arith))
-          ∙ elim (cases_eq place (suc i)) [
+    ap (entry_at number) more ∙ entry_at_last x xs i last number (omega arith) some at (slice_get-get_or (x ∷ xs) i x (omega arith)) (entry_at-slice_get x xs i (omega arith) number some) where
+      entry_at_last : (x : PastEvent) (xs : List PastEvent) (i : ℕ) (last : PastEvent) (number : ℕ) → i < length (x ∷ xs) → 0 < number → number ≤ suc i → slice_get (x ∷ xs) i ≡ Some last
+          → (number ≤ i → entry_at number (looking_back (take i (x ∷ xs))) ≡ slice_get (x ∷ xs) (number - 1))
+          → entry_at number (last ∷ looking_back (take i (x ∷ xs))) ≡ slice_get (x ∷ xs) (number - 1)
+      entry_at_last x xs i last number within some at is older =
+          entry_at-cons number last (looking_back (take i (x ∷ xs))) ∙ ap (λ n. cond (eqb number (suc n)) (Some last) (entry_at number (looking_back (take i (x ∷ xs))))) (length-looking_back (x ∷ xs) i (omega arith))
+          ∙ elim (cases_eq number (suc i)) [
             | inl same ↦
-                let before : place - 1 ≡ i = omega arith in
-                rw (eq-eqb place (suc i) same, before) (sym is)
-            | inr other ↦ rw (ne_eqb place (suc i) other) (older (omega (arith, other)))
+                let before : number - 1 ≡ i = omega arith in
+                rw (eq-eqb number (suc i) same, before) (sym is)
+            | inr other ↦ rw (ne_eqb number (suc i) other) (older (omega (arith, other)))
           ]
 
-pub entry_at_place : (xs : List PastEvent) (place : ℕ) → 0 < place → place ≤ length xs → entry_at place (looking_back xs) ≡ slice_get xs (place - 1)
-entry_at_place [] place some at = absurd (omega arith)
-entry_at_place (x ∷ xs) place some at =
-    sym (ap (entry_at place) (looking_back_all (x ∷ xs) (length (x ∷ xs)) (omega arith))) ∙ entry_at-slice_get x xs (length (x ∷ xs)) (omega arith) place some at
+pub entry_at_number : (xs : List PastEvent) (number : ℕ) → 0 < number → number ≤ length xs → entry_at number (looking_back xs) ≡ slice_get xs (number - 1)
+entry_at_number [] number some at = absurd (omega arith)
+entry_at_number (x ∷ xs) number some at =
+    sym (ap (entry_at number) (looking_back_all (x ∷ xs) (length (x ∷ xs)) (omega arith))) ∙ entry_at-slice_get x xs (length (x ∷ xs)) (omega arith) number some at
 
-pub entry_at_past : (xs : List PastEvent) (place : ℕ) → length xs < place → entry_at place (looking_back xs) ≡ None
-entry_at_past xs place past = entry_at_newer (looking_back xs) place (omega (arith, length_all xs))
+pub entry_at_past : (xs : List PastEvent) (number : ℕ) → length xs < number → entry_at number (looking_back xs) ≡ None
+entry_at_past xs number past = entry_at_newer (looking_back xs) number (omega (arith, length_all xs))
 
-pub entry_read : (xs : List PastEvent) (place : ℕ) (got : Option (Bor PastEvent)) → (place ≡ 0 → ⊥) → is_some got ≡ ltb (place - 1) (length xs) → IfSome got (λ x. x.now ≡ get_or xs (place - 1) x.now)
-    → option_copied got ≡ entry_at place (looking_back xs)
-entry_read xs place None some within is =
-    let past = ltb-false (place - 1) (length xs) (sym within) in
-    sym (entry_at_past xs place (omega (arith, some)))
-entry_read xs place (Some x) some within is =
-    let inside = ltb-true (place - 1) (length xs) (sym within) in
-    ap Some is ∙ sym (slice_get-get_or xs (place - 1) x.now inside) ∙ sym (entry_at_place xs place (omega (arith, some)) (omega (arith, some)))
+pub entry_read : (xs : List PastEvent) (number : ℕ) (got : Option (Bor PastEvent)) → (number ≡ 0 → ⊥) → is_some got ≡ ltb (number - 1) (length xs) → IfSome got (λ x. x.now ≡ get_or xs (number - 1) x.now)
+    → option_copied got ≡ entry_at number (looking_back xs)
+entry_read xs number None some within is =
+    let past = ltb-false (number - 1) (length xs) (sym within) in
+    sym (entry_at_past xs number (omega (arith, some)))
+entry_read xs number (Some x) some within is =
+    let inside = ltb-true (number - 1) (length xs) (sym within) in
+    ap Some is ∙ sym (slice_get-get_or xs (number - 1) x.now inside) ∙ sym (entry_at_number xs number (omega (arith, some)) (omega (arith, some)))
 
 pub ruleset entry_steps = (entry_at_none)
 

@@ -1,4 +1,4 @@
--- A tick that is put into a past moves the place of each later event up by one, and so the name of each
+-- A tick that is put into a past moves the number of each later event up by one, and so the name of each
 -- link that opens later; all else that the rule looks back for stays as it is.
 use Rattle.std.proofs.Common.{◌≡◌, ℕ, suc, ◌<◌, ◌≤◌, max, List, [], ◌∷◌, ◌++◌, length, map, Bool, true, false, cond, refl, ap, sym, ◌∙◌, ◌⊎◌, inl, inr, arith, eqb, leb}
 use Rattle.std.specs.Prelude.{Option, Some, None}
@@ -26,7 +26,7 @@ use Rattle.rsl_session.specs.Held.{is_at, ended_by, yields}
 use Rattle.rsl_session.specs.Rule.{IsRuled}
 use Rattle.rsl_session.proofs.Callers.{bound-later, bundle_at-later, touched-later, is_in, is_in-true, links-in}
 
--- the new name of a link, where the tick has the place after n events
+-- the new name of a link, where the tick has the number after n events
 pub shift : ℕ → ℕ → ℕ
 shift n link = cond (leb link n) link (suc link)
 
@@ -58,7 +58,7 @@ eqb-shift n a b =
       | inr other ↦ ne_eqb (shift n a) (shift n b) (λ e. other (shift-injective n a b e)) ∙ sym (ne_eqb a b other)
     ]
 
--- the place k of a later event becomes the next
+-- the number k of a later event becomes the next
 eqb_next : (n k link : ℕ) → n < k → eqb (shift n link) (suc k) ≡ eqb link k
 eqb_next n k link new = ap (eqb (shift n link)) (sym (shift-new n k new)) ∙ eqb-shift n link k
 
@@ -167,38 +167,38 @@ yields-shift n link Ignored = refl
 yields-shift n link Over = refl
 yields-shift n link Passed = refl
 
--- the entry at a place: its access server and number
-nas_cons : (place : ℕ) (entry : PastEvent) (past : Past) → nas_at place (entry ∷ past) ≡ cond (eqb place (suc (length past))) (nas_of entry.event.act) (nas_at place past)
+-- the entry of a number: its access server and number
+nas_cons : (number : ℕ) (entry : PastEvent) (past : Past) → nas_at number (entry ∷ past) ≡ cond (eqb number (suc (length past))) (nas_of entry.event.act) (nas_at number past)
 unfolding nas_at entry_at
-nas_cons place entry past = by_cases (eqb place (suc (length past))) where
-  by_cases : (here : Bool) → option_and_then (λ (e : PastEvent). nas_of e.event.act) (cond here (Some entry) (entry_at place past)) ≡ cond here (nas_of entry.event.act) (option_and_then (λ (e : PastEvent). nas_of e.event.act) (entry_at place past))
+nas_cons number entry past = by_cases (eqb number (suc (length past))) where
+  by_cases : (here : Bool) → option_and_then (λ (e : PastEvent). nas_of e.event.act) (cond here (Some entry) (entry_at number past)) ≡ cond here (nas_of entry.event.act) (option_and_then (λ (e : PastEvent). nas_of e.event.act) (entry_at number past))
   by_cases true = refl
   by_cases false = refl
 
-pub number_cons : (place : ℕ) (entry : PastEvent) (past : Past) → number_at place (entry ∷ past) ≡ cond (eqb place (suc (length past))) (number_of entry.outcome) (number_at place past)
+pub number_cons : (number : ℕ) (entry : PastEvent) (past : Past) → number_at number (entry ∷ past) ≡ cond (eqb number (suc (length past))) (number_of entry.outcome) (number_at number past)
 unfolding number_at entry_at
-number_cons place entry past = by_cases (eqb place (suc (length past))) where
-  by_cases : (here : Bool) → option_and_then (λ (e : PastEvent). number_of e.outcome) (cond here (Some entry) (entry_at place past)) ≡ cond here (number_of entry.outcome) (option_and_then (λ (e : PastEvent). number_of e.outcome) (entry_at place past))
+number_cons number entry past = by_cases (eqb number (suc (length past))) where
+  by_cases : (here : Bool) → option_and_then (λ (e : PastEvent). number_of e.outcome) (cond here (Some entry) (entry_at number past)) ≡ cond here (number_of entry.outcome) (option_and_then (λ (e : PastEvent). number_of e.outcome) (entry_at number past))
   by_cases true = refl
   by_cases false = refl
 
-nas_nil : (place : ℕ) → nas_at place [] ≡ None
+nas_nil : (number : ℕ) → nas_at number [] ≡ None
 unfolding nas_at entry_at
-nas_nil place = refl
+nas_nil number = refl
 
-pub number_nil : (place : ℕ) → number_at place [] ≡ None
+pub number_nil : (number : ℕ) → number_at number [] ≡ None
 unfolding number_at entry_at
-number_nil place = refl
+number_nil number = refl
 
-nas_later : (past : Past) (place : ℕ) → length past < place → nas_at place past ≡ None
-nas_later [] place later = nas_nil place
-nas_later (entry ∷ past) place later =
-    nas_cons place entry past ∙ rw (ne_eqb place (suc (length past)) (λ same. omega arith)) (nas_later past place (omega arith))
+nas_later : (past : Past) (number : ℕ) → length past < number → nas_at number past ≡ None
+nas_later [] number later = nas_nil number
+nas_later (entry ∷ past) number later =
+    nas_cons number entry past ∙ rw (ne_eqb number (suc (length past)) (λ same. omega arith)) (nas_later past number (omega arith))
 
-pub number_later : (past : Past) (place : ℕ) → length past < place → number_at place past ≡ None
-number_later [] place later = number_nil place
-number_later (entry ∷ past) place later =
-    number_cons place entry past ∙ rw (ne_eqb place (suc (length past)) (λ same. omega arith)) (number_later past place (omega arith))
+pub number_later : (past : Past) (number : ℕ) → length past < number → number_at number past ≡ None
+number_later [] number later = number_nil number
+number_later (entry ∷ past) number later =
+    number_cons number entry past ∙ rw (ne_eqb number (suc (length past)) (λ same. omega arith)) (number_later past number (omega arith))
 
 pub number_of-shift : (n : ℕ) (outcome : Outcome) → number_of (shift_outcome n outcome) ≡ number_of outcome
 unfolding number_of shift_outcome

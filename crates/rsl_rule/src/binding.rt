@@ -17,13 +17,13 @@ use rsl_session::{Bundle, Outcome, PastEvent, Session};
 use rsl_wire::NoMemory;
 use std::alloc::Global;
 
-/// Whether the event at a place opened or took a link for a session.
+/// Whether the event of a number opened or took a link for a session.
 #[tactic(auto, unfolding(rsl_session::specs::Binding::binds))]
-fn binds_link(link: usize, place: usize, outcome: Outcome) -> bool
-    ensures { result ≡ binds link place outcome }
+fn binds_link(link: usize, number: usize, outcome: Outcome) -> bool
+    ensures { result ≡ binds link number outcome }
 {
     match outcome {
-        Outcome::Opened => link == place,
+        Outcome::Opened => link == number,
         Outcome::Took(taken) => link == taken,
         _ => false,
     }
@@ -61,53 +61,53 @@ pub(crate) fn bundle_of_act(alloc: Global, act: &Act) -> Result<Option<Bundle>, 
     }
 }
 
-/// The session for which the entry at a place opened or took a link.
+/// The session for which the entry of a number opened or took a link.
 #[tactic(auto, unfolding(rsl_session::specs::Binding::bound_by))]
 fn session_bound(
     alloc: Global,
     link: usize,
-    place: usize,
+    number: usize,
     entry: &PastEvent,
 ) -> Result<Option<Session>, NoMemory>
-    ensures { IfOk result (λ session. session ≡ bound_by link place entry.now) }
+    ensures { IfOk result (λ session. session ≡ bound_by link number entry.now) }
 {
-    if binds_link(link, place, entry.outcome) {
+    if binds_link(link, number, entry.outcome) {
         session_of_act(alloc, &entry.event.act)
     } else {
         Ok(None)
     }
 }
 
-/// The bundle with which the entry at a place touched a link.
+/// The bundle with which the entry of a number touched a link.
 #[tactic(auto, unfolding(rsl_session::specs::Binding::bundled_by))]
 fn bundle_touched(
     alloc: Global,
     link: usize,
-    place: usize,
+    number: usize,
     entry: &PastEvent,
 ) -> Result<Option<Bundle>, NoMemory>
-    ensures { IfOk result (λ bundle. bundle ≡ bundled_by link place entry.now) }
+    ensures { IfOk result (λ bundle. bundle ≡ bundled_by link number entry.now) }
 {
-    if touches_link(link, place, entry.outcome) {
+    if touches_link(link, number, entry.outcome) {
         bundle_of_act(alloc, &entry.event.act)
     } else {
         Ok(None)
     }
 }
 
-/// The session that a link is bound to once the entry at a place has come, by the one before.
+/// The session that a link is bound to once the entry of a number has come, by the one before.
 pub(crate) fn session_after(
     alloc: Global,
     bound: Option<Session>,
     link: usize,
-    place: usize,
+    number: usize,
     entry: &PastEvent,
 ) -> Result<Option<Session>, NoMemory>
-    ensures { IfOk result (λ session. session ≡ option_or bound (bound_by link place entry.now)) }
+    ensures { IfOk result (λ session. session ≡ option_or bound (bound_by link number entry.now)) }
 {
     match bound {
         Some(session) => Ok(Some(session)),
-        None => session_bound(alloc, link, place, entry),
+        None => session_bound(alloc, link, number, entry),
     }
 }
 

@@ -30,44 +30,44 @@ pub(crate) fn accept_number(outcome: Outcome) -> Option<u64>
     }
 }
 
-/// Whether the event at a place opened, took or renewed a link.
+/// Whether the event of a number opened, took or renewed a link.
 #[tactic(auto, unfolding(rsl_session::specs::Binding::touches))]
-pub(crate) fn touches_link(link: usize, place: usize, outcome: Outcome) -> bool
-    ensures { result ≡ touches link place outcome }
+pub(crate) fn touches_link(link: usize, number: usize, outcome: Outcome) -> bool
+    ensures { result ≡ touches link number outcome }
 {
     match outcome {
-        Outcome::Accepted(_) | Outcome::AcceptedInPlace { .. } | Outcome::Opened => link == place,
+        Outcome::Accepted(_) | Outcome::AcceptedInPlace { .. } | Outcome::Opened => link == number,
         Outcome::Took(touched) | Outcome::Renewed(touched) => link == touched,
         _ => false,
     }
 }
 
-/// The clock when a link was last touched, once an event at a place has moved the clock.
+/// The clock when a link was last touched, once an event of a number has moved the clock.
 pub(crate) fn touch_after(
     link: usize,
-    place: usize,
+    number: usize,
     outcome: Outcome,
     clock: u64,
     touched: u64,
 ) -> u64
-    ensures { result ≡ if touches link place outcome then clock else touched }
+    ensures { result ≡ if touches link number outcome then clock else touched }
 {
-    if touches_link(link, place, outcome) {
+    if touches_link(link, number, outcome) {
         clock
     } else {
         touched
     }
 }
 
-/// The entry at a place.
+/// The entry of a number.
 #[tactic(auto, using(crate::proofs::Looking::entry_steps))]
-fn entry_at(place: usize, history: &[PastEvent]) -> Option<&PastEvent>
-    ensures { option_copied result ≡ entry_at place (looking_back history.now) }
+fn entry_at(number: usize, history: &[PastEvent]) -> Option<&PastEvent>
+    ensures { option_copied result ≡ entry_at number (looking_back history.now) }
 {
-    if place == 0 {
+    if number == 0 {
         None
     } else {
-        history.get(place - 1)
+        history.get(number - 1)
     }
 }
 

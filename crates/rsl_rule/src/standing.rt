@@ -38,10 +38,10 @@ impl Standing {
         ensures { IfOk result (λ next.
             next ≡ standing_of link (entry.now ∷ looking_back history.now)) }
     {
-        let place = history.len() + 1;
+        let number = history.len() + 1;
         let clock = self.clock.max(entry.event.moment);
-        let touched = touch_after(link, place, entry.outcome, clock, self.touched);
-        let session = session_after(alloc, self.session, link, place, entry)?;
+        let touched = touch_after(link, number, entry.outcome, clock, self.touched);
+        let session = session_after(alloc, self.session, link, number, entry)?;
         Ok(Standing {
             clock,
             touched,

@@ -250,13 +250,13 @@ fn close<L0: Tally, L1: Tally, L2: Tally, L3: Tally, R: Wait>(
         IfOk result (λ output. IsServed service.config turns (output_octets output)) }
 {
     let output = output_of(rt, alloc, &service, &worked.auth, &worked.acct)?;
-    let passes = listed(alloc, worked.passes)?;
+    let passes = into_vec(alloc, worked.passes)?;
     service.close(alloc, passes, Vec::new(alloc))?;
     Ok(output)
 }
 
 /// The passes, as a list.
-fn listed<L0: Tally, L1: Tally, L2: Tally, L3: Tally>(
+fn into_vec<L0: Tally, L1: Tally, L2: Tally, L3: Tally>(
     alloc: Global,
     passes: Passes<L0, L1, L2, L3>,
 ) -> Result<Vec<Pass<L0, L1, L2, L3>>, ServeFault> {

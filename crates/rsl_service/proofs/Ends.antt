@@ -13,23 +13,23 @@ use Rattle.rsl_settle.specs.Settled.{IsCloseFault, IsSettled}
 use Rattle.rsl_settle.specs.declared.close_fault.CloseFault.{CloseFault}
 use Rattle.rsl_settle.specs.declared.close_fault.CloseFault.TheVariants.{MissingPass, MissingSegment, Mismatch, NoMemory}
 use Rattle.rsl_settle.specs.declared.receipt.Receipt.{Receipt}
-use Rattle.rsl_shard.specs.Replay.{new_books, replay}
+use Rattle.rsl_shard.specs.Restep.{new_books, restep}
 use Rattle.rsl_shard.specs.Setup.{Setup, setup_of}
 use Rattle.rsl_shard.specs.declared.segment.Segment.{Segment}
-use Rattle.rsl_service.specs.Closed.{HasEnd, HaveEnds, IsClosed, IsEnd, IsUnsettled, count_in, end_of, lines_to, listed}
+use Rattle.rsl_service.specs.Closed.{HasEnd, HaveEnds, IsClosed, IsEnd, IsUnsettled, count_in, end_of, lines_to, as_list}
 
 -- ---- the journals that shards end with
 
 -- a journal that is there is the shard's end
 end_at : (config : Configuration) (shard : ℕ) (setup : Setup) (journal : Option Segment) (present : List Segment) → setup ≡ setup_of config shard
-    → is_some journal ≡ true → IfSome journal (IsEnd setup) → of_shard shard present ≡ listed journal → HasEnd config present shard
+    → is_some journal ≡ true → IfSome journal (IsEnd setup) → of_shard shard present ≡ as_list journal → HasEnd config present shard
 end_at config shard setup None present is there end alone = absurd (true≢false (sym there))
 end_at config shard setup (Some segment) present is there end alone =
     record { segment = segment; alone = alone; ended = subst (λ (s : Setup). IsEnd s segment) is end }
 
 -- so each shard has its end among all
 pub have_ends : (config : Configuration) (s0 s1 s2 s3 : Setup) (j0 : Segment) (j1 j2 j3 : Option Segment) (present : List Segment)
-    → of_shard 0 present ≡ listed (Some j0) → of_shard 1 present ≡ listed j1 → of_shard 2 present ≡ listed j2 → of_shard 3 present ≡ listed j3
+    → of_shard 0 present ≡ as_list (Some j0) → of_shard 1 present ≡ as_list j1 → of_shard 2 present ≡ as_list j2 → of_shard 3 present ≡ as_list j3
     → s0 ≡ setup_of config 0 → s1 ≡ setup_of config 1 → s2 ≡ setup_of config 2 → s3 ≡ setup_of config 3
     → config.settings.shards ≤ 4
     → is_some j1 ≡ nat_lt 1 config.settings.shards → is_some j2 ≡ nat_lt 2 config.settings.shards → is_some j3 ≡ nat_lt 3 config.settings.shards
@@ -50,13 +50,13 @@ one_end : (segment : Segment) → sum_by lines_to (segment ∷ []) ≡ lines_to 
 one_end segment = sum_by-cons lines_to segment [] ∙ omega arith
 
 -- the total behind the first lock is the shard's end
-pub first_told : (total : ℕ) (journal : Segment) (present : List Segment) → of_shard 0 present ≡ listed (Some journal) → total ≡ lines_to journal
+pub first_told : (total : ℕ) (journal : Segment) (present : List Segment) → of_shard 0 present ≡ as_list (Some journal) → total ≡ lines_to journal
     → total ≡ end_of 0 present
 first_told total journal present alone told = told ∙ sym (one_end journal) ∙ ap (sum_by lines_to) (sym alone)
 
 -- and so behind a lock that there may be
 pub told_if_there : {A : Type 0} (ledger : Option A) (total : A → ℕ) (shard : ℕ) (journal : Option Segment) (present : List Segment)
-    → of_shard shard present ≡ listed journal → IfSome ledger (λ book. total book ≡ sum_by lines_to (listed journal))
+    → of_shard shard present ≡ as_list journal → IfSome ledger (λ book. total book ≡ sum_by lines_to (as_list journal))
     → IfSome ledger (λ book. total book ≡ end_of shard present)
 told_if_there ledger total shard journal present alone told =
     subst (λ (segments : List Segment). IfSome ledger (λ book. total book ≡ sum_by lines_to segments)) (sym alone) told
@@ -87,7 +87,7 @@ chain_total setup lines books [] last go = omega (arith, go.0.first, ap length (
 chain_total setup lines books (segment ∷ segments) last go =
     omega (
       arith,
-      chain_total setup (lines + length segment.lines.items) (replay setup books segment.lines.items) segments last go.1,
+      chain_total setup (lines + length segment.lines.items) (restep setup books segment.lines.items) segments last go.1,
       length-append segment.lines.items (flat_map (λ (segment : Segment). segment.lines.items) (segments ++ last ∷ [])),
     )
 

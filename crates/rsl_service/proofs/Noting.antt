@@ -6,6 +6,7 @@ use Rattle.rsl_shard.specs.declared.moved.Move.{Move}
 use Rattle.rsl_shard.specs.declared.moved.Move.TheVariants as moves
 use Rattle.rsl_service.specs.Applied.{IsStopped}
 use Rattle.rsl_service.specs.Receipts.{AreNoted, HasOneMore}
+use Rattle.rsl_service.specs.Service.{ServiceSeen}
 use Rattle.rsl_service.specs.declared.fault.ApplyFault.TheVariants as faults
 use Rattle.rsl_settle.specs.declared.receipt.Receipt.{Receipt}
 
@@ -15,13 +16,13 @@ unfolding AreNoted
 none_noted moved old = refl
 
 -- a fault that came before any move has left the receipts as they were
-pub none_stopped : (moment : ℕ) (meaning : Meaning) (old : List Receipt)
-    → IsStopped moment meaning (faults.NoMemory 0) old old
-none_stopped moment (Restart nas) old = none_noted (moves.Sweep moment nas) old
-none_stopped moment (Own account act) old = (refl, refl)
-none_stopped moment (Stray note) old = (refl, refl)
-none_stopped moment Bare old = (refl, refl)
-none_stopped moment Reject old = (refl, refl)
+pub none_stopped : (service : ServiceSeen) (moment : ℕ) (meaning : Meaning) (old : List Receipt)
+    → IsStopped service moment meaning (faults.NoMemory 0) old old
+none_stopped service moment (Restart nas) old = none_noted (moves.Sweep moment nas) old
+none_stopped service moment (Own account act) old = (refl, refl)
+none_stopped service moment (Stray note) old = (refl, refl)
+none_stopped service moment Bare old = (refl, refl)
+none_stopped service moment Reject old = (refl, refl)
 
 -- after a shard there is one more
 pub one_noted : (shard next : ℕ) (moved : Move) (old before new : List Receipt) → next ≡ shard + 1

@@ -11,12 +11,12 @@ use Rattle.rsl_book.specs.RuledBook.{RuledBook}
 use Rattle.rsl_session.specs.Book.{places_in}
 use Rattle.rsl_shard.specs.Moves.{IsOfShard}
 use Rattle.rsl_shard.specs.Opening.{as_new}
-use Rattle.rsl_shard.specs.Replay.{book_at, book_of_entry, new_books}
+use Rattle.rsl_shard.specs.Restep.{book_at, book_of_entry, new_books}
 use Rattle.rsl_shard.specs.Rows.{row_of}
 use Rattle.rsl_shard.specs.Seen.{IsShard, ShardSeen, books_of}
 use Rattle.rsl_shard.specs.Setup.{Setup, setup_of}
 use Rattle.rsl_shard.specs.declared.row.Row.{Row}
-use Rattle.rsl_shard.proofs.Callers.{account_is, book_placed, new_book_at}
+use Rattle.rsl_shard.proofs.Callers.{account_is, book_at_index, new_book_at}
 use Rattle.rsl_service.specs.Report.{IsReport, IsRowOf}
 
 -- what stands in a list in which one element was set
@@ -55,12 +55,12 @@ rules_are : (config : Configuration) (shard account : ℕ) (books : List RuledBo
     → book_at (setup_of config shard) books account ≡ Some ruled → slice_get config.accounts account ≡ Some entry → ruled.rules ≡ entry.rules
 rules_are config shard account books ruled entry within of_shard are is there =
     let shards = config.settings.shards in
-    let place = account / shards in
-    let at : account ≡ shard + place * shards = account_is shards shard account of_shard in
-    let stands : slice_get books place ≡ Some ruled = sym (book_placed shard shards account place books (omega (arith, within)) at) ∙ is in
+    let index = account / shards in
+    let at : account ≡ shard + index * shards = account_is shards shard account of_shard in
+    let stands : slice_get books index ≡ Some ruled = sym (book_at_index shard shards account index books (omega (arith, within)) at) ∙ is in
     let as_it_was : Some (as_new ruled) ≡ Some (book_of_entry entry) =
-    ap (option_map as_new) (sym stands) ∙ sym (slice_get-map as_new books place)
-    ∙ ap (λ (all : List RuledBook). slice_get all place) are ∙ new_book_at config shard place within
+    ap (option_map as_new) (sym stands) ∙ sym (slice_get-map as_new books index)
+    ∙ ap (λ (all : List RuledBook). slice_get all index) are ∙ new_book_at config shard index within
     ∙ ap (λ (n : ℕ). option_map book_of_entry (slice_get config.accounts n)) (sym at) ∙ ap (option_map book_of_entry) there in
     ap (λ (book : RuledBook). book.rules) (same_Some (as_new ruled) (book_of_entry entry) as_it_was)
 

@@ -4,7 +4,7 @@ use Rattle.rsl_accounts.specs.Configuration.{Configuration}
 use Rattle.rsl_book.specs.RuledBook.{RuledBook}
 use Rattle.rsl_event.specs.declared.event.Decision.{Decision}
 use Rattle.rsl_shard.specs.Opening.{as_new}
-use Rattle.rsl_shard.specs.Replay.{new_books}
+use Rattle.rsl_shard.specs.Restep.{new_books}
 use Rattle.rsl_shard.specs.Seen.{ShardSeen, books_of, cut_off, new_shard, with_line}
 use Rattle.rsl_shard.specs.declared.moved.Move.{Move}
 use Rattle.rsl_shard.proofs.Callers.{renewed_begun, renewed_cut, renewed_line}

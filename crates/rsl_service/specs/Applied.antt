@@ -1,12 +1,13 @@
 -- What a service makes of a datagram, and of the passing of time, for the pass of who calls it.
-use Rattle.std.specs.Prelude.{◌≡◌, ℕ, ◌%◌, List}
+use Rattle.std.specs.Prelude.{◌≡◌, ℕ, List}
 use Rattle.rsl_event.specs.Answer.{answer, said}
 use Rattle.rsl_event.specs.declared.event.Decision.{Decision}
 use Rattle.rsl_event.specs.declared.event.Decision.TheVariants.{Done}
 use Rattle.rsl_event.specs.declared.meaning.Meaning.{Meaning}
-use Rattle.rsl_event.specs.declared.meaning.Meaning.TheVariants.{Own, Restart, Stray}
 use Rattle.rsl_event.specs.declared.meaning.Prepared.{Prepared}
-use Rattle.rsl_shard.specs.declared.moved.Move.TheVariants as moves
+use Rattle.rsl_shard.specs.Moves.{moves_of}
+use Rattle.rsl_shard.specs.declared.moves.Moves.{Moves}
+use Rattle.rsl_shard.specs.declared.moves.Moves.TheVariants.{Nothing, One, Each}
 use Rattle.rsl_wire.specs.Seen.{fields_of}
 use Rattle.rsl_service.specs.Receipts.{IsNoted, AreNoted}
 use Rattle.rsl_service.specs.Service.{ServiceSeen}
@@ -24,18 +25,19 @@ pub record IsAnswered (service : ServiceSeen) (prepared : Prepared) (decision : 
   pub octets : answered.octets.items ≡ answer service.config service.boot prepared.client
       (fields_of prepared.packet) prepared.meaning decision
 
--- What is an account's own moves its shard, a stray shard 0. A restart sweeps every shard. What is
--- no ask is merely done; everything else moves none.
+-- The moves of a datagram are made: one by its shard, which decides it, and one that is each shard's
+-- by all of them in turn. What is no ask is merely done.
+abbrev pub HasMade : (shards : ℕ) → Moves → Decision → (old new : List Receipt) → Type 0
+HasMade shards Nothing decision old new = (decision ≡ Done) × (new ≡ old)
+HasMade shards (One shard moved) decision old new = IsNoted shard moved decision old new
+HasMade shards (Each moved) decision old new =
+    (decision ≡ Done) × AreNoted shards moved old new
+
+-- what was decided on a datagram of this meaning, with its moves made
 abbrev pub HasDecided : ServiceSeen → (moment : ℕ) → Meaning → Decision → (old new : List Receipt)
     → Type 0
-HasDecided service moment (Own account act) decision old new =
-    IsNoted (account % service.config.settings.shards)
-    (moves.Own account (record { moment = moment; act = act })) decision old new
-HasDecided service moment (Stray note) decision old new =
-    IsNoted 0 (moves.Stray moment note) decision old new
-HasDecided service moment (Restart nas) decision old new =
-    (decision ≡ Done) × AreNoted service.config.settings.shards (moves.Sweep moment nas) old new
-HasDecided service moment _ decision old new = (decision ≡ Done) × (new ≡ old)
+HasDecided service moment meaning decision old new =
+    HasMade service.config.settings.shards (moves_of service.config moment meaning) decision old new
 
 -- a datagram has made its moves, and is answered as they were decided
 pub record IsApplied (service : ServiceSeen) (moment : ℕ) (prepared : Prepared)
@@ -54,8 +56,15 @@ abbrev pub fault_after : (swept : ℕ) → StepFault → ApplyFault
 fault_after swept steps.NoMemory = faults.NoMemory swept
 fault_after swept steps.Spent = faults.Spent swept
 
+-- the first shards may have made a move that is each shard's, when a fault comes; another was not
+-- made
+abbrev pub AreStopped : Moves → ApplyFault → (old new : List Receipt) → Type 0
+AreStopped (Each moved) fault old new = AreNoted (swept_before fault) moved old new
+AreStopped (One shard moved) fault old new = (swept_before fault ≡ 0) × (new ≡ old)
+AreStopped Nothing fault old new = (swept_before fault ≡ 0) × (new ≡ old)
+
 -- a restart may have swept some shards, from 0 on, when a fault comes; everything else made no move
-abbrev pub IsStopped : (moment : ℕ) → Meaning → ApplyFault → (old new : List Receipt) → Type 0
-IsStopped moment (Restart nas) fault old new =
-    AreNoted (swept_before fault) (moves.Sweep moment nas) old new
-IsStopped moment _ fault old new = (swept_before fault ≡ 0) × (new ≡ old)
+abbrev pub IsStopped : ServiceSeen → (moment : ℕ) → Meaning → ApplyFault → (old new : List Receipt)
+    → Type 0
+IsStopped service moment meaning fault old new =
+    AreStopped (moves_of service.config moment meaning) fault old new

@@ -27,9 +27,9 @@ pub record IsEnd (setup : Setup) (segment : Segment) : Type 0 where
   pub journal : IsJournal setup segment.opening.items segment.lines.items
 
 -- the journal of a shard that there may be, as a list
-abbrev pub listed : Option Segment → List Segment
-listed None = []
-listed (Some segment) = segment ∷ []
+abbrev pub as_list : Option Segment → List Segment
+as_list None = []
+as_list (Some segment) = segment ∷ []
 
 -- Among the present journals there is one of the shard, its end.
 pub record HasEnd (config : Configuration) (present : List Segment) (shard : ℕ) : Type 0 where

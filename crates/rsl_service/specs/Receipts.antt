@@ -2,7 +2,6 @@
 use Rattle.std.specs.Prelude.{◌≡◌, ℕ, ◌==◌, List, [], ◌∷◌, ◌++◌, zero, suc, count_by}
 use Rattle.rsl_event.specs.declared.event.Decision.{Decision}
 use Rattle.rsl_shard.specs.declared.moved.Move.{Move}
-use Rattle.rsl_shard.specs.declared.moved.Move.TheVariants as moves
 use Rattle.rsl_settle.specs.declared.receipt.Receipt.{Receipt}
 
 -- how many of the receipts are of a shard
@@ -30,8 +29,3 @@ unfoldable pub AreNoted : (shards : ℕ) → Move → (old new : List Receipt) �
 AreNoted zero moved old new = new ≡ old
 AreNoted (suc shard) moved old new =
     (before : List Receipt) × AreNoted shard moved old before × HasOneMore shard moved before new
-
--- a move that every shard takes: of no account
-abbrev pub IsOfAll : Move → Type 0
-IsOfAll (moves.Own account event) = ⊥
-IsOfAll _ = Unit {0}

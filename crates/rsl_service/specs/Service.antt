@@ -2,7 +2,7 @@
 use Rattle.std.specs.Prelude.{◌≡◌, ℕ, List}
 use Rattle.rsl_accounts.specs.Configuration.{Configuration}
 use Rattle.rsl_book.specs.RuledBook.{RuledBook}
-use Rattle.rsl_shard.specs.Replay.{new_books}
+use Rattle.rsl_shard.specs.Restep.{new_books}
 use Rattle.rsl_shard.specs.Setup.{Setup, setup_of}
 
 -- its configuration and its boot number

@@ -57,7 +57,7 @@ impl<L0: Tally, L1: Tally, L2: Tally, L3: Tally, G: Gate> Service<L0, L1, L2, L3
         ensures applied { IfOk result (λ answered.
             IsApplied self.now moment prepared.entry answered pass.old pass.new) }
         ensures err { IfErr result (λ fault.
-            IsStopped moment prepared.entry.meaning fault pass.old pass.new) }
+            IsStopped self.now moment prepared.entry.meaning fault pass.old pass.new) }
         ensures fewer { IfErr result (λ fault.
             swept_before fault < self.now.config.settings.shards) }
     {

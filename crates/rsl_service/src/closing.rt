@@ -74,10 +74,10 @@ impl<L0: Tally, L1: Tally, L2: Tally, L3: Tally, G: Gate + Drop> Service<L0, L1,
         let third = end_if_there(alloc, desk2);
         let fourth = end_if_there(alloc, desk3);
         let (
-            Ok((journal0, lines0)),
-            Ok((journal1, lines1)),
-            Ok((journal2, lines2)),
-            Ok((journal3, lines3)),
+            Ok((journal0, ledger0)),
+            Ok((journal1, ledger1)),
+            Ok((journal2, ledger2)),
+            Ok((journal3, ledger3)),
         ) = (first, second, third, fourth) else {
             return Err(NoMemory);
         };
@@ -86,10 +86,10 @@ impl<L0: Tally, L1: Tally, L2: Tally, L3: Tally, G: Gate + Drop> Service<L0, L1,
             config,
             opened,
             shares,
-            lines0,
-            lines1,
-            lines2,
-            lines3,
+            ledger0,
+            ledger1,
+            ledger2,
+            ledger3,
             present,
         })
     }
@@ -111,10 +111,10 @@ impl<L0: Tally, L1: Tally, L2: Tally, L3: Tally> Ended<L0, L1, L2, L3> {
             config,
             opened,
             mut shares,
-            mut lines0,
-            lines1,
-            lines2,
-            lines3,
+            mut ledger0,
+            ledger1,
+            ledger2,
+            ledger3,
             present,
         } = self;
         settle(
@@ -132,10 +132,10 @@ impl<L0: Tally, L1: Tally, L2: Tally, L3: Tally> Ended<L0, L1, L2, L3> {
             share2,
             share3,
         } = shares;
-        lines0.audit(&mut share0);
-        audit_if_there(lines1, share1);
-        audit_if_there(lines2, share2);
-        audit_if_there(lines3, share3);
+        ledger0.audit(&mut share0);
+        audit_if_there(ledger1, share1);
+        audit_if_there(ledger2, share2);
+        audit_if_there(ledger3, share3);
         let segments = by_shard(segments, present)?;
         Ok(Closed { segments })
     }

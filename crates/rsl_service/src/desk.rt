@@ -2,7 +2,7 @@ ghost use Rattle.std.specs.Prelude.{◌≡◌, ◌+◌, ◌<◌, IfOk, OnErr, On
 ghost use Rattle.rsl_shard.specs.Moves.{IsTaken};
 ghost use Rattle.rsl_shard.specs.Journal.{IsJournal};
 ghost use Rattle.rsl_shard.specs.Opening.{as_new};
-ghost use Rattle.rsl_shard.specs.Replay.{new_books};
+ghost use Rattle.rsl_shard.specs.Restep.{new_books};
 ghost use Rattle.rsl_shard.specs.Seen.{books_of, total_of};
 ghost use Rattle.rsl_shard.specs.Setup.{setup_of};
 ghost use Rattle.rsl_service.specs.Closed.{IsEnd, lines_to};
@@ -15,7 +15,7 @@ use rsl_event::Decision;
 use rsl_shard::{CutRoom, LooseSegment, Ready, Segment, Shard, Spare};
 use rsl_wire::NoMemory;
 use std::alloc::Global;
-use std::sync::ledger::{Blank, Book, Share};
+use std::sync::ledger::{Blank, Book as LineLedger, Share};
 
 /// A shard with the ledger of its lines, as they stand behind the shard's lock.
 ///
@@ -25,8 +25,8 @@ use std::sync::ledger::{Blank, Book, Share};
 #[derive(Drop)]
 pub(crate) struct Desk<L: Tally> {
     pub(crate) shard: Shard,
-    lines: Book<L>,
-    ghost counted: { lines.total ≡ total_of shard },
+    ledger: LineLedger<L>,
+    ghost counted: { ledger.total ≡ total_of shard },
     ghost numbered: { shard.setup ≡ L.setup },
     ghost ruled: { map as_new (books_of shard) ≡ L.books },
 }
@@ -41,13 +41,13 @@ pub(crate) struct Made {
 }
 
 /// Counts a line of a shard in its ledger and in the share of who made it.
-fn count_line<L: Tally>(lines: &mut Book<L>, mine: &mut Share<L>)
+fn count_line<L: Tally>(ledger: &mut LineLedger<L>, mine: &mut Share<L>)
     requires part { 0 < mine.old.parts }
-    ensures total { lines.new.total ≡ lines.old.total + 1 }
+    ensures total { ledger.new.total ≡ ledger.old.total + 1 }
     ensures amount { mine.new.amount ≡ mine.old.amount + 1 }
     ensures parts { mine.new.parts ≡ mine.old.parts }
 {
-    lines.add(mine, 1);
+    ledger.add(mine, 1);
 }
 
 impl<L: Tally> Desk<L> {
@@ -69,8 +69,8 @@ impl<L: Tally> Desk<L> {
         ensures amount { IfOk result (λ made. made.1.amount ≡ 0) }
     {
         let shard = Shard::new(alloc, config, number)?;
-        let (lines, share) = blank.open::<L>();
-        Ok((Desk { shard, lines }, share))
+        let (ledger, share) = blank.open::<L>();
+        Ok((Desk { shard, ledger }, share))
     }
 
     /// The number of lines of the present journal.
@@ -91,13 +91,13 @@ impl<L: Tally> Desk<L> {
     }
 
     /// Ends the journal, and hands it out with its ledger. It fails only where memory is refused.
-    pub(crate) fn end(self, alloc: Global) -> Result<(Segment, Book<L>), NoMemory>
+    pub(crate) fn end(self, alloc: Global) -> Result<(Segment, LineLedger<L>), NoMemory>
         ensures end { IfOk result (λ ended. IsEnd L.setup ended.0) }
         ensures told { IfOk result (λ ended. ended.1.total ≡ lines_to ended.0) }
     {
-        let Desk { shard, lines } = self;
+        let Desk { shard, ledger } = self;
         let journal = shard.into_segment(alloc)?;
-        Ok((journal, lines))
+        Ok((journal, ledger))
     }
 
     /// Makes a move in the shard, counts its line in the share, and then calls the gate. Where it
@@ -119,13 +119,13 @@ impl<L: Tally> Desk<L> {
         ensures counted { OnOk result (mine.new.amount ≡ mine.old.amount + 1) }
         ensures err { OnErr result (mine.new ≡ mine.old) }
     {
-        let Desk { shard, lines } = self;
+        let Desk { shard, ledger } = self;
         let position = shard.total();
         if position == u64::MAX {
             return Err(StepFault::Spent);
         }
         let decision = shard.step_ready(alloc, ready, spare)?;
-        count_line(lines, mine);
+        count_line(ledger, mine);
         gate.at(number);
         Ok(Made { position, decision })
     }

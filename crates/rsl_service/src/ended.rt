@@ -3,7 +3,7 @@ use crate::tally::Tally;
 use rsl_accounts::Config;
 use rsl_shard::Segment;
 use std::marker::Model;
-use std::sync::ledger::Book;
+use std::sync::ledger::Book as LineLedger;
 
 /// What a service has come to, out of its locks.
 ///
@@ -15,10 +15,10 @@ pub(crate) struct Ended<L0: Tally, L1: Tally, L2: Tally, L3: Tally> {
     pub(crate) config: Config,
     pub(crate) opened: u64,
     pub(crate) shares: Shares<L0, L1, L2, L3>,
-    pub(crate) lines0: Book<L0>,
-    pub(crate) lines1: Option<Book<L1>>,
-    pub(crate) lines2: Option<Book<L2>>,
-    pub(crate) lines3: Option<Book<L3>>,
+    pub(crate) ledger0: LineLedger<L0>,
+    pub(crate) ledger1: Option<LineLedger<L1>>,
+    pub(crate) ledger2: Option<LineLedger<L2>>,
+    pub(crate) ledger3: Option<LineLedger<L3>>,
     pub(crate) present: Vec<Segment>,
 }
 
@@ -42,11 +42,11 @@ impl<L0: Tally, L1: Tally, L2: Tally, L3: Tally> Model for Ended<L0, L1, L2, L3>
         × (ended.shares.share1.amount ≡ 0)
         × (ended.shares.share2.amount ≡ 0)
         × (ended.shares.share3.amount ≡ 0)
-        × (is_some ended.lines1 ≡ nat_lt 1 ended.config.settings.shards)
-        × (is_some ended.lines2 ≡ nat_lt 2 ended.config.settings.shards)
-        × (is_some ended.lines3 ≡ nat_lt 3 ended.config.settings.shards)
-        × (ended.lines0.total ≡ end_of 0 ended.present.items)
-        × IfSome ended.lines1 (λ book. book.total ≡ end_of 1 ended.present.items)
-        × IfSome ended.lines2 (λ book. book.total ≡ end_of 2 ended.present.items)
-        × IfSome ended.lines3 (λ book. book.total ≡ end_of 3 ended.present.items) };
+        × (is_some ended.ledger1 ≡ nat_lt 1 ended.config.settings.shards)
+        × (is_some ended.ledger2 ≡ nat_lt 2 ended.config.settings.shards)
+        × (is_some ended.ledger3 ≡ nat_lt 3 ended.config.settings.shards)
+        × (ended.ledger0.total ≡ end_of 0 ended.present.items)
+        × IfSome ended.ledger1 (λ ledger. ledger.total ≡ end_of 1 ended.present.items)
+        × IfSome ended.ledger2 (λ ledger. ledger.total ≡ end_of 2 ended.present.items)
+        × IfSome ended.ledger3 (λ ledger. ledger.total ≡ end_of 3 ended.present.items) };
 }

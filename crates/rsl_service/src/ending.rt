@@ -1,7 +1,7 @@
 ghost use Rattle.std.specs.Prelude.{◌≡◌, ◌++◌, IfOk, IfSome, OnOk, Some, is_some};
 ghost use Rattle.std.specs.List.{sum_by};
 ghost use Rattle.rsl_settle.specs.Segments.{of_shard};
-ghost use Rattle.rsl_service.specs.Closed.{IsEnd, lines_to, listed};
+ghost use Rattle.rsl_service.specs.Closed.{IsEnd, lines_to, as_list};
 
 use crate::desk::Desk;
 use crate::tally::Tally;
@@ -9,13 +9,13 @@ use rsl_shard::Segment;
 use rsl_wire::NoMemory;
 use std::alloc::Global;
 use std::sync::Mutex;
-use std::sync::ledger::{Book, Share};
+use std::sync::ledger::{Book as LineLedger, Share};
 
 /// Ends the journal of a shard, and hands it out with its ledger.
 pub(crate) fn end<L: Tally>(
     alloc: Global,
     desk: Mutex<Desk<L>>,
-) -> Result<(Segment, Book<L>), NoMemory>
+) -> Result<(Segment, LineLedger<L>), NoMemory>
     ensures end { IfOk result (λ ended. IsEnd L.setup ended.0) }
     ensures told { IfOk result (λ ended. ended.1.total ≡ lines_to ended.0) }
 {
@@ -26,30 +26,30 @@ pub(crate) fn end<L: Tally>(
 pub(crate) fn end_if_there<L: Tally>(
     alloc: Global,
     desk: Option<Mutex<Desk<L>>>,
-) -> Result<(Option<Segment>, Option<Book<L>>), NoMemory>
+) -> Result<(Option<Segment>, Option<LineLedger<L>>), NoMemory>
     ensures journal { IfOk result (λ ended. is_some ended.0 ≡ is_some desk) }
     ensures ledger { IfOk result (λ ended. is_some ended.1 ≡ is_some desk) }
     ensures end { IfOk result (λ ended. IfSome ended.0 (IsEnd L.setup)) }
     ensures told { IfOk result (λ ended.
-        IfSome ended.1 (λ book. book.total ≡ sum_by lines_to (listed ended.0))) }
+        IfSome ended.1 (λ ledger. ledger.total ≡ sum_by lines_to (as_list ended.0))) }
 {
     match desk {
         Some(desk) => {
-            let (journal, lines) = end(alloc, desk)?;
-            Ok((Some(journal), Some(lines)))
+            let (journal, ledger) = end(alloc, desk)?;
+            Ok((Some(journal), Some(ledger)))
         }
         None => Ok((None, None)),
     }
 }
 
 /// The total of a ledger, all of whose parts are in a share, is the share's amount.
-pub(crate) fn audit_if_there<L: Tally>(lines: Option<Book<L>>, all: Share<L>)
+pub(crate) fn audit_if_there<L: Tally>(ledger: Option<LineLedger<L>>, all: Share<L>)
     requires { all.parts ≡ L.parts }
-    ensures { IfSome lines (λ book. book.total ≡ all.amount) }
+    ensures { IfSome ledger (λ ledger. ledger.total ≡ all.amount) }
 {
     let mut all = all;
-    if let Some(mut book) = lines {
-        book.audit(&mut all);
+    if let Some(mut ledger) = ledger {
+        ledger.audit(&mut all);
     }
 }
 
@@ -65,10 +65,10 @@ pub(crate) fn list(
     requires second { IfSome second (λ journal. journal.shard ≡ 1) }
     requires third { IfSome third (λ journal. journal.shard ≡ 2) }
     requires fourth { IfSome fourth (λ journal. journal.shard ≡ 3) }
-    ensures first { IfOk result (λ all. of_shard 0 all.items ≡ listed (Some first)) }
-    ensures second { IfOk result (λ all. of_shard 1 all.items ≡ listed second) }
-    ensures third { IfOk result (λ all. of_shard 2 all.items ≡ listed third) }
-    ensures fourth { IfOk result (λ all. of_shard 3 all.items ≡ listed fourth) }
+    ensures first { IfOk result (λ all. of_shard 0 all.items ≡ as_list (Some first)) }
+    ensures second { IfOk result (λ all. of_shard 1 all.items ≡ as_list second) }
+    ensures third { IfOk result (λ all. of_shard 2 all.items ≡ as_list third) }
+    ensures fourth { IfOk result (λ all. of_shard 3 all.items ≡ as_list fourth) }
 {
     let mut all = Vec::new(alloc);
     all.push(first)?;
@@ -80,7 +80,7 @@ pub(crate) fn list(
 
 /// Pushes a journal, if there is one.
 fn push_if_there(all: &mut Vec<Segment>, journal: Option<Segment>) -> Result<(), NoMemory>
-    ensures { OnOk result (all.new.items ≡ all.old.items ++ listed journal) }
+    ensures { OnOk result (all.new.items ≡ all.old.items ++ as_list journal) }
 {
     if let Some(journal) = journal {
         all.push(journal)?;

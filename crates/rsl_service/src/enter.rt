@@ -52,7 +52,7 @@ pub(crate) fn enter<L: Tally, G: Gate, R: Wait>(
     ensures err { OnErr result (receipts.new.items ≡ receipts.old.items) }
 {
     take_room(receipts, spare)?;
-    let (copy, ready) = copied(alloc, moved)?;
+    let (copy, ready) = copy_for_step(alloc, moved)?;
     let made = make_under_lock(rt, alloc, desk, gate, shard, mine, ready, spare)?;
     let line = Line {
         moved: copy,
@@ -82,7 +82,7 @@ fn take_room(receipts: &mut Vec<Receipt>, spare: &mut Spare) -> Result<(), StepF
 }
 
 /// A copy of a move for its receipt, and the move with what its step takes over.
-fn copied(alloc: Global, moved: Move) -> Result<(Move, Ready), StepFault>
+fn copy_for_step(alloc: Global, moved: Move) -> Result<(Move, Ready), StepFault>
     ensures copy { IfOk result (λ taken. taken.0 ≡ moved) }
     ensures ready { IfOk result (λ taken. taken.1 ≡ moved) }
 {

@@ -1,5 +1,5 @@
 ghost use Rattle.std.specs.Prelude.{◌≡◌, ◌<◌, IfOk, length};
-ghost use Rattle.rsl_shard.specs.Replay.{new_books};
+ghost use Rattle.rsl_shard.specs.Restep.{new_books};
 ghost use Rattle.rsl_shard.specs.Setup.{setup_of};
 ghost use Rattle.rsl_service.specs.Report.{IsReport};
 

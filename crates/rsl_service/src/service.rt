@@ -42,7 +42,7 @@ pub struct Service<L0: Tally, L1: Tally, L2: Tally, L3: Tally, G: Gate> {
 
 impl<L0: Tally, L1: Tally, L2: Tally, L3: Tally, G: Gate> Model for Service<L0, L1, L2, L3, G> {
     ghost use Rattle.std.specs.Prelude.{◌≡◌, nat_lt, is_some};
-    ghost use Rattle.rsl_shard.specs.Replay.{new_books};
+    ghost use Rattle.rsl_shard.specs.Restep.{new_books};
     ghost use Rattle.rsl_shard.specs.Setup.{setup_of};
     ghost use Rattle.rsl_service.specs.Service.{ServiceSeen};
 

@@ -39,19 +39,19 @@ pub number_older : (entry : PastEvent) (past : Past) (link : ℕ) → link ≤ l
 unfolding number_at entry_at
 number_older entry past link within = rw (older link past within) refl
 
-binds_touched : (link place : ℕ) (outcome : Outcome) → touches link place outcome ≡ false
-    → binds link place outcome ≡ false
+binds_touched : (link number : ℕ) (outcome : Outcome) → touches link number outcome ≡ false
+    → binds link number outcome ≡ false
 unfolding binds touches
-binds_touched link place (Accepted number) untouched = refl
-binds_touched link place (AcceptedInPlace number yielded) untouched = refl
-binds_touched link place Refused untouched = refl
-binds_touched link place (Repeated decision) untouched = refl
-binds_touched link place Opened untouched = untouched
-binds_touched link place (Took taken) untouched = untouched
-binds_touched link place (Renewed renewed) untouched = refl
-binds_touched link place Ignored untouched = refl
-binds_touched link place Over untouched = refl
-binds_touched link place Passed untouched = refl
+binds_touched link number (Accepted accept) untouched = refl
+binds_touched link number (AcceptedInPlace accept yielded) untouched = refl
+binds_touched link number Refused untouched = refl
+binds_touched link number (Repeated decision) untouched = refl
+binds_touched link number Opened untouched = untouched
+binds_touched link number (Took taken) untouched = untouched
+binds_touched link number (Renewed renewed) untouched = refl
+binds_touched link number Ignored untouched = refl
+binds_touched link number Over untouched = refl
+binds_touched link number Passed untouched = refl
 
 -- a link that an event does not touch looks as it did
 pub view_untouched : (entry : PastEvent) (past : Past) (link : ℕ) → link ≤ length past

@@ -1,4 +1,4 @@
--- What a past that follows the rule is: one past for one list of events, and each link in it names a place
+-- What a past that follows the rule is: one past for one list of events, and each link in it names a number
 -- at which a link opened.
 use Rattle.std.proofs.Common.{◌≡◌, ℕ, suc, ◌-◌, ◌^◌, ◌<◌, ◌≤◌, List, [], ◌∷◌, ◌++◌, length, Bool, true, false, cond, refl, ap, sym, ◌∙◌, subst, arith, map, leb}
 use Rattle.std.specs.Prelude.{Option, Some, None, filter, find, ⊤, nat_lt}
@@ -87,7 +87,7 @@ list_all_push q (y ∷ xs) x all here =
     let parts = and_parts (q y) (list_all q xs) all in
     and_from _ _ parts.0 (list_all_push q xs x parts.1 here)
 
--- a link has opened: its place is one of the past
+-- a link has opened: its number is one of the past
 pub is_in : Past → ℕ → Bool
 is_in past link = leb link (length past)
 

@@ -12,20 +12,20 @@ use Rattle.rsl_session.specs.declared.bundle.Bundle.{Bundle}
 use Rattle.rsl_session.specs.Past.{Past}
 use Rattle.rsl_session.specs.Same.{same_session}
 
--- whether the event at a place opened or took a link for a session
+-- whether the event of a number opened or took a link for a session
 unfoldable pub binds : ℕ → ℕ → Outcome → Bool
-binds link place Opened = link == place
-binds link place (Took taken) = link == taken
-binds link place _ = false
+binds link number Opened = link == number
+binds link number (Took taken) = link == taken
+binds link number _ = false
 
--- whether the event at a place opened, took or renewed a link
+-- whether the event of a number opened, took or renewed a link
 unfoldable pub touches : ℕ → ℕ → Outcome → Bool
-touches link place (Accepted number) = link == place
-touches link place (AcceptedInPlace number yielded) = link == place
-touches link place Opened = link == place
-touches link place (Took taken) = link == taken
-touches link place (Renewed renewed) = link == renewed
-touches link place _ = false
+touches link number (Accepted accept) = link == number
+touches link number (AcceptedInPlace accept yielded) = link == number
+touches link number Opened = link == number
+touches link number (Took taken) = link == taken
+touches link number (Renewed renewed) = link == renewed
+touches link number _ = false
 
 -- the session of an alive
 unfoldable pub session_of : Act → Option Session
@@ -37,15 +37,15 @@ unfoldable pub bundle_of : Act → Option Bundle
 bundle_of (Alive nas session bundle class) = option_map (λ id. record { nas = nas; id = id }) bundle
 bundle_of _ = None
 
--- the session for which the entry at a place opened or took a link, and the bundle with which it
+-- the session for which the entry of a number opened or took a link, and the bundle with which it
 -- touched it
 unfoldable pub bound_by : ℕ → ℕ → PastEvent → Option Session
-bound_by link place entry =
-    if binds link place entry.outcome then session_of entry.event.act else None
+bound_by link number entry =
+    if binds link number entry.outcome then session_of entry.event.act else None
 
 unfoldable pub bundled_by : ℕ → ℕ → PastEvent → Option Bundle
-bundled_by link place entry =
-    if touches link place entry.outcome then bundle_of entry.event.act else None
+bundled_by link number entry =
+    if touches link number entry.outcome then bundle_of entry.event.act else None
 
 -- the session that a link is bound to, by the first that bound it
 unfoldable pub session_at : ℕ → Past → Option Session

@@ -1,6 +1,6 @@
 use rsl_event::Decision;
 
-/// What an event did. A link is named by the place of the event that opened it: 1 for the account's
+/// What an event did. A link is named by the number of the event that opened it: 1 for the account's
 /// first event.
 #[derive(Clone, Copy, Debug, PartialEq, Eq)]
 pub enum Outcome {

@@ -12,7 +12,7 @@ use Rattle.rsl_settle.specs.declared.chain.Chain.{Chain}
 use Rattle.rsl_settle.specs.declared.close_fault.CloseFault.{CloseFault}
 use Rattle.rsl_settle.specs.declared.close_fault.CloseFault.TheVariants.{MissingPass, MissingSegment, Mismatch, NoMemory}
 use Rattle.rsl_shard.specs.Moves.{IsTaken}
-use Rattle.rsl_shard.specs.Replay.{BooksSeen, books_after, new_books, new_books_seen, replay}
+use Rattle.rsl_shard.specs.Restep.{BooksSeen, books_after, new_books, new_books_seen, restep}
 use Rattle.rsl_shard.specs.Setup.{Setup, setup_of}
 use Rattle.rsl_shard.specs.declared.line.Line.{Line}
 use Rattle.rsl_shard.specs.declared.segment.Segment.{Segment}
@@ -24,7 +24,7 @@ use Rattle.rsl_shard.specs.declared.segment.Segment.{Segment}
 pub record AreMade (lines : List Line) (start now : BooksSeen) (i : ℕ) : Type 0 where
   pub setup : now.setup ≡ start.setup
   pub taken : All (λ line. IsTaken start.setup line.moved) (take i lines)
-  pub books : replay start.setup now.books (drop i lines) ≡ replay start.setup start.books lines
+  pub books : restep start.setup now.books (drop i lines) ≡ restep start.setup start.books lines
 
 pub made_none : (lines : List Line) (start : BooksSeen) → AreMade lines start start 0
 made_none lines start = record { setup = refl; taken = All-nil (λ (line : Line). IsTaken start.setup line.moved); books = refl }
@@ -32,17 +32,17 @@ made_none lines start = record { setup = refl; taken = All-nil (λ (line : Line)
 pub made_more : (lines : List Line) (start now new : BooksSeen) (i : ℕ) (line : Line) → i < length lines → line ≡ get_or lines i line
     → IsTaken now.setup line.moved → new.setup ≡ now.setup → new.books ≡ books_after now.setup now.books line.moved → AreMade lines start now i
     → AreMade lines start new (i + 1)
-unfolding replay
+unfolding restep
 made_more lines start now new i line within is taken setup books so_far = record {
   setup = setup ∙ so_far.setup;
   taken =
       All-more (λ (l : Line). IsTaken start.setup l.moved) lines i line within so_far.taken
       (subst (λ (l : Line). IsTaken start.setup l.moved) is (subst (λ (s : Setup). IsTaken s line.moved) so_far.setup taken));
   books =
-      ap (λ (all : List RuledBook). replay start.setup all (drop (i + 1) lines))
+      ap (λ (all : List RuledBook). restep start.setup all (drop (i + 1) lines))
       (books ∙ ap (λ (s : Setup). books_after s now.books line.moved) so_far.setup)
-      ∙ ap (λ (l : Line). replay start.setup now.books (l ∷ drop (i + 1) lines)) is
-      ∙ sym (ap (replay start.setup now.books) (drop_more lines i line within))
+      ∙ ap (λ (l : Line). restep start.setup now.books (l ∷ drop (i + 1) lines)) is
+      ∙ sym (ap (restep start.setup now.books) (drop_more lines i line within))
       ∙ so_far.books;
 }
 
@@ -51,9 +51,9 @@ pub made_taken : (lines : List Line) (start now : BooksSeen) (i : ℕ) → lengt
 made_taken lines start now i past so_far = subst (All (λ (line : Line). IsTaken start.setup line.moved)) (take_all i lines past) so_far.taken
 
 pub made_books : (lines : List Line) (start now : BooksSeen) (i : ℕ) → length lines ≤ i → AreMade lines start now i
-    → now.books ≡ replay start.setup start.books lines
-unfolding replay
-made_books lines start now i past so_far = sym (ap (replay start.setup now.books) (drop_all i lines past)) ∙ so_far.books
+    → now.books ≡ restep start.setup start.books lines
+unfolding restep
+made_books lines start now i past so_far = sym (ap (restep start.setup now.books) (drop_all i lines past)) ∙ so_far.books
 
 -- a move that the shard does not take
 pub not_taken : (lines : List Line) (start now : BooksSeen) (i : ℕ) (line : Line) → i < length lines → line ≡ get_or lines i line
@@ -91,18 +91,18 @@ joined_from setup setup2 lines lines2 books books2 segments of_setup of_lines of
 -- where one segment has gone on, those after it go on exactly where it does with them
 goes_with : (now new : Chain) (segment : Segment) (rest : List Segment) → GoesOn now.books.setup now.lines now.books.books segment
     → new.lines ≡ now.lines + length segment.lines.items → new.books.setup ≡ now.books.setup
-    → new.books.books ≡ replay now.books.setup now.books.books segment.lines.items
+    → new.books.books ≡ restep now.books.setup now.books.books segment.lines.items
     → GoOn new rest ↔ GoOn now (segment ∷ rest)
 unfolding AllGoOn
 goes_with now new segment rest goes lines setup books = (
   λ joined. (
     goes,
     joined_from new.books.setup now.books.setup new.lines (now.lines + length segment.lines.items) new.books.books
-        (replay now.books.setup now.books.books segment.lines.items) rest setup lines books joined,
+        (restep now.books.setup now.books.books segment.lines.items) rest setup lines books joined,
   ),
   λ joined.
       joined_from now.books.setup new.books.setup (now.lines + length segment.lines.items) new.lines
-      (replay now.books.setup now.books.books segment.lines.items) new.books.books rest (sym setup) (sym lines) (sym books) joined.1,
+      (restep now.books.setup now.books.books segment.lines.items) new.books.books rest (sym setup) (sym lines) (sym books) joined.1,
 )
 
 -- what the loop over segments keeps: those to come go on from here exactly where all go on from the start
@@ -115,7 +115,7 @@ taken_none shard segments first = record { setup = refl; goes_on = λ rest. (λ 
 
 pub taken_here : (shard : ℕ) (segments : List Segment) (first now new : Chain) (i : ℕ) (segment : Segment) → i < length segments → segment ≡ get_or segments i segment
     → segment.shard ≡ shard → GoesOn now.books.setup now.lines now.books.books segment → new.lines ≡ now.lines + length segment.lines.items
-    → new.books.setup ≡ now.books.setup → new.books.books ≡ replay now.books.setup now.books.books segment.lines.items
+    → new.books.setup ≡ now.books.setup → new.books.books ≡ restep now.books.setup now.books.books segment.lines.items
     → AreTaken shard segments first now i → AreTaken shard segments first new (i + 1)
 taken_here shard segments first now new i segment within is same goes lines setup books so_far = record {
   setup = setup ∙ so_far.setup;

@@ -65,7 +65,7 @@ sum_pairs position (x ∷ xs) pairs =
 sum_more : (position x : ℕ) (xs : List ℕ) → sum_at position xs ≤ sum_at position (x ∷ xs)
 sum_more position x xs = omega (arith, sum_first position x xs (x == position) refl)
 
--- it stands at the first place
+-- it stands at the first index
 sum_here : (position x : ℕ) (xs : List ℕ) → x ≡ position → sum_at position (x ∷ xs) ≡ 1 + sum_at position xs
 sum_here position x xs is = sum_first position x xs true (eq-eqb x position is)
 

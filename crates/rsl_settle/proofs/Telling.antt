@@ -7,7 +7,7 @@ use Rattle.std.proofs.lemmas.Bool.{cases_lt, ne_eqb}
 use Rattle.std.proofs.lemmas.List.{flat_map_more, map_more, take_all}
 use Rattle.std.proofs.lemmas.List.Elements.{All-contains, All-nil, All-push, All-tail, Contains-get_or}
 use Rattle.rsl_accounts.specs.Configuration.{Configuration}
-use Rattle.rsl_settle.specs.Faults.{IsAmong, IsFaultOfPass, IsFaultOfPasses, IsFaultOfReceipts, IsSegmentFault, IsNumberFaultOfPass, IsNumberFaultOfPasses, IsOfNoShard, IsUnlike}
+use Rattle.rsl_settle.specs.Faults.{IsAmong, IsFaultOfPass, IsFaultOfPasses, IsFaultOfReceipts, IsSegmentFault, IsNumberFaultOfPass, IsNumberFaultOfPasses, IsOfNoShard, IsMismatchIn}
 use Rattle.rsl_settle.specs.Receipts.{FallsAt, FallsTo, IsItsLine, positions_of, times}
 use Rattle.rsl_settle.specs.Segments.{HasJoined, shard_lines, of_shard}
 use Rattle.rsl_settle.specs.Settled.{IsCloseFault, IsMismatch, IsNoLine, IsSettled}
@@ -19,9 +19,9 @@ use Rattle.rsl_shard.specs.declared.segment.Segment.{Segment}
 
 -- ---- one pass
 
-pub unlike_told : (lines : List Line) (shard : ℕ) (receipts : List Receipt) (position : ℕ) → ((receipt : Receipt) × IsUnlike lines shard receipts position receipt)
+pub mismatch_told : (lines : List Line) (shard : ℕ) (receipts : List Receipt) (position : ℕ) → ((receipt : Receipt) × IsMismatchIn lines shard receipts position receipt)
     → IsFaultOfPass lines shard receipts (Mismatch shard position)
-unlike_told lines shard receipts position found = (refl, inl found)
+mismatch_told lines shard receipts position found = (refl, inl found)
 
 pub fall_told : (lines : List Line) (shard : ℕ) (receipts : List Receipt) (positions : List ℕ) (position : ℕ) → positions ≡ positions_of shard receipts
     → FallsTo positions position → IsFaultOfPass lines shard receipts (Mismatch shard position)
@@ -77,22 +77,22 @@ fault_of_shard segments lines shard passes MissingPass are found = found.2
 fault_of_shard segments lines shard passes (MissingSegment named) are found = found.2
 fault_of_shard segments lines shard passes (Mismatch named position) are found = by found.2.1
   where
-    by : (((receipt : Receipt) × IsUnlike lines shard found.0 position receipt) ⊎ FallsTo (positions_of shard found.0) position)
+    by : (((receipt : Receipt) × IsMismatchIn lines shard found.0 position receipt) ⊎ FallsTo (positions_of shard found.0) position)
         → IsMismatch segments passes named position
-    by (inl unlike) =
+    by (inl mismatch) =
         inl (
           found.0,
-          unlike.0,
+          mismatch.0,
           record {
             given = found.1;
-            kept = unlike.1.kept;
-            of_shard = unlike.1.of_shard ∙ sym found.2.0;
-            at = unlike.1.at;
+            kept = mismatch.1.kept;
+            of_shard = mismatch.1.of_shard ∙ sym found.2.0;
+            at = mismatch.1.at;
             wrong = λ its.
-                unlike.1.wrong
+                mismatch.1.wrong
                 (ap (λ (all : List Line). slice_get all position) are
-                ∙ ap (λ (n : ℕ). slice_get (shard_lines n segments) position) (sym unlike.1.of_shard)
-                ∙ ap (slice_get (shard_lines unlike.0.shard segments)) (sym unlike.1.at)
+                ∙ ap (λ (n : ℕ). slice_get (shard_lines n segments) position) (sym mismatch.1.of_shard)
+                ∙ ap (slice_get (shard_lines mismatch.0.shard segments)) (sym mismatch.1.at)
                 ∙ its);
           },
         )
@@ -228,7 +228,7 @@ pub told_exactly : {T : Type 0} (config : Configuration) (opened : ℕ) (passes 
 told_exactly config opened passes segments (Ok done) found = tt
 told_exactly config opened passes segments (Err fault) found = fault_is_there config opened passes segments fault found
 
-pub ruleset pass_steps = (unlike_told, fall_told, no_memory_told)
+pub ruleset pass_steps = (mismatch_told, fall_told, no_memory_told)
 
 pub ruleset passes_steps = (all_more, all_done, positions_step, positions_done, fault_of_passes)
 

@@ -41,7 +41,7 @@ IsSegmentFault config segments (Mismatch shard position) = ⊥
 IsSegmentFault config segments NoMemory = ⊤
 
 -- among a pass's receipts one of this position of a shard isn't the line there
-pub record IsUnlike (lines : List Line) (shard : ℕ) (receipts : List Receipt) (position : ℕ)
+pub record IsMismatchIn (lines : List Line) (shard : ℕ) (receipts : List Receipt) (position : ℕ)
     (receipt : Receipt) : Type 0 where
   pub kept : Contains receipts receipt
   pub of_shard : receipt.shard ≡ shard
@@ -59,7 +59,7 @@ IsFaultOfPass lines shard receipts MissingPass = ⊥
 IsFaultOfPass lines shard receipts (MissingSegment named) = ⊥
 IsFaultOfPass lines shard receipts (Mismatch named position) =
     (named ≡ shard)
-    × (((receipt : Receipt) × IsUnlike lines shard receipts position receipt)
+    × (((receipt : Receipt) × IsMismatchIn lines shard receipts position receipt)
     ⊎ FallsTo (positions_of shard receipts) position)
 IsFaultOfPass lines shard receipts NoMemory = ⊤
 

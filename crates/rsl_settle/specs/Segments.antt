@@ -8,7 +8,7 @@ use Rattle.std.specs.List.{flat_map}
 use Rattle.rsl_accounts.specs.Configuration.{Configuration}
 use Rattle.rsl_book.specs.RuledBook.{RuledBook}
 use Rattle.rsl_shard.specs.Moves.{IsTaken}
-use Rattle.rsl_shard.specs.Replay.{new_books, replay}
+use Rattle.rsl_shard.specs.Restep.{new_books, restep}
 use Rattle.rsl_shard.specs.Setup.{Setup, setup_of}
 use Rattle.rsl_shard.specs.declared.line.Line.{Line}
 use Rattle.rsl_shard.specs.declared.segment.Segment.{Segment}
@@ -35,7 +35,7 @@ AllGoOn setup lines books [] = ⊤
 AllGoOn setup lines books (segment ∷ segments) =
     GoesOn setup lines books segment
     × AllGoOn setup (lines + length segment.lines.items)
-    (replay setup books segment.lines.items) segments
+    (restep setup books segment.lines.items) segments
 
 -- The segments of a shard join. A number that is no shard's has none.
 pub record HasJoined (config : Configuration) (segments : List Segment) (shard : ℕ) : Type 0 where

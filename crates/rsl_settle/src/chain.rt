@@ -2,7 +2,7 @@ ghost use Rattle.std.specs.Prelude.{◌≡◌, ◌+◌, ◌<◌, ◌++◌, ◌�
 ghost use Rattle.rsl_settle.specs.Faults.{GoOn, IsBreak};
 ghost use Rattle.rsl_settle.specs.Segments.{GoesOn, of_shard};
 ghost use Rattle.rsl_shard.specs.Moves.{IsTaken};
-ghost use Rattle.rsl_shard.specs.Replay.{new_books_seen, replay};
+ghost use Rattle.rsl_shard.specs.Restep.{new_books_seen, restep};
 ghost use Rattle.rsl_shard.specs.declared.segment.Segment.{Segment as OneSegment};
 
 use crate::close_fault::CloseFault;
@@ -64,7 +64,7 @@ impl Chain {
             (self.new.lines ≡ self.old.lines + length segment.now.lines.items) }
         ensures setup { OnOk result (self.new.books.setup ≡ self.old.books.setup) }
         ensures books { OnOk result (self.new.books.books
-            ≡ replay self.old.books.setup self.old.books.books segment.now.lines.items) }
+            ≡ restep self.old.books.setup self.old.books.books segment.now.lines.items) }
         ensures err { IfErr result (IsBreak self.old.books.setup.shard
             (GoesOn self.old.books.setup self.old.lines self.old.books.books segment.now)) }
     {
@@ -86,7 +86,7 @@ fn take_lines(alloc: Global, books: &mut Books, lines: &[Line]) -> Result<(), Cl
     ensures taken { OnOk result (All (λ line. IsTaken books.old.setup line.moved) lines.now) }
     ensures setup { OnOk result (books.new.setup ≡ books.old.setup) }
     ensures books { OnOk result
-        (books.new.books ≡ replay books.old.setup books.old.books lines.now) }
+        (books.new.books ≡ restep books.old.setup books.old.books lines.now) }
     ensures err { IfErr result (IsBreak books.old.setup.shard
         (All (λ line. IsTaken books.old.setup line.moved) lines.now)) }
 {

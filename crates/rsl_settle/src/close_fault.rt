@@ -23,7 +23,7 @@ pub enum CloseFault {
     Mismatch {
         /// The shard's number.
         shard: u32,
-        /// The line's place, counted from 0 over all segments of the shard.
+        /// The line's position, counted from 0 over all segments of the shard.
         position: u64,
     },
     /// Memory was refused.

@@ -15,8 +15,8 @@ mod receipt;
 mod receipts;
 mod same;
 mod segments;
-mod settling;
+mod settlement;
 
 pub use close_fault::CloseFault;
 pub use receipt::{HasReceipts, Receipt};
-pub use settling::settle;
+pub use settlement::settle;

@@ -1,6 +1,6 @@
 ghost use Rattle.std.specs.Prelude.{◌≡◌, ◌++◌, ◌↔◌, All, IfOk, IfSome, IfNone, IsTrue, OnOk};
 ghost use Rattle.std.specs.Prelude.{Some, map, slice_get};
-ghost use Rattle.rsl_settle.specs.Faults.{IsAmong, IsUnlike};
+ghost use Rattle.rsl_settle.specs.Faults.{IsAmong, IsMismatchIn};
 ghost use Rattle.rsl_settle.specs.Segments.{shard_lines as all_lines};
 ghost use Rattle.rsl_settle.specs.declared.receipt.Receipt.{Receipt as OneReceipt};
 
@@ -67,10 +67,10 @@ fn is_line(lines: &[&Line], receipt: &Receipt) -> bool
 }
 
 /// The position of a receipt of the shard that isn't the line there.
-pub(crate) fn unlike(shard: u32, lines: &[&Line], receipts: &[Receipt]) -> Option<u64>
-    ensures unlike { IfSome result (λ position. (receipt : OneReceipt)
-        × IsUnlike (map (λ line. line.now) lines.now) shard receipts.now position receipt) }
-    ensures alike { IfNone result
+pub(crate) fn first_mismatch(shard: u32, lines: &[&Line], receipts: &[Receipt]) -> Option<u64>
+    ensures mismatch { IfSome result (λ position. (receipt : OneReceipt)
+        × IsMismatchIn (map (λ line. line.now) lines.now) shard receipts.now position receipt) }
+    ensures among { IfNone result
         (All (IsAmong (map (λ line. line.now) lines.now) shard) receipts.now) }
 {
     for receipt in receipts {

@@ -24,7 +24,7 @@ pub(crate) fn push_positions(
 }
 
 /// The first position that isn't above the one before it.
-pub(crate) fn fallen(positions: &[u64]) -> Option<u64>
+pub(crate) fn first_not_rising(positions: &[u64]) -> Option<u64>
     ensures falls { IfSome result (FallsTo positions.now) }
     ensures rises { IfNone result (IsStrictlyIncreasing positions.now) }
 {
@@ -36,14 +36,14 @@ pub(crate) fn fallen(positions: &[u64]) -> Option<u64>
     None
 }
 
-/// A position that stands at two places, if there is one.
+/// A position that stands more than once, if there is one.
 #[tactic(auto, using(crate::proofs::Counting::order_steps))]
-pub(crate) fn twin(mut positions: Vec<u64>) -> Option<u64>
+pub(crate) fn first_duplicate(mut positions: Vec<u64>) -> Option<u64>
     ensures twice { IfSome result (λ position.
         1 < count_by (λ (other : ℕ). other == position) positions.items) }
     ensures once { IfNone result ((position : ℕ) →
         count_by (λ (other : ℕ). other == position) positions.items ≤ 1) }
 {
     positions.sort_unstable();
-    fallen(positions.as_slice())
+    first_not_rising(positions.as_slice())
 }

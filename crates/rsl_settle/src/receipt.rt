@@ -8,7 +8,7 @@ use rsl_shard::Line;
 pub struct Receipt {
     /// The shard's number.
     pub shard: u32,
-    /// The line's place, counted from 0 over all segments of the shard.
+    /// The line's position, counted from 0 over all segments of the shard.
     pub position: u64,
     /// The line: the move, and what was decided.
     pub line: Line,

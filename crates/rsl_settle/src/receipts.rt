@@ -13,8 +13,8 @@ ghost use Rattle.rsl_settle.specs.Receipts.{IsItsLine, positions_of, times};
 ghost use Rattle.rsl_settle.specs.Segments.{shard_lines as all_lines, of_shard};
 
 use crate::close_fault::CloseFault;
-use crate::lines::{shard_lines, unlike};
-use crate::positions::{fallen, push_positions, twin};
+use crate::lines::{first_mismatch, shard_lines};
+use crate::positions::{first_duplicate, first_not_rising, push_positions};
 use crate::receipt::{HasReceipts, Receipt};
 use rsl_shard::{Line, Segment};
 use std::alloc::Global;
@@ -98,7 +98,7 @@ fn check_shard<P: HasReceipts>(
     let lines = shard_lines(alloc, shard, given, present)?;
     let mut positions = Vec::new(alloc);
     check_passes(shard, lines.as_slice(), passes, &mut positions)?;
-    match twin(positions) {
+    match first_duplicate(positions) {
         Some(position) => Err(CloseFault::Mismatch { shard, position }),
         None => Ok(()),
     }
@@ -145,12 +145,12 @@ fn check_pass(
     ensures err { IfErr result
         (IsFaultOfPass (map (λ line. line.now) lines.now) shard receipts.now) }
 {
-    if let Some(position) = unlike(shard, lines, receipts) {
+    if let Some(position) = first_mismatch(shard, lines, receipts) {
         return Err(CloseFault::Mismatch { shard, position });
     }
     let from = positions.len();
     push_positions(shard, receipts, positions)?;
-    match fallen(&positions[from..]) {
+    match first_not_rising(&positions[from..]) {
         Some(position) => Err(CloseFault::Mismatch { shard, position }),
         None => Ok(()),
     }

@@ -1,4 +1,4 @@
--- The new books of a shard: one for each of its accounts, at its place.
+-- The new books of a shard: one for each of its accounts, at its index.
 use Rattle.std.proofs.Common.{◌≡◌, ℕ, zero, suc, ◌+◌, ◌-◌, ◌*◌, ◌%◌, ◌<◌, ◌≤◌, List, [], ◌∷◌, ◌++◌, drop, length, Bool, cond, Option, Some, None, All, refl, sym, ap, subst, ◌∙◌, arith, append-nil, append_assoc}
 use Rattle.std.specs.Prelude.{slice_get}
 use Rattle.std.specs.Option.{option_map}
@@ -10,68 +10,68 @@ use Rattle.std.proofs.lemmas.Option.{slice_get_within, get_or_from_slice_get}
 use Rattle.rsl_accounts.specs.Configuration.{Configuration}
 use Rattle.rsl_accounts.specs.declared.entry.Entry.{Entry}
 use Rattle.rsl_book.specs.RuledBook.{IsWithinLimit, RuledBook}
-use Rattle.rsl_shard.specs.Replay.{AreBooks, book_of_entry, new_books, new_books_from}
+use Rattle.rsl_shard.specs.Restep.{AreBooks, book_of_entry, new_books, new_books_from}
 use Rattle.rsl_shard.specs.Setup.{IsSetup, setup_of}
 use Rattle.rsl_shard.proofs.Numbers.{apart, differs, next_of_shard, there}
 
--- the book at a place is that of the entry of its account; `ahead` is how far the first account of the shard is
-pub new_at : (shards shard number ahead place index : ℕ) (entries : List Entry) → ahead < shards → (number + ahead) % shards ≡ shard → index ≡ ahead + place * shards
-    → slice_get (new_books_from shards shard number entries) place ≡ option_map book_of_entry (slice_get entries index)
+-- the book at an index is that of the entry of its account; `ahead` is how far the first account of the shard is
+pub new_at : (shards shard number ahead index account : ℕ) (entries : List Entry) → ahead < shards → (number + ahead) % shards ≡ shard → account ≡ ahead + index * shards
+    → slice_get (new_books_from shards shard number entries) index ≡ option_map book_of_entry (slice_get entries account)
 unfolding new_books_from
-new_at shards shard number ahead place index [] less is at = refl
-new_at shards shard number zero place index (entry ∷ entries) less is at =
-    ap (λ (test : Bool). slice_get (cond test (book_of_entry entry ∷ new_books_from shards shard (number + 1) entries) (new_books_from shards shard (number + 1) entries)) place)
+new_at shards shard number ahead index account [] less is at = refl
+new_at shards shard number zero index account (entry ∷ entries) less is at =
+    ap (λ (test : Bool). slice_get (cond test (book_of_entry entry ∷ new_books_from shards shard (number + 1) entries) (new_books_from shards shard (number + 1) entries)) index)
     (eq-eqb (number % shards) shard (ap (λ (n : ℕ). n % shards) (omega arith) ∙ is))
-    ∙ from place index at
+    ∙ from index account at
     (λ (next below : ℕ) (here : below ≡ shards - 1 + next * shards).
     new_at shards shard (number + 1) (shards - 1) next below entries (omega (arith, less))
     (ap (λ (n : ℕ). n % shards) (omega (arith, less)) ∙ next_of_shard shards (number + zero) shard is) here)
   where
-    from : (place index : ℕ) → index ≡ zero + place * shards
+    from : (index account : ℕ) → account ≡ zero + index * shards
         → ((next below : ℕ) → below ≡ shards - 1 + next * shards → slice_get (new_books_from shards shard (number + 1) entries) next ≡ option_map book_of_entry (slice_get entries below))
-        → slice_get (book_of_entry entry ∷ new_books_from shards shard (number + 1) entries) place ≡ option_map book_of_entry (slice_get (entry ∷ entries) index)
+        → slice_get (book_of_entry entry ∷ new_books_from shards shard (number + 1) entries) index ≡ option_map book_of_entry (slice_get (entry ∷ entries) account)
     from zero zero here rest = refl
-    from zero (suc index) here rest = absurd (omega (arith, here))
-    from (suc place) zero here rest = let long : suc place * shards ≡ place * shards + shards = suc-mul place shards in absurd (omega (arith, here, long, less))
-    from (suc place) (suc index) here rest =
-        let long : suc place * shards ≡ place * shards + shards = suc-mul place shards in
-        rest place index (omega (arith, here, long, less))
-new_at shards shard number (suc ahead) place zero (entry ∷ entries) less is at = absurd (omega (arith, at))
-new_at shards shard number (suc ahead) place (suc index) (entry ∷ entries) less is at =
-    ap (λ (test : Bool). slice_get (cond test (book_of_entry entry ∷ new_books_from shards shard (number + 1) entries) (new_books_from shards shard (number + 1) entries)) place)
+    from zero (suc account) here rest = absurd (omega (arith, here))
+    from (suc index) zero here rest = let long : suc index * shards ≡ index * shards + shards = suc-mul index shards in absurd (omega (arith, here, long, less))
+    from (suc index) (suc account) here rest =
+        let long : suc index * shards ≡ index * shards + shards = suc-mul index shards in
+        rest index account (omega (arith, here, long, less))
+new_at shards shard number (suc ahead) index zero (entry ∷ entries) less is at = absurd (omega (arith, at))
+new_at shards shard number (suc ahead) index (suc account) (entry ∷ entries) less is at =
+    ap (λ (test : Bool). slice_get (cond test (book_of_entry entry ∷ new_books_from shards shard (number + 1) entries) (new_books_from shards shard (number + 1) entries)) index)
     (differs (number % shards) shard (λ (same : number % shards ≡ shard). apart shards number ahead less (is ∙ sym same)))
-    ∙ new_at shards shard (number + 1) ahead place index entries (omega (arith, less)) (ap (λ (n : ℕ). n % shards) (omega arith) ∙ is) (omega (arith, at))
+    ∙ new_at shards shard (number + 1) ahead index account entries (omega (arith, less)) (ap (λ (n : ℕ). n % shards) (omega arith) ∙ is) (omega (arith, at))
 
 -- the book of an entry where there is one, in the books of a shard
-pub new_book_at : (config : Configuration) (shard place : ℕ) → shard < config.settings.shards
-    → slice_get (new_books config shard) place ≡ option_map book_of_entry (slice_get config.accounts (shard + place * config.settings.shards))
-new_book_at config shard place less =
-    new_at config.settings.shards shard 0 shard place (shard + place * config.settings.shards) config.accounts less
+pub new_book_at : (config : Configuration) (shard index : ℕ) → shard < config.settings.shards
+    → slice_get (new_books config shard) index ≡ option_map book_of_entry (slice_get config.accounts (shard + index * config.settings.shards))
+new_book_at config shard index less =
+    new_at config.settings.shards shard 0 shard index (shard + index * config.settings.shards) config.accounts less
     (ap (λ (n : ℕ). n % config.settings.shards) (omega arith) ∙ mod-eq_of_lt less) refl
 
-has_place : (config : Configuration) (shard place : ℕ) → shard < config.settings.shards → shard + place * config.settings.shards < length config.accounts
-    → place < length (new_books config shard)
-has_place config shard place less within = by (slice_get config.accounts (shard + place * config.settings.shards)) refl
+has_index : (config : Configuration) (shard index : ℕ) → shard < config.settings.shards → shard + index * config.settings.shards < length config.accounts
+    → index < length (new_books config shard)
+has_index config shard index less within = by (slice_get config.accounts (shard + index * config.settings.shards)) refl
   where
-    by : (o : Option Entry) → slice_get config.accounts (shard + place * config.settings.shards) ≡ o → place < length (new_books config shard)
-    by (Some entry) is = slice_get_within (new_books config shard) place (book_of_entry entry) (new_book_at config shard place less ∙ ap (option_map book_of_entry) is)
-    by None is = absurd (there config.accounts (shard + place * config.settings.shards) within is)
+    by : (o : Option Entry) → slice_get config.accounts (shard + index * config.settings.shards) ≡ o → index < length (new_books config shard)
+    by (Some entry) is = slice_get_within (new_books config shard) index (book_of_entry entry) (new_book_at config shard index less ∙ ap (option_map book_of_entry) is)
+    by None is = absurd (there config.accounts (shard + index * config.settings.shards) within is)
 
-has_account : (config : Configuration) (shard place : ℕ) → shard < config.settings.shards → place < length (new_books config shard)
-    → shard + place * config.settings.shards < length config.accounts
-has_account config shard place less within = by (slice_get config.accounts (shard + place * config.settings.shards)) refl
+has_account : (config : Configuration) (shard index : ℕ) → shard < config.settings.shards → index < length (new_books config shard)
+    → shard + index * config.settings.shards < length config.accounts
+has_account config shard index less within = by (slice_get config.accounts (shard + index * config.settings.shards)) refl
   where
-    by : (o : Option Entry) → slice_get config.accounts (shard + place * config.settings.shards) ≡ o → shard + place * config.settings.shards < length config.accounts
-    by (Some entry) is = slice_get_within config.accounts (shard + place * config.settings.shards) entry is
-    by None is = absurd (there (new_books config shard) place within (new_book_at config shard place less ∙ ap (option_map book_of_entry) is))
+    by : (o : Option Entry) → slice_get config.accounts (shard + index * config.settings.shards) ≡ o → shard + index * config.settings.shards < length config.accounts
+    by (Some entry) is = slice_get_within config.accounts (shard + index * config.settings.shards) entry is
+    by None is = absurd (there (new_books config shard) index within (new_book_at config shard index less ∙ ap (option_map book_of_entry) is))
 
 -- new books are the books of the shard
 pub new_are_books : (config : Configuration) (shard : ℕ) (books : List RuledBook) → IsSetup (setup_of config shard) → books ≡ new_books config shard
     → All IsWithinLimit books → AreBooks (setup_of config shard) books
 new_are_books config shard books within are limit = record {
   within = within;
-  each = λ place less. subst (λ (all : List RuledBook). place < length all) (sym are) (has_place config shard place within.shard less);
-  no_more = λ place less. has_account config shard place within.shard (subst (λ (all : List RuledBook). place < length all) are less);
+  each = λ index less. subst (λ (all : List RuledBook). index < length all) (sym are) (has_index config shard index within.shard less);
+  no_more = λ index less. has_account config shard index within.shard (subst (λ (all : List RuledBook). index < length all) are less);
   limit = limit;
 }
 

@@ -12,7 +12,7 @@ use Rattle.rsl_accounts.specs.declared.entry.Entry.{Entry}
 use Rattle.rsl_event.specs.declared.event.Event.{Event}
 use Rattle.rsl_shard.specs.Moves.{event_to}
 use Rattle.rsl_shard.specs.Opening.{opening_of, as_new}
-use Rattle.rsl_shard.specs.Replay.{AreBooks, HaveStepped, book_of_entry, books_after, decision_by, moved_from, new_books, new_books_from, replay, step_by}
+use Rattle.rsl_shard.specs.Restep.{AreBooks, HaveStepped, book_of_entry, books_after, decision_by, moved_from, new_books, new_books_from, restep, step_by}
 use Rattle.rsl_shard.specs.declared.opening.Opening.{Opening}
 use Rattle.rsl_shard.specs.declared.opening.Opening.TheVariants.{New, Kept}
 use Rattle.rsl_shard.specs.Seen.{IsShard, ShardSeen, books_of, cut_off, new_shard, total_of, with_line}
@@ -21,7 +21,7 @@ use Rattle.rsl_shard.specs.Setup.{Setup, setup_of}
 use Rattle.rsl_shard.specs.declared.line.Line.{Line}
 use Rattle.rsl_shard.specs.declared.moved.Move.{Move}
 use Rattle.rsl_shard.specs.declared.shard.Shard.TheInside.{Inside}
-use Rattle.rsl_shard.specs.ShardInside.{HasJournal, shard_seen}
+use Rattle.rsl_shard.specs.ShardSeen.{HasJournal, shard_seen}
 use Rattle.rsl_shard.proofs.Moving.{have_stepped}
 
 -- an element of a list with one more at its end
@@ -37,15 +37,15 @@ last (z ∷ xs) x y zero past is = absurd (omega (arith, past))
 last (z ∷ xs) x y (suc n) past is = let rest = last xs x y n (omega (arith, past)) is in (ap suc rest.0, rest.1)
 
 -- the books after one line more
-pub replay_more : (setup : Setup) (opening : List RuledBook) (lines : List Line) (line : Line)
-    → replay setup opening (lines ++ line ∷ []) ≡ books_after setup (replay setup opening lines) line.moved
-unfolding replay
-replay_more setup opening [] line = refl
-replay_more setup opening (first ∷ lines) line = replay_more setup (books_after setup opening first.moved) lines line
+pub restep_more : (setup : Setup) (opening : List RuledBook) (lines : List Line) (line : Line)
+    → restep setup opening (lines ++ line ∷ []) ≡ books_after setup (restep setup opening lines) line.moved
+unfolding restep
+restep_more setup opening [] line = refl
+restep_more setup opening (first ∷ lines) line = restep_more setup (books_after setup opening first.moved) lines line
 
-pub replay_none : (setup : Setup) (opening : List RuledBook) → replay setup opening [] ≡ opening
-unfolding replay
-replay_none setup opening = refl
+pub restep_none : (setup : Setup) (opening : List RuledBook) → restep setup opening [] ≡ opening
+unfolding restep
+restep_none setup opening = refl
 
 pub no_lines : (setup : Setup) (opening : List RuledBook) → IsJournal setup opening []
 no_lines setup opening = record {
@@ -54,7 +54,7 @@ no_lines setup opening = record {
 }
 
 pub one_line_more : (setup : Setup) (opening : List RuledBook) (lines : List Line) (moved : Move) (decision : Decision) → IsJournal setup opening lines
-    → IsTaken setup moved → decision ≡ decision_by setup (replay setup opening lines) moved
+    → IsTaken setup moved → decision ≡ decision_by setup (restep setup opening lines) moved
     → IsJournal setup opening (lines ++ record { moved = moved; decision = decision } ∷ [])
 one_line_more setup opening lines moved decision journal taken decided = record {
   taken =
@@ -67,17 +67,17 @@ one_line_more setup opening lines moved decision journal taken decided = record 
     new = record { moved = moved; decision = decision }
 
     by : (n : ℕ) (line : Line) → slice_get (lines ++ new ∷ []) n ≡ Some line → (n < length lines) ⊎ (length lines ≤ n)
-        → line.decision ≡ decision_by setup (replay setup opening (take n (lines ++ new ∷ []))) line.moved
+        → line.decision ≡ decision_by setup (restep setup opening (take n (lines ++ new ∷ []))) line.moved
     by n line is (inl before) =
         journal.decided n line (sym (earlier lines new line n before) ∙ is)
-        ∙ ap (λ (some : List Line). decision_by setup (replay setup opening some) line.moved) (sym (take-append-le n lines (new ∷ []) (omega (arith, before))))
+        ∙ ap (λ (some : List Line). decision_by setup (restep setup opening some) line.moved) (sym (take-append-le n lines (new ∷ []) (omega (arith, before))))
     by n line is (inr past) =
         let there = last lines new line n past is in
         let all : take n (lines ++ new ∷ []) ≡ lines =
         take-append-le n lines (new ∷ []) (omega (arith, there.0)) ∙ take_all n lines past in
         ap (λ (one : Line). one.decision) (sym there.1) ∙ decided
-        ∙ ap (λ (some : List Line). decision_by setup (replay setup opening some) moved) (sym all)
-        ∙ ap (λ (one : Line). decision_by setup (replay setup opening (take n (lines ++ new ∷ []))) one.moved) there.1
+        ∙ ap (λ (some : List Line). decision_by setup (restep setup opening some) moved) (sym all)
+        ∙ ap (λ (one : Line). decision_by setup (restep setup opening (take n (lines ++ new ∷ []))) one.moved) there.1
 
 -- what a move makes of books has their rules: so the books that they were when they were new stay the same
 renewed_stepped : (event : Option Event) (ruled : RuledBook) → as_new (step_by event ruled) ≡ as_new ruled
@@ -115,15 +115,15 @@ renewed_new config shard books are =
 -- whatever a shard has come to: the new books of its accounts are the same after one line more, and after its journal was handed out
 pub renewed_line : (shard : ShardSeen) (moved : Move) (decision : Decision) → map as_new (books_of (with_line shard moved decision)) ≡ map as_new (books_of shard)
 renewed_line shard moved decision =
-    ap (map as_new) (replay_more shard.setup shard.opening shard.lines (record { moved = moved; decision = decision }))
+    ap (map as_new) (restep_more shard.setup shard.opening shard.lines (record { moved = moved; decision = decision }))
     ∙ renewed_moved shard.setup.shard shard.setup.shards moved (books_of shard)
 
 pub renewed_cut : (shard : ShardSeen) → map as_new (books_of (cut_off shard)) ≡ map as_new (books_of shard)
-renewed_cut shard = ap (map as_new) (replay_none shard.setup (books_of shard))
+renewed_cut shard = ap (map as_new) (restep_none shard.setup (books_of shard))
 
 pub renewed_begun : (config : Configuration) (shard : ℕ) → map as_new (books_of (new_shard config shard)) ≡ new_books config shard
 renewed_begun config shard =
-    ap (map as_new) (replay_none (setup_of config shard) (new_books config shard)) ∙ renewed_from config.settings.shards shard 0 config.accounts
+    ap (map as_new) (restep_none (setup_of config shard) (new_books config shard)) ∙ renewed_from config.settings.shards shard 0 config.accounts
 
 -- what is seen of a shard after one move more
 pub seen_on : (old new : Inside) (moved : Move) (decision : Decision) → new.books.setup ≡ old.books.setup
@@ -142,7 +142,7 @@ pub books_on : (old new : ShardSeen) (moved : Move) (decision : Decision) → ne
 books_on old new moved decision is =
     subst (λ (seen : ShardSeen). HaveStepped old.setup moved (books_of old) (books_of seen)) (sym is)
     (subst (λ (books : List RuledBook). HaveStepped old.setup moved (books_of old) books)
-    (sym (replay_more old.setup old.opening old.lines (record { moved = moved; decision = decision })))
+    (sym (restep_more old.setup old.opening old.lines (record { moved = moved; decision = decision })))
     (have_stepped old.setup moved (books_of old)))
 
 -- what the fields of a shard are after one move more
@@ -152,11 +152,11 @@ pub moved_on : (old new : Inside) (moved : Move) (decision : Decision) → HasJo
     → new.opening ≡ old.opening → new.first ≡ old.first
     → new.journal.lines ≡ old.journal.lines ++ record { moved = moved; decision = decision } ∷ [] → HasJournal new
 moved_on old new moved decision has taken room decided setup books sound opening first lines = record {
-  replayed = replayed;
+  restepped = restepped;
   kept = subst IsShard (sym seen) (record {
     journal = one_line_more old.books.setup begins old.journal.lines moved decision has.kept.journal taken
-        (decided ∙ ap (λ (all : List RuledBook). decision_by old.books.setup all moved) has.replayed);
-    books = subst (λ (shard : ShardSeen). AreBooks shard.setup (books_of shard)) seen (subst (λ (all : List RuledBook). AreBooks new.books.setup all) replayed sound);
+        (decided ∙ ap (λ (all : List RuledBook). decision_by old.books.setup all moved) has.restepped);
+    books = subst (λ (shard : ShardSeen). AreBooks shard.setup (books_of shard)) seen (subst (λ (all : List RuledBook). AreBooks new.books.setup all) restepped sound);
     total = omega (arith, room, length-append old.journal.lines (line ∷ []));
   });
 }
@@ -170,27 +170,27 @@ moved_on old new moved decision has taken room decided setup books sound opening
     seen : shard_seen new ≡ with_line (shard_seen old) moved decision
     seen = seen_on old new moved decision setup books opening first lines
 
-    replayed : new.books.books ≡ books_of (shard_seen new)
-    replayed =
-        books ∙ ap (λ (all : List RuledBook). books_after old.books.setup all moved) has.replayed
-        ∙ sym (replay_more old.books.setup begins old.journal.lines line)
+    restepped : new.books.books ≡ books_of (shard_seen new)
+    restepped =
+        books ∙ ap (λ (all : List RuledBook). books_after old.books.setup all moved) has.restepped
+        ∙ sym (restep_more old.books.setup begins old.journal.lines line)
         ∙ ap (λ (shard : ShardSeen). books_of shard) (sym seen)
 
 -- what the fields of a shard are that begins: with new books, or with copies of those of a shard
 pub begun : (new : Inside) → AreBooks new.books.setup new.books.books → opening_of new.opening new.books.books ≡ new.books.books → new.journal.lines ≡ [] → new.first < 2 ^ 64 → HasJournal new
 begun new sound opening lines within = record {
-  replayed = replayed;
+  restepped = restepped;
   kept = record {
     journal = subst (λ (some : List Line). IsJournal new.books.setup (opening_of new.opening new.books.books) some) (sym lines) (no_lines new.books.setup (opening_of new.opening new.books.books));
-    books = subst (λ (all : List RuledBook). AreBooks new.books.setup all) replayed sound;
+    books = subst (λ (all : List RuledBook). AreBooks new.books.setup all) restepped sound;
     total = omega (arith, within, ap length lines);
   };
 }
   where
-    replayed : new.books.books ≡ books_of (shard_seen new)
-    replayed =
-        sym opening ∙ sym (replay_none new.books.setup (opening_of new.opening new.books.books))
-        ∙ ap (λ (some : List Line). replay new.books.setup (opening_of new.opening new.books.books) some) (sym lines)
+    restepped : new.books.books ≡ books_of (shard_seen new)
+    restepped =
+        sym opening ∙ sym (restep_none new.books.setup (opening_of new.opening new.books.books))
+        ∙ ap (λ (some : List Line). restep new.books.setup (opening_of new.opening new.books.books) some) (sym lines)
 
 -- what is seen of a shard that begins with new books
 pub new_seen : (config : Configuration) (shard : ℕ) (new : Inside) → new.books.setup ≡ setup_of config shard

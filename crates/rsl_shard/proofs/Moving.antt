@@ -1,6 +1,6 @@
--- What a move makes of the books of a shard, place by place.
+-- What a move makes of the books of a shard, book by book.
 use Rattle.std.proofs.Common.{◌≡◌, ℕ, zero, suc, ◌+◌, ◌*◌, ◌/◌, ◌%◌, ◌<◌, ◌≤◌, ◌⊎◌, List, [], ◌∷◌, ◌++◌, take, drop, set, get_or, length, map, Bool, true, false, ◌==◌, cond, Option, Some, None, inl, inr, refl, sym, ap, subst, ◌∙◌, arith, append-nil}
-use Rattle.std.specs.Prelude.{IfSome, slice_get}
+use Rattle.std.specs.Prelude.{slice_get}
 use Rattle.std.specs.Option.{option_map, option_map_or}
 use Rattle.std.proofs.Math.Nat.{mod-eq_of_lt, suc-mul}
 use Rattle.std.proofs.lemmas.Bool.{cases_lt, eqb-true, eq-eqb}
@@ -16,11 +16,11 @@ use Rattle.rsl_session.specs.Book.{Book, new_book}
 use Rattle.rsl_session.specs.BookStep.{step}
 use Rattle.rsl_shard.specs.Moves.{IsOfShard, event_to}
 use Rattle.rsl_shard.specs.Opening.{as_new}
-use Rattle.rsl_shard.specs.Replay.{AreBooks, HaveStepped, book_at, book_from, books_after, decision_by, moved_from, step_by}
+use Rattle.rsl_shard.specs.Restep.{AreBooks, HaveStepped, book_at, book_from, books_after, decision_by, moved_from, step_by}
 use Rattle.rsl_shard.specs.Setup.{Setup}
 use Rattle.rsl_shard.specs.declared.moved.Move.{Move}
 use Rattle.rsl_shard.specs.declared.moved.Move.TheVariants.{Own}
-use Rattle.rsl_shard.proofs.Numbers.{account_is, differs, next_of_shard, there, unequal}
+use Rattle.rsl_shard.proofs.Numbers.{account_is, differs, next_of_shard, unequal}
 
 -- books before which the account stands stay as they are
 pub moved_past : (first shards account : ℕ) (event : Event) (books : List RuledBook) → account < first → moved_from first shards (Own account event) books ≡ books
@@ -31,22 +31,22 @@ moved_past first shards account event (ruled ∷ books) less =
     ap (λ (test : Bool). step_by (cond test (Some event) None) ruled ∷ moved_from (first + shards) shards (Own account event) books) other
     ∙ ap (λ (rest : List RuledBook). ruled ∷ rest) (moved_past (first + shards) shards account event books (omega (arith, less)))
 
--- an own move steps the book at its account's place
-pub moved_own : (first shards account place : ℕ) (event : Event) (books : List RuledBook) (ruled : RuledBook) → 0 < shards → account ≡ first + place * shards
-    → slice_get books place ≡ Some ruled → moved_from first shards (Own account event) books ≡ set books place (step_by (Some event) ruled)
+-- an own move steps the book at its account's index
+pub moved_own : (first shards account index : ℕ) (event : Event) (books : List RuledBook) (ruled : RuledBook) → 0 < shards → account ≡ first + index * shards
+    → slice_get books index ≡ Some ruled → moved_from first shards (Own account event) books ≡ set books index (step_by (Some event) ruled)
 unfolding moved_from
-moved_own first shards account place event [] ruled some at is = cc
+moved_own first shards account index event [] ruled some at is = cc
 moved_own first shards account zero event (here ∷ books) ruled some at is =
     let same : (account == first) ≡ true = eq-eqb account first (omega (arith, at)) in
     let this : here ≡ ruled = cc in
     ap (λ (test : Bool). step_by (cond test (Some event) None) here ∷ moved_from (first + shards) shards (Own account event) books) same
     ∙ ap (λ (rest : List RuledBook). step_by (Some event) here ∷ rest) (moved_past (first + shards) shards account event books (omega (arith, at, some)))
     ∙ ap (λ (book : RuledBook). step_by (Some event) book ∷ books) this
-moved_own first shards account (suc place) event (here ∷ books) ruled some at is =
-    let long : suc place * shards ≡ place * shards + shards = suc-mul place shards in
+moved_own first shards account (suc index) event (here ∷ books) ruled some at is =
+    let long : suc index * shards ≡ index * shards + shards = suc-mul index shards in
     let other : (account == first) ≡ false = differs account first (λ (same : account ≡ first). omega (arith, same, at, long, some)) in
     ap (λ (test : Bool). step_by (cond test (Some event) None) here ∷ moved_from (first + shards) shards (Own account event) books) other
-    ∙ ap (λ (rest : List RuledBook). here ∷ rest) (moved_own (first + shards) shards account place event books ruled some (omega (arith, at, long)) is)
+    ∙ ap (λ (rest : List RuledBook). here ∷ rest) (moved_own (first + shards) shards account index event books ruled some (omega (arith, at, long)) is)
 
 -- a move that is the same event to each account steps each book by it
 pub moved_each : (first shards : ℕ) (moved : Move) (event : Event) (books : List RuledBook) → ((account : ℕ) → event_to account moved ≡ Some event)
@@ -92,18 +92,18 @@ have_stepped setup moved old = record {
       ∙ ap (λ (event : Option Event). option_map (step_by event) (book_at setup old account)) nothing ∙ stepped_by_none (book_at setup old account);
 }
 
--- the book of an account stands at its place
-pub book_placed : (first shards account place : ℕ) (books : List RuledBook) → 0 < shards → account ≡ first + place * shards
-    → book_from first shards books account ≡ slice_get books place
+-- the book of an account stands at its index
+pub book_at_index : (first shards account index : ℕ) (books : List RuledBook) → 0 < shards → account ≡ first + index * shards
+    → book_from first shards books account ≡ slice_get books index
 unfolding book_from
-book_placed first shards account place [] some at = refl
-book_placed first shards account zero (ruled ∷ books) some at =
+book_at_index first shards account index [] some at = refl
+book_at_index first shards account zero (ruled ∷ books) some at =
     ap (λ (test : Bool). cond test (Some ruled) (book_from (first + shards) shards books account)) (eq-eqb first account (omega (arith, at)))
-book_placed first shards account (suc place) (ruled ∷ books) some at =
-    let long : suc place * shards ≡ place * shards + shards = suc-mul place shards in
+book_at_index first shards account (suc index) (ruled ∷ books) some at =
+    let long : suc index * shards ≡ index * shards + shards = suc-mul index shards in
     ap (λ (test : Bool). cond test (Some ruled) (book_from (first + shards) shards books account))
     (differs first account (λ (same : first ≡ account). omega (arith, same, at, long, some)))
-    ∙ book_placed (first + shards) shards account place books some (omega (arith, at, long))
+    ∙ book_at_index (first + shards) shards account index books some (omega (arith, at, long))
 
 -- an account of another shard has no book
 pub book_elsewhere : (first shards account : ℕ) (books : List RuledBook) → (account % shards ≡ first % shards → ⊥) → book_from first shards books account ≡ None
@@ -124,34 +124,34 @@ stepped_is event ruled new decision by same =
     one ∙ ap (λ (book : Book). let it : RuledBook = record { rules = ruled.rules; book = book } in it) first
 
 -- books that are stepped one by one: the first are, and the rest is as it was
-pub one_more : (event : Event) (books all : List RuledBook) (place : ℕ) (d new : RuledBook) → place < length all → place < length books
-    → books ≡ map (step_by (Some event)) (take place all) ++ drop place all
-    → (decision : Decision) → (new.book, decision) ≡ step (get_or books place d).rules (get_or books place d).book event → new.rules ≡ (get_or books place d).rules
-    → set books place new ≡ map (step_by (Some event)) (take (place + 1) all) ++ drop (place + 1) all
-one_more event books all place d new within inside so_far decision by same =
-    ap (set books place) (stepped_is event (get_or books place d) new decision by same)
-    ∙ map_over_more (step_by (Some event)) all books place (get_or books place d) within so_far (get_or_default books place d (get_or books place d) inside)
+pub one_more : (event : Event) (books all : List RuledBook) (index : ℕ) (d new : RuledBook) → index < length all → index < length books
+    → books ≡ map (step_by (Some event)) (take index all) ++ drop index all
+    → (decision : Decision) → (new.book, decision) ≡ step (get_or books index d).rules (get_or books index d).book event → new.rules ≡ (get_or books index d).rules
+    → set books index new ≡ map (step_by (Some event)) (take (index + 1) all) ++ drop (index + 1) all
+one_more event books all index d new within inside so_far decision by same =
+    ap (set books index) (stepped_is event (get_or books index d) new decision by same)
+    ∙ map_over_more (step_by (Some event)) all books index (get_or books index d) within so_far (get_or_default books index d (get_or books index d) inside)
 
-pub each_done : (event : Event) (all : List RuledBook) (place : ℕ) → length all ≤ place
-    → map (step_by (Some event)) (take place all) ++ drop place all ≡ map (step_by (Some event)) all
-each_done event all place past =
-    ap (λ (books : List RuledBook). map (step_by (Some event)) books ++ drop place all) (take_all place all past)
-    ∙ ap (λ (books : List RuledBook). map (step_by (Some event)) all ++ books) (drop_all place all past) ∙ append-nil (map (step_by (Some event)) all)
+pub each_done : (event : Event) (all : List RuledBook) (index : ℕ) → length all ≤ index
+    → map (step_by (Some event)) (take index all) ++ drop index all ≡ map (step_by (Some event)) all
+each_done event all index past =
+    ap (λ (books : List RuledBook). map (step_by (Some event)) books ++ drop index all) (take_all index all past)
+    ∙ ap (λ (books : List RuledBook). map (step_by (Some event)) all ++ books) (drop_all index all past) ∙ append-nil (map (step_by (Some event)) all)
 
 pub ruleset each_steps = (each_done)
 
 -- books that are made new one by one
-pub renew_more : (books all : List RuledBook) (place : ℕ) (d new : RuledBook) → place < length all → place < length books
-    → books ≡ map as_new (take place all) ++ drop place all → new ≡ record { rules = (get_or books place d).rules; book = new_book }
-    → set books place new ≡ map as_new (take (place + 1) all) ++ drop (place + 1) all
-renew_more books all place d new within inside so_far is =
-    ap (set books place) is
-    ∙ map_over_more as_new all books place (get_or books place d) within so_far (get_or_default books place d (get_or books place d) inside)
+pub renew_more : (books all : List RuledBook) (index : ℕ) (d new : RuledBook) → index < length all → index < length books
+    → books ≡ map as_new (take index all) ++ drop index all → new ≡ record { rules = (get_or books index d).rules; book = new_book }
+    → set books index new ≡ map as_new (take (index + 1) all) ++ drop (index + 1) all
+renew_more books all index d new within inside so_far is =
+    ap (set books index) is
+    ∙ map_over_more as_new all books index (get_or books index d) within so_far (get_or_default books index d (get_or books index d) inside)
 
-pub renew_done : (all : List RuledBook) (place : ℕ) → length all ≤ place → map as_new (take place all) ++ drop place all ≡ map as_new all
-renew_done all place past =
-    ap (λ (books : List RuledBook). map as_new books ++ drop place all) (take_all place all past)
-    ∙ ap (λ (books : List RuledBook). map as_new all ++ books) (drop_all place all past) ∙ append-nil (map as_new all)
+pub renew_done : (all : List RuledBook) (index : ℕ) → length all ≤ index → map as_new (take index all) ++ drop index all ≡ map as_new all
+renew_done all index past =
+    ap (λ (books : List RuledBook). map as_new books ++ drop index all) (take_all index all past)
+    ∙ ap (λ (books : List RuledBook). map as_new all ++ books) (drop_all index all past) ∙ append-nil (map as_new all)
 
 pub ruleset renew_steps = (renew_more, renew_done)
 
@@ -160,11 +160,11 @@ pub written : {A : Type 0} (xs items : List A) (len : ℕ) → length xs ≡ len
 written xs items len same long =
     ap (λ rest. take len (xs ++ rest)) (drop_all (length xs) items (omega (arith, same))) ∙ ap (take len) (append-nil xs) ∙ take_all len xs (omega (arith, same, long))
 
--- a book that stands at the place of an account of the shard
-pub stands : (setup : Setup) (books : List RuledBook) (account place : ℕ) (ruled : RuledBook) → 0 < setup.shards → account ≡ setup.shard + place * setup.shards
-    → place < length books → ruled ≡ get_or books place ruled → book_at setup books account ≡ Some ruled
-stands setup books account place ruled some at within is =
-    book_placed setup.shard setup.shards account place books some at ∙ slice_get_read books (length books) place ruled refl within is
+-- a book that stands at the index of an account of the shard
+pub stands : (setup : Setup) (books : List RuledBook) (account index : ℕ) (ruled : RuledBook) → 0 < setup.shards → account ≡ setup.shard + index * setup.shards
+    → index < length books → ruled ≡ get_or books index ruled → book_at setup books account ≡ Some ruled
+stands setup books account index ruled some at within is =
+    book_at_index setup.shard setup.shards account index books some at ∙ slice_get_read books (length books) index ruled refl within is
 
 -- an account that is not of the shard has no book
 pub no_book : (setup : Setup) (books : List RuledBook) (account : ℕ) → AreBooks setup books → (IsOfShard setup account → ⊥) → book_at setup books account ≡ None
@@ -182,34 +182,23 @@ no_book setup books account are other = by (account % setup.shards == setup.shar
     by true is =
         let of_shard : account % setup.shards ≡ setup.shard = eqb-true (account % setup.shards) setup.shard is in
         let at : account ≡ setup.shard + account / setup.shards * setup.shards = account_is setup.shards setup.shard account of_shard in
-        book_placed setup.shard setup.shards account (account / setup.shards) books (omega (arith, are.within.shard)) at
+        book_at_index setup.shard setup.shards account (account / setup.shards) books (omega (arith, are.within.shard)) at
         ∙ slice_get_past books (account / setup.shards) (past (cases_lt (account / setup.shards) (length books)) of_shard at)
 
--- an own move, where the book at the account's place was stepped
-at_place : (books : List RuledBook) (place : ℕ) (P : RuledBook → Type 0) → place < length books → IfSome (slice_get books place) P
-    → (ruled : RuledBook) × (slice_get books place ≡ Some ruled) × P ruled
-at_place books place P within said = by (slice_get books place) refl
-  where
-    by : (o : Option RuledBook) → slice_get books place ≡ o → (ruled : RuledBook) × (slice_get books place ≡ Some ruled) × P ruled
-    by None is = absurd (there books place within is)
-    by (Some ruled) is = (ruled, is, subst (λ (o : Option RuledBook). IfSome o P) is said)
+-- an own move, where the book at the account's index was stepped
+pub own_books : (setup : Setup) (books : List RuledBook) (account index : ℕ) (event : Event) (ruled new : RuledBook) (decision : Decision) → 0 < setup.shards
+    → account ≡ setup.shard + index * setup.shards → index < length books → ruled ≡ get_or books index ruled
+    → (new.book, decision) ≡ step ruled.rules ruled.book event → new.rules ≡ ruled.rules → set books index new ≡ books_after setup books (Own account event)
+own_books setup books account index event ruled new decision some at within is by same =
+    ap (set books index) (stepped_is event ruled new decision by same)
+    ∙ sym (moved_own setup.shard setup.shards account index event books ruled some at (slice_get_read books (length books) index ruled refl within is))
 
-pub own_books : (setup : Setup) (books new : List RuledBook) (account place : ℕ) (event : Event) → 0 < setup.shards → account ≡ setup.shard + place * setup.shards
-    → place < length books → IfSome (slice_get books place) (λ (ruled : RuledBook). new ≡ set books place (step_by (Some event) ruled))
-    → new ≡ books_after setup books (Own account event)
-own_books setup books new account place event some at within said =
-    let found = at_place books place (λ (ruled : RuledBook). new ≡ set books place (step_by (Some event) ruled)) within said in
-    found.2 ∙ sym (moved_own setup.shard setup.shards account place event books found.0 some at found.1)
-
-pub own_decision : (setup : Setup) (books : List RuledBook) (decision : Decision) (account place : ℕ) (event : Event) → 0 < setup.shards
-    → account ≡ setup.shard + place * setup.shards → place < length books
-    → IfSome (slice_get books place) (λ (ruled : RuledBook). decision ≡ (step ruled.rules ruled.book event).1)
-    → decision ≡ decision_by setup books (Own account event)
-own_decision setup books decision account place event some at within said =
-    let found = at_place books place (λ (ruled : RuledBook). decision ≡ (step ruled.rules ruled.book event).1) within said in
-    found.2
-    ∙ ap (λ (o : Option RuledBook). option_map_or (λ (ruled : RuledBook). (step ruled.rules ruled.book event).1) o Done)
-    (sym (book_placed setup.shard setup.shards account place books some at ∙ found.1))
+pub own_decision : (setup : Setup) (books : List RuledBook) (account index : ℕ) (event : Event) (ruled : RuledBook) (next : Book) (decision : Decision) → 0 < setup.shards
+    → account ≡ setup.shard + index * setup.shards → index < length books → ruled ≡ get_or books index ruled
+    → (next, decision) ≡ step ruled.rules ruled.book event → decision ≡ decision_by setup books (Own account event)
+own_decision setup books account index event ruled next decision some at within is by =
+    ap (λ (stepped : Book × Decision). stepped.1) by
+    ∙ sym (ap (λ (o : Option RuledBook). option_map_or (λ (one : RuledBook). (step one.rules one.book event).1) o Done) (stands setup books account index ruled some at within is))
 
 -- books that are copied, or compared, one by one
 pub ruleset copy_steps = (take_more, take_all)

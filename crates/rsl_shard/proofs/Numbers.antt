@@ -5,7 +5,7 @@ use Rattle.std.proofs.Math.Nat.{add-mod_right, mul-le-mul_right, suc-mul}
 use Rattle.std.proofs.lemmas.Bool.{cases_lt, eqb-true, eq-eqb}
 use Rattle.std.proofs.lemmas.Nat.{div-add-mod'}
 
--- an account of a shard stands at its place
+-- an account of a shard stands at its index
 pub account_is : (shards shard account : ℕ) → account % shards ≡ shard → account ≡ shard + account / shards * shards
 account_is shards shard account is = omega (arith, div-add-mod' account shards, is)
 

@@ -3,7 +3,7 @@ use Rattle.std.proofs.Common.{◌≡◌, ℕ, ◌+◌, ◌<◌, ◌≤◌, ◌�
 use Rattle.std.proofs.lemmas.Bool.{cases_lt}
 use Rattle.std.proofs.lemmas.List.{drop_all, drop_more}
 use Rattle.rsl_book.specs.RuledBook.{RuledBook}
-use Rattle.rsl_shard.specs.Replay.{AreBooks}
+use Rattle.rsl_shard.specs.Restep.{AreBooks}
 use Rattle.rsl_shard.specs.Rows.{row_of, rows_from}
 use Rattle.rsl_shard.specs.Setup.{Setup}
 use Rattle.rsl_shard.specs.declared.row.Row.{Row}

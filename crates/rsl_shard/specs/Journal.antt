@@ -2,7 +2,7 @@
 use Rattle.std.specs.Prelude.{◌≡◌, ℕ, List, take, All, slice_get, Some}
 use Rattle.rsl_book.specs.RuledBook.{RuledBook}
 use Rattle.rsl_shard.specs.Moves.{IsTaken}
-use Rattle.rsl_shard.specs.Replay.{decision_by, replay}
+use Rattle.rsl_shard.specs.Restep.{decision_by, restep}
 use Rattle.rsl_shard.specs.Setup.{Setup}
 use Rattle.rsl_shard.specs.declared.line.Line.{Line}
 
@@ -10,7 +10,7 @@ use Rattle.rsl_shard.specs.declared.line.Line.{Line}
 pub record IsJournal (setup : Setup) (opening : List RuledBook) (lines : List Line) : Type 0 where
   pub taken : All (λ line. IsTaken setup line.moved) lines
   pub decided : (n : ℕ) (line : Line) → slice_get lines n ≡ Some line
-      → line.decision ≡ decision_by setup (replay setup opening (take n lines)) line.moved
+      → line.decision ≡ decision_by setup (restep setup opening (take n lines)) line.moved
 
 -- what a contract sees of the lines that a shard keeps, and for how many more there is room
 pub record JournalSeen : Type 0 where

@@ -1,11 +1,11 @@
-pub mod BooksInside
+pub mod BooksSeen
 pub mod Journal
-pub mod JournalInside
-pub mod Loose
+pub mod JournalSeen
+pub mod LooseSeen
 pub mod Moves
 pub mod Opening
-pub mod Replay
+pub mod Restep
 pub mod Rows
 pub mod Seen
 pub mod Setup
-pub mod ShardInside
+pub mod ShardSeen

@@ -1,12 +1,29 @@
--- What the moves of a shard are to its accounts.
+-- The moves of shards: which of them a datagram makes, by its meaning, which a shard takes, and what
+-- they are to its accounts.
 use Rattle.std.specs.Prelude.{◌≡◌, ℕ, ◌<◌, ◌==◌, ◌%◌, List, filter_map, Option, Some, None, if◌then◌else◌}
+use Rattle.rsl_accounts.specs.Configuration.{Configuration}
 use Rattle.rsl_event.specs.Prepared.{IsOfOneAccount}
+use Rattle.rsl_event.specs.declared.meaning.Meaning.{Meaning}
+use Rattle.rsl_event.specs.declared.meaning.Meaning.TheVariants as meanings
 use Rattle.rsl_event.specs.declared.event.Act.TheVariants as acts
 use Rattle.rsl_event.specs.declared.event.Event.{Event}
-use Rattle.rsl_shard.specs.Setup.{Setup}
+use Rattle.rsl_shard.specs.Setup.{Setup, setup_of}
 use Rattle.rsl_shard.specs.declared.line.Line.{Line}
 use Rattle.rsl_shard.specs.declared.moved.Move.{Move}
 use Rattle.rsl_shard.specs.declared.moved.Move.TheVariants.{Own, Sweep, Tick, Stray}
+use Rattle.rsl_shard.specs.declared.moves.Moves.{Moves}
+use Rattle.rsl_shard.specs.declared.moves.Moves.TheVariants.{Nothing, One, Each}
+
+-- The moves of what came at a moment: what is an account's own moves the account's shard, a stray
+-- shard 0, and a restart sweeps every shard. All else moves none.
+abbrev pub moves_of : Configuration → (moment : ℕ) → Meaning → Moves
+moves_of config moment (meanings.Own account act) =
+    One (account % config.settings.shards)
+    (Own account (record { moment = moment; act = act }))
+moves_of config moment (meanings.Stray note) = One 0 (Stray moment note)
+moves_of config moment (meanings.Restart nas) = Each (Sweep moment nas)
+moves_of config moment meanings.Bare = Nothing
+moves_of config moment meanings.Reject = Nothing
 
 -- an account of a shard: accounts go to the shards in turn
 pub record IsOfShard (setup : Setup) (account : ℕ) : Type 0 where
@@ -23,6 +40,22 @@ pub record IsOwn (setup : Setup) (account : ℕ) (event : Event) : Type 0 where
 abbrev pub IsTaken : Setup → Move → Type 0
 IsTaken setup (Own account event) = IsOwn setup account event
 IsTaken setup _ = Unit {0}
+
+-- a move that every shard takes: of no account
+abbrev pub IsOfAll : Move → Type 0
+IsOfAll (Own account event) = ⊥
+IsOfAll _ = Unit {0}
+
+-- a shard that is there takes the move
+pub record IsTakenAt (config : Configuration) (shard : ℕ) (moved : Move) : Type 0 where
+  pub there : shard < config.settings.shards
+  pub taken : IsTaken (setup_of config shard) moved
+
+-- the shards of some moves are there, and take them
+abbrev pub AreTaken : Configuration → Moves → Type 0
+AreTaken config Nothing = Unit {0}
+AreTaken config (One shard moved) = IsTakenAt config shard moved
+AreTaken config (Each moved) = IsOfAll moved
 
 -- the event of an account's own move, if it is one
 abbrev pub event_in : Move → Option Event

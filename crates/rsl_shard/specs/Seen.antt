@@ -5,7 +5,7 @@ use Rattle.std.specs.Prelude.{ℕ, ◌+◌, ◌^◌, ◌<◌, List, [], ◌∷�
 use Rattle.rsl_accounts.specs.Configuration.{Configuration}
 use Rattle.rsl_book.specs.RuledBook.{RuledBook}
 use Rattle.rsl_event.specs.declared.event.Decision.{Decision}
-use Rattle.rsl_shard.specs.Replay.{AreBooks, new_books, replay}
+use Rattle.rsl_shard.specs.Restep.{AreBooks, new_books, restep}
 use Rattle.rsl_shard.specs.Journal.{IsJournal}
 use Rattle.rsl_shard.specs.Setup.{Setup, setup_of}
 use Rattle.rsl_shard.specs.declared.line.Line.{Line}
@@ -19,7 +19,7 @@ pub record ShardSeen : Type 0 where
 
 -- the books of a shard
 abbrev pub books_of : ShardSeen → List RuledBook
-books_of shard = replay shard.setup shard.opening shard.lines
+books_of shard = restep shard.setup shard.opening shard.lines
 
 -- the lines that were handed out and those of the journal
 abbrev pub total_of : ShardSeen → ℕ

@@ -26,7 +26,7 @@ ghost use Rattle.rsl_event.specs.declared.event.Act.TheVariants.{Sweep, Tick};
 ghost use Rattle.rsl_session.specs.BookStep.{step};
 ghost use Rattle.rsl_shard.specs.Moves.{IsOfShard, IsOwn, IsTaken, event_in};
 ghost use Rattle.rsl_shard.specs.Opening.{as_new};
-ghost use Rattle.rsl_shard.specs.Replay.{
+ghost use Rattle.rsl_shard.specs.Restep.{
   AreBooks,
   book_at,
   books_after,
@@ -62,11 +62,11 @@ pub struct Books {
 }
 
 impl Model for Books {
-    ghost use Rattle.rsl_shard.specs.Replay.{BooksSeen};
+    ghost use Rattle.rsl_shard.specs.Restep.{BooksSeen};
 
     ghost Value = { BooksSeen };
 
-    ghost use Rattle.rsl_shard.specs.BooksInside.{books_seen, HasBooks};
+    ghost use Rattle.rsl_shard.specs.BooksSeen.{books_seen, HasBooks};
 
     ghost view = { books_seen };
 
@@ -81,21 +81,6 @@ fn is_of_one_account(act: &Act) -> bool
         Act::Ask { .. } | Act::Alive { .. } | Act::Stop { .. } => true,
         Act::Sweep { .. } | Act::Tick => false,
     }
-}
-
-/// Steps the book at a place by an event.
-#[inline(always)]
-fn step_at(books: &mut [Book], place: usize, event: Event) -> Decision
-    requires place { place < length books.old }
-    requires limit { All IsWithinLimit books.old }
-    ensures books { IfSome (slice_get books.old place) (λ book.
-        books.new ≡ set books.old place (step_by (Some event) book)) }
-    ensures decision { IfSome (slice_get books.old place) (λ book.
-        result ≡ (step book.rules book.book event).1) }
-    ensures limit { All IsWithinLimit books.new }
-    ensures len { length books.new ≡ length books.old }
-{
-    books[place].apply(event)
 }
 
 /// Sweeps each book.
@@ -121,8 +106,8 @@ fn tick_each(books: &mut [Book], moment: u64)
     ensures limit { All IsWithinLimit books.new }
     ensures len { length books.new ≡ length books.old }
 {
-    for place in 0..books.len() {
-        books[place].tick(moment);
+    for index in 0..books.len() {
+        books[index].tick(moment);
     }
 }
 
@@ -134,8 +119,8 @@ fn are_same(books: &[Book], others: &[Book]) -> bool
     if books.len() != others.len() {
         return false;
     }
-    for place in 0..books.len() {
-        if !books[place].same(&others[place]) {
+    for index in 0..books.len() {
+        if !books[index].same(&others[index]) {
             return false;
         }
     }
@@ -172,9 +157,9 @@ fn new_again(alloc: Global, books: &[Book]) -> Result<Vec<Book>, NoMemory>
 fn renew_each(alloc: Global, books: &mut [Book]) -> Result<(), NoMemory>
     ensures { OnOk result (books.new ≡ map as_new books.old) }
 {
-    for place in 0..books.len() {
-        let rules = books[place].rules();
-        books[place] = Book::new(alloc, rules)?;
+    for index in 0..books.len() {
+        let rules = books[index].rules();
+        books[index] = Book::new(alloc, rules)?;
     }
     Ok(())
 }
@@ -232,10 +217,10 @@ impl Books {
         account < self.accounts && account % self.shards == self.shard
     }
 
-    /// The place of the book of an account of the shard.
-    fn place_of(&self, account: u32) -> usize
+    /// The index of the book of an account of the shard.
+    fn index_of(&self, account: u32) -> usize
         requires { IsOfShard self.now.setup account }
-        ensures place { account ≡ self.now.setup.shard + result * self.now.setup.shards }
+        ensures index { account ≡ self.now.setup.shard + result * self.now.setup.shards }
         ensures within { result < length self.now.books }
     {
         (account / self.shards) as usize
@@ -260,7 +245,7 @@ impl Books {
         ensures there { IsSome result ↔ IsOfShard self.now.setup account }
     {
         if self.has(account) {
-            Some(&self.list[self.place_of(account)])
+            Some(&self.list[self.index_of(account)])
         } else {
             None
         }
@@ -315,8 +300,8 @@ impl Books {
         ensures decision { result ≡
             decision_by self.old.setup self.old.books (moves.Own account event) }
     {
-        let place = self.place_of(account);
-        step_at(&mut self.list, place, event)
+        let index = self.index_of(account);
+        self.list[index].apply(event)
     }
 
     /// Sweeps each book.
@@ -343,7 +328,7 @@ impl Books {
 
     /// What the books of a shard have always: there is one for each of its accounts, and none holds
     /// more than its limit.
-    pub(crate) fn are_sound(&self)
+    pub(crate) fn open_invariant(&self)
         ensures { AreBooks self.now.setup self.now.books }
     {
         let _ = &self.list;

@@ -44,7 +44,7 @@ impl Model for Journal {
 
     ghost Value = { JournalSeen };
 
-    ghost use Rattle.rsl_shard.specs.JournalInside.{journal_seen, IsCounted};
+    ghost use Rattle.rsl_shard.specs.JournalSeen.{journal_seen, IsCounted};
 
     ghost view = { journal_seen };
 

@@ -3,8 +3,8 @@
 //! The promise: a shard's books are what the lines of its journal make of those that the journal
 //! begins with, and each line has the decision of the books at that point.
 //!
-//! What a journal means is defined in `specs/`: `Moves.antt` says which lines concern an account,
-//! `Replay.antt` what moves make of the books of a shard, `Journal.antt` what the lines of a
+//! What a journal means is defined in `specs/`: `Moves.antt` says which moves a datagram makes and
+//! which of them concern an account, `Restep.antt` what moves make of the books of a shard, `Journal.antt` what the lines of a
 //! journal are, and `Seen.antt` what is kept of every shard.
 #![tactic(auto)]
 
@@ -13,6 +13,7 @@ mod journal;
 mod line;
 mod loose;
 mod moved;
+mod moves;
 mod opening;
 mod ready;
 mod row;
@@ -24,6 +25,7 @@ pub use books::Books;
 pub use line::Line;
 pub use loose::{CutRoom, LooseSegment};
 pub use moved::Move;
+pub use moves::Moves;
 pub use ready::Ready;
 pub use row::Row;
 pub use segment::Segment;

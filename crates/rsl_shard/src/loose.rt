@@ -55,7 +55,7 @@ pub struct LooseSegment {
 
 impl Model for LooseSegment {
     ghost use Rattle.std.specs.Prelude.{◌≡◌, ◌≤◌, [], length, vec_capacity};
-    ghost use Rattle.rsl_shard.specs.Loose.{LooseSeen};
+    ghost use Rattle.rsl_shard.specs.LooseSeen.{LooseSeen};
 
     ghost Value = { LooseSeen };
 

@@ -15,7 +15,7 @@ ghost use Rattle.std.specs.Prelude.{
   length,
 };
 ghost use Rattle.rsl_shard.specs.Moves.{IsOfShard, IsTaken};
-ghost use Rattle.rsl_shard.specs.Replay.{HaveStepped, book_at, decision_by};
+ghost use Rattle.rsl_shard.specs.Restep.{HaveStepped, book_at, decision_by};
 ghost use Rattle.rsl_shard.specs.Rows.{rows_of};
 ghost use Rattle.rsl_shard.specs.Seen.{IsShard, books_of, cut_off, new_shard, total_of, with_line};
 
@@ -56,7 +56,7 @@ impl Model for Shard {
 
     ghost Value = { ShardSeen };
 
-    ghost use Rattle.rsl_shard.specs.ShardInside.{shard_seen, HasJournal};
+    ghost use Rattle.rsl_shard.specs.ShardSeen.{shard_seen, HasJournal};
 
     ghost view = { shard_seen };
 
@@ -99,7 +99,7 @@ impl Shard {
         ensures err { OnErr result (self.new ≡ self.old) }
         ensures kept { IsShard self.new }
     {
-        self.is_kept();
+        self.open_invariant();
         let ready = Ready::new(alloc, moved)?;
         self.step_ready(alloc, ready, &mut Spare::new(alloc))
     }
@@ -128,9 +128,9 @@ impl Shard {
         self.journal.make_room(alloc, spare)?;
         let (moved, copy) = ready.into_parts();
         let decision = self.books.step_ready(&moved, copy);
-        self.books.are_sound();
+        self.books.open_invariant();
         self.journal.push(Line { moved, decision });
-        self.is_kept();
+        self.open_invariant();
         Ok(decision)
     }
 
@@ -169,7 +169,7 @@ impl Shard {
     }
 
     /// What is kept of a shard, whatever it has come to.
-    fn is_kept(&self)
+    fn open_invariant(&self)
         ensures { IsShard self.now }
     {
         let _ = &self.journal;
@@ -186,7 +186,7 @@ impl Shard {
         ensures err { OnErr result (self.new ≡ self.old) }
         ensures kept { IsShard self.new }
     {
-        self.is_kept();
+        self.open_invariant();
         let room = CutRoom::new(alloc, self.moves())?;
         let loose = self.cut_loose(alloc, room)?;
         Ok(loose.join())
@@ -222,7 +222,7 @@ impl Shard {
             room,
         };
         self.first = first + more as u64;
-        self.is_kept();
+        self.open_invariant();
         Ok(loose)
     }
 

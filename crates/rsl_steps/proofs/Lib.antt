@@ -7,7 +7,7 @@ pub mod Limits
 pub mod OneMore
 pub mod OwnMoves
 pub mod OwnSteps
-pub mod Replayed
+pub mod Restepped
 pub mod Sharding
 pub mod Shards
 pub mod Snoc

@@ -8,7 +8,7 @@ use Rattle.std.proofs.lemmas.List.Elements.{filter_map-append}
 use Rattle.rsl_accounts.specs.Configuration.{Configuration}
 use Rattle.rsl_event.specs.declared.event.Event.{Event}
 use Rattle.rsl_shard.specs.declared.moved.Move.{Move}
-use Rattle.rsl_steps.specs.Moves.{move_of, moves_of}
+use Rattle.rsl_steps.specs.Moves.{move_of, shard_moves}
 use Rattle.rsl_steps.specs.Own.{event_of, own, own_events}
 use Rattle.rsl_steps.specs.declared.step.Step.{Step}
 
@@ -28,26 +28,26 @@ unfolding own own_events
 own-cons config boot number step before = filter_map-cons (event_of config boot number) step before
 
 pub moves-cons : (config : Configuration) (boot shard : ℕ) (step : Step) (before : List Step)
-    → moves_of config boot shard (step ∷ before) ≡ moves_of config boot shard before ++ option_to_list (move_of config boot shard step)
-unfolding moves_of
+    → shard_moves config boot shard (step ∷ before) ≡ shard_moves config boot shard before ++ option_to_list (move_of config boot shard step)
+unfolding shard_moves
 moves-cons config boot shard step before = filter_map-cons (move_of config boot shard) step before
 
 few : {Y : Type 0} (o : Option Y) → length (option_to_list o) ≤ 1
 few None = omega arith
 few (Some y) = omega arith
 
-nothing : (config : Configuration) (boot shard : ℕ) → length (moves_of config boot shard []) ≤ 0
-unfolding moves_of
+nothing : (config : Configuration) (boot shard : ℕ) → length (shard_moves config boot shard []) ≤ 0
+unfolding shard_moves
 nothing config boot shard = omega arith
 
 -- a shard makes at most one move for each step
-pub moves-few : (config : Configuration) (boot shard : ℕ) (before : List Step) → length (moves_of config boot shard before) ≤ length before
+pub moves-few : (config : Configuration) (boot shard : ℕ) (before : List Step) → length (shard_moves config boot shard before) ≤ length before
 moves-few config boot shard [] = nothing config boot shard
 moves-few config boot shard (step ∷ before) =
     let one = few (move_of config boot shard step) in
     let rest = moves-few config boot shard before in
-    let long : length (moves_of config boot shard (step ∷ before)) ≡ length (moves_of config boot shard before) + length (option_to_list (move_of config boot shard step)) =
-    ap length (moves-cons config boot shard step before) ∙ length-append (moves_of config boot shard before) (option_to_list (move_of config boot shard step)) in
+    let long : length (shard_moves config boot shard (step ∷ before)) ≡ length (shard_moves config boot shard before) + length (option_to_list (move_of config boot shard step)) =
+    ap length (moves-cons config boot shard step before) ∙ length-append (shard_moves config boot shard before) (option_to_list (move_of config boot shard step)) in
     omega (arith, one, rest, long)
 
 -- ---- elements of lists
@@ -81,7 +81,7 @@ push_cases [] (suc k) v x at = absurd (nowhere at)
 push_cases (y ∷ ys) zero v x at = inr at
 push_cases (y ∷ ys) (suc k) v x at = elim (push_cases ys k v x at) [ inl both ↦ inl (omega (arith, both.0), both.1) | inr was ↦ inr was ]
 
--- there is an element at each place within a list
+-- there is an element at each index within a list
 pub there_is : {X : Type 0} (xs : List X) (k : ℕ) → k < length xs → (x : X) × (slice_get xs k ≡ Some x)
 there_is [] k within = absurd (omega (arith, within))
 there_is (x ∷ xs) zero within = (x, refl)

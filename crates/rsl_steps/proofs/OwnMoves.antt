@@ -14,7 +14,7 @@ use Rattle.rsl_shard.specs.Moves.{event_to, own_in}
 use Rattle.rsl_shard.specs.declared.line.Line.{Line}
 use Rattle.rsl_shard.specs.declared.moved.Move.{Move}
 use Rattle.rsl_shard.specs.declared.moved.Move.TheVariants as moves
-use Rattle.rsl_steps.specs.Moves.{move_in, move_of, moves_of}
+use Rattle.rsl_steps.specs.Moves.{move_in, move_of, shard_moves}
 use Rattle.rsl_steps.specs.Own.{own_event, event_of, is_of_shard, own, own_events}
 use Rattle.rsl_steps.specs.declared.step.Step.{Step}
 use Rattle.rsl_steps.specs.declared.step.Step.TheVariants as steps
@@ -89,8 +89,8 @@ of_lines account (line ∷ lines) = ap (cons_option (event_to account line.moved
 
 -- so where the lines of a journal are the moves of the account's shard, its own events among them are those among the steps
 pub own-journal : (config : Configuration) (boot account : ℕ) (before : List Step) (lines : List Line)
-    → map (λ (line : Line). line.moved) lines ≡ moves_of config boot (account % config.settings.shards) before
+    → map (λ (line : Line). line.moved) lines ≡ shard_moves config boot (account % config.settings.shards) before
     → own_in account lines ≡ own config boot account before
-unfolding own_in own own_events moves_of
+unfolding own_in own own_events shard_moves
 own-journal config boot account before lines are =
     of_lines account lines ∙ ap (filter_map (event_to account)) are ∙ of_steps config boot account (reverse before)

@@ -1,5 +1,5 @@
 -- What one step makes of the shards of a run.
-use Rattle.std.proofs.Common.{◌≡◌, ℕ, ◌+◌, get_or, ◌-◌, ◌^◌, ◌%◌, ◌<◌, ◌≤◌, List, [], ◌∷◌, ◌++◌, length, map, set, Bool, true, false, ◌==◌, cond, Option, Some, None, Result, Ok, Err, refl, sym, ap, ◌∙◌, append-nil, inl, inr, ◌⊎◌, arith}
+use Rattle.std.proofs.Common.{◌≡◌, ℕ, ◌+◌, get_or, ◌-◌, ◌^◌, ◌%◌, ◌<◌, ◌≤◌, List, [], ◌∷◌, ◌++◌, length, map, set, Bool, true, false, ◌==◌, cond, Option, Some, None, Result, Ok, Err, refl, sym, ap, subst, ◌∙◌, append-nil, inl, inr, ◌⊎◌, arith}
 use Rattle.std.specs.Prelude.{slice_get, IfOk, OnErr}
 use Rattle.std.specs.Option.{option_map_or, option_to_list}
 use Rattle.std.proofs.lemmas.Bool.{eqb-true, eq-eqb}
@@ -28,7 +28,7 @@ use Rattle.rsl_event.specs.declared.words.Said.{Said}
 use Rattle.rsl_session.specs.Book.{Book, new_book}
 use Rattle.rsl_session.specs.BookStep.{book_after, step}
 use Rattle.rsl_shard.specs.Moves.{IsTaken, own_in}
-use Rattle.rsl_shard.specs.Replay.{book_at, decision_by, replay}
+use Rattle.rsl_shard.specs.Restep.{book_at, decision_by, restep}
 use Rattle.rsl_shard.specs.Seen.{ShardSeen, books_of, new_shard, total_of, with_line}
 use Rattle.rsl_shard.specs.Setup.{Setup, setup_of}
 use Rattle.rsl_shard.specs.declared.line.Line.{Line}
@@ -37,7 +37,7 @@ use Rattle.rsl_shard.specs.declared.moved.Move.TheVariants as moves
 use Rattle.rsl_wire.specs.Packet.{Fields, packet_of}
 use Rattle.rsl_wire.specs.declared.packet.WireFault.{WireFault}
 use Rattle.rsl_steps.specs.Books.{account_book, answer_by_book, answer_with_book, decision_by_book}
-use Rattle.rsl_steps.specs.Moves.{move_in, move_of, moves_of}
+use Rattle.rsl_steps.specs.Moves.{move_in, move_of, shard_moves}
 use Rattle.rsl_steps.specs.Own.{is_of_shard, own}
 use Rattle.rsl_steps.specs.Ran.{AreShards, HasMoved}
 use Rattle.rsl_steps.specs.Run.{octets_by}
@@ -76,8 +76,8 @@ still config boot before step number seen has none = record {
   setup = has.setup;
   opening = has.opening;
   first = has.first;
-  moves = has.moves ∙ sym (append-nil (moves_of config boot number before))
-      ∙ ap (λ (o : Option Move). moves_of config boot number before ++ option_to_list o) (sym none)
+  moves = has.moves ∙ sym (append-nil (shard_moves config boot number before))
+      ∙ ap (λ (o : Option Move). shard_moves config boot number before ++ option_to_list o) (sym none)
       ∙ sym (moves-cons config boot number step before);
 }
 
@@ -90,7 +90,7 @@ one_line config boot before step number seen moved decision has some = record {
   first = has.first;
   moves = moved_list seen moved decision
       ∙ ap (λ (all : List Move). all ++ moved ∷ []) has.moves
-      ∙ ap (λ (o : Option Move). moves_of config boot number before ++ option_to_list o) (sym some)
+      ∙ ap (λ (o : Option Move). shard_moves config boot number before ++ option_to_list o) (sym some)
       ∙ sym (moves-cons config boot number step before);
 }
 
@@ -135,7 +135,7 @@ pub book_in_its_shard : (config : Configuration) (boot : ℕ) (before : List Ste
     → HasMoved config boot before (account % config.settings.shards) seen
     → book_at seen.setup (books_of seen) account ≡ Some (record { rules = entry.rules; book = account_book config boot account before entry.rules })
 book_in_its_shard config boot before account entry seen less there has =
-    (λ i. book_at (has.setup i) (replay (has.setup i) (has.opening i) seen.lines) account)
+    (λ i. book_at (has.setup i) (restep (has.setup i) (has.opening i) seen.lines) account)
     ∙ book_after_lines config (account % config.settings.shards) account entry seen.lines less there refl
     ∙ same_book entry (own_in account seen.lines) (own config boot account before) (own-journal config boot account before seen.lines has.moves)
 
@@ -273,7 +273,7 @@ takes_tick config boot before shard moment (answers.Dropped dropped) old new are
 
 long_lines : (config : Configuration) (boot : ℕ) (before : List Step) (number : ℕ) (seen : ShardSeen) → HasMoved config boot before number seen → total_of seen ≤ length before
 long_lines config boot before number seen has =
-    let all : length seen.lines ≡ length (moves_of config boot number before) = sym (length-map seen.lines (λ (line : Line). line.moved)) ∙ ap length has.moves in
+    let all : length seen.lines ≡ length (shard_moves config boot number before) = sym (length-map seen.lines (λ (line : Line). line.moved)) ∙ ap length has.moves in
     omega (arith, all, has.first, moves-few config boot number before)
 
 -- shards that have taken few steps are ready for one more
@@ -303,12 +303,10 @@ pub not_moved : {E : Type 0} (old : List ShardSeen) (number : ℕ) (d later : Sh
 not_moved old number d later (Ok decision) same = tt
 not_moved old number d later (Err e) same = ap (set old number) same ∙ set-get_or old number d
 
--- what is an account's own is a move that its shard takes
-pub own_taken : (config : Configuration) (shards : List ShardSeen) (account moment number : ℕ) (act : Act) (seen : ShardSeen) → AreReady config shards → account < length config.accounts
-    → IsOfOneAccount act → number ≡ account % config.settings.shards → slice_get shards number ≡ Some seen
-    → IsTaken seen.setup (moves.Own account (record { moment = moment; act = act }))
-own_taken config shards account moment number act seen ready within one is at =
-    rw (ready.setup number seen at) (record { own_account = record { there = within; of_shard = sym is }; act = one })
+-- a move that a shard of the configuration takes is one that the shard there takes
+pub taken_there : (config : Configuration) (shards : List ShardSeen) (number : ℕ) (moved : Move) (seen : ShardSeen) → AreReady config shards
+    → IsTaken (setup_of config number) moved → slice_get shards number ≡ Some seen → IsTaken seen.setup moved
+taken_there config shards number moved seen ready taken at = subst (λ (setup : Setup). IsTaken setup moved) (sym (ready.setup number seen at)) taken
 
 -- ---- new shards
 
@@ -331,8 +329,8 @@ first_more config count shards new are is = record {
     by number seen (inl last) = last.1 ∙ is ∙ ap (new_shard config) (sym (last.0 ∙ are.len))
     by number seen (inr before) = are.each number seen before
 
-nothing_moved : (config : Configuration) (boot number : ℕ) → [] ≡ moves_of config boot number []
-unfolding moves_of
+nothing_moved : (config : Configuration) (boot number : ℕ) → [] ≡ shard_moves config boot number []
+unfolding shard_moves
 nothing_moved config boot number = refl
 
 new_moved : (config : Configuration) (boot number : ℕ) → HasMoved config boot [] number (new_shard config number)

@@ -17,13 +17,13 @@ use Rattle.rsl_session.specs.Rule.{past_of, places_after}
 use Rattle.rsl_book.specs.RuledBook.{RuledBook}
 use Rattle.rsl_shard.specs.Journal.{IsJournal}
 use Rattle.rsl_shard.specs.Moves.{IsOfShard, own_in}
-use Rattle.rsl_shard.specs.Replay.{book_at, new_books, replay}
+use Rattle.rsl_shard.specs.Restep.{book_at, new_books, restep}
 use Rattle.rsl_shard.specs.Seen.{ShardSeen}
 use Rattle.rsl_shard.specs.Setup.{setup_of}
 use Rattle.rsl_shard.specs.declared.line.Line.{Line}
 use Rattle.rsl_shard.specs.declared.moved.Move.{Move}
 use Rattle.rsl_steps.specs.Books.{answer_by_book}
-use Rattle.rsl_steps.specs.Moves.{moves_of}
+use Rattle.rsl_steps.specs.Moves.{shard_moves}
 use Rattle.rsl_steps.specs.Own.{own, own_event, own_events}
 use Rattle.rsl_steps.specs.Ran.{AreShards, HasBookOf}
 use Rattle.rsl_steps.specs.Run.{AreAnswers, answer_after, decision_after, steps_taken}
@@ -156,7 +156,7 @@ pub record ObeysTheRule (config : Configuration) (shard account : ℕ) (rules : 
   -- count of its past
   pub ruled : RuledBook
   pub there : book_at (setup_of config shard)
-      (replay (setup_of config shard) (new_books config shard) lines) account ≡ Some ruled
+      (restep (setup_of config shard) (new_books config shard) lines) account ≡ Some ruled
   pub ruled_by : ruled.rules ≡ rules
   pub book : ruled.book ≡ book_of rules (past_of rules (own_in account lines))
   -- and so its places are the rule's
@@ -178,7 +178,7 @@ JournalsObeyTheRule =
 abbrev pub JournalsHaveOwnEvents : Type 0
 JournalsHaveOwnEvents =
     (config : Configuration) (boot account : ℕ) (before : List Step) (lines : List Line)
-    → map (λ (line : Line). line.moved) lines ≡ moves_of config boot
+    → map (λ (line : Line). line.moved) lines ≡ shard_moves config boot
     (account % config.settings.shards) before
     → own_in account lines ≡ own config boot account before
 

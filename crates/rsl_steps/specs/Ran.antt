@@ -9,11 +9,11 @@ use Rattle.rsl_session.specs.Book.{new_book, places_in}
 use Rattle.rsl_session.specs.BookOf.{book_of}
 use Rattle.rsl_session.specs.BookStep.{book_after}
 use Rattle.rsl_session.specs.Rule.{past_of, places_after}
-use Rattle.rsl_shard.specs.Replay.{book_at, new_books}
+use Rattle.rsl_shard.specs.Restep.{book_at, new_books}
 use Rattle.rsl_shard.specs.Seen.{ShardSeen, books_of}
 use Rattle.rsl_shard.specs.Setup.{setup_of}
 use Rattle.rsl_shard.specs.declared.line.Line.{Line}
-use Rattle.rsl_steps.specs.Moves.{moves_of}
+use Rattle.rsl_steps.specs.Moves.{shard_moves}
 use Rattle.rsl_steps.specs.declared.step.Step.{Step}
 
 -- a shard whose books began new, nothing of whose journal was cut off, and whose lines are the
@@ -23,7 +23,7 @@ pub record HasMoved (config : Configuration) (boot : ℕ) (before : List Step) (
   pub setup : seen.setup ≡ setup_of config shard
   pub opening : seen.opening ≡ new_books config shard
   pub first : seen.first ≡ 0
-  pub moves : map (λ (line : Line). line.moved) seen.lines ≡ moves_of config boot shard before
+  pub moves : map (λ (line : Line). line.moved) seen.lines ≡ shard_moves config boot shard before
 
 -- there is such a shard for each number
 pub record AreShards (config : Configuration) (boot : ℕ) (before : List Step)

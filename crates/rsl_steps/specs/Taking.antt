@@ -1,18 +1,18 @@
 -- What one step makes of the shards of a run.
-use Rattle.std.specs.Prelude.{◌≡◌, ℕ, ◌-◌, ◌^◌, ◌%◌, ◌<◌, ◌≤◌, ◌⊎◌, List, ◌∷◌, length, set, slice_get, Some}
+use Rattle.std.specs.Prelude.{◌≡◌, ℕ, ◌-◌, ◌^◌, ◌<◌, ◌≤◌, ◌⊎◌, List, ◌∷◌, length, set, slice_get, Some}
 use Rattle.rsl_accounts.specs.Configuration.{Configuration}
 use Rattle.rsl_event.specs.declared.event.Decision.{Decision}
 use Rattle.rsl_event.specs.declared.event.Decision.TheVariants.{Done}
-use Rattle.rsl_event.specs.declared.event.Event.{Event}
 use Rattle.rsl_event.specs.declared.meaning.Dropped.{Dropped}
 use Rattle.rsl_event.specs.declared.meaning.Dropped.TheVariants as drops
 use Rattle.rsl_event.specs.declared.meaning.Meaning.{Meaning}
-use Rattle.rsl_event.specs.declared.meaning.Meaning.TheVariants.{Own, Stray}
-use Rattle.rsl_shard.specs.Replay.{decision_by}
+use Rattle.rsl_shard.specs.Moves.{moves_of}
+use Rattle.rsl_shard.specs.Restep.{decision_by}
 use Rattle.rsl_shard.specs.Seen.{ShardSeen, books_of, total_of, with_line}
 use Rattle.rsl_shard.specs.Setup.{setup_of}
 use Rattle.rsl_shard.specs.declared.moved.Move.{Move}
-use Rattle.rsl_shard.specs.declared.moved.Move.TheVariants as moves
+use Rattle.rsl_shard.specs.declared.moves.Moves.{Moves}
+use Rattle.rsl_shard.specs.declared.moves.Moves.TheVariants.{Nothing, One, Each}
 use Rattle.rsl_steps.specs.Books.{answer_by_book}
 use Rattle.rsl_steps.specs.Ran.{AreShards}
 use Rattle.rsl_steps.specs.declared.step.Answer.{Answer}
@@ -40,15 +40,18 @@ pub record IsMovedAt (number : ℕ) (moved : Move) (decision : Decision) (old ne
   pub moved_on : new ≡ set old number (with_line seen moved decision)
   pub decided : decision ≡ decision_by seen.setup (books_of seen) moved
 
--- what is an account's own moves its shard, a stray shard 0, and nothing else any
+-- The moves of a datagram are made: one moves its shard, and is decided by it; all else is done, and
+-- changes nothing. So is a restart's datagram, whose sweeps stand beside it as steps.
+abbrev pub AreMade : Moves → Decision → (old new : List ShardSeen) → Type 0
+AreMade (One shard moved) decision old new = IsMovedAt shard moved decision old new
+AreMade (Each moved) decision old new = (decision ≡ Done) × (new ≡ old)
+AreMade Nothing decision old new = (decision ≡ Done) × (new ≡ old)
+
+-- what was decided on a datagram of this meaning
 abbrev pub IsDecided : Configuration → (moment : ℕ) → Meaning → Decision
     → (old new : List ShardSeen) → Type 0
-IsDecided config moment (Own account act) decision old new =
-    IsMovedAt (account % config.settings.shards)
-    (moves.Own account (record { moment = moment; act = act })) decision old new
-IsDecided config moment (Stray note) decision old new =
-    IsMovedAt 0 (moves.Stray moment note) decision old new
-IsDecided config moment _ decision old new = (decision ≡ Done) × (new ≡ old)
+IsDecided config moment meaning decision old new =
+    AreMade (moves_of config moment meaning) decision old new
 
 -- a sweep or a tick moves its shard, and is quiet; where the shard is not there nothing changes
 pub record IsNotThere (number : ℕ) (old new : List ShardSeen) : Type 0 where

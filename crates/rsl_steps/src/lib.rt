@@ -6,14 +6,14 @@
 //! `specs/Ran.antt` what the shards are then.
 #![tactic(auto)]
 
-mod deciding;
+mod answers;
+mod decision;
 pub mod laws;
 mod own_events;
 mod reply_octets;
-mod running;
 mod step;
 
+pub use answers::run;
 pub use own_events::own;
 pub use reply_octets::ReplyOctets;
-pub use running::run;
 pub use step::{Answer, Ran, Step};

@@ -1,5 +1,5 @@
 use Rattle.std.proofs.Common.{arith, ap, sym, ◌∙◌}
-use Rattle.rsl_shard.specs.Replay.{new_books}
+use Rattle.rsl_shard.specs.Restep.{new_books}
 use Rattle.rsl_shard.proofs.Beginning.{made_more, made_same, new_done}
 use Rattle.rsl_shard.proofs.books.new_list.Goals as goal
 use Rattle.rsl_shard.proofs.books.new_list.Goals.{then-shard_of-shard+in_ok-new+in_ok-push, else-shard_of-shard}

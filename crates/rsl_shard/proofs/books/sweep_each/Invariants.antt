@@ -1,7 +1,7 @@
 use Rattle.std.proofs.Common.{◌≡◌, ◌++◌, take, drop, map, All, Some}
 use Rattle.rsl_book.specs.RuledBook.{IsWithinLimit}
 use Rattle.rsl_event.specs.declared.event.Act.TheVariants.{Sweep}
-use Rattle.rsl_shard.specs.Replay.{step_by}
+use Rattle.rsl_shard.specs.Restep.{step_by}
 use Rattle.rsl_shard.proofs.books.sweep_each.Given as goal
 
 abbrev pub invariant-loop-at : goal.invariant-loop-at

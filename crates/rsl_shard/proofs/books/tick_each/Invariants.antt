@@ -1,12 +1,12 @@
 use Rattle.std.proofs.Common.{◌≡◌, ◌++◌, take, drop, map, All, Some}
 use Rattle.rsl_book.specs.RuledBook.{IsWithinLimit}
 use Rattle.rsl_event.specs.declared.event.Act.TheVariants.{Tick}
-use Rattle.rsl_shard.specs.Replay.{step_by}
+use Rattle.rsl_shard.specs.Restep.{step_by}
 use Rattle.rsl_shard.proofs.books.tick_each.Given as goal
 
-abbrev pub invariant-loop-place : goal.invariant-loop-place
-invariant-loop-place l =
+abbrev pub invariant-loop-index : goal.invariant-loop-index
+invariant-loop-index l =
     record {
-      books : l.books ≡ map (step_by (Some (record { moment = l.moment; act = Tick }))) (take l.place l.initial.books) ++ drop l.place l.initial.books;
+      books : l.books ≡ map (step_by (Some (record { moment = l.moment; act = Tick }))) (take l.index l.initial.books) ++ drop l.index l.initial.books;
       limit : All IsWithinLimit l.books;
     }

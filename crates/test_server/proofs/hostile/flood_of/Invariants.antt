@@ -1,4 +1,4 @@
-use Rattle.rsl_shard.specs.Replay.{new_books}
+use Rattle.rsl_shard.specs.Restep.{new_books}
 use Rattle.rsl_shard.specs.Setup.{setup_of}
 use Rattle.test_server.proofs.hostile.flood_of.Given as goal
 

@@ -30,7 +30,7 @@ returns-clause-closed g c =
     subst (λ (config : Configuration). IsClosed config passes given c.in_ok-segments.segments.items) c.self.view_is
     (closes config c.self.inside.opened passes given present c.in_ok-segments.segments.items kept.0
     (all_counted config passes present kept.1 told0
-    (λ within. omega (arith, same_total c.self.inside.lines1 (λ book. book.total) 1 config.settings.shards _ _ kept.10 kept.14 c.audit_if_there.ensures within, c.gather.ensures.amount1, kept.7))
-    (λ within. omega (arith, same_total c.self.inside.lines2 (λ book. book.total) 2 config.settings.shards _ _ kept.11 kept.15 c.audit_if_there-2.ensures within, c.gather.ensures.amount2, kept.8))
-    (λ within. omega (arith, same_total c.self.inside.lines3 (λ book. book.total) 3 config.settings.shards _ _ kept.12 kept.16 c.audit_if_there-3.ensures within, c.gather.ensures.amount3, kept.9)))
+    (λ within. omega (arith, same_total c.self.inside.ledger1 (λ ledger. ledger.total) 1 config.settings.shards _ _ kept.10 kept.14 c.audit_if_there.ensures within, c.gather.ensures.amount1, kept.7))
+    (λ within. omega (arith, same_total c.self.inside.ledger2 (λ ledger. ledger.total) 2 config.settings.shards _ _ kept.11 kept.15 c.audit_if_there-2.ensures within, c.gather.ensures.amount2, kept.8))
+    (λ within. omega (arith, same_total c.self.inside.ledger3 (λ ledger. ledger.total) 3 config.settings.shards _ _ kept.12 kept.16 c.audit_if_there-3.ensures within, c.gather.ensures.amount3, kept.9)))
     settled c.in_ok-segments.ensures.same c.in_ok-segments.ensures.by_shard)

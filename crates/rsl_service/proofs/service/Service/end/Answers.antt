@@ -29,8 +29,8 @@ invariant_of-result g c =
       (rw all.is-1 at c.end_if_there-second.ensures.ledger) ∙ c.self.invariant.8,
       (rw all.is-2 at c.end_if_there-third.ensures.ledger) ∙ c.self.invariant.9,
       (rw all.is-3 at c.end_if_there-fourth.ensures.ledger) ∙ c.self.invariant.10,
-      first_told all.lines0.total all.journal0 present of.first (rw all.is-0 at c.end-first.ensures.told),
-      told_if_there all.lines1 (λ book. book.total) 1 all.journal1 present of.second (rw all.is-1 at c.end_if_there-second.ensures.told),
-      told_if_there all.lines2 (λ book. book.total) 2 all.journal2 present of.third (rw all.is-2 at c.end_if_there-third.ensures.told),
-      told_if_there all.lines3 (λ book. book.total) 3 all.journal3 present of.fourth (rw all.is-3 at c.end_if_there-fourth.ensures.told),
+      first_told all.ledger0.total all.journal0 present of.first (rw all.is-0 at c.end-first.ensures.told),
+      told_if_there all.ledger1 (λ ledger. ledger.total) 1 all.journal1 present of.second (rw all.is-1 at c.end_if_there-second.ensures.told),
+      told_if_there all.ledger2 (λ ledger. ledger.total) 2 all.journal2 present of.third (rw all.is-2 at c.end_if_there-third.ensures.told),
+      told_if_there all.ledger3 (λ ledger. ledger.total) 3 all.journal3 present of.fourth (rw all.is-3 at c.end_if_there-fourth.ensures.told),
     )

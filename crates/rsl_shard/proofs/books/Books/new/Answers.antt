@@ -1,5 +1,5 @@
 use Rattle.std.proofs.Common.{◌≡◌, subst}
-use Rattle.rsl_shard.specs.Replay.{AreBooks}
+use Rattle.rsl_shard.specs.Restep.{AreBooks}
 use Rattle.rsl_shard.specs.Setup.{Setup, IsSetup, setup_of}
 use Rattle.rsl_shard.proofs.Beginning.{new_are_books}
 use Rattle.rsl_shard.proofs.books.Books.new.Goals as goal

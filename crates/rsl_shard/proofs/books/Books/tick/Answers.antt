@@ -1,6 +1,6 @@
 use Rattle.std.proofs.Common.{ℕ, Some, length, map, refl, rules, sym, ap, ◌∙◌}
 use Rattle.rsl_event.specs.declared.event.Act.TheVariants.{Tick}
-use Rattle.rsl_shard.specs.Replay.{BooksSeen, books_after, step_by}
+use Rattle.rsl_shard.specs.Restep.{BooksSeen, books_after, step_by}
 use Rattle.rsl_shard.specs.declared.moved.Move.TheVariants as moves
 use Rattle.rsl_shard.proofs.Moving.{moved_each, written}
 use Rattle.rsl_shard.proofs.books.Books.tick.Goals as goal

@@ -1,5 +1,5 @@
 use Rattle.std.proofs.Common.{◌≡◌, ap, arith, refl, ◌∙◌}
-use Rattle.rsl_shard.specs.Replay.{BooksSeen, new_books}
+use Rattle.rsl_shard.specs.Restep.{BooksSeen, new_books}
 use Rattle.rsl_shard.specs.declared.opening.Opening.TheVariants.{New}
 use Rattle.rsl_shard.proofs.Journaling.{begun, new_seen, renewed_new}
 use Rattle.rsl_shard.proofs.shard.Shard.new.Goals as goal

@@ -1,7 +1,7 @@
 use Rattle.std.proofs.Common.{◌-◌, ◌^◌, ◌<◌, ◌++◌, ◌∷◌, [], List, refl, sym, ap, subst, ◌∙◌}
 use Rattle.rsl_shard.specs.Moves.{IsTaken}
 use Rattle.rsl_shard.specs.Seen.{ShardSeen, total_of, with_line}
-use Rattle.rsl_shard.specs.ShardInside.{shard_seen}
+use Rattle.rsl_shard.specs.ShardSeen.{shard_seen}
 use Rattle.rsl_shard.specs.declared.line.Line.{Line}
 use Rattle.rsl_shard.specs.declared.moved.Move.{Move}
 use Rattle.rsl_shard.proofs.Journaling.{books_on, moved_on, seen_on}
@@ -15,7 +15,7 @@ invariant_of-self-2 c =
     moved_on c.self.inside (record { books = c.step_ready-decision.new.self; opening = c.self.inside.opening; journal = c.push.new.self; first = c.self.inside.first })
     c.into_parts-moved.result.0 c.step_ready-decision.result c.self.invariant taken
     (subst (λ (seen : ShardSeen). total_of seen < 2 ^ 64 - 1) (sym c.self.view_is) c.requires.room)
-    c.step_ready-decision.ensures.decision c.step_ready-decision.ensures.setup c.step_ready-decision.ensures.books c.are_sound.ensures refl refl
+    c.step_ready-decision.ensures.decision c.step_ready-decision.ensures.setup c.step_ready-decision.ensures.books c.open_invariant.ensures refl refl
     (c.push.ensures
     ∙ ap (λ (lines : List Line). lines ++ record { moved = c.into_parts-moved.result.0; decision = c.step_ready-decision.result } ∷ []) c.make_room.ensures.lines)
 

@@ -1,0 +1,54 @@
+ghost use Rattle.std.specs.Prelude.{◌≡◌};
+ghost use Rattle.rsl_event.specs.Prepared.{HasAccount, HasOwnAct};
+ghost use Rattle.rsl_shard.specs.Moves.{AreTaken, moves_of};
+
+use crate::moved::Move;
+use rsl_accounts::Config;
+use rsl_event::{Event, Meaning};
+
+/// The moves that a datagram makes, by what it means.
+#[derive(Debug, Drop)]
+pub enum Moves {
+    /// None: the datagram is answered, and changes and notes nothing.
+    Nothing,
+    /// A move of one shard.
+    One {
+        /// The number of the shard.
+        shard: u32,
+        /// The move.
+        moved: Move,
+    },
+    /// A move that every shard makes.
+    Each(Move),
+}
+
+impl Moves {
+    /// The moves of what came at a moment, in seconds: what is an account's own moves the account's
+    /// shard, a stray shard 0, and a restart sweeps every shard. A reject moves none.
+    ///
+    /// The meaning is handed over, so nothing is copied and no memory is taken.
+    pub fn of(config: &Config, moment: u64, meaning: Meaning) -> Moves
+        requires account { HasAccount config.now meaning }
+        requires act { HasOwnAct meaning }
+        ensures moves { result ≡ moves_of config.now moment meaning }
+        ensures taken { AreTaken config.now result }
+    {
+        // A configuration has 1 to 4 shards: this call tells it.
+        let _shards = config.shards();
+        match meaning {
+            Meaning::Own { account, act } => Moves::One {
+                shard: config.shard_of(account),
+                moved: Move::Own {
+                    account,
+                    event: Event { moment, act },
+                },
+            },
+            Meaning::Stray(note) => Moves::One {
+                shard: 0,
+                moved: Move::Stray { moment, note },
+            },
+            Meaning::Restart { nas } => Moves::Each(Move::Sweep { moment, nas }),
+            Meaning::Bare | Meaning::Reject => Moves::Nothing,
+        }
+    }
+}
