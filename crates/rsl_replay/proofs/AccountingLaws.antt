@@ -51,16 +51,16 @@ pub server_request_written : (boot : ℕ) (status : Status) (name : Option (List
 unfolding accounting_attributes
 server_request_written boot status name start a b empty ea eb = server_written status name start a b empty ea eb
 
-pub session_request_written : (boot : ℕ) (status : Status) (nas : Option (List ℕ)) (name session : List ℕ) (bundle : Option (List ℕ)) (class : Option ℕ) (start a b c d e f : Begun) → start.attributes ≡ []
+pub session_request_written : (boot : ℕ) (status : Status) (nas : Option (List ℕ)) (name session given_name given_session : List ℕ) (bundle : Option (List ℕ)) (class : Option ℕ) (start a b c d e f : Begun) → start.attributes ≡ [] → given_name ≡ name → given_session ≡ session
     → a ≡ with_attributes start (start.attributes ++ attribute_octets (number_attribute ACCT_STATUS_TYPE (status_number status)))
     → b ≡ with_attributes a (a.attributes ++ list_octets (text_attribute NAS_IDENTIFIER nas))
-    → c ≡ with_attributes b (b.attributes ++ attribute_octets (attribute_of USER_NAME name))
-    → d ≡ with_attributes c (c.attributes ++ attribute_octets (attribute_of ACCT_SESSION_ID session))
+    → c ≡ with_attributes b (b.attributes ++ attribute_octets (attribute_of USER_NAME given_name))
+    → d ≡ with_attributes c (c.attributes ++ attribute_octets (attribute_of ACCT_SESSION_ID given_session))
     → e ≡ with_attributes d (d.attributes ++ list_octets (text_attribute ACCT_MULTI_SESSION_ID bundle))
     → f ≡ with_attributes e (e.attributes ++ list_octets (class_attributes boot class))
     → f ≡ with_attributes start (list_octets (accounting_attributes boot (Session status nas name session bundle class)))
 unfolding accounting_attributes
-session_request_written boot status nas name session bundle class start a b c d e f empty ea eb ec ed ee ef =
+session_request_written boot status nas name session given_name given_session bundle class start a b c d e f empty en es ea eb ec ed ee ef =
     let first = number_attribute ACCT_STATUS_TYPE (status_number status) in
     let server = text_attribute NAS_IDENTIFIER nas in
     let user = attribute_of USER_NAME name in
@@ -68,8 +68,8 @@ session_request_written boot status nas name session bundle class start a b c d 
     let links = text_attribute ACCT_MULTI_SESSION_ID bundle in
     let classes = class_attributes boot class in
     let b_is : b.attributes ≡ list_octets (first ∷ server) = ap (λ (x : Begun). x.attributes) (server_written status nas start a b empty ea eb) in
-    let c_is : c.attributes ≡ list_octets (first ∷ server ++ user ∷ []) = ap (λ (x : Begun). x.attributes) ec ∙ then_one (first ∷ server) user b.attributes b_is in
-    let d_is : d.attributes ≡ list_octets (first ∷ (server ++ user ∷ []) ++ own ∷ []) = ap (λ (x : Begun). x.attributes) ed ∙ then_one (first ∷ server ++ user ∷ []) own c.attributes c_is in
+    let c_is : c.attributes ≡ list_octets (first ∷ server ++ user ∷ []) = ap (λ (x : Begun). x.attributes) ec ∙ ap (λ (x : List ℕ). b.attributes ++ attribute_octets (attribute_of USER_NAME x)) en ∙ then_one (first ∷ server) user b.attributes b_is in
+    let d_is : d.attributes ≡ list_octets (first ∷ (server ++ user ∷ []) ++ own ∷ []) = ap (λ (x : Begun). x.attributes) ed ∙ ap (λ (x : List ℕ). c.attributes ++ attribute_octets (attribute_of ACCT_SESSION_ID x)) es ∙ then_one (first ∷ server ++ user ∷ []) own c.attributes c_is in
     let e_is : e.attributes ≡ list_octets (first ∷ ((server ++ user ∷ []) ++ own ∷ []) ++ links) = ap (λ (x : Begun). x.attributes) ee ∙ then_octets (first ∷ (server ++ user ∷ []) ++ own ∷ []) links d.attributes d_is in
     let f_is : f.attributes ≡ list_octets (first ∷ (((server ++ user ∷ []) ++ own ∷ []) ++ links) ++ classes) = ap (λ (x : Begun). x.attributes) ef ∙ then_octets (first ∷ ((server ++ user ∷ []) ++ own ∷ []) ++ links) classes e.attributes e_is in
     let joined : (((server ++ user ∷ []) ++ own ∷ []) ++ links) ++ classes ≡ server ++ user ∷ own ∷ links ++ classes = grind (arith, append_assoc) in
