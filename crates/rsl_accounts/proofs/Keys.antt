@@ -23,7 +23,7 @@ pub keys_number : (clients : List Client) (keys : List HmacKey) → AreKeysOf cl
 keys_number [] [] are = refl
 keys_number [] (k ∷ keys) are = absurd are
 keys_number (c ∷ clients) [] are = absurd are
-keys_number (c ∷ clients) (k ∷ keys) are = ap (λ n. 1 + n) (keys_number clients keys are.1)
+keys_number (c ∷ clients) (k ∷ keys) are = ap suc (keys_number clients keys are.1)
 
 -- each is that of the client with its number
 pub key_found : (clients : List Client) (keys : List HmacKey) (i : ℕ) (key : HmacKey) → AreKeysOf clients keys → i < length clients → key ≡ get_or keys i key → IfSome (slice_get clients i) (λ client. IsKeyOf client.secret key)

@@ -164,7 +164,6 @@ impl Config {
 
     /// What HMAC-MD5 makes of the secret of the client with the number, made once for all packets
     /// that are signed with it.
-    #[tactic(auto, using(crate::proofs::Keys::key_steps))]
     pub fn hmac_key(&self, client: u32) -> &HmacKey
         requires { client < length self.now.clients }
         ensures { IfSome (slice_get self.now.clients client) (λ client.
