@@ -9,3 +9,4 @@ pub mod Files
 pub mod Parts
 pub mod Memory
 pub mod Texts
+pub mod Keys

@@ -2,6 +2,7 @@
 use Rattle.std.specs.Prelude.{◌≡◌, map}
 use Rattle.rsl_accounts.specs.declared.config.Config.TheInside.{Inside}
 use Rattle.rsl_accounts.specs.Configuration.{Configuration, names}
+use Rattle.rsl_accounts.specs.Keys.{AreKeysOf}
 use Rattle.rsl_accounts.specs.Limits.{IsConfiguration}
 
 abbrev pub configuration_in : Inside → Configuration
@@ -11,8 +12,9 @@ configuration_in inside = record {
   accounts = inside.accounts.items;
 }
 
--- the configuration is within its limits, and the index has the names of the accounts in their
--- order
+-- the configuration is within its limits, the keys are those of the clients' secrets, and the index
+-- has the names of the accounts in their order
 pub record IsKept (inside : Inside) : Type 0 where
   pub limits : IsConfiguration (configuration_in inside)
+  pub keys : AreKeysOf inside.clients.items inside.keys.items
   pub index : map (λ name. name.items) inside.names.keys ≡ names inside.accounts.items

@@ -5,6 +5,7 @@ pub mod Version
 pub mod Walk
 pub mod Settings
 pub mod Configuration
+pub mod Keys
 pub mod TextSeen
 pub mod ConfigSeen
 pub mod File

@@ -27,6 +27,8 @@ ghost use Rattle.rsl_accounts.specs.Configuration.{
   with_times,
 };
 ghost use Rattle.rsl_accounts.specs.File.{configuration_of_text};
+ghost use Rattle.rsl_accounts.specs.Keys.{AreKeysOf};
+ghost use Rattle.rsl_auth.specs.Hmac.{IsKeyOf};
 ghost use Rattle.rsl_accounts.specs.Walk.{first_fault, walk_over};
 ghost use Rattle.rsl_accounts.specs.Limits.{IsConfiguration, IsAccount, IsSecret};
 
@@ -39,6 +41,8 @@ use crate::settings::Settings;
 use crate::table::tables;
 use crate::walk::walk;
 use indexmap::IndexSet;
+use rsl_auth::HmacKey;
+use rsl_wire::NoMemory;
 use std::alloc::Global;
 use std::marker::Model;
 
@@ -48,6 +52,7 @@ use std::marker::Model;
 pub struct Config {
     settings: Settings,
     clients: Vec<Client>,
+    keys: Vec<HmacKey>,
     accounts: Vec<Entry>,
     names: IndexSet<Vec<u8>>,
 }
@@ -129,9 +134,11 @@ impl Config {
         if settings.keep > settings.reserve {
             return Err(ConfigFault::KeepTooLong);
         }
+        let keys = hmac_keys(alloc, clients.as_slice())?;
         Ok(Config {
             settings,
             clients,
+            keys,
             accounts: fill_times(&settings, accounts),
             names,
         })
@@ -153,6 +160,16 @@ impl Config {
         ensures limits { IsSecret result.now.secret }
     {
         &self.clients[number as usize]
+    }
+
+    /// What HMAC-MD5 makes of the secret of the client with the number, made once for all packets
+    /// that are signed with it.
+    pub fn hmac_key(&self, client: u32) -> &HmacKey
+        requires { client < length self.now.clients }
+        ensures { IfSome (slice_get self.now.clients client) (λ client.
+            IsKeyOf client.secret result.now) }
+    {
+        &self.keys[client as usize]
     }
 
     /// The number of the account with the name, if there is one.
@@ -231,6 +248,18 @@ fn has_twice(clients: &[Client]) -> bool
         }
     }
     false
+}
+
+/// What HMAC-MD5 makes of the secret of each client. It fails only where memory is refused.
+#[tactic(auto, using(crate::proofs::Keys::key_steps))]
+fn hmac_keys(alloc: Global, clients: &[Client]) -> Result<Vec<HmacKey>, NoMemory>
+    ensures { IfOk result (λ keys. AreKeysOf clients.now keys.items) }
+{
+    let mut keys = Vec::with_capacity(alloc, clients.len())?;
+    for client in clients {
+        keys.push(HmacKey::new(client.secret.expose()))?;
+    }
+    Ok(keys)
 }
 
 /// The names of the accounts, in their order. `TwiceAccount` if a name comes twice.

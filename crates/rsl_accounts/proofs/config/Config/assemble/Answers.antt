@@ -37,6 +37,11 @@ returns-then-settings-clause-fault c = λ _.
     (rw (← c.as_slice-2.ensures.value) c.in_ok-names.ensures.differ)
     c.if-settings.true
 
+pub returns-in_err-keys-clause-memory : goal.returns-in_err-keys-clause-memory
+returns-in_err-keys-clause-memory c =
+    let p = err_from_is_err_and c.from_residual-in_err-keys.result c.from_residual-in_err-keys.ensures.1 in
+    rw (p.1, p.2) (λ _. (c.requires, rw (← c.as_slice.ensures.value) (sym c.if-has_twice.ensures)))
+
 pub invariant_of-result : goal.invariant_of-result
 invariant_of-result c =
     record {
@@ -46,6 +51,7 @@ invariant_of-result c =
           (rw (← c.as_slice.ensures.value) (sym c.if-has_twice.ensures))
           (rw (← c.as_slice-2.ensures.value) c.in_ok-names.ensures.differ)
           c.if-settings.false);
+      keys = rw (← c.as_slice-3.ensures.value) c.in_ok-keys.ensures;
       index =
           c.in_ok-names.ensures.index
           ∙ ap names c.as_slice-2.ensures.value
