@@ -5,7 +5,7 @@ pub mod Ending
 pub mod Naming
 pub mod Found
 pub mod Touching
-pub mod Slices
+pub mod Ringed
 pub mod Insides
 pub mod Stepping
 pub mod OneByOne

@@ -11,3 +11,5 @@ pub mod LinkList
 pub mod Steps
 pub mod Sound
 pub mod Marks
+pub mod Fingerprint
+pub mod KeptSeen

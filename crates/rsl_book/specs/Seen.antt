@@ -5,12 +5,8 @@ use Rattle.std.specs.Option.{option_map}
 use Rattle.rsl_event.specs.declared.nas.Nas.{Nas}
 use Rattle.rsl_event.specs.declared.nas.NasName.TheVariants.{Unnamed}
 use Rattle.rsl_session.specs.declared.bundle.Bundle.{Bundle}
-use Rattle.rsl_session.specs.declared.kept.KeptAsk.{KeptAsk}
-use Rattle.rsl_session.specs.declared.kept.KeptStop.{KeptStop}
 use Rattle.rsl_session.specs.Book.{BookLink, Holder, Reserved, Bound}
 use Rattle.rsl_book.specs.declared.link.Link.{Link}
-use Rattle.rsl_book.specs.declared.kept.StoredAsk.{StoredAsk}
-use Rattle.rsl_book.specs.declared.kept.StoredStop.{StoredStop}
 use Rattle.rsl_book.specs.declared.link.Hold.{Hold}
 use Rattle.rsl_book.specs.declared.link.Hold.TheVariants.{Number, Session}
 
@@ -41,27 +37,3 @@ link_seen servers link =
 
 unfoldable pub links_seen : List Nas → List Link → List BookLink
 links_seen servers links = map (link_seen servers) links
-
-unfoldable pub ask_seen : List Nas → StoredAsk → KeptAsk
-ask_seen servers ask =
-    record {
-      key = ask.key;
-      nas = server_at servers ask.nas;
-      decision = ask.decision;
-      at = ask.at;
-      swept = ask.swept;
-    }
-
-unfoldable pub asks_seen : List Nas → List StoredAsk → List KeptAsk
-asks_seen servers asks = map (ask_seen servers) asks
-
-unfoldable pub stop_seen : List Nas → StoredStop → KeptStop
-stop_seen servers stop =
-    record {
-      session = record { nas = server_at servers stop.nas; id = stop.id };
-      at = stop.at;
-      swept = stop.swept;
-    }
-
-unfoldable pub stops_seen : List Nas → List StoredStop → List KeptStop
-stops_seen servers stops = map (stop_seen servers) stops

@@ -6,7 +6,8 @@ use Rattle.rsl_accounts.specs.Limits.{RulesFit}
 use Rattle.rsl_session.specs.Book.{Book}
 use Rattle.rsl_book.specs.declared.book.Book.TheInside.{Inside}
 use Rattle.rsl_book.specs.RuledBook.{RuledBook}
-use Rattle.rsl_book.specs.Seen.{links_seen, asks_seen, stops_seen}
+use Rattle.rsl_book.specs.Seen.{links_seen}
+use Rattle.rsl_book.specs.KeptSeen.{asks_seen, stops_seen}
 use Rattle.rsl_book.specs.Counted.{AreCounted}
 
 abbrev pub running : Inside → Book

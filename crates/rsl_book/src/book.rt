@@ -21,16 +21,13 @@ ghost use Rattle.rsl_book.specs.First.{IsFirst, change_at};
 ghost use Rattle.rsl_book.specs.Seen.{bundle_with};
 ghost use Rattle.rsl_book.specs.Steps.{touch_here, take_here, without_at};
 
-use crate::kept::{
-    StoredAsk, StoredStop, copy_of_asks, copy_of_stops, is_closed, repeated, sweep_asks,
-    sweep_stops,
-};
+use crate::kept::{DecidedAsk, EndedSession, Kept};
 use crate::link::{Hold, Link};
 use crate::links::{Links, one_if};
-use crate::same::{has_same_asks, has_same_links, has_same_stops};
+use crate::ring::Ring;
+use crate::same::has_same_links;
 use crate::servers::Servers;
-use crate::table::place_for;
-use circular_buffer::HeapCircularBuffer;
+use crate::table::index_for;
 use rsl_accounts::Rules;
 use rsl_event::{Act, Decision, Event, Key, Nas};
 use rsl_session::{KEPT_ASKS, KEPT_STOPS};
@@ -51,8 +48,8 @@ pub struct Book {
     over: u64,
     servers: Servers,
     links: Links,
-    asks: HeapCircularBuffer<StoredAsk>,
-    stops: HeapCircularBuffer<StoredStop>,
+    asks: Ring<DecidedAsk>,
+    stops: Ring<EndedSession>,
 }
 
 impl Model for Book {
@@ -103,8 +100,8 @@ impl Book {
             over: 0,
             servers: Servers::new(alloc, most + KEPT_ASKS + KEPT_STOPS + 1)?,
             links: Links::new(alloc, rules.ports, most)?,
-            asks: HeapCircularBuffer::with_capacity(alloc, KEPT_ASKS)?,
-            stops: HeapCircularBuffer::with_capacity(alloc, KEPT_STOPS)?,
+            asks: Ring::new(alloc, KEPT_ASKS)?,
+            stops: Ring::new(alloc, KEPT_STOPS)?,
         })
     }
 
@@ -135,8 +132,8 @@ impl Book {
             over: self.over,
             servers: self.servers.try_copy(alloc)?,
             links: self.links.try_copy(alloc, most_links(&self.rules))?,
-            asks: copy_of_asks(alloc, &self.asks)?,
-            stops: copy_of_stops(alloc, &self.stops)?,
+            asks: self.asks.try_copy(alloc)?,
+            stops: self.stops.try_copy(alloc)?,
         })
     }
 
@@ -154,8 +151,12 @@ impl Book {
                 &other.links.list,
                 &other.servers,
             )
-            && has_same_asks(&self.asks, &self.servers, &other.asks, &other.servers)
-            && has_same_stops(&self.stops, &self.servers, &other.stops, &other.servers)
+            && self
+                .asks
+                .has_same_asks(&self.servers, &other.asks, &other.servers)
+            && self
+                .stops
+                .has_same_stops(&self.servers, &other.stops, &other.servers)
     }
 
     /// What an act does to a book that has come to its moment.
@@ -307,21 +308,21 @@ impl Book {
         ensures step { (self.new.book, result) ≡ refuse self.old.book key nas }
         ensures rules { self.new.rules ≡ self.old.rules }
     {
-        let nas = place_for(
+        let nas = index_for(
             &mut self.servers,
             &self.links.list,
             &self.asks,
             &self.stops,
             nas,
         );
-        let _ = self.asks.push_front(StoredAsk {
-            key,
-            nas,
-            decision: Decision::LimitReject,
+        let decision = Decision::LimitReject;
+        self.asks.push(Kept {
+            subject: DecidedAsk { key, decision },
             at: self.clock,
             swept: false,
+            nas,
         });
-        Decision::LimitReject
+        decision
     }
 
     /// Accepts a fresh ask, for which there is a place and a number.
@@ -332,7 +333,7 @@ impl Book {
             accept_beside self.old.book.links self.old.book key nas }
         ensures rules { self.new.rules ≡ self.old.rules }
     {
-        let nas = place_for(
+        let nas = index_for(
             &mut self.servers,
             &self.links.list,
             &self.asks,
@@ -350,14 +351,14 @@ impl Book {
                 touched: self.clock,
             },
         );
-        let _ = self.asks.push_front(StoredAsk {
-            key,
-            nas,
-            decision: Decision::Accept(number),
+        let decision = Decision::Accept(number);
+        self.asks.push(Kept {
+            subject: DecidedAsk { key, decision },
             at: self.clock,
             swept: false,
+            nas,
         });
-        Decision::Accept(number)
+        decision
     }
 
     /// Whether a place is free once a link ends.
@@ -439,7 +440,8 @@ impl Book {
         ensures { result ≡ option_map (λ (ask : KeptAsk). ask.decision) (find
             (repeats self.now.rules key.now self.now.book.clock) self.now.book.asks) }
     {
-        repeated(&self.asks, &self.servers, &self.rules, key, self.clock)
+        self.asks
+            .repeated(&self.servers, &self.rules, key, self.clock)
     }
 
     /// How many asks were accepted.
@@ -499,7 +501,8 @@ impl Book {
         ensures { result ≡ list_any (closes self.now.rules
             (record { nas = nas.now; id = id.now }) self.now.book.clock) self.now.book.stops }
     {
-        is_closed(&self.stops, &self.servers, &self.rules, self.clock, nas, id)
+        self.stops
+            .closes(&self.servers, &self.rules, self.clock, nas, id)
     }
 
     /// Touches a link.
@@ -536,7 +539,7 @@ impl Book {
               (record { nas = nas; id = id }) (bundle_with nas bundle);
         } }
     {
-        let nas = place_for(
+        let nas = index_for(
             &mut self.servers,
             &self.links.list,
             &self.asks,
@@ -599,18 +602,18 @@ impl Book {
         } }
     {
         self.links.stop(&self.servers, &nas, &id);
-        let nas = place_for(
+        let nas = index_for(
             &mut self.servers,
             &self.links.list,
             &self.asks,
             &self.stops,
             nas,
         );
-        let _ = self.stops.push_front(StoredStop {
-            nas,
-            id,
+        self.stops.push(Kept {
+            subject: EndedSession { id },
             at: self.clock,
             swept: false,
+            nas,
         });
     }
 
@@ -619,7 +622,7 @@ impl Book {
         ensures { self.new ≡ record self.old { book = sweep self.old.book nas.now } }
     {
         self.links.sweep(&self.servers, nas);
-        sweep_asks(&mut self.asks, &self.servers, nas);
-        sweep_stops(&mut self.stops, &self.servers, nas);
+        self.asks.sweep(&self.servers, nas);
+        self.stops.sweep(&self.servers, nas);
     }
 }

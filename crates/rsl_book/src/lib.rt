@@ -17,6 +17,7 @@ mod link;
 mod links;
 mod list;
 mod order;
+mod ring;
 mod same;
 mod servers;
 mod slots;

@@ -36,7 +36,7 @@ impl Model for Servers {
 
 /// The mark of octets behind what a mark was made of.
 #[tactic(auto, using(crate::proofs::Marks::mark_steps))]
-fn mark_with(start: u32, octets: &[u8]) -> u32
+pub(crate) fn mark_with(start: u32, octets: &[u8]) -> u32
     ensures { result ≡ mark_with start octets.now }
 {
     let mut mark = start;
