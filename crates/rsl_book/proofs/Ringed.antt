@@ -18,11 +18,11 @@ use Rattle.rsl_book.specs.declared.kept.Kept.{Kept}
 use Rattle.rsl_book.specs.declared.kept.DecidedAsk.{DecidedAsk}
 use Rattle.rsl_book.specs.declared.kept.EndedSession.{EndedSession}
 use Rattle.rsl_book.specs.Fingerprint.{id_fingerprint, key_fingerprint}
-use Rattle.rsl_book.specs.KeptSeen.{SeenKept, all_seen, ask_seen, asks_seen, kept_seen, stop_seen, stops_seen, sweep_kept}
+use Rattle.rsl_book.specs.Seen.{SeenKept, all_seen, ask_seen, asks_seen, kept_seen, stop_seen, stops_seen, sweep_kept}
 use Rattle.rsl_book.proofs.Swept.{subjects_swept}
 use Rattle.circular_buffer.specs.Buffer.{Buffer, buffer}
-use Rattle.rsl_book.specs.Seen.{server_at}
-use Rattle.rsl_book.proofs.Lists.{any_end, any_no, any_yes, find_end, find_no, find_yes}
+use Rattle.rsl_links.specs.Seen.{server_at}
+use Rattle.rsl_links.proofs.Callers.{any_end, any_no, any_yes, find_end, find_no, find_yes}
 
 -- what passes a test has the fingerprint that is sought, so one with another does not pass
 misses : (b : Bool) (n own : ℕ) → (b ≡ true → n ≡ own) → n ≢ own → b ≡ false

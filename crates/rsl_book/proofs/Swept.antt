@@ -7,7 +7,7 @@ use Rattle.rsl_session.specs.BookStep.{sweep_ask, sweep_stop}
 use Rattle.rsl_book.specs.declared.kept.Kept.{Kept}
 use Rattle.rsl_book.specs.declared.kept.DecidedAsk.{DecidedAsk}
 use Rattle.rsl_book.specs.declared.kept.EndedSession.{EndedSession}
-use Rattle.rsl_book.specs.KeptSeen.{ask_seen, asks_seen, stop_seen, stops_seen, sweep_kept}
+use Rattle.rsl_book.specs.Seen.{ask_seen, asks_seen, stop_seen, stops_seen, sweep_kept}
 
 -- those at hand are the first, changed, and the rest
 pub changed_more : {A : Type 0} (g : A → A) (orig xs : List A) (i : ℕ) (x y : A) → i < length orig → xs ≡ map g (take i orig) ++ drop i orig → x ≡ get_or xs i x → y ≡ g x

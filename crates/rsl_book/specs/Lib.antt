@@ -1,15 +1,5 @@
 pub mod RuledBook
-pub mod First
 pub mod Seen
-pub mod Changed
-pub mod Counted
 pub mod Named
-pub mod Order
-pub mod Slots
-pub mod Lines
-pub mod LinkList
-pub mod Steps
-pub mod Sound
-pub mod Marks
 pub mod Fingerprint
-pub mod KeptSeen
+pub mod BookSeen

@@ -1,20 +1,15 @@
--- Which places of the table of access servers something names.
-use Rattle.std.specs.Prelude.{◌≢◌, ℕ, ◌<◌, List, ◌==◌, Bool, length}
+-- Which indexes of the table of access servers something names.
+use Rattle.std.specs.Prelude.{ℕ, List, ◌==◌, Bool, ◌||◌}
 use Rattle.std.specs.List.{list_any}
-use Rattle.rsl_event.specs.declared.nas.Nas.{Nas}
-use Rattle.rsl_book.specs.declared.link.Link.{Link}
-use Rattle.rsl_book.specs.Order.{link_at}
-use Rattle.rsl_book.specs.Seen.{server_at}
+use Rattle.rsl_links.specs.Named.{named_by_links}
+use Rattle.rsl_links.specs.declared.link.Link.{Link}
+use Rattle.rsl_book.specs.declared.kept.Kept.{Kept}
+use Rattle.rsl_book.specs.declared.kept.DecidedAsk.{DecidedAsk}
+use Rattle.rsl_book.specs.declared.kept.EndedSession.{EndedSession}
 
-unfoldable pub named_by_links : List Link → ℕ → Bool
-named_by_links links at = list_any (λ (link : Link). link.nas == at) links
+unfoldable pub named_by_kept : {S : Type 0} → List (Kept S) → ℕ → Bool
+named_by_kept {S = S} all index = list_any (λ (kept : Kept S). kept.nas == index) all
 
--- a place of the table: the first with the access server that stands there
-pub record IsPlace (servers : List Nas) (at : ℕ) : Type 0 where
-  pub within : at < length servers
-  pub first : (x : ℕ) → x < at → server_at servers x ≢ server_at servers at
-
--- links are at such places, so that links at one access server are at one place
-abbrev pub ArePlaced : List Nas → List Link → Type 0
-ArePlaced servers links =
-    (x : ℕ) → x < length links → IsPlace servers (link_at links x).nas
+unfoldable pub is_named : List Link → List (Kept DecidedAsk) → List (Kept EndedSession) → ℕ → Bool
+is_named links asks stops index =
+    named_by_links links index || named_by_kept asks index || named_by_kept stops index

@@ -1,39 +1,52 @@
--- What a book's links, asks and stops stand for: each names its access server by a place in a
--- table.
-use Rattle.std.specs.Prelude.{ℕ, List, map, get_or, Option}
-use Rattle.std.specs.Option.{option_map}
+-- What the asks and stops that a book keeps stand for: each names its access server by an index of a table.
+use Rattle.std.specs.Prelude.{ℕ, List, map, Bool, ◌||◌}
 use Rattle.rsl_event.specs.declared.nas.Nas.{Nas}
-use Rattle.rsl_event.specs.declared.nas.NasName.TheVariants.{Unnamed}
-use Rattle.rsl_session.specs.declared.bundle.Bundle.{Bundle}
-use Rattle.rsl_session.specs.Book.{BookLink, Holder, Reserved, Bound}
-use Rattle.rsl_book.specs.declared.link.Link.{Link}
-use Rattle.rsl_book.specs.declared.link.Hold.{Hold}
-use Rattle.rsl_book.specs.declared.link.Hold.TheVariants.{Number, Session}
+use Rattle.rsl_session.specs.declared.kept.KeptAsk.{KeptAsk}
+use Rattle.rsl_session.specs.declared.kept.KeptStop.{KeptStop}
+use Rattle.rsl_session.specs.Same.{same_nas}
+use Rattle.rsl_book.specs.declared.kept.Kept.{Kept}
+use Rattle.rsl_book.specs.declared.kept.DecidedAsk.{DecidedAsk}
+use Rattle.rsl_book.specs.declared.kept.EndedSession.{EndedSession}
+use Rattle.rsl_links.specs.Seen.{server_at}
 
-abbrev pub unnamed : Nas
-unnamed = record { client = 0; name = Unnamed }
+-- what is kept, with its access server itself
+pub record SeenKept (S : Type 0) : Type 0 where
+  pub subject : S
+  pub at : ℕ
+  pub swept : Bool
+  pub nas : Nas
 
--- the access server at a place of the table, and past its end one without a name
-abbrev pub server_at : List Nas → ℕ → Nas
-server_at servers at = get_or servers at unnamed
+unfoldable pub kept_seen : {S : Type 0} → List Nas → Kept S → SeenKept S
+kept_seen servers kept =
+    record { subject = kept.subject; at = kept.at; swept = kept.swept; nas = server_at servers kept.nas }
 
--- what has a link at an access server
-abbrev pub holder_at : Nas → Hold → Holder
-holder_at nas (Number number) = Reserved number
-holder_at nas (Session id) = Bound (record { nas = nas; id = id })
+unfoldable pub all_seen : {S : Type 0} → List Nas → List (Kept S) → List (SeenKept S)
+all_seen servers all = map (kept_seen servers) all
 
--- the bundle of this id at an access server
-abbrev pub bundle_with : Nas → Option (List ℕ) → Option Bundle
-bundle_with nas id = option_map (λ id. record { nas = nas; id = id }) id
-
-unfoldable pub link_seen : List Nas → Link → BookLink
-link_seen servers link =
+unfoldable pub ask_seen : List Nas → Kept DecidedAsk → KeptAsk
+ask_seen servers ask =
     record {
-      nas = server_at servers link.nas;
-      holder = holder_at (server_at servers link.nas) link.hold;
-      bundle = bundle_with (server_at servers link.nas) link.bundle;
-      touched = link.touched;
+      key = ask.subject.key;
+      nas = server_at servers ask.nas;
+      decision = ask.subject.decision;
+      at = ask.at;
+      swept = ask.swept;
     }
 
-unfoldable pub links_seen : List Nas → List Link → List BookLink
-links_seen servers links = map (link_seen servers) links
+unfoldable pub asks_seen : List Nas → List (Kept DecidedAsk) → List KeptAsk
+asks_seen servers asks = map (ask_seen servers) asks
+
+unfoldable pub stop_seen : List Nas → Kept EndedSession → KeptStop
+stop_seen servers stop =
+    record {
+      session = record { nas = server_at servers stop.nas; id = stop.subject.id };
+      at = stop.at;
+      swept = stop.swept;
+    }
+
+unfoldable pub stops_seen : List Nas → List (Kept EndedSession) → List KeptStop
+stops_seen servers stops = map (stop_seen servers) stops
+
+-- a sweep of an access server
+unfoldable pub sweep_kept : {S : Type 0} → List Nas → Nas → Kept S → Kept S
+sweep_kept servers nas kept = record kept { swept = kept.swept || same_nas nas (server_at servers kept.nas) }

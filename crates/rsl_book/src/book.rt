@@ -17,19 +17,17 @@ ghost use Rattle.rsl_session.specs.BookLinks.{without_first};
 ghost use Rattle.rsl_session.specs.BookStep.{come_to, refuse, accept_beside, fresh_ask, ask};
 ghost use Rattle.rsl_session.specs.BookStep.{open_link, bind, alive, stop, sweep, act_on, step};
 ghost use Rattle.rsl_book.specs.RuledBook.{RuledBook, IsWithinLimit};
-ghost use Rattle.rsl_book.specs.First.{IsFirst, change_at};
-ghost use Rattle.rsl_book.specs.Seen.{bundle_with};
-ghost use Rattle.rsl_book.specs.Steps.{touch_here, take_here, without_at};
+ghost use Rattle.rsl_links.specs.First.{IsFirst, change_at};
+ghost use Rattle.rsl_links.specs.Seen.{bundle_with};
+ghost use Rattle.rsl_links.specs.Steps.{touch_here, take_here, without_at};
 
 use crate::kept::{DecidedAsk, EndedSession, Kept};
-use crate::link::{Hold, Link};
-use crate::links::{Links, one_if};
 use crate::ring::Ring;
 use crate::same::has_same_links;
-use crate::servers::Servers;
 use crate::table::index_for;
 use rsl_accounts::Rules;
 use rsl_event::{Act, Decision, Event, Key, Nas};
+use rsl_links::{Hold, Link, Links, Servers, one_if};
 use rsl_session::{KEPT_ASKS, KEPT_STOPS};
 use rsl_wire::{NoMemory, Octets};
 use std::alloc::Global;
@@ -42,14 +40,15 @@ use std::marker::Model;
 /// the over count. All memory is taken in `new`.
 #[derive(Drop)]
 pub struct Book {
-    rules: Rules,
+    // Fields lie in memory as they stand here: what an ask or a tick reads first.
     clock: u64,
     accepts: u64,
-    over: u64,
-    servers: Servers,
+    rules: Rules,
     links: Links,
     asks: Ring<DecidedAsk>,
+    servers: Servers,
     stops: Ring<EndedSession>,
+    over: u64,
 }
 
 impl Model for Book {
@@ -57,7 +56,7 @@ impl Model for Book {
 
     ghost Value = { RuledBook };
 
-    ghost use Rattle.rsl_book.specs.Sound.{book_seen, IsSound};
+    ghost use Rattle.rsl_book.specs.BookSeen.{book_seen, IsSound};
 
     ghost view = { book_seen };
 
@@ -113,11 +112,11 @@ impl Book {
         ensures limit_before { IsWithinLimit self.old }
         ensures limit { IsWithinLimit self.new }
     {
-        self.stays_within_limit();
+        self.open_invariant();
         let Event { moment, act } = event;
         self.come_to(moment);
         let decision = self.act(act);
-        self.stays_within_limit();
+        self.open_invariant();
         decision
     }
 
@@ -195,10 +194,10 @@ impl Book {
         ensures limit_before { IsWithinLimit self.old }
         ensures limit { IsWithinLimit self.new }
     {
-        self.stays_within_limit();
+        self.open_invariant();
         self.come_to(moment);
         self.sweep_at(nas);
-        self.stays_within_limit();
+        self.open_invariant();
     }
 
     /// What a tick at this moment makes of the book, as `apply` does.
@@ -209,9 +208,9 @@ impl Book {
         ensures limit_before { IsWithinLimit self.old }
         ensures limit { IsWithinLimit self.new }
     {
-        self.stays_within_limit();
+        self.open_invariant();
         self.come_to(moment);
-        self.stays_within_limit();
+        self.open_invariant();
     }
 
     /// The places that are held.
@@ -287,8 +286,9 @@ impl Book {
         self.rules
     }
 
-    /// The places are within the limit, whatever the book has come to.
-    fn stays_within_limit(&self)
+    /// Opens the invariant for the prover: the places are within the limit, whatever the book has
+    /// come to.
+    fn open_invariant(&self)
         ensures { IsWithinLimit self.now }
     {
         let _ = &self.links;
@@ -412,7 +412,7 @@ impl Book {
             self.old.book key nas else refuse self.old.book key nas) }
         ensures rules { self.new.rules ≡ self.old.rules }
     {
-        self.stays_within_limit();
+        self.open_invariant();
         if !self.frees_a_place(at) {
             return self.refuse(key, nas);
         }

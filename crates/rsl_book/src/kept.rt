@@ -3,13 +3,13 @@ ghost use Rattle.std.specs.Int.{w64, from_be_bytes};
 ghost use Rattle.rsl_session.specs.Same.{same_nas};
 ghost use Rattle.rsl_session.specs.Ask.{repeats};
 ghost use Rattle.rsl_session.specs.Closed.{closes};
-ghost use Rattle.rsl_book.specs.Seen.{server_at};
+ghost use Rattle.rsl_links.specs.Seen.{server_at};
 ghost use Rattle.rsl_book.specs.Fingerprint.{id_fingerprint, key_fingerprint};
-ghost use Rattle.rsl_book.specs.KeptSeen.{ask_seen, kept_seen, stop_seen};
+ghost use Rattle.rsl_book.specs.Seen.{ask_seen, kept_seen, stop_seen};
 
-use crate::servers::{Servers, mark_with};
 use rsl_accounts::Rules;
 use rsl_event::{Decision, Key, Nas};
+use rsl_links::Servers;
 use rsl_wire::{NoMemory, Octets};
 use std::alloc::Global;
 
@@ -83,11 +83,15 @@ pub(crate) fn key_fingerprint(key: &Key) -> u64
 }
 
 /// The fingerprint of a session's id.
-#[tactic(auto, unfolding(crate::specs::Fingerprint::id_fingerprint))]
-pub(crate) fn id_fingerprint(id: &Octets) -> u64
-    ensures { result ≡ id_fingerprint id.now }
+#[tactic(auto, using(crate::proofs::Fingerprinted::print_steps))]
+pub(crate) fn id_fingerprint(octets: &[u8]) -> u64
+    ensures { result ≡ id_fingerprint octets.now }
 {
-    u64::from(mark_with(0, id.as_slice()))
+    let mut print = 0u64;
+    for octet in octets {
+        print = print.wrapping_mul(31).wrapping_add(u64::from(*octet));
+    }
+    print
 }
 
 impl Subject for DecidedAsk {
@@ -114,7 +118,7 @@ impl Subject for EndedSession {
     ghost print = { λ session. id_fingerprint session.id };
 
     fn fingerprint(&self) -> u64 {
-        id_fingerprint(&self.id)
+        id_fingerprint(self.id.as_slice())
     }
 
     fn is_same(&self, other: &EndedSession) -> bool {
@@ -130,7 +134,7 @@ impl Subject for EndedSession {
 
 impl<S: Subject> Kept<S> {
     /// Whether it is the same as one of another book.
-    #[tactic(auto, unfolding(crate::specs::KeptSeen::kept_seen))]
+    #[tactic(auto, unfolding(crate::specs::Seen::kept_seen))]
     pub(crate) fn is_same(&self, servers: &Servers, other: &Kept<S>, others: &Servers) -> bool
         ensures { IsTrue result ↔ (kept_seen servers.now self.now ≡ kept_seen others.now other.now) }
     {
@@ -164,7 +168,7 @@ impl<S: Subject> Kept<S> {
 
 impl Kept<DecidedAsk> {
     /// Whether an ask of this key, at this clock, repeats it.
-    #[tactic(auto, unfolding(crate::specs::KeptSeen::ask_seen, rsl_session::specs::Ask::repeats))]
+    #[tactic(auto, unfolding(crate::specs::Seen::ask_seen, rsl_session::specs::Ask::repeats))]
     pub(crate) fn is_repeated(&self, servers: &Servers, rules: &Rules, key: &Key, now: u64) -> bool
         ensures { result ≡ repeats rules.now key.now now (ask_seen servers.now self.now) }
     {
@@ -174,7 +178,7 @@ impl Kept<DecidedAsk> {
 
 impl Kept<EndedSession> {
     /// Whether it closes the session of this id at an access server.
-    #[tactic(auto, unfolding(crate::specs::KeptSeen::stop_seen, rsl_session::specs::Closed::closes, rsl_session::specs::Same::same_session))]
+    #[tactic(auto, unfolding(crate::specs::Seen::stop_seen, rsl_session::specs::Closed::closes, rsl_session::specs::Same::same_session))]
     pub(crate) fn closes(
         &self,
         servers: &Servers,

@@ -7,13 +7,14 @@ ghost use Rattle.rsl_session.specs.declared.kept.KeptAsk.{KeptAsk};
 ghost use Rattle.rsl_session.specs.Ask.{repeats};
 ghost use Rattle.rsl_session.specs.Closed.{closes};
 ghost use Rattle.rsl_book.specs.declared.kept.Kept.{Kept};
-ghost use Rattle.rsl_book.specs.KeptSeen.{all_seen, asks_seen, kept_seen, stops_seen, named_by_kept, sweep_kept};
+ghost use Rattle.rsl_book.specs.Seen.{all_seen, asks_seen, kept_seen, stops_seen, sweep_kept};
+ghost use Rattle.rsl_book.specs.Named.{named_by_kept};
 
 use crate::kept::{DecidedAsk, EndedSession, Kept, Subject, id_fingerprint, key_fingerprint};
-use crate::servers::Servers;
 use circular_buffer::HeapCircularBuffer;
 use rsl_accounts::Rules;
 use rsl_event::{Decision, Key, Nas};
+use rsl_links::Servers;
 use rsl_wire::{NoMemory, Octets};
 use std::alloc::Global;
 use std::marker::Model;
@@ -41,7 +42,7 @@ impl<S: Subject> Model for Ring<S> {
 }
 
 /// Whether one names an index of the table of access servers.
-#[tactic(auto, unfolding(crate::specs::KeptSeen::named_by_kept))]
+#[tactic(auto, unfolding(crate::specs::Named::named_by_kept))]
 fn is_named_in<S: Subject>(all: &[Kept<S>], nas: usize) -> bool
     ensures { result ≡ named_by_kept all.now nas }
 {
@@ -60,7 +61,7 @@ fn sweep_each<S: Subject>(all: &mut [Kept<S>], servers: &Servers, nas: &Nas)
 
 /// Puts equal ones after those of a ring that has room for them. It fails only where memory is
 /// refused.
-#[tactic(auto, using(crate::proofs::Lists::push_steps))]
+#[tactic(auto, using(rsl_links::proofs::Callers::push_steps))]
 fn push_copies<S: Subject>(
     alloc: Global,
     copy: &mut HeapCircularBuffer<Kept<S>>,
@@ -148,7 +149,7 @@ impl<S: Subject> Ring<S> {
     }
 
     /// Whether two rings keep the same, in the same order.
-    #[tactic(auto, using(crate::proofs::OneByOne::same_steps), unfolding(crate::specs::KeptSeen::all_seen))]
+    #[tactic(auto, using(rsl_links::proofs::Callers::same_steps), unfolding(crate::specs::Seen::all_seen))]
     fn is_same(&self, servers: &Servers, other: &Ring<S>, others: &Servers) -> bool
         ensures { IsTrue result ↔
             (all_seen servers.now self.now.items ≡ all_seen others.now other.now.items) }
@@ -180,7 +181,7 @@ impl<S: Subject> Ring<S> {
 }
 
 impl Ring<DecidedAsk> {
-    #[tactic(auto, using(crate::proofs::Ringed::ask_steps), unfolding(crate::specs::KeptSeen::asks_seen))]
+    #[tactic(auto, using(crate::proofs::Ringed::ask_steps), unfolding(crate::specs::Seen::asks_seen))]
     /// The decision of the latest ask that an ask of this key repeats.
     pub(crate) fn repeated(
         &self,
@@ -219,7 +220,7 @@ impl Ring<DecidedAsk> {
 
 impl Ring<EndedSession> {
     /// Whether one closes the session of this id at an access server.
-    #[tactic(auto, using(crate::proofs::Ringed::stop_steps), unfolding(crate::specs::KeptSeen::stops_seen))]
+    #[tactic(auto, using(crate::proofs::Ringed::stop_steps), unfolding(crate::specs::Seen::stops_seen))]
     pub(crate) fn closes(
         &self,
         servers: &Servers,
@@ -231,7 +232,7 @@ impl Ring<EndedSession> {
         ensures { result ≡ list_any (closes rules.now (record { nas = nas.now; id = id.now }) now)
             (stops_seen servers.now self.now.items) }
     {
-        let fingerprint = id_fingerprint(id);
+        let fingerprint = id_fingerprint(id.as_slice());
         for index in 0..self.len() {
             if let Some(stop) = self.candidate(index, fingerprint) {
                 if stop.closes(servers, rules, now, nas, id) {

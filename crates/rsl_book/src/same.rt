@@ -1,13 +1,12 @@
 //! Whether two books hold the same: each names its access servers by places in a table of its own.
 
 ghost use Rattle.std.specs.Prelude.{◌≡◌, ◌↔◌, IsTrue};
-ghost use Rattle.rsl_book.specs.Seen.{links_seen};
+ghost use Rattle.rsl_links.specs.Seen.{links_seen};
 
-use crate::list::LinkList;
-use crate::servers::Servers;
+use rsl_links::{LinkList, Servers};
 
 /// Whether two books have the same links, in the same order.
-#[tactic(auto, using(crate::proofs::OneByOne::same_steps), unfolding(crate::specs::Seen::links_seen))]
+#[tactic(auto, using(rsl_links::proofs::Callers::same_steps), unfolding(rsl_links::specs::Seen::links_seen))]
 pub(crate) fn has_same_links(
     links: &LinkList,
     servers: &Servers,

@@ -1,16 +1,16 @@
 ghost use Rattle.std.specs.Prelude.{◌≡◌, ◌+◌, ◌<◌, false, length};
-ghost use Rattle.rsl_book.specs.Seen.{server_at, links_seen};
-ghost use Rattle.rsl_book.specs.KeptSeen.{asks_seen, is_named, stops_seen};
-ghost use Rattle.rsl_book.specs.Named.{ArePlaced, IsPlace};
+ghost use Rattle.rsl_links.specs.Seen.{server_at, links_seen};
+ghost use Rattle.rsl_book.specs.Seen.{asks_seen, stops_seen};
+ghost use Rattle.rsl_book.specs.Named.{is_named};
+ghost use Rattle.rsl_links.specs.Named.{ArePlaced, IsPlace};
 
 use crate::kept::{DecidedAsk, EndedSession};
-use crate::list::LinkList;
 use crate::ring::Ring;
-use crate::servers::Servers;
 use rsl_event::Nas;
+use rsl_links::{LinkList, Servers};
 
 /// Whether anything names an index of the table.
-#[tactic(auto, unfolding(crate::specs::KeptSeen::is_named))]
+#[tactic(auto, unfolding(crate::specs::Named::is_named))]
 fn is_named(
     links: &LinkList,
     asks: &Ring<DecidedAsk>,

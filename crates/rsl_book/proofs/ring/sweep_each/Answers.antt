@@ -1,6 +1,6 @@
 use Rattle.std.proofs.Common.{◌<◌, get_or, length, arith}
 use Rattle.std.proofs.lemmas.List.{get_or_default}
-use Rattle.rsl_book.specs.KeptSeen.{sweep_kept}
+use Rattle.rsl_book.specs.Seen.{sweep_kept}
 use Rattle.rsl_book.proofs.Swept.{changed_more}
 use Rattle.rsl_book.proofs.ring.sweep_each.Goals as goal
 

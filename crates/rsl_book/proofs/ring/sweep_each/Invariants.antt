@@ -1,5 +1,5 @@
 use Rattle.std.proofs.Common.{◌≡◌, ◌++◌, take, drop, map}
-use Rattle.rsl_book.specs.KeptSeen.{sweep_kept}
+use Rattle.rsl_book.specs.Seen.{sweep_kept}
 use Rattle.rsl_book.proofs.ring.sweep_each.Given as goal
 
 abbrev pub invariant-loop-index : goal.invariant-loop-index

@@ -1,5 +1,5 @@
 use Rattle.std.proofs.Common.{◌≡◌, ◌+◌, length, sym, ◌∙◌, arith, rules}
-use Rattle.rsl_book.specs.KeptSeen.{is_named}
+use Rattle.rsl_book.specs.Named.{is_named}
 use Rattle.rsl_book.proofs.Naming.{free_past, named_more}
 use Rattle.rsl_book.proofs.table.free_index.Goals as goal
 

@@ -1,5 +1,5 @@
 use Rattle.std.proofs.Common.{◌≡◌, ℕ, ◌<◌, true}
-use Rattle.rsl_book.specs.KeptSeen.{is_named}
+use Rattle.rsl_book.specs.Named.{is_named}
 use Rattle.rsl_book.proofs.table.free_index.Given as goal
 
 abbrev pub invariant-loop-index : goal.invariant-loop-index

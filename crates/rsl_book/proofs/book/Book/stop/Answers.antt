@@ -2,8 +2,8 @@ use Rattle.std.proofs.Common.{refl, ◌≡◌, ◌∙◌, ap, length, false}
 use Rattle.circular_buffer.specs.Buffer.{Buffer}
 use Rattle.rsl_book.specs.declared.kept.Kept.{Kept}
 use Rattle.rsl_book.specs.declared.kept.EndedSession.{EndedSession}
-use Rattle.rsl_book.specs.Seen.{links_seen}
-use Rattle.rsl_book.specs.KeptSeen.{stops_seen}
+use Rattle.rsl_links.specs.Seen.{links_seen}
+use Rattle.rsl_book.specs.Seen.{stops_seen}
 use Rattle.rsl_session.specs.BookStep.{stop}
 use Rattle.rsl_book.proofs.Insides.{same_value, few_after, pushed_stop}
 use Rattle.rsl_book.proofs.book.Book.stop.Goals as goal

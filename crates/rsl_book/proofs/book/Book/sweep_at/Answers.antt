@@ -4,7 +4,7 @@ use Rattle.circular_buffer.specs.Buffer.{Buffer}
 use Rattle.rsl_book.specs.declared.kept.Kept.{Kept}
 use Rattle.rsl_book.specs.declared.kept.DecidedAsk.{DecidedAsk}
 use Rattle.rsl_book.specs.declared.kept.EndedSession.{EndedSession}
-use Rattle.rsl_book.specs.KeptSeen.{asks_seen, stops_seen}
+use Rattle.rsl_book.specs.Seen.{asks_seen, stops_seen}
 use Rattle.rsl_book.proofs.Insides.{same_value}
 use Rattle.rsl_book.proofs.Swept.{asks_swept, stops_swept}
 use Rattle.rsl_book.proofs.book.Book.sweep_at.Goals as goal

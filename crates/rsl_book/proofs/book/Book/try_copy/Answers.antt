@@ -3,8 +3,8 @@ use Rattle.circular_buffer.specs.Buffer.{Buffer}
 use Rattle.rsl_book.specs.declared.kept.Kept.{Kept}
 use Rattle.rsl_book.specs.declared.kept.DecidedAsk.{DecidedAsk}
 use Rattle.rsl_book.specs.declared.kept.EndedSession.{EndedSession}
-use Rattle.rsl_book.specs.Seen.{links_seen}
-use Rattle.rsl_book.specs.KeptSeen.{asks_seen, stops_seen}
+use Rattle.rsl_links.specs.Seen.{links_seen}
+use Rattle.rsl_book.specs.Seen.{asks_seen, stops_seen}
 use Rattle.rsl_book.proofs.Insides.{same_value, few_links, counted_copy}
 use Rattle.rsl_book.proofs.book.Book.try_copy.Goals as goal
 

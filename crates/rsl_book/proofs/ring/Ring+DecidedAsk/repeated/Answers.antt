@@ -2,8 +2,8 @@ use Rattle.std.proofs.Common.{sym, ◌∙◌, ap, arith}
 use Rattle.std.specs.Option.{option_map}
 use Rattle.rsl_session.specs.declared.kept.KeptAsk.{KeptAsk}
 use Rattle.rsl_session.specs.Ask.{repeats}
-use Rattle.rsl_book.specs.KeptSeen.{ask_seen, asks_seen}
-use Rattle.rsl_book.proofs.Lists.{find_yes}
+use Rattle.rsl_book.specs.Seen.{ask_seen, asks_seen}
+use Rattle.rsl_links.proofs.Callers.{find_yes}
 use Rattle.rsl_book.proofs.ring.Ring+DecidedAsk.repeated.Goals as goal
 
 pub returns-then-is_repeated : goal.returns-then-is_repeated

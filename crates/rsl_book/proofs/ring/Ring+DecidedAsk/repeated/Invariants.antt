@@ -1,7 +1,7 @@
 use Rattle.std.proofs.Common.{◌≡◌, drop}
 use Rattle.std.specs.Prelude.{find}
 use Rattle.rsl_session.specs.Ask.{repeats}
-use Rattle.rsl_book.specs.KeptSeen.{asks_seen}
+use Rattle.rsl_book.specs.Seen.{asks_seen}
 use Rattle.rsl_book.proofs.ring.Ring+DecidedAsk.repeated.Given as goal
 
 abbrev pub invariant-loop-index : goal.invariant-loop-index

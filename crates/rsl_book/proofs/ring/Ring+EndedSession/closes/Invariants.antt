@@ -1,7 +1,7 @@
 use Rattle.std.proofs.Common.{◌≡◌, drop}
 use Rattle.std.specs.List.{list_any}
 use Rattle.rsl_session.specs.Closed.{closes}
-use Rattle.rsl_book.specs.KeptSeen.{stops_seen}
+use Rattle.rsl_book.specs.Seen.{stops_seen}
 use Rattle.rsl_book.proofs.ring.Ring+EndedSession.closes.Given as goal
 
 abbrev pub invariant-loop-index : goal.invariant-loop-index

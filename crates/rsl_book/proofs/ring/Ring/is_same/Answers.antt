@@ -1,6 +1,6 @@
 use Rattle.std.proofs.Common.{arith}
-use Rattle.rsl_book.specs.KeptSeen.{all_seen, kept_seen}
-use Rattle.rsl_book.proofs.OneByOne.{ring_more, ring_not}
+use Rattle.rsl_book.specs.Seen.{all_seen, kept_seen}
+use Rattle.rsl_links.proofs.Callers.{ring_more, ring_not}
 use Rattle.rsl_book.proofs.ring.Ring.is_same.Goals as goal
 
 pub returns-then-not-is_same_at : goal.returns-then-not-is_same_at

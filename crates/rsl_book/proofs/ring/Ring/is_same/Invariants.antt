@@ -1,5 +1,5 @@
 use Rattle.std.proofs.Common.{◌≡◌, take}
-use Rattle.rsl_book.specs.KeptSeen.{all_seen}
+use Rattle.rsl_book.specs.Seen.{all_seen}
 use Rattle.rsl_book.proofs.ring.Ring.is_same.Given as goal
 
 abbrev pub invariant-loop-index : goal.invariant-loop-index

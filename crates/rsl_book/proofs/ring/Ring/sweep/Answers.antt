@@ -1,6 +1,6 @@
 use Rattle.std.proofs.Common.{◌≡◌, ◌∙◌, ap, length, map}
 use Rattle.std.proofs.lemmas.List.{length-map}
-use Rattle.rsl_book.specs.KeptSeen.{sweep_kept}
+use Rattle.rsl_book.specs.Seen.{sweep_kept}
 use Rattle.rsl_book.proofs.Ringed.{prints_swept}
 use Rattle.rsl_book.proofs.ring.Ring.sweep.Goals as goal
 
