@@ -20,12 +20,13 @@ use Rattle.rsl_book.specs.declared.book.Book.TheInside.{Inside}
 use Rattle.rsl_links.specs.declared.links.Links.{Links}
 use Rattle.rsl_links.specs.declared.link.Link.{Link}
 use Rattle.rsl_links.specs.declared.link.Hold.TheVariants.{Number, Session as InSession}
-use Rattle.rsl_book.specs.declared.kept.StoredAsk.{StoredAsk}
-use Rattle.rsl_book.specs.declared.kept.StoredStop.{StoredStop}
-use Rattle.rsl_book.specs.RuledBook.{RuledBook, IsWithinLimit}
-use Rattle.rsl_book.specs.Sound.{IsSound, running, book_seen}
-use Rattle.rsl_links.specs.Seen.{link_seen, links_seen, server_at, bundle_with}
+use Rattle.rsl_book.specs.declared.kept.Kept.{Kept}
+use Rattle.rsl_book.specs.declared.kept.DecidedAsk.{DecidedAsk}
+use Rattle.rsl_book.specs.declared.kept.EndedSession.{EndedSession}
 use Rattle.rsl_book.specs.Seen.{ask_seen, asks_seen, stop_seen, stops_seen}
+use Rattle.rsl_book.specs.RuledBook.{RuledBook, IsWithinLimit}
+use Rattle.rsl_book.specs.BookSeen.{IsSound, running, book_seen}
+use Rattle.rsl_links.specs.Seen.{link_seen, links_seen, server_at, bundle_with}
 use Rattle.rsl_links.specs.Counted.{AreCounted}
 use Rattle.rsl_links.specs.Named.{ArePlaced}
 use Rattle.rsl_links.proofs.Callers.{length-bundles, bundles-push}
@@ -117,15 +118,15 @@ unfolding come_to
 come_seen book clock links moment moved lapsed = rw (lapsed, moved) refl
 
 -- an ask or a stop is kept in front of the others
-pub pushed_ask : (old new : List Nas) (ask : StoredAsk) (asks : List StoredAsk) (nas : Nas) (n capacity : ℕ) → capacity ≡ n → server_at new ask.nas ≡ nas → asks_seen new asks ≡ asks_seen old asks
-    → (let kept : KeptAsk = record { key = ask.key; nas = nas; decision = ask.decision; at = ask.at; swept = ask.swept } in
+pub pushed_ask : (old new : List Nas) (ask : Kept DecidedAsk) (asks : List (Kept DecidedAsk)) (nas : Nas) (n capacity : ℕ) → capacity ≡ n → server_at new ask.nas ≡ nas → asks_seen new asks ≡ asks_seen old asks
+    → (let kept : KeptAsk = record { key = ask.subject.key; nas = nas; decision = ask.subject.decision; at = ask.at; swept = ask.swept } in
     asks_seen new (take capacity (ask ∷ asks)) ≡ take n (kept ∷ asks_seen old asks))
 unfolding asks_seen ask_seen
 pushed_ask old new ask asks nas n capacity same stands seen =
     sym (take-map (ask_seen new) capacity (ask ∷ asks)) ∙ rw (same, seen, stands) refl
 
-pub pushed_stop : (old new : List Nas) (stop : StoredStop) (stops : List StoredStop) (nas : Nas) (n capacity : ℕ) → capacity ≡ n → server_at new stop.nas ≡ nas → stops_seen new stops ≡ stops_seen old stops
-    → (let kept : KeptStop = record { session = record { nas = nas; id = stop.id }; at = stop.at; swept = stop.swept } in
+pub pushed_stop : (old new : List Nas) (stop : Kept EndedSession) (stops : List (Kept EndedSession)) (nas : Nas) (n capacity : ℕ) → capacity ≡ n → server_at new stop.nas ≡ nas → stops_seen new stops ≡ stops_seen old stops
+    → (let kept : KeptStop = record { session = record { nas = nas; id = stop.subject.id }; at = stop.at; swept = stop.swept } in
     stops_seen new (take capacity (stop ∷ stops)) ≡ take n (kept ∷ stops_seen old stops))
 unfolding stops_seen stop_seen
 pushed_stop old new stop stops nas n capacity same stands seen =
@@ -170,11 +171,11 @@ pub none_seen : (servers : List Nas) (links : List Link) → links ≡ [] → li
 unfolding links_seen
 none_seen servers links none = rw none refl
 
-pub no_asks_seen : (servers : List Nas) (asks : List StoredAsk) → asks ≡ [] → asks_seen servers asks ≡ []
+pub no_asks_seen : (servers : List Nas) (asks : List (Kept DecidedAsk)) → asks ≡ [] → asks_seen servers asks ≡ []
 unfolding asks_seen
 no_asks_seen servers asks none = rw none refl
 
-pub no_stops_seen : (servers : List Nas) (stops : List StoredStop) → stops ≡ [] → stops_seen servers stops ≡ []
+pub no_stops_seen : (servers : List Nas) (stops : List (Kept EndedSession)) → stops ≡ [] → stops_seen servers stops ≡ []
 unfolding stops_seen
 no_stops_seen servers stops none = rw none refl
 
@@ -202,11 +203,11 @@ pub open_not : (rules : Rules) (book : Book) (session : Session) (bundle : Optio
 unfolding open_link
 open_not rules book session bundle full = rw (lt-leb (places_of rules.ports (bundles_in book.links ++ bundle ∷ [])) rules.places full) refl
 
-pub length-asks : (servers : List Nas) (asks : List StoredAsk) → length (asks_seen servers asks) ≡ length asks
+pub length-asks : (servers : List Nas) (asks : List (Kept DecidedAsk)) → length (asks_seen servers asks) ≡ length asks
 unfolding asks_seen
 length-asks servers asks = length-map asks (ask_seen servers)
 
-pub length-stops : (servers : List Nas) (stops : List StoredStop) → length (stops_seen servers stops) ≡ length stops
+pub length-stops : (servers : List Nas) (stops : List (Kept EndedSession)) → length (stops_seen servers stops) ≡ length stops
 unfolding stops_seen
 length-stops servers stops = length-map stops (stop_seen servers)
 

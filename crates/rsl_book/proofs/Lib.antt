@@ -1,4 +1,5 @@
 pub mod Swept
 pub mod Naming
-pub mod Slices
+pub mod Ringed
+pub mod Fingerprinted
 pub mod Insides

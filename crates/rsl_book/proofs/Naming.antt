@@ -8,12 +8,13 @@ use Rattle.std.proofs.lemmas.List.{length-map, get_or-set_other}
 use Rattle.rsl_event.specs.declared.nas.Nas.{Nas}
 use Rattle.rsl_session.specs.BookLinks.{without_first}
 use Rattle.rsl_links.specs.declared.link.Link.{Link}
-use Rattle.rsl_book.specs.declared.kept.StoredAsk.{StoredAsk}
-use Rattle.rsl_book.specs.declared.kept.StoredStop.{StoredStop}
-use Rattle.rsl_links.specs.Named.{named_by_links}
-use Rattle.rsl_book.specs.Named.{is_named, named_by_asks, named_by_stops}
-use Rattle.rsl_links.specs.Seen.{server_at, link_seen, links_seen}
+use Rattle.rsl_book.specs.declared.kept.Kept.{Kept}
+use Rattle.rsl_book.specs.declared.kept.DecidedAsk.{DecidedAsk}
+use Rattle.rsl_book.specs.declared.kept.EndedSession.{EndedSession}
 use Rattle.rsl_book.specs.Seen.{ask_seen, asks_seen, stop_seen, stops_seen}
+use Rattle.rsl_book.specs.Named.{is_named, named_by_kept}
+use Rattle.rsl_links.specs.Named.{named_by_links}
+use Rattle.rsl_links.specs.Seen.{server_at, link_seen, links_seen}
 
 any-append : {A : Type 0} (p : A → Bool) (xs ys : List A) → list_any p (xs ++ ys) ≡ (list_any p xs || list_any p ys)
 any-append p [] ys = refl
@@ -26,40 +27,36 @@ any-map : {A B : Type 0} (p : B → Bool) (f : A → B) (xs : List A) → list_a
 any-map p f [] = refl
 any-map p f (x ∷ xs) = ap (λ b. p (f x) || b) (any-map p f xs)
 
-pub asks_parts : (newer older : List StoredAsk) (at : ℕ) → named_by_asks (newer ++ older) at ≡ (named_by_asks newer at || named_by_asks older at)
-unfolding named_by_asks
-asks_parts newer older at = any-append (λ (ask : StoredAsk). ask.nas == at) newer older
-
-pub stops_parts : (newer older : List StoredStop) (at : ℕ) → named_by_stops (newer ++ older) at ≡ (named_by_stops newer at || named_by_stops older at)
-unfolding named_by_stops
-stops_parts newer older at = any-append (λ (stop : StoredStop). stop.nas == at) newer older
+pub kept_parts : {S : Type 0} (newer older : List (Kept S)) (at : ℕ) → named_by_kept (newer ++ older) at ≡ (named_by_kept newer at || named_by_kept older at)
+unfolding named_by_kept
+kept_parts {S = S} newer older at = any-append (λ (kept : Kept S). kept.nas == at) newer older
 
 -- the names of a list
-names : List Link → List StoredAsk → List StoredStop → List ℕ
-names links asks stops = map (λ (link : Link). link.nas) links ++ (map (λ (ask : StoredAsk). ask.nas) asks ++ map (λ (stop : StoredStop). stop.nas) stops)
+names : List Link → List (Kept DecidedAsk) → List (Kept EndedSession) → List ℕ
+names links asks stops = map (λ (link : Link). link.nas) links ++ (map (λ (ask : Kept DecidedAsk). ask.nas) asks ++ map (λ (stop : Kept EndedSession). stop.nas) stops)
 
 or_assoc : (a b c : Bool) → ((a || b) || c) ≡ (a || (b || c))
 or_assoc true b c = refl
 or_assoc false b c = refl
 
-named_among : (links : List Link) (asks : List StoredAsk) (stops : List StoredStop) (at : ℕ) → list_any (λ name. name == at) (names links asks stops) ≡ is_named links asks stops at
-unfolding names is_named named_by_links named_by_asks named_by_stops
+named_among : (links : List Link) (asks : List (Kept DecidedAsk)) (stops : List (Kept EndedSession)) (at : ℕ) → list_any (λ name. name == at) (names links asks stops) ≡ is_named links asks stops at
+unfolding names is_named named_by_links named_by_kept
 named_among links asks stops at =
-    any-append (λ name. name == at) (map (λ (link : Link). link.nas) links) (map (λ (ask : StoredAsk). ask.nas) asks ++ map (λ (stop : StoredStop). stop.nas) stops)
-    ∙ ap (λ b. list_any (λ name. name == at) (map (λ (link : Link). link.nas) links) || b) (any-append (λ name. name == at) (map (λ (ask : StoredAsk). ask.nas) asks) (map (λ (stop : StoredStop). stop.nas) stops))
-    ∙ ap (λ b. b || (list_any (λ name. name == at) (map (λ (ask : StoredAsk). ask.nas) asks) || list_any (λ name. name == at) (map (λ (stop : StoredStop). stop.nas) stops))) (any-map (λ name. name == at) (λ (link : Link). link.nas) links)
-    ∙ ap (λ b. named_by_links links at || (b || list_any (λ name. name == at) (map (λ (stop : StoredStop). stop.nas) stops))) (any-map (λ name. name == at) (λ (ask : StoredAsk). ask.nas) asks)
-    ∙ ap (λ b. named_by_links links at || (named_by_asks asks at || b)) (any-map (λ name. name == at) (λ (stop : StoredStop). stop.nas) stops)
-    ∙ sym (or_assoc (named_by_links links at) (named_by_asks asks at) (named_by_stops stops at))
+    any-append (λ name. name == at) (map (λ (link : Link). link.nas) links) (map (λ (ask : Kept DecidedAsk). ask.nas) asks ++ map (λ (stop : Kept EndedSession). stop.nas) stops)
+    ∙ ap (λ b. list_any (λ name. name == at) (map (λ (link : Link). link.nas) links) || b) (any-append (λ name. name == at) (map (λ (ask : Kept DecidedAsk). ask.nas) asks) (map (λ (stop : Kept EndedSession). stop.nas) stops))
+    ∙ ap (λ b. b || (list_any (λ name. name == at) (map (λ (ask : Kept DecidedAsk). ask.nas) asks) || list_any (λ name. name == at) (map (λ (stop : Kept EndedSession). stop.nas) stops))) (any-map (λ name. name == at) (λ (link : Link). link.nas) links)
+    ∙ ap (λ b. named_by_links links at || (b || list_any (λ name. name == at) (map (λ (stop : Kept EndedSession). stop.nas) stops))) (any-map (λ name. name == at) (λ (ask : Kept DecidedAsk). ask.nas) asks)
+    ∙ ap (λ b. named_by_links links at || (named_by_kept asks at || b)) (any-map (λ name. name == at) (λ (stop : Kept EndedSession). stop.nas) stops)
+    ∙ sym (or_assoc (named_by_links links at) (named_by_kept asks at) (named_by_kept stops at))
 
-names_length : (links : List Link) (asks : List StoredAsk) (stops : List StoredStop) → length (names links asks stops) ≡ length links + length asks + length stops
+names_length : (links : List Link) (asks : List (Kept DecidedAsk)) (stops : List (Kept EndedSession)) → length (names links asks stops) ≡ length links + length asks + length stops
 unfolding names
 names_length links asks stops =
-    let all = length-append (map (λ (link : Link). link.nas) links) (map (λ (ask : StoredAsk). ask.nas) asks ++ map (λ (stop : StoredStop). stop.nas) stops) in
-    let kept = length-append (map (λ (ask : StoredAsk). ask.nas) asks) (map (λ (stop : StoredStop). stop.nas) stops) in
+    let all = length-append (map (λ (link : Link). link.nas) links) (map (λ (ask : Kept DecidedAsk). ask.nas) asks ++ map (λ (stop : Kept EndedSession). stop.nas) stops) in
+    let kept = length-append (map (λ (ask : Kept DecidedAsk). ask.nas) asks) (map (λ (stop : Kept EndedSession). stop.nas) stops) in
     let one = length-map links (λ (link : Link). link.nas) in
-    let two = length-map asks (λ (ask : StoredAsk). ask.nas) in
-    let three = length-map stops (λ (stop : StoredStop). stop.nas) in
+    let two = length-map asks (λ (ask : Kept DecidedAsk). ask.nas) in
+    let three = length-map stops (λ (stop : Kept EndedSession). stop.nas) in
     omega arith
 
 -- a list without its first element that passes
@@ -97,11 +94,19 @@ named_more named n below here j low =
       | inr other ↦ below j (omega (arith, other))
     ]
 
-pub few_named : (links : List Link) (asks : List StoredAsk) (stops : List StoredStop) (n : ℕ) → ((j : ℕ) → j < n → is_named links asks stops j ≡ true) → n ≤ length links + length asks + length stops
+pub few_named : (links : List Link) (asks : List (Kept DecidedAsk)) (stops : List (Kept EndedSession)) (n : ℕ) → ((j : ℕ) → j < n → is_named links asks stops j ≡ true) → n ≤ length links + length asks + length stops
 few_named links asks stops n named =
     let most = pigeons n (names links asks stops) (λ j low. named_among links asks stops j ∙ named j low) in
     let sum = names_length links asks stops in
     omega arith
+
+-- where as many are named as there are names, the next is free
+pub free_past : (links : List Link) (asks : List (Kept DecidedAsk)) (stops : List (Kept EndedSession)) (n : ℕ) → length links + length asks + length stops ≤ n
+    → ((j : ℕ) → j < n → is_named links asks stops j ≡ true) → is_named links asks stops n ≡ false
+free_past links asks stops n all named = by_cases (is_named links asks stops n) refl where
+  by_cases : (b : Bool) → is_named links asks stops n ≡ b → is_named links asks stops n ≡ false
+  by_cases true e = absurd (let few = few_named links asks stops (n + 1) (named_more (is_named links asks stops) n named e) in omega (arith, few, all))
+  by_cases false e = e
 
 -- what stands at a place that is not named is not seen
 same_nas_at : (servers : List Nas) (nas : Nas) (at name : ℕ) → (name == at) ≡ false → server_at (set servers at nas) name ≡ server_at servers name
@@ -114,24 +119,27 @@ links_put servers nas at (link ∷ links) free =
     let parts = or_parts (link.nas == at) (list_any (λ (one : Link). one.nas == at) links) free in
     rw (same_nas_at servers nas at link.nas parts.0) (ap (λ rest. link_seen servers link ∷ rest) (links_put servers nas at links parts.1))
 
-pub asks_put : (servers : List Nas) (nas : Nas) (at : ℕ) (asks : List StoredAsk) → named_by_asks asks at ≡ false → asks_seen (set servers at nas) asks ≡ asks_seen servers asks
-unfolding asks_seen named_by_asks ask_seen
-asks_put servers nas at [] free = refl
-asks_put servers nas at (ask ∷ asks) free =
-    let parts = or_parts (ask.nas == at) (list_any (λ (one : StoredAsk). one.nas == at) asks) free in
-    rw (same_nas_at servers nas at ask.nas parts.0) (ap (λ rest. ask_seen servers ask ∷ rest) (asks_put servers nas at asks parts.1))
+-- nor are those that are kept, with what is seen of each by its access server
+kept_put : {S B : Type 0} (view : List Nas → Kept S → B) → ((one two : List Nas) (kept : Kept S) → server_at one kept.nas ≡ server_at two kept.nas → view one kept ≡ view two kept)
+    → (servers : List Nas) (nas : Nas) (at : ℕ) (all : List (Kept S)) → named_by_kept all at ≡ false → map (view (set servers at nas)) all ≡ map (view servers) all
+unfolding named_by_kept
+kept_put view by_server servers nas at [] free = refl
+kept_put {S = S} view by_server servers nas at (one ∷ all) free =
+    let parts = or_parts (one.nas == at) (list_any (λ (other : Kept S). other.nas == at) all) free in
+    rw (by_server (set servers at nas) servers one (same_nas_at servers nas at one.nas parts.0)) (ap (λ rest. view servers one ∷ rest) (kept_put view by_server servers nas at all parts.1))
 
-pub stops_put : (servers : List Nas) (nas : Nas) (at : ℕ) (stops : List StoredStop) → named_by_stops stops at ≡ false → stops_seen (set servers at nas) stops ≡ stops_seen servers stops
-unfolding stops_seen named_by_stops stop_seen
-stops_put servers nas at [] free = refl
-stops_put servers nas at (stop ∷ stops) free =
-    let parts = or_parts (stop.nas == at) (list_any (λ (one : StoredStop). one.nas == at) stops) free in
-    rw (same_nas_at servers nas at stop.nas parts.0) (ap (λ rest. stop_seen servers stop ∷ rest) (stops_put servers nas at stops parts.1))
+pub asks_put : (servers : List Nas) (nas : Nas) (at : ℕ) (asks : List (Kept DecidedAsk)) → named_by_kept asks at ≡ false → asks_seen (set servers at nas) asks ≡ asks_seen servers asks
+unfolding asks_seen ask_seen
+asks_put servers nas at asks free = kept_put ask_seen (λ one two kept same. rw same refl) servers nas at asks free
 
-pub not_named : (links : List Link) (asks : List StoredAsk) (stops : List StoredStop) (at : ℕ) → is_named links asks stops at ≡ false
-    → (named_by_links links at ≡ false) × ((named_by_asks asks at ≡ false) × (named_by_stops stops at ≡ false))
+pub stops_put : (servers : List Nas) (nas : Nas) (at : ℕ) (stops : List (Kept EndedSession)) → named_by_kept stops at ≡ false → stops_seen (set servers at nas) stops ≡ stops_seen servers stops
+unfolding stops_seen stop_seen
+stops_put servers nas at stops free = kept_put stop_seen (λ one two kept same. rw same refl) servers nas at stops free
+
+pub not_named : (links : List Link) (asks : List (Kept DecidedAsk)) (stops : List (Kept EndedSession)) (at : ℕ) → is_named links asks stops at ≡ false
+    → (named_by_links links at ≡ false) × ((named_by_kept asks at ≡ false) × (named_by_kept stops at ≡ false))
 unfolding is_named
 not_named links asks stops at free =
-    let most = or_parts (named_by_links links at || named_by_asks asks at) (named_by_stops stops at) free in
-    let first = or_parts (named_by_links links at) (named_by_asks asks at) most.0 in
+    let most = or_parts (named_by_links links at || named_by_kept asks at) (named_by_kept stops at) free in
+    let first = or_parts (named_by_links links at) (named_by_kept asks at) most.0 in
     (first.0, (first.1, most.1))

@@ -1,48 +1,44 @@
--- A sweep of the kept asks and stops, one by one.
-use Rattle.std.proofs.Common.{◌≡◌, ℕ, ◌+◌, ◌<◌, ◌≤◌, List, ◌++◌, take, drop, set, get_or, length, map, refl, ap, sym, ◌∙◌, arith, append-nil}
-use Rattle.std.proofs.lemmas.List.{drop_all, take_all, length-map, get_or-map, map-set}
+-- A sweep of the kept asks and stops, one by one; and what it leaves as it was.
+use Rattle.std.proofs.Common.{◌≡◌, ℕ, ◌+◌, ◌<◌, ◌≤◌, List, [], ◌∷◌, ◌++◌, take, drop, set, get_or, length, map, refl, ap, sym, ◌∙◌, arith, append-nil}
+use Rattle.std.proofs.lemmas.List.{drop_all, take_all}
 use Rattle.std.proofs.lemmas.List.Edits.{map_over_more}
 use Rattle.rsl_event.specs.declared.nas.Nas.{Nas}
 use Rattle.rsl_session.specs.BookStep.{sweep_ask, sweep_stop}
-use Rattle.rsl_book.specs.declared.kept.StoredAsk.{StoredAsk}
-use Rattle.rsl_book.specs.declared.kept.StoredStop.{StoredStop}
-use Rattle.rsl_links.specs.Seen.{server_at}
-use Rattle.rsl_book.specs.Seen.{ask_seen, asks_seen, stop_seen, stops_seen}
-use Rattle.std.specs.Prelude.{◌||◌}
-use Rattle.rsl_session.specs.Same.{same_nas}
+use Rattle.rsl_book.specs.declared.kept.Kept.{Kept}
+use Rattle.rsl_book.specs.declared.kept.DecidedAsk.{DecidedAsk}
+use Rattle.rsl_book.specs.declared.kept.EndedSession.{EndedSession}
+use Rattle.rsl_book.specs.Seen.{ask_seen, asks_seen, stop_seen, stops_seen, sweep_kept}
 
--- views that are changed one by one: those at hand are the first, changed, and the rest
-over_more : {A B : Type 0} (f : A → B) (g : B → B) (xs : List A) (orig : List B) (i : ℕ) (x y : A) → i < length xs → length xs ≡ length orig → x ≡ get_or xs i x
-    → map f xs ≡ map g (take i orig) ++ drop i orig → f y ≡ g (f x) → map f (set xs i y) ≡ map g (take (i + 1) orig) ++ drop (i + 1) orig
-over_more f g xs orig i x y within same is so_far changed =
-    map-set f xs i y ∙ ap (λ z. set (map f xs) i z) changed
-    ∙ map_over_more g orig (map f xs) i (f x) (omega (arith, same)) so_far (sym (get_or-map f xs i x (f x) within ∙ ap f (sym is)))
+-- those at hand are the first, changed, and the rest
+pub changed_more : {A : Type 0} (g : A → A) (orig xs : List A) (i : ℕ) (x y : A) → i < length orig → xs ≡ map g (take i orig) ++ drop i orig → x ≡ get_or xs i x → y ≡ g x
+    → set xs i y ≡ map g (take (i + 1) orig) ++ drop (i + 1) orig
+changed_more g orig xs i x y within so_far is changed =
+    ap (set xs i) changed ∙ map_over_more g orig xs i x within so_far is
 
-pub asks_more : (servers : List Nas) (nas : Nas) (xs orig : List StoredAsk) (i : ℕ) (x y : StoredAsk) → i < length xs → length xs ≡ length orig → x ≡ get_or xs i x
-    → asks_seen servers xs ≡ map (sweep_ask nas) (take i (asks_seen servers orig)) ++ drop i (asks_seen servers orig)
-    → y ≡ record x { swept = x.swept || same_nas nas (server_at servers x.nas) }
-    → asks_seen servers (set xs i y) ≡ map (sweep_ask nas) (take (i + 1) (asks_seen servers orig)) ++ drop (i + 1) (asks_seen servers orig)
-unfolding asks_seen ask_seen sweep_ask
-asks_more servers nas xs orig i x y within same is so_far changed =
-    over_more (ask_seen servers) (sweep_ask nas) xs (map (ask_seen servers) orig) i x y within (same ∙ sym (length-map orig (ask_seen servers))) is so_far (rw changed refl)
+pub changed_all : {A : Type 0} (g : A → A) (orig : List A) (i : ℕ) → length orig ≤ i → map g (take i orig) ++ drop i orig ≡ map g orig
+changed_all g orig i all = ap (λ ys. map g ys ++ drop i orig) (take_all i orig all) ∙ ap (λ ys. map g orig ++ ys) (drop_all i orig all) ∙ append-nil (map g orig)
 
-pub stops_more : (servers : List Nas) (nas : Nas) (xs orig : List StoredStop) (i : ℕ) (x y : StoredStop) → i < length xs → length xs ≡ length orig → x ≡ get_or xs i x
-    → stops_seen servers xs ≡ map (sweep_stop nas) (take i (stops_seen servers orig)) ++ drop i (stops_seen servers orig)
-    → y ≡ record x { swept = x.swept || same_nas nas (server_at servers x.nas) }
-    → stops_seen servers (set xs i y) ≡ map (sweep_stop nas) (take (i + 1) (stops_seen servers orig)) ++ drop (i + 1) (stops_seen servers orig)
-unfolding stops_seen stop_seen sweep_stop
-stops_more servers nas xs orig i x y within same is so_far changed =
-    over_more (stop_seen servers) (sweep_stop nas) xs (map (stop_seen servers) orig) i x y within (same ∙ sym (length-map orig (stop_seen servers))) is so_far (rw changed refl)
+-- what a change leaves of each as it was
+pub map_unchanged : {A B : Type 0} (f : A → B) (g : A → A) → ((x : A) → f (g x) ≡ f x) → (xs : List A) → map f (map g xs) ≡ map f xs
+map_unchanged f g same [] = refl
+map_unchanged f g same (x ∷ xs) = rw (same x) (ap (λ ys. f x ∷ ys) (map_unchanged f g same xs))
 
-pub swept_all : {B : Type 0} (g : B → B) (orig : List B) (i : ℕ) → length orig ≤ i → map g (take i orig) ++ drop i orig ≡ map g orig
-swept_all g orig i all = ap (λ ys. map g ys ++ drop i orig) (take_all i orig all) ∙ ap (λ ys. map g orig ++ ys) (drop_all i orig all) ∙ append-nil (map g orig)
+pub subjects_swept : {S : Type 0} (print : S → ℕ) (servers : List Nas) (nas : Nas) (all : List (Kept S))
+    → map (λ (one : Kept S). print one.subject) (map (sweep_kept servers nas) all) ≡ map (λ (one : Kept S). print one.subject) all
+unfolding sweep_kept
+subjects_swept {S = S} print servers nas all = map_unchanged (λ (one : Kept S). print one.subject) (sweep_kept servers nas) (λ one. refl) all
 
-pub asks_length : (servers : List Nas) (asks : List StoredAsk) → length (asks_seen servers asks) ≡ length asks
-unfolding asks_seen
-asks_length servers asks = length-map asks (ask_seen servers)
+-- what is seen of them then
+map_through : {A B : Type 0} (f : A → B) (g : A → A) (h : B → B) → ((x : A) → f (g x) ≡ h (f x)) → (xs : List A) → map f (map g xs) ≡ map h (map f xs)
+map_through f g h same [] = refl
+map_through f g h same (x ∷ xs) = rw (same x) (ap (λ ys. h (f x) ∷ ys) (map_through f g h same xs))
 
-pub stops_length : (servers : List Nas) (stops : List StoredStop) → length (stops_seen servers stops) ≡ length stops
-unfolding stops_seen
-stops_length servers stops = length-map stops (stop_seen servers)
+pub asks_swept : (servers : List Nas) (nas : Nas) (asks : List (Kept DecidedAsk)) → asks_seen servers (map (sweep_kept servers nas) asks) ≡ map (sweep_ask nas) (asks_seen servers asks)
+unfolding asks_seen ask_seen sweep_ask sweep_kept
+asks_swept servers nas asks = map_through (ask_seen servers) (sweep_kept servers nas) (sweep_ask nas) (λ ask. refl) asks
 
-pub ruleset swept_steps = (asks_more, stops_more, swept_all, length-map)
+pub stops_swept : (servers : List Nas) (nas : Nas) (stops : List (Kept EndedSession)) → stops_seen servers (map (sweep_kept servers nas) stops) ≡ map (sweep_stop nas) (stops_seen servers stops)
+unfolding stops_seen stop_seen sweep_stop sweep_kept
+stops_swept servers nas stops = map_through (stop_seen servers) (sweep_kept servers nas) (sweep_stop nas) (λ stop. refl) stops
+
+pub ruleset swept_steps = (changed_more, changed_all)

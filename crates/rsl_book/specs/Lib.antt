@@ -1,4 +1,5 @@
 pub mod RuledBook
 pub mod Seen
 pub mod Named
-pub mod Sound
+pub mod Fingerprint
+pub mod BookSeen

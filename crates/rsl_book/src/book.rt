@@ -21,13 +21,10 @@ ghost use Rattle.rsl_links.specs.First.{IsFirst, change_at};
 ghost use Rattle.rsl_links.specs.Seen.{bundle_with};
 ghost use Rattle.rsl_links.specs.Steps.{touch_here, take_here, without_at};
 
-use crate::kept::{
-    StoredAsk, StoredStop, copy_of_asks, copy_of_stops, is_closed, repeated, sweep_asks,
-    sweep_stops,
-};
-use crate::same::{has_same_asks, has_same_links, has_same_stops};
-use crate::table::place_for;
-use circular_buffer::HeapCircularBuffer;
+use crate::kept::{DecidedAsk, EndedSession, Kept};
+use crate::ring::Ring;
+use crate::same::has_same_links;
+use crate::table::index_for;
 use rsl_accounts::Rules;
 use rsl_event::{Act, Decision, Event, Key, Nas};
 use rsl_links::{Hold, Link, Links, Servers, one_if};
@@ -43,14 +40,15 @@ use std::marker::Model;
 /// the over count. All memory is taken in `new`.
 #[derive(Drop)]
 pub struct Book {
-    rules: Rules,
+    // Fields lie in memory as they stand here: what an ask or a tick reads first.
     clock: u64,
     accepts: u64,
-    over: u64,
-    servers: Servers,
+    rules: Rules,
     links: Links,
-    asks: HeapCircularBuffer<StoredAsk>,
-    stops: HeapCircularBuffer<StoredStop>,
+    asks: Ring<DecidedAsk>,
+    servers: Servers,
+    stops: Ring<EndedSession>,
+    over: u64,
 }
 
 impl Model for Book {
@@ -58,7 +56,7 @@ impl Model for Book {
 
     ghost Value = { RuledBook };
 
-    ghost use Rattle.rsl_book.specs.Sound.{book_seen, IsSound};
+    ghost use Rattle.rsl_book.specs.BookSeen.{book_seen, IsSound};
 
     ghost view = { book_seen };
 
@@ -101,8 +99,8 @@ impl Book {
             over: 0,
             servers: Servers::new(alloc, most + KEPT_ASKS + KEPT_STOPS + 1)?,
             links: Links::new(alloc, rules.ports, most)?,
-            asks: HeapCircularBuffer::with_capacity(alloc, KEPT_ASKS)?,
-            stops: HeapCircularBuffer::with_capacity(alloc, KEPT_STOPS)?,
+            asks: Ring::new(alloc, KEPT_ASKS)?,
+            stops: Ring::new(alloc, KEPT_STOPS)?,
         })
     }
 
@@ -114,11 +112,11 @@ impl Book {
         ensures limit_before { IsWithinLimit self.old }
         ensures limit { IsWithinLimit self.new }
     {
-        self.stays_within_limit();
+        self.open_invariant();
         let Event { moment, act } = event;
         self.come_to(moment);
         let decision = self.act(act);
-        self.stays_within_limit();
+        self.open_invariant();
         decision
     }
 
@@ -133,8 +131,8 @@ impl Book {
             over: self.over,
             servers: self.servers.try_copy(alloc)?,
             links: self.links.try_copy(alloc, most_links(&self.rules))?,
-            asks: copy_of_asks(alloc, &self.asks)?,
-            stops: copy_of_stops(alloc, &self.stops)?,
+            asks: self.asks.try_copy(alloc)?,
+            stops: self.stops.try_copy(alloc)?,
         })
     }
 
@@ -152,8 +150,12 @@ impl Book {
                 &other.links.list,
                 &other.servers,
             )
-            && has_same_asks(&self.asks, &self.servers, &other.asks, &other.servers)
-            && has_same_stops(&self.stops, &self.servers, &other.stops, &other.servers)
+            && self
+                .asks
+                .has_same_asks(&self.servers, &other.asks, &other.servers)
+            && self
+                .stops
+                .has_same_stops(&self.servers, &other.stops, &other.servers)
     }
 
     /// What an act does to a book that has come to its moment.
@@ -192,10 +194,10 @@ impl Book {
         ensures limit_before { IsWithinLimit self.old }
         ensures limit { IsWithinLimit self.new }
     {
-        self.stays_within_limit();
+        self.open_invariant();
         self.come_to(moment);
         self.sweep_at(nas);
-        self.stays_within_limit();
+        self.open_invariant();
     }
 
     /// What a tick at this moment makes of the book, as `apply` does.
@@ -206,9 +208,9 @@ impl Book {
         ensures limit_before { IsWithinLimit self.old }
         ensures limit { IsWithinLimit self.new }
     {
-        self.stays_within_limit();
+        self.open_invariant();
         self.come_to(moment);
-        self.stays_within_limit();
+        self.open_invariant();
     }
 
     /// The places that are held.
@@ -284,8 +286,9 @@ impl Book {
         self.rules
     }
 
-    /// The places are within the limit, whatever the book has come to.
-    fn stays_within_limit(&self)
+    /// Opens the invariant for the prover: the places are within the limit, whatever the book has
+    /// come to.
+    fn open_invariant(&self)
         ensures { IsWithinLimit self.now }
     {
         let _ = &self.links;
@@ -305,21 +308,21 @@ impl Book {
         ensures step { (self.new.book, result) ≡ refuse self.old.book key nas }
         ensures rules { self.new.rules ≡ self.old.rules }
     {
-        let nas = place_for(
+        let nas = index_for(
             &mut self.servers,
             &self.links.list,
             &self.asks,
             &self.stops,
             nas,
         );
-        let _ = self.asks.push_front(StoredAsk {
-            key,
-            nas,
-            decision: Decision::LimitReject,
+        let decision = Decision::LimitReject;
+        self.asks.push(Kept {
+            subject: DecidedAsk { key, decision },
             at: self.clock,
             swept: false,
+            nas,
         });
-        Decision::LimitReject
+        decision
     }
 
     /// Accepts a fresh ask, for which there is a place and a number.
@@ -330,7 +333,7 @@ impl Book {
             accept_beside self.old.book.links self.old.book key nas }
         ensures rules { self.new.rules ≡ self.old.rules }
     {
-        let nas = place_for(
+        let nas = index_for(
             &mut self.servers,
             &self.links.list,
             &self.asks,
@@ -348,14 +351,14 @@ impl Book {
                 touched: self.clock,
             },
         );
-        let _ = self.asks.push_front(StoredAsk {
-            key,
-            nas,
-            decision: Decision::Accept(number),
+        let decision = Decision::Accept(number);
+        self.asks.push(Kept {
+            subject: DecidedAsk { key, decision },
             at: self.clock,
             swept: false,
+            nas,
         });
-        Decision::Accept(number)
+        decision
     }
 
     /// Whether a place is free once a link ends.
@@ -409,7 +412,7 @@ impl Book {
             self.old.book key nas else refuse self.old.book key nas) }
         ensures rules { self.new.rules ≡ self.old.rules }
     {
-        self.stays_within_limit();
+        self.open_invariant();
         if !self.frees_a_place(at) {
             return self.refuse(key, nas);
         }
@@ -437,7 +440,8 @@ impl Book {
         ensures { result ≡ option_map (λ (ask : KeptAsk). ask.decision) (find
             (repeats self.now.rules key.now self.now.book.clock) self.now.book.asks) }
     {
-        repeated(&self.asks, &self.servers, &self.rules, key, self.clock)
+        self.asks
+            .repeated(&self.servers, &self.rules, key, self.clock)
     }
 
     /// How many asks were accepted.
@@ -497,7 +501,8 @@ impl Book {
         ensures { result ≡ list_any (closes self.now.rules
             (record { nas = nas.now; id = id.now }) self.now.book.clock) self.now.book.stops }
     {
-        is_closed(&self.stops, &self.servers, &self.rules, self.clock, nas, id)
+        self.stops
+            .closes(&self.servers, &self.rules, self.clock, nas, id)
     }
 
     /// Touches a link.
@@ -534,7 +539,7 @@ impl Book {
               (record { nas = nas; id = id }) (bundle_with nas bundle);
         } }
     {
-        let nas = place_for(
+        let nas = index_for(
             &mut self.servers,
             &self.links.list,
             &self.asks,
@@ -597,18 +602,18 @@ impl Book {
         } }
     {
         self.links.stop(&self.servers, &nas, &id);
-        let nas = place_for(
+        let nas = index_for(
             &mut self.servers,
             &self.links.list,
             &self.asks,
             &self.stops,
             nas,
         );
-        let _ = self.stops.push_front(StoredStop {
-            nas,
-            id,
+        self.stops.push(Kept {
+            subject: EndedSession { id },
             at: self.clock,
             swept: false,
+            nas,
         });
     }
 
@@ -617,7 +622,7 @@ impl Book {
         ensures { self.new ≡ record self.old { book = sweep self.old.book nas.now } }
     {
         self.links.sweep(&self.servers, nas);
-        sweep_asks(&mut self.asks, &self.servers, nas);
-        sweep_stops(&mut self.stops, &self.servers, nas);
+        self.asks.sweep(&self.servers, nas);
+        self.stops.sweep(&self.servers, nas);
     }
 }

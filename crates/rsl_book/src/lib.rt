@@ -6,13 +6,14 @@
 //! the session rule.
 //!
 //! Inside, each link stands in a slot until it ends, the last asks and stops in rings, and each
-//! access server once in a table: whatever is at one names its place there. Orders of the slots
+//! access server once in a table: whatever is at one names its index there. Orders of the slots
 //! lead from a session to its link, from an alive to its reservation, from a bundle to its links,
 //! to the links that were touched longest ago, and through all as they opened.
 #![tactic(auto)]
 
 mod book;
 mod kept;
+mod ring;
 mod same;
 mod table;
 

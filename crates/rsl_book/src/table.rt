@@ -1,87 +1,54 @@
 ghost use Rattle.std.specs.Prelude.{◌≡◌, ◌+◌, ◌<◌, false, length};
 ghost use Rattle.rsl_links.specs.Seen.{server_at, links_seen};
 ghost use Rattle.rsl_book.specs.Seen.{asks_seen, stops_seen};
+ghost use Rattle.rsl_book.specs.Named.{is_named};
 ghost use Rattle.rsl_links.specs.Named.{ArePlaced, IsPlace};
-ghost use Rattle.rsl_book.specs.Named.{is_named, named_by_asks, named_by_stops};
 
-use crate::kept::{StoredAsk, StoredStop};
-use circular_buffer::HeapCircularBuffer;
+use crate::kept::{DecidedAsk, EndedSession};
+use crate::ring::Ring;
 use rsl_event::Nas;
 use rsl_links::{LinkList, Servers};
 
-/// Whether one of some asks names a place of the table.
-#[tactic(auto, unfolding(crate::specs::Named::named_by_asks))]
-fn is_named_by_asks(asks: &[StoredAsk], at: usize) -> bool
-    ensures { result ≡ named_by_asks asks.now at }
-{
-    asks.iter().any(|ask| ask.nas == at)
-}
-
-/// Whether one of some stops names a place of the table.
-#[tactic(auto, unfolding(crate::specs::Named::named_by_stops))]
-fn is_named_by_stops(stops: &[StoredStop], at: usize) -> bool
-    ensures { result ≡ named_by_stops stops.now at }
-{
-    stops.iter().any(|stop| stop.nas == at)
-}
-
-/// Whether a kept ask names a place of the table.
-#[tactic(auto, using(crate::proofs::Naming::asks_parts))]
-fn is_named_by_kept_asks(asks: &HeapCircularBuffer<StoredAsk>, at: usize) -> bool
-    ensures { result ≡ named_by_asks asks.now.items at }
-{
-    let (newer, older) = asks.as_slices();
-    is_named_by_asks(newer, at) || is_named_by_asks(older, at)
-}
-
-/// Whether a kept stop names a place of the table.
-#[tactic(auto, using(crate::proofs::Naming::stops_parts))]
-fn is_named_by_kept_stops(stops: &HeapCircularBuffer<StoredStop>, at: usize) -> bool
-    ensures { result ≡ named_by_stops stops.now.items at }
-{
-    let (newer, older) = stops.as_slices();
-    is_named_by_stops(newer, at) || is_named_by_stops(older, at)
-}
-
-/// Whether anything names a place of the table.
+/// Whether anything names an index of the table.
 #[tactic(auto, unfolding(crate::specs::Named::is_named))]
-fn is_named_at(
+fn is_named(
     links: &LinkList,
-    asks: &HeapCircularBuffer<StoredAsk>,
-    stops: &HeapCircularBuffer<StoredStop>,
-    at: usize,
+    asks: &Ring<DecidedAsk>,
+    stops: &Ring<EndedSession>,
+    index: usize,
 ) -> bool
-    ensures { result ≡ is_named links.now.items asks.now.items stops.now.items at }
+    ensures { result ≡ is_named links.now.items asks.now.items stops.now.items index }
 {
-    links.names(at) || is_named_by_kept_asks(asks, at) || is_named_by_kept_stops(stops, at)
+    links.names(index) || asks.names(index) || stops.names(index)
 }
 
-/// The first place of the table that nothing names.
-fn free_place(
+/// The first index of the table that nothing names.
+fn free_index(
     links: &LinkList,
-    asks: &HeapCircularBuffer<StoredAsk>,
-    stops: &HeapCircularBuffer<StoredStop>,
+    asks: &Ring<DecidedAsk>,
+    stops: &Ring<EndedSession>,
     room: usize,
 ) -> usize
     requires { length links.now.items + asks.now.capacity + stops.now.capacity < room }
     ensures free { is_named links.now.items asks.now.items stops.now.items result ≡ false }
     ensures within { result < room }
 {
-    let _kept = links.len() + asks.len() + stops.len();
-    let mut at = 0;
-    while is_named_at(links, asks, stops, at) {
-        at += 1;
+    let names = links.len() + asks.len() + stops.len();
+    for index in 0..names {
+        if !is_named(links, asks, stops, index) {
+            return index;
+        }
     }
-    at
+    names
 }
 
-/// Where an access server stands in the table; one that does not stand there yet is put at the first
-/// place that nothing names.
-pub(crate) fn place_for(
+/// The index of an access server in the table; one that does not stand there yet is put at the
+/// first index that nothing names.
+pub(crate) fn index_for(
     servers: &mut Servers,
     links: &LinkList,
-    asks: &HeapCircularBuffer<StoredAsk>,
-    stops: &HeapCircularBuffer<StoredStop>,
+    asks: &Ring<DecidedAsk>,
+    stops: &Ring<EndedSession>,
     nas: Nas,
 ) -> usize
     requires { length links.now.items + asks.now.capacity + stops.now.capacity
@@ -97,11 +64,11 @@ pub(crate) fn place_for(
     ensures len { length servers.new ≡ length servers.old }
 {
     match servers.find(&nas) {
-        Some(at) => at,
+        Some(index) => index,
         None => {
-            let at = free_place(links, asks, stops, servers.len());
-            servers.put(at, nas);
-            at
+            let index = free_index(links, asks, stops, servers.len());
+            servers.put(index, nas);
+            index
         }
     }
 }

@@ -2,7 +2,7 @@
 -- file of these proofs.
 
 pub use Rattle.rsl_links.proofs.Found.{seen_changed, seen_taken, seen_touched}
-pub use Rattle.rsl_links.proofs.Lists.{any_steps, find_steps, push_steps}
+pub use Rattle.rsl_links.proofs.Lists.{any_end, any_no, any_steps, any_yes, find_end, find_no, find_steps, find_yes, push_steps}
 pub use Rattle.rsl_links.proofs.OneByOne.{ring_more, ring_not, same_steps}
 pub use Rattle.rsl_links.proofs.Opened.{bundles-push, length-bundles, more_alone}
 pub use Rattle.rsl_links.proofs.Placed.{new_place, placed_none, placed_put}

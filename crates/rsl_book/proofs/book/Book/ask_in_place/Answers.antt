@@ -13,14 +13,14 @@ accept-requires-clause-place c =
     let frees : places_in value.rules value.book ≡ places_of value.rules.ports (bundles_in (without_at c.args.at value.book.links)) + 1 =
     c.frees_a_place.ensures ∙ ap (λ b. places_of value.rules.ports (bundles_in (without_at c.args.at value.book.links)) + cond b 1 0) c.if-not-frees_a_place.false in
     subst (λ (made : RuledBook). places_in made.rules made.book + 1 ≤ made.rules.places) (sym c.end_link.ensures)
-    (freed_place value.rules value.book c.args.at frees c.stays_within_limit.ensures.limit)
+    (freed_place value.rules value.book c.args.at frees c.open_invariant.ensures.limit)
 
 pub returns-clause-step : goal.returns-clause-step
 returns-clause-step c =
     let value = c.args.self.now in
     let frees : places_in value.rules value.book ≡ places_of value.rules.ports (bundles_in (without_at c.args.at value.book.links)) + 1 =
     c.frees_a_place.ensures ∙ ap (λ b. places_of value.rules.ports (bundles_in (without_at c.args.at value.book.links)) + cond b 1 0) c.if-not-frees_a_place.false in
-    in_place_yes value.rules value.book c.args.at c.args.key c.args.nas (c.accept.new.self.book, c.accept.result) c.requires.yields frees c.stays_within_limit.ensures.limit
+    in_place_yes value.rules value.book c.args.at c.args.key c.args.nas (c.accept.new.self.book, c.accept.result) c.requires.yields frees c.open_invariant.ensures.limit
     (c.accept.ensures.step ∙ ap (λ (made : RuledBook). accept_beside made.book.links made.book c.args.key c.args.nas) c.end_link.ensures)
 
 pub returns-then-not-frees_a_place-clause-step : goal.returns-then-not-frees_a_place-clause-step

@@ -1,14 +1,14 @@
 use Rattle.std.proofs.Common.{◌≡◌, sym, ◌∙◌, ap, arith, cond}
 use Rattle.rsl_session.specs.Book.{Book}
 use Rattle.rsl_book.specs.RuledBook.{RuledBook}
-use Rattle.rsl_book.specs.Sound.{running}
+use Rattle.rsl_book.specs.BookSeen.{running}
 use Rattle.rsl_links.specs.Seen.{links_seen, bundle_with, server_at}
 use Rattle.rsl_links.specs.declared.link.Hold.TheVariants.{Session}
 use Rattle.rsl_book.proofs.Insides.{same_value, room_in_table, room_for_one, counted_again, opened_within, opened_seen, bound_seen, open_sum, open_yes, open_not, over_value}
 use Rattle.rsl_book.proofs.book.Book.open_link.Goals as goal
 
-pub place_for-nas-requires : goal.place_for-nas-requires
-place_for-nas-requires c =
+pub index_for-nas-requires : goal.index_for-nas-requires
+index_for-nas-requires c =
     let room = room_in_table c.self.inside c.self.invariant in
     omega arith
 
@@ -16,7 +16,7 @@ pub open-requires-clause-room : goal.open-requires-clause-room
 open-requires-clause-room c =
     let inside = c.self.inside in
     let sound = c.self.invariant in
-    let place = c.place_for-nas in
+    let place = c.index_for-nas in
     let links : links_seen place.new.servers inside.links.list.items ≡ links_seen inside.servers inside.links.list.items =
     place.ensures.links in
     let fits = c.if-self-more.true in
@@ -27,7 +27,7 @@ pub invariant_of-self : goal.invariant_of-self
 invariant_of-self c =
     let inside = c.self.inside in
     let sound = c.self.invariant in
-    let place = c.place_for-nas in
+    let place = c.index_for-nas in
     let links : links_seen place.new.servers inside.links.list.items ≡ links_seen inside.servers inside.links.list.items =
     place.ensures.links in
     let fits = c.if-self-more.true in
@@ -48,7 +48,7 @@ pub returns-then-self-more : goal.returns-then-self-more
 returns-then-self-more c =
     let inside = c.self.inside in
     let sound = c.self.invariant in
-    let place = c.place_for-nas in
+    let place = c.index_for-nas in
     let links : links_seen place.new.servers inside.links.list.items ≡ links_seen inside.servers inside.links.list.items =
     place.ensures.links in
     let sum = open_sum inside.servers place.new.servers inside.links inside.rules.ports place.result (cond c.adds_a_place.result 1 0) c.args.nas c.args.bundle links place.ensures.stands sound.ports sound.counted c.adds_a_place.ensures in
@@ -66,7 +66,7 @@ pub returns-else-self-more : goal.returns-else-self-more
 returns-else-self-more c =
     let inside = c.self.inside in
     let sound = c.self.invariant in
-    let place = c.place_for-nas in
+    let place = c.index_for-nas in
     let links : links_seen place.new.servers inside.links.list.items ≡ links_seen inside.servers inside.links.list.items =
     place.ensures.links in
     let sum = open_sum inside.servers place.new.servers inside.links inside.rules.ports place.result (cond c.adds_a_place.result 1 0) c.args.nas c.args.bundle links place.ensures.stands sound.ports sound.counted c.adds_a_place.ensures in

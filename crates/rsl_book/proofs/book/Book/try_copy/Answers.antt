@@ -1,7 +1,8 @@
 use Rattle.std.proofs.Common.{ap, ◌∙◌, arith, length}
 use Rattle.circular_buffer.specs.Buffer.{Buffer}
-use Rattle.rsl_book.specs.declared.kept.StoredAsk.{StoredAsk}
-use Rattle.rsl_book.specs.declared.kept.StoredStop.{StoredStop}
+use Rattle.rsl_book.specs.declared.kept.Kept.{Kept}
+use Rattle.rsl_book.specs.declared.kept.DecidedAsk.{DecidedAsk}
+use Rattle.rsl_book.specs.declared.kept.EndedSession.{EndedSession}
 use Rattle.rsl_links.specs.Seen.{links_seen}
 use Rattle.rsl_book.specs.Seen.{asks_seen, stops_seen}
 use Rattle.rsl_book.proofs.Insides.{same_value, few_links, counted_copy}
@@ -27,8 +28,8 @@ invariant_of-result c =
       limit = let same = links.places in let limit = sound.limit in omega arith;
       room = let room = links.room in omega arith;
       table = let same = ap length c.in_ok-try_copy.ensures in let table = sound.table in omega arith;
-      asks = ap (λ (ring : Buffer StoredAsk). ring.capacity) c.in_ok-copy_of_asks.ensures ∙ sound.asks;
-      stops = ap (λ (ring : Buffer StoredStop). ring.capacity) c.in_ok-copy_of_stops.ensures ∙ sound.stops;
+      asks = ap (λ (ring : Buffer (Kept DecidedAsk)). ring.capacity) c.in_ok-try_copy-3.ensures ∙ sound.asks;
+      stops = ap (λ (ring : Buffer (Kept EndedSession)). ring.capacity) c.in_ok-try_copy-4.ensures ∙ sound.stops;
     }
 
 pub returns : goal.returns
@@ -37,5 +38,5 @@ returns c =
     rw (← c.self.view_is)
     (same_value inside.rules inside.clock inside.accepts inside.over
     (ap (λ servers. links_seen servers c.in_ok-try_copy-2.field-0.list.items) c.in_ok-try_copy.ensures ∙ ap (links_seen inside.servers) c.in_ok-try_copy-2.ensures.links)
-    (ap (λ servers. asks_seen servers c.in_ok-copy_of_asks.field-0.items) c.in_ok-try_copy.ensures ∙ ap (λ (ring : Buffer StoredAsk). asks_seen inside.servers ring.items) c.in_ok-copy_of_asks.ensures)
-    (ap (λ servers. stops_seen servers c.in_ok-copy_of_stops.field-0.items) c.in_ok-try_copy.ensures ∙ ap (λ (ring : Buffer StoredStop). stops_seen inside.servers ring.items) c.in_ok-copy_of_stops.ensures))
+    (ap (λ servers. asks_seen servers c.in_ok-try_copy-3.field-0.items) c.in_ok-try_copy.ensures ∙ ap (λ (ring : Buffer (Kept DecidedAsk)). asks_seen inside.servers ring.items) c.in_ok-try_copy-3.ensures)
+    (ap (λ servers. stops_seen servers c.in_ok-try_copy-4.field-0.items) c.in_ok-try_copy.ensures ∙ ap (λ (ring : Buffer (Kept EndedSession)). stops_seen inside.servers ring.items) c.in_ok-try_copy-4.ensures))

@@ -1,5 +1,0 @@
-use Rattle.rsl_book.proofs.Insides.{within_limit}
-use Rattle.rsl_book.proofs.book.Book.stays_within_limit.Goals as goal
-
-pub returns : goal.returns
-returns c = rw (← c.self.view_is) (within_limit c.self.inside c.self.invariant)
