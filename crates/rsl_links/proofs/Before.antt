@@ -8,23 +8,23 @@ use Rattle.std.specs.Cmp.Lexicographic.{slice_cmp}
 use Rattle.std.proofs.lemmas.Bool.{false≢true}
 use Rattle.std.proofs.lemmas.Cmp.{nat_cmp_total, nat_list_cmp_total, on_total, then_total, tied_itself}
 use Rattle.std.proofs.lemmas.Map.Lookups.{exact_bytes, exact_unsigned}
-use Rattle.rsl_links.specs.Order.{Rank, rank_cmp, is_before}
+use Rattle.rsl_links.specs.Order.{Key, key_cmp, is_before}
 
-total : IsTotalOrder rank_cmp
-total = then_total (on_total (λ (e : Rank). e.0) nat_list_cmp_total) (on_total (λ (e : Rank). e.1) nat_cmp_total)
+total : IsTotalOrder key_cmp
+total = then_total (on_total (λ (e : Key). e.0) nat_list_cmp_total) (on_total (λ (e : Key). e.1) nat_cmp_total)
 
 less : (r : Ordering) → is_lt r ≡ true → r ≡ Less
 less Less h = refl
 less Equal h = absurd (false≢true h)
 less Greater h = absurd (false≢true h)
 
-pub not_self : (e : Rank) → is_before e e ≡ false
+pub not_self : (e : Key) → is_before e e ≡ false
 unfolding is_before
 not_self e = ap is_lt (tied_itself total e)
 
-pub chain : (a b c : Rank) → is_before a b ≡ true → is_before b c ≡ true → is_before a c ≡ true
+pub chain : (a b c : Key) → is_before a b ≡ true → is_before b c ≡ true → is_before a c ≡ true
 unfolding is_before
-chain a b c one two = ap is_lt (total.trans a b c (less (rank_cmp a b) one) (less (rank_cmp b c) two))
+chain a b c one two = ap is_lt (total.trans a b c (less (key_cmp a b) one) (less (key_cmp b c) two))
 
 -- what does not stand before another stands after it, or is the same
 then_equal : (r s : Ordering) → ordering_then r s ≡ Equal → (r ≡ Equal) × (s ≡ Equal)
@@ -55,10 +55,10 @@ turned Greater Greater e one two = absurd (false≢true (ap is_gt (sym e))) wher
   is_gt Equal = false
   is_gt Greater = true
 
-pub neither : (a b : Rank) → is_before a b ≡ false → is_before b a ≡ false → (a.0 ≡ b.0) × (a.1 ≡ b.1)
+pub neither : (a b : Key) → is_before a b ≡ false → is_before b a ≡ false → (a.0 ≡ b.0) × (a.1 ≡ b.1)
 unfolding is_before
 neither a b one two =
-    let same : rank_cmp a b ≡ Equal = turned (rank_cmp a b) (rank_cmp b a) (total.antisymm a b) one two in
+    let same : key_cmp a b ≡ Equal = turned (key_cmp a b) (key_cmp b a) (total.antisymm a b) one two in
     let parts = then_equal (slice_cmp nat_cmp a.0 b.0) (nat_cmp a.1 b.1) same in
     (exact_bytes a.0 b.0 parts.0, exact_unsigned a.1 b.1 parts.1)
 
@@ -93,13 +93,13 @@ first_of_key t a = by_cases (is_before (t, a) (t, 0)) refl where
 pub alike_or_before : (s t : List ℕ) (a b : ℕ) → is_before (s, a) (t, b) ≡ true → (s ≡ t) ⊎ (is_before (s, a) (t, 0) ≡ true)
 unfolding is_before
 alike_or_before s t a b h = by_cases (slice_cmp nat_cmp s t) refl where
-  by_cases : (r : Ordering) → slice_cmp nat_cmp s t ≡ r → (s ≡ t) ⊎ (is_lt (rank_cmp (s, a) (t, 0)) ≡ true)
+  by_cases : (r : Ordering) → slice_cmp nat_cmp s t ≡ r → (s ≡ t) ⊎ (is_lt (key_cmp (s, a) (t, 0)) ≡ true)
   by_cases Less e = inr (ap (λ r. is_lt (ordering_then r (nat_cmp a 0))) e)
   by_cases Equal e = inl (exact_bytes s t e)
   by_cases Greater e = absurd (false≢true (sym (ap (λ r. is_lt (ordering_then r (nat_cmp a b))) e) ∙ h))
 
 -- of one number each, what stands before has no greater one
-pub touched_order : (s t a b : ℕ) → is_before (s ∷ 0 ∷ [], a) (t ∷ 0 ∷ [], b) ≡ true → (s < t) ⊎ ((s ≡ t) × (a < b))
+pub touched_order : (s t a b : ℕ) → is_before (s ∷ [], a) (t ∷ [], b) ≡ true → (s < t) ⊎ ((s ≡ t) × (a < b))
 unfolding is_before
 touched_order s t a b h = by_cases (nat_cmp s t) refl where
   by_cases : (r : Ordering) → nat_cmp s t ≡ r → (s < t) ⊎ ((s ≡ t) × (a < b))
@@ -108,15 +108,15 @@ touched_order s t a b h = by_cases (nat_cmp s t) refl where
     lower s t is = grind arith
   by_cases Equal e =
       let same : s ≡ t = exact_unsigned s t e in
-      let moved : is_lt (rank_cmp (t ∷ 0 ∷ [], a) (t ∷ 0 ∷ [], b)) ≡ true = subst (λ (n : ℕ). is_lt (rank_cmp (n ∷ 0 ∷ [], a) (t ∷ 0 ∷ [], b)) ≡ true) same h in
-      inr (same, lower_first (t ∷ 0 ∷ []) a b moved)
+      let moved : is_lt (key_cmp (t ∷ [], a) (t ∷ [], b)) ≡ true = subst (λ (n : ℕ). is_lt (key_cmp (n ∷ [], a) (t ∷ [], b)) ≡ true) same h in
+      inr (same, lower_first (t ∷ []) a b moved)
   by_cases Greater e = absurd (false≢true (sym (ap (λ r. is_lt (ordering_then (ordering_then r Equal) (nat_cmp a b))) e) ∙ h))
 
 -- positions that move and stay in their order
 pub moved_before : (s t : List ℕ) (a b c d : ℕ) → (a < b → c < d) → is_before (s, a) (t, b) ≡ true → is_before (s, c) (t, d) ≡ true
 unfolding is_before
 moved_before s t a b c d moves h = by_cases (slice_cmp nat_cmp s t) refl where
-  by_cases : (r : Ordering) → slice_cmp nat_cmp s t ≡ r → is_lt (rank_cmp (s, c) (t, d)) ≡ true
+  by_cases : (r : Ordering) → slice_cmp nat_cmp s t ≡ r → is_lt (key_cmp (s, c) (t, d)) ≡ true
   by_cases Less e = ap (λ r. is_lt (ordering_then r (nat_cmp c d))) e
   by_cases Equal e =
       let low : is_lt (nat_cmp a b) ≡ true = sym (ap (λ r. is_lt (ordering_then r (nat_cmp a b))) e) ∙ h in
@@ -142,7 +142,7 @@ later_target s t a b c later h = moved_before s t a b a c (λ low. omega (arith,
 pub heads : (a b : ℕ) (s t : List ℕ) (i j : ℕ) → is_before (a ∷ s, i) (b ∷ t, j) ≡ true → (a < b) ⊎ ((a ≡ b) × (is_before (s, i) (t, j) ≡ true))
 unfolding is_before
 heads a b s t i j h = by_cases (nat_cmp a b) refl where
-  by_cases : (r : Ordering) → nat_cmp a b ≡ r → (a < b) ⊎ ((a ≡ b) × (is_lt (rank_cmp (s, i) (t, j)) ≡ true))
+  by_cases : (r : Ordering) → nat_cmp a b ≡ r → (a < b) ⊎ ((a ≡ b) × (is_lt (key_cmp (s, i) (t, j)) ≡ true))
   by_cases Less e = inl (lower a b (ap is_lt e)) where
     lower : (a b : ℕ) → is_lt (nat_cmp a b) ≡ true → a < b
     lower a b is = grind arith

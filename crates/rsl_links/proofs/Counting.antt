@@ -5,7 +5,7 @@ use Rattle.std.specs.List.{remove}
 use Rattle.std.proofs.lemmas.Bool.{cases_eq, cases_lt, false≢true}
 use Rattle.std.proofs.lemmas.List.{take_all}
 use Rattle.std.proofs.lemmas.List.Sums.{count_by_more_no, count_by_more_yes, sum_by-remove}
-use Rattle.rsl_links.specs.Order.{Rank, IsOrder}
+use Rattle.rsl_links.specs.Order.{Key, IsOrder}
 use Rattle.rsl_links.proofs.Orders.{removed, same_order}
 
 abbrev count_upto : (ℕ → Bool) → ℕ → ℕ
@@ -20,7 +20,7 @@ no_more : (k : ℕ) (b : Bool) → b ≡ false → k ≡ k + cond b 1 0
 no_more k false none = omega arith
 no_more k true none = absurd (false≢true (sym none))
 
-over_order : (entry : ℕ → Rank) (r q : ℕ → Bool) → ((x : ℕ) → r x ≡ false → q x ≡ false) → (n : ℕ) (order : List ℕ) → IsOrder (Listed r n) entry order → count_by q order ≡ count_upto q n
+over_order : (entry : ℕ → Key) (r q : ℕ → Bool) → ((x : ℕ) → r x ≡ false → q x ≡ false) → (n : ℕ) (order : List ℕ) → IsOrder (Listed r n) entry order → count_by q order ≡ count_upto q n
 over_order entry r q others zero [] o = refl
 over_order entry r q others zero (x ∷ xs) o = absurd (let none = (o.each 0 (omega arith)).0 in omega (arith, none))
 over_order entry r q others (suc n) order o = by_cases (r n) refl (over_order entry r q others n) where
@@ -72,7 +72,7 @@ together q order a b in_turn before inside after (suc i) within =
       ]
     ]
 
-pub counted_between : {A : Type 0} (r p : A → Bool) (d : A) (xs : List A) (entry : ℕ → Rank) (order : List ℕ) (a b : ℕ) → ((x : A) → r x ≡ false → p x ≡ false)
+pub counted_between : {A : Type 0} (r p : A → Bool) (d : A) (xs : List A) (entry : ℕ → Key) (order : List ℕ) (a b : ℕ) → ((x : A) → r x ≡ false → p x ≡ false)
     → IsOrder (λ x. (x < length xs) × (r (get_or xs x d) ≡ true)) entry order → a ≤ b → b ≤ length order
     → ((k : ℕ) → k < a → k < length order → p (get_or xs (get_or order k 0) d) ≡ false)
     → ((k : ℕ) → a ≤ k → k < b → k < length order → p (get_or xs (get_or order k 0) d) ≡ true)

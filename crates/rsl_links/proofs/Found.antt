@@ -15,7 +15,7 @@ use Rattle.rsl_links.specs.declared.link.Hold.{Hold}
 use Rattle.rsl_links.specs.declared.link.Hold.TheVariants.{Number, Session as InSession}
 use Rattle.rsl_links.specs.First.{IsFirst, change_at}
 use Rattle.rsl_links.specs.Seen.{server_at, holder_at, bundle_with, link_seen, links_seen}
-use Rattle.rsl_links.specs.Changed.{joined_link, taken_link, touched_link}
+use Rattle.rsl_links.specs.Changed.{bound_link, joined_link, renewed_link, taken_link, touched_link}
 use Rattle.rsl_links.specs.Steps.{server_of, touch_here, take_here, without_at}
 
 module _ {A : Type 0} where
@@ -65,6 +65,17 @@ module _ {A : Type 0} where
   change_twice f g [] at = refl
   change_twice f g (x ∷ xs) zero = refl
   change_twice f g (x ∷ xs) (suc at) = ap (λ ys. x ∷ ys) (change_twice f g xs at)
+
+-- a link joins a bundle and is touched, or is bound and joins a bundle
+pub touched_after : (now : ℕ) (bundle : Option (List ℕ)) (xs ys zs : List Link) (at : ℕ) → ys ≡ change_at at (joined_link bundle) xs → zs ≡ change_at at (renewed_link now) ys → zs ≡ change_at at (touched_link now bundle) xs
+unfolding touched_link joined_link renewed_link
+touched_after now bundle xs ys zs at joined renewed =
+    renewed ∙ ap (change_at at (renewed_link now)) joined ∙ change_twice (renewed_link now) (joined_link bundle) xs at
+
+pub taken_after : (now : ℕ) (id : List ℕ) (bundle : Option (List ℕ)) (xs ys zs : List Link) (at : ℕ) → ys ≡ change_at at (bound_link now id) xs → zs ≡ change_at at (joined_link bundle) ys → zs ≡ change_at at (taken_link now id bundle) xs
+unfolding taken_link joined_link bound_link
+taken_after now id bundle xs ys zs at bound joined =
+    joined ∙ ap (change_at at (joined_link bundle)) bound ∙ change_twice (joined_link bundle) (bound_link now id) xs at
 
 -- a link that has a bundle joins none
 or_same : (old new : Option (List ℕ)) → is_some old ≡ true → option_or old new ≡ old

@@ -11,13 +11,14 @@ pub mod OfLinks
 pub mod Slotted
 pub mod Grown
 pub mod Freed
-pub mod Lined
+pub mod Ranking
 pub mod Ordered
 pub mod Standing
 pub mod Yielding
 pub mod Counting
 pub mod Sought
+pub mod Earliest
 pub mod Placed
 pub mod Tallied
-mod Marks
+mod Fingerprints
 pub mod Callers

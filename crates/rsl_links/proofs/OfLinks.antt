@@ -6,8 +6,8 @@ use Rattle.std.proofs.lemmas.Bool.{false≢true, cases_lt, cases_eq, lt-ltb, le-
 use Rattle.std.proofs.lemmas.List.{get_or_default, get_or_append_left, get_or-set_same, get_or-set_other, length-set}
 use Rattle.std.proofs.lemmas.List.Edits.{get_or-remove_below, get_or-remove_above, length-remove}
 use Rattle.rsl_links.specs.declared.link.Link.{Link}
-use Rattle.rsl_links.specs.declared.order.Kind.{Kind}
-use Rattle.rsl_links.specs.Order.{Rank, rank_at, is_before, is_of, order_key, link_at, no_link, IsSplit, IsListed, IsOrderBut, IsOrderOf}
+use Rattle.rsl_links.specs.declared.order.OrderKind.{OrderKind}
+use Rattle.rsl_links.specs.Order.{Key, key_at, is_before, is_of, order_key, link_at, no_link, IsSplit, IsListed, IsOrderBut, IsOrderOf}
 use Rattle.rsl_links.proofs.Before.{neither, moved_before}
 use Rattle.rsl_links.proofs.Orders.{apart, removed, inserted, same_order, mapped, few, Came}
 
@@ -18,7 +18,7 @@ link_here links at link within is = is ∙ get_or_default links at link no_link 
 pub listed_here : (order : List ℕ) (k place : ℕ) → k < length order → place ≡ get_or order k place → place ≡ get_or order k 0
 listed_here order k place inside is = is ∙ get_or_default order k place 0 inside
 
-pub few_others : (kind : Kind) (links : List Link) (at : ℕ) (order : List ℕ) → at < length links → IsOrderBut kind links at order → length order < length links
+pub few_others : (kind : OrderKind) (links : List Link) (at : ℕ) (order : List ℕ) → at < length links → IsOrderBut kind links at order → length order < length links
 few_others kind links at order within o =
     let most = few (length links) (at ∷ order) below distinct in
     omega (arith, most)
@@ -33,7 +33,7 @@ few_others kind links at order within o =
     distinct (suc j) (suc k) past inside = apart order o j k (omega (arith, past)) (omega (arith, inside))
 
 -- a link is taken out, or did not stand there
-pub withdrawn : (kind : Kind) (links : List Link) (order : List ℕ) (at place : ℕ) → IsOrderOf kind links order → place < length order → get_or order place 0 ≡ at
+pub withdrawn : (kind : OrderKind) (links : List Link) (order : List ℕ) (at place : ℕ) → IsOrderOf kind links order → place < length order → get_or order place 0 ≡ at
     → IsOrderBut kind links at (remove order place)
 withdrawn kind links order at place o within is =
     removed order o (IsListed kind links at) place at within is
@@ -41,7 +41,7 @@ withdrawn kind links order at place o within is =
     (λ y l. record { within = l.within; other = (let w = l.within in omega (arith, w)); of_kind = l.of_kind })
     (λ y l. l.other)
 
-pub not_there : (kind : Kind) (links : List Link) (order : List ℕ) (at : ℕ) → IsOrderOf kind links order → is_of kind (link_at links at) ≡ false → IsOrderBut kind links at order
+pub not_there : (kind : OrderKind) (links : List Link) (order : List ℕ) (at : ℕ) → IsOrderOf kind links order → is_of kind (link_at links at) ≡ false → IsOrderBut kind links at order
 not_there kind links order at o other_kind =
     same_order order o
     (λ x l. record { within = l.within; other = (λ e. false≢true (sym other_kind ∙ subst (λ n. is_of kind (link_at links n) ≡ true) e l.of_kind)); of_kind = l.of_kind })
@@ -49,8 +49,8 @@ not_there kind links order at o other_kind =
     (λ x l. refl)
 
 -- a link is put in, or is of another kind
-pub entered : (kind : Kind) (links : List Link) (order : List ℕ) (at place : ℕ) → at < length links → IsOrderBut kind links at order → is_of kind (link_at links at) ≡ true
-    → IsSplit (rank_at kind links) order (rank_at kind links at) place → IsOrderOf kind links (insert order place at)
+pub entered : (kind : OrderKind) (links : List Link) (order : List ℕ) (at place : ℕ) → at < length links → IsOrderBut kind links at order → is_of kind (link_at links at) ≡ true
+    → IsSplit (key_at kind links) order (key_at kind links at) place → IsOrderOf kind links (insert order place at)
 entered kind links order at place within o here split =
     inserted order o (IsListed kind links (length links)) place at split
     (record { within = within; other = omega (arith, within); of_kind = here })
@@ -61,13 +61,13 @@ entered kind links order at place within o here split =
       | inr other ↦ inr (record { within = l.within; other = other; of_kind = l.of_kind })
     ])
   where
-    after : (y : ℕ) → IsListed kind links at y → is_before (rank_at kind links y) (rank_at kind links at) ≡ false → is_before (rank_at kind links at) (rank_at kind links y) ≡ true
-    after y l not_before = by_cases (is_before (rank_at kind links at) (rank_at kind links y)) refl where
-      by_cases : (b : Bool) → is_before (rank_at kind links at) (rank_at kind links y) ≡ b → is_before (rank_at kind links at) (rank_at kind links y) ≡ true
+    after : (y : ℕ) → IsListed kind links at y → is_before (key_at kind links y) (key_at kind links at) ≡ false → is_before (key_at kind links at) (key_at kind links y) ≡ true
+    after y l not_before = by_cases (is_before (key_at kind links at) (key_at kind links y)) refl where
+      by_cases : (b : Bool) → is_before (key_at kind links at) (key_at kind links y) ≡ b → is_before (key_at kind links at) (key_at kind links y) ≡ true
       by_cases true e = e
-      by_cases false e = absurd (l.other (neither (rank_at kind links y) (rank_at kind links at) not_before e).1)
+      by_cases false e = absurd (l.other (neither (key_at kind links y) (key_at kind links at) not_before e).1)
 
-pub not_entered : (kind : Kind) (links : List Link) (order : List ℕ) (at : ℕ) → IsOrderBut kind links at order → is_of kind (link_at links at) ≡ false → IsOrderOf kind links order
+pub not_entered : (kind : OrderKind) (links : List Link) (order : List ℕ) (at : ℕ) → IsOrderBut kind links at order → is_of kind (link_at links at) ≡ false → IsOrderOf kind links order
 not_entered kind links order at o other_kind =
     same_order order o
     (λ x l. record { within = l.within; other = (let w = l.within in omega (arith, w)); of_kind = l.of_kind })
@@ -75,7 +75,7 @@ not_entered kind links order at o other_kind =
     (λ x l. refl)
 
 -- the link that an order leaves out is changed
-pub changed_but : (kind : Kind) (links others : List Link) (at : ℕ) (order : List ℕ) → length others ≡ length links → ((x : ℕ) → x ≢ at → link_at others x ≡ link_at links x)
+pub changed_but : (kind : OrderKind) (links others : List Link) (at : ℕ) (order : List ℕ) → length others ≡ length links → ((x : ℕ) → x ≢ at → link_at others x ≡ link_at links x)
     → IsOrderBut kind links at order → IsOrderBut kind others at order
 changed_but kind links others at order long same o =
     same_order order o
@@ -84,7 +84,7 @@ changed_but kind links others at order long same o =
     (λ x l. ap (λ (one : Link). (order_key kind one, x)) (same x l.other))
 
 -- one link more, which the order leaves out
-pub grown : (kind : Kind) (links : List Link) (link : Link) (order : List ℕ) → IsOrderOf kind links order → IsOrderBut kind (links ++ link ∷ []) (length links) order
+pub grown : (kind : OrderKind) (links : List Link) (link : Link) (order : List ℕ) → IsOrderOf kind links order → IsOrderBut kind (links ++ link ∷ []) (length links) order
 grown kind links link order o =
     let long : length (links ++ link ∷ []) ≡ length links + 1 = length-append links (link ∷ []) in
     let same : (x : ℕ) → x < length links → link_at (links ++ link ∷ []) x ≡ link_at links x = λ x within. get_or_append_left links (link ∷ []) no_link x within in
@@ -108,13 +108,13 @@ up_below gone x low = rw (le-ltb gone x (omega arith)) refl
 pub up_above : (gone x : ℕ) → gone < x → moved_up gone x ≡ x - 1
 up_above gone x high = rw (lt-ltb gone x high) refl
 
-pub closed : (kind : Kind) (links : List Link) (at : ℕ) (order : List ℕ) → at < length links → IsOrderBut kind links at order → IsOrderOf kind (remove links at) (map (moved_up at) order)
+pub closed : (kind : OrderKind) (links : List Link) (at : ℕ) (order : List ℕ) → at < length links → IsOrderBut kind links at order → IsOrderOf kind (remove links at) (map (moved_up at) order)
 closed kind links at order within o =
     mapped order (moved_up at) o
     (λ x l. record { within = inside x l; other = (let w = inside x l in omega (arith, w)); of_kind = ap (λ (one : Link). is_of kind one) (same x l) ∙ l.of_kind })
     (λ x y one two before.
-    subst (λ (e : Rank). is_before e (rank_at kind (remove links at) (moved_up at y)) ≡ true) (sym (entry x one))
-    (subst (λ (e : Rank). is_before (order_key kind (link_at links x), moved_up at x) e ≡ true) (sym (entry y two))
+    subst (λ (e : Key). is_before e (key_at kind (remove links at) (moved_up at y)) ≡ true) (sym (entry x one))
+    (subst (λ (e : Key). is_before (order_key kind (link_at links x), moved_up at x) e ≡ true) (sym (entry y two))
     (moved_before _ _ x y (moved_up at x) (moved_up at y) (λ less. order_kept x y one.other two.other less) before)))
     (λ y l. came y l)
   where
@@ -141,7 +141,7 @@ closed kind links at order within o =
               )
         ]
 
-    entry : (x : ℕ) → IsListed kind links at x → rank_at kind (remove links at) (moved_up at x) ≡ (order_key kind (link_at links x), moved_up at x)
+    entry : (x : ℕ) → IsListed kind links at x → key_at kind (remove links at) (moved_up at x) ≡ (order_key kind (link_at links x), moved_up at x)
     entry x l = ap (λ (one : Link). (order_key kind one, moved_up at x)) (same x l)
 
     order_kept : (x y : ℕ) → x ≢ at → y ≢ at → x < y → moved_up at x < moved_up at y
@@ -171,7 +171,7 @@ closed kind links at order within o =
         ]
 
 -- a link is changed, and not in what its order goes by
-pub kept_order : (kind : Kind) (links : List Link) (at : ℕ) (link : Link) (order : List ℕ) → at < length links → order_key kind link ≡ order_key kind (link_at links at) → is_of kind link ≡ is_of kind (link_at links at)
+pub kept_order : (kind : OrderKind) (links : List Link) (at : ℕ) (link : Link) (order : List ℕ) → at < length links → order_key kind link ≡ order_key kind (link_at links at) → is_of kind link ≡ is_of kind (link_at links at)
     → IsOrderOf kind links order → IsOrderOf kind (set links at link) order
 kept_order kind links at link order within same_key same_kind o =
     let long : length (set links at link) ≡ length links = length-set links at link in
@@ -192,7 +192,7 @@ kept_order kind links at link order within same_key same_kind o =
       | inr other ↦ ap (λ (one : Link). order_key kind one) (get_or-set_other links at x link no_link other)
     ]
 
-pub kept_by : (kind : Kind) (f : Link → Link) → ((x : Link) → order_key kind (f x) ≡ order_key kind x) → ((x : Link) → is_of kind (f x) ≡ is_of kind x) → (links : List Link) (at : ℕ) (x y : Link) (order : List ℕ)
+pub kept_by : (kind : OrderKind) (f : Link → Link) → ((x : Link) → order_key kind (f x) ≡ order_key kind x) → ((x : Link) → is_of kind (f x) ≡ is_of kind x) → (links : List Link) (at : ℕ) (x y : Link) (order : List ℕ)
     → at < length links → x ≡ get_or links at x → y ≡ f x → IsOrderOf kind links order → IsOrderOf kind (set links at y) order
 kept_by kind f same_key same_kind links at x y order within is changed o =
     let here = link_here links at x within is in
@@ -201,7 +201,7 @@ kept_by kind f same_key same_kind links at x y order within is changed o =
     (ap (λ (one : Link). is_of kind one) changed ∙ same_kind x ∙ ap (λ (one : Link). is_of kind one) here) o
 
 -- the order of a view of links
-pub no_order : (kind : Kind) (links : List Link) (order : List ℕ) → links ≡ [] → order ≡ [] → IsOrderOf kind links order
+pub no_order : (kind : OrderKind) (links : List Link) (order : List ℕ) → links ≡ [] → order ≡ [] → IsOrderOf kind links order
 no_order kind links order none empty =
     record {
       each = λ k inside. absurd (let zero_long = ap length empty in omega (arith, inside, zero_long));

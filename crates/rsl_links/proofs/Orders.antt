@@ -5,31 +5,31 @@ use Rattle.std.proofs.lemmas.Bool.{false≢true, cases_lt, cases_eq}
 use Rattle.std.proofs.lemmas.List.{length-drop, length-map, get_or-map, drop_at, take_at}
 use Rattle.std.proofs.lemmas.List.Edits.{get_or-insert_at, get_or-insert_below, get_or-insert_above, get_or-remove_below, get_or-remove_above, length-insert, length-remove}
 use Rattle.rsl_links.specs.declared.slots.Slot.{Slot}
-use Rattle.rsl_links.specs.declared.order.Kind.{Kind}
-use Rattle.rsl_links.specs.Lines.{IsSearchable, slot_rank}
-use Rattle.rsl_links.specs.Order.{Rank, is_before, IsSplit, IsOrder, Stands}
+use Rattle.rsl_links.specs.declared.order.OrderKind.{OrderKind}
+use Rattle.rsl_links.specs.Ranked.{IsSearchable, slot_key}
+use Rattle.rsl_links.specs.Order.{Key, is_before, IsSplit, IsOrder, Stands}
 use Rattle.rsl_links.proofs.Before.{not_self, chain}
 
 -- the halves of a search
-pub low_part : (kind : Kind) (slots : List Slot) (order : List ℕ) → IsSearchable kind slots order → (target : Rank) (middle : ℕ) → middle < length order → is_before (slot_rank kind slots (get_or order middle 0)) target ≡ true
-    → (k : ℕ) → k < middle + 1 → is_before (slot_rank kind slots (get_or order k 0)) target ≡ true
+pub low_part : (kind : OrderKind) (slots : List Slot) (order : List ℕ) → IsSearchable kind slots order → (target : Key) (middle : ℕ) → middle < length order → is_before (slot_key kind slots (get_or order middle 0)) target ≡ true
+    → (k : ℕ) → k < middle + 1 → is_before (slot_key kind slots (get_or order k 0)) target ≡ true
 low_part kind slots order o target middle within low k upto =
     elim (cases_eq k middle) [
-      | inl same ↦ ap (λ n. is_before (slot_rank kind slots (get_or order n 0)) target) same ∙ low
-      | inr other ↦ chain (slot_rank kind slots (get_or order k 0)) (slot_rank kind slots (get_or order middle 0)) target (o.rises k middle (omega (arith, other)) within) low
+      | inl same ↦ ap (λ n. is_before (slot_key kind slots (get_or order n 0)) target) same ∙ low
+      | inr other ↦ chain (slot_key kind slots (get_or order k 0)) (slot_key kind slots (get_or order middle 0)) target (o.rises k middle (omega (arith, other)) within) low
     ]
 
-pub high_part : (kind : Kind) (slots : List Slot) (order : List ℕ) → IsSearchable kind slots order → (target : Rank) (middle : ℕ) → is_before (slot_rank kind slots (get_or order middle 0)) target ≡ false
-    → (k : ℕ) → middle ≤ k → k < length order → is_before (slot_rank kind slots (get_or order k 0)) target ≡ false
+pub high_part : (kind : OrderKind) (slots : List Slot) (order : List ℕ) → IsSearchable kind slots order → (target : Key) (middle : ℕ) → is_before (slot_key kind slots (get_or order middle 0)) target ≡ false
+    → (k : ℕ) → middle ≤ k → k < length order → is_before (slot_key kind slots (get_or order k 0)) target ≡ false
 high_part kind slots order o target middle high k from within =
     elim (cases_eq k middle) [
-      | inl same ↦ ap (λ n. is_before (slot_rank kind slots (get_or order n 0)) target) same ∙ high
-      | inr other ↦ by_cases (is_before (slot_rank kind slots (get_or order k 0)) target) refl (omega (arith, other))
+      | inl same ↦ ap (λ n. is_before (slot_key kind slots (get_or order n 0)) target) same ∙ high
+      | inr other ↦ by_cases (is_before (slot_key kind slots (get_or order k 0)) target) refl (omega (arith, other))
     ]
   where
-    by_cases : (b : Bool) → is_before (slot_rank kind slots (get_or order k 0)) target ≡ b → middle < k → is_before (slot_rank kind slots (get_or order k 0)) target ≡ false
+    by_cases : (b : Bool) → is_before (slot_key kind slots (get_or order k 0)) target ≡ b → middle < k → is_before (slot_key kind slots (get_or order k 0)) target ≡ false
     by_cases true e past =
-        absurd (false≢true (sym high ∙ chain (slot_rank kind slots (get_or order middle 0)) (slot_rank kind slots (get_or order k 0)) target (o.rises middle k past within) e))
+        absurd (false≢true (sym high ∙ chain (slot_key kind slots (get_or order middle 0)) (slot_key kind slots (get_or order k 0)) target (o.rises middle k past within) e))
     by_cases false e past = e
 
 -- a number put before the others, after they were turned to the left and before they are turned back
@@ -45,8 +45,8 @@ turned_in xs turned more after place at long left put right one within =
     ∙ ap (λ ys. take place xs ++ ys) (take_at (at ∷ drop place xs) (take place xs) (long - place) head)
 
 -- where the last stands before an entry, all do
-pub split_at_end : (kind : Kind) (slots : List Slot) (order : List ℕ) → IsSearchable kind slots order → (target : Rank) (end : ℕ) → end ≡ length order → 0 < end
-    → is_before (slot_rank kind slots (get_or order (end - 1) 0)) target ≡ true → IsSplit (slot_rank kind slots) order target end
+pub split_at_end : (kind : OrderKind) (slots : List Slot) (order : List ℕ) → IsSearchable kind slots order → (target : Key) (end : ℕ) → end ≡ length order → 0 < end
+    → is_before (slot_key kind slots (get_or order (end - 1) 0)) target ≡ true → IsSplit (slot_key kind slots) order target end
 split_at_end kind slots order o target end long some low =
     record {
       within = omega (arith, long);
@@ -79,7 +79,7 @@ read_more order at k x within inside =
       ]
     ]
 
-module _ {listed : ℕ → Type 0} {entry : ℕ → Rank} (order : List ℕ) (o : IsOrder listed entry order) where
+module _ {listed : ℕ → Type 0} {entry : ℕ → Key} (order : List ℕ) (o : IsOrder listed entry order) where
   -- two places hold different numbers
   pub apart : (j k : ℕ) → j < k → k < length order → get_or order j 0 ≢ get_or order k 0
   apart j k past within same =
@@ -204,7 +204,7 @@ module _ {listed : ℕ → Type 0} {entry : ℕ → Rank} (order : List ℕ) (o 
       both a b one two h = rw (one, two) h
 
 -- an order of the same numbers, whose entries are the same
-pub same_order : {listed P : ℕ → Type 0} {entry other : ℕ → Rank} (order : List ℕ) → IsOrder listed entry order
+pub same_order : {listed P : ℕ → Type 0} {entry other : ℕ → Key} (order : List ℕ) → IsOrder listed entry order
     → ((x : ℕ) → listed x → P x) → ((x : ℕ) → P x → listed x) → ((x : ℕ) → listed x → other x ≡ entry x) → IsOrder P other order
 same_order order o into from same =
     record {
@@ -220,7 +220,7 @@ pub record Came (listed : ℕ → Type 0) (becomes : ℕ → ℕ) (y : ℕ) : Ty
   pub listed_there : listed from
   pub is : becomes from ≡ y
 
-pub mapped : {listed P : ℕ → Type 0} {entry other : ℕ → Rank} (order : List ℕ) (f : ℕ → ℕ) → IsOrder listed entry order
+pub mapped : {listed P : ℕ → Type 0} {entry other : ℕ → Key} (order : List ℕ) (f : ℕ → ℕ) → IsOrder listed entry order
     → ((x : ℕ) → listed x → P (f x))
     → ((x y : ℕ) → listed x → listed y → is_before (entry x) (entry y) ≡ true → is_before (other (f x)) (other (f y)) ≡ true)
     → ((y : ℕ) → P y → Came listed f y) → IsOrder P other (map f order)

@@ -2,6 +2,7 @@
 use Rattle.std.proofs.Common.{◌≡◌, ◌≢◌, ℕ, zero, suc, ◌<◌, ◌≤◌, List, [], ◌∷◌, take, set, get_or, length, map, refl, ap, sym, ◌∙◌, subst, arith, inl, inr}
 use Rattle.std.proofs.lemmas.Bool.{cases_lt, cases_eq}
 use Rattle.std.proofs.lemmas.List.{get_or_default, get_or-map, get_or-set_other, get_or-set_same, get_or-take, length-map, length-set, length-take-le}
+use Rattle.std.specs.Prelude.{vec_capacity}
 use Rattle.rsl_links.specs.declared.link.Link.{Link}
 use Rattle.rsl_links.specs.declared.slots.Slot.{Slot}
 use Rattle.rsl_links.specs.First.{change_at}
@@ -112,6 +113,10 @@ same_placed slots others places count p long rising =
 
 pub long_links : (slots : Slots) → IsKept slots → length (links_of slots) ≡ slots.count
 long_links slots k = length-map (opened_of slots) (link_in slots.slots.items) ∙ long_opened slots.slots.items slots.places.items slots.count k.placed
+
+-- no more links than there is room for
+pub few_links : (slots : Slots) → IsKept slots → slots.count ≤ vec_capacity slots.slots
+few_links slots k = let few = k.placed.few in let fit = k.fit in omega (arith, few, fit)
 
 -- the same of the fields of slots
 pub changed : (slots : Slots) → IsKept slots → (f : Link → Link) (at slot : ℕ) → at < slots.count → slot ≡ get_or (opened_of slots) at 0 → (x : Slot) (y : Link) → x ≡ get_or slots.slots.items slot x → y ≡ f x.link

@@ -1,6 +1,6 @@
 -- What the first of an order tells of the others: none lapses where it does not, and none was touched before it.
 use Rattle.std.proofs.Common.{◌≡◌, ℕ, zero, suc, ◌-◌, ◌<◌, ◌≤◌, List, ◌∷◌, [], get_or, length, Bool, true, false, refl, ap, sym, ◌∙◌, subst, arith, inl, inr, ◌⊎◌}
-use Rattle.std.specs.Prelude.{nat_le, ◌==◌}
+use Rattle.std.specs.Prelude.{Option, Some, None, IfNone, is_some, nat_le, ◌==◌}
 use Rattle.std.proofs.lemmas.Bool.{false≢true, cases_lt, cases_eq, eqb-true, lt-leb, le-leb}
 use Rattle.rsl_accounts.specs.declared.rules.Rules.{Rules}
 use Rattle.rsl_event.specs.declared.nas.Nas.{Nas}
@@ -8,9 +8,9 @@ use Rattle.rsl_session.specs.BookLinks.{lapses_at, time_of}
 use Rattle.rsl_links.specs.declared.link.Link.{Link}
 use Rattle.rsl_links.specs.declared.link.Hold.{Hold}
 use Rattle.rsl_links.specs.declared.link.Hold.TheVariants.{Number, Session}
-use Rattle.rsl_links.specs.declared.order.Kind.{Kind}
-use Rattle.rsl_links.specs.declared.order.Kind.TheVariants.{Reserved, Bound, Numbers, Sessions, Bundles}
-use Rattle.rsl_links.specs.Order.{rank_at, is_before, is_by_touch, holds_number, is_of, holds_session, link_at, IsOrderOf}
+use Rattle.rsl_links.specs.declared.order.OrderKind.{OrderKind}
+use Rattle.rsl_links.specs.declared.order.OrderKind.TheVariants.{Reserved, Bound, Sessions, Bundles}
+use Rattle.rsl_links.specs.Order.{key_at, is_before, is_by_touch, holds_number, is_of, holds_session, link_at, IsOrderOf}
 use Rattle.rsl_links.specs.LinkList.{IsOldest}
 use Rattle.rsl_links.specs.Seen.{holder_at, link_seen, server_at}
 use Rattle.rsl_links.proofs.Before.{touched_order}
@@ -25,10 +25,9 @@ sessions_alike rules n m (Session a) (Session b) one two = refl
 sessions_alike rules n m (Session a) (Number b) one two = absurd (false≢true two)
 sessions_alike rules n m (Number a) b one two = absurd (false≢true one)
 
-time_kept : (rules : Rules) (kind : Kind) → is_by_touch kind ≡ true → (n m : Nas) (f x : Link) → is_of kind f ≡ true → is_of kind x ≡ true → time_of rules (holder_at n f.hold) ≡ time_of rules (holder_at m x.hold)
+time_kept : (rules : Rules) (kind : OrderKind) → is_by_touch kind ≡ true → (n m : Nas) (f x : Link) → is_of kind f ≡ true → is_of kind x ≡ true → time_of rules (holder_at n f.hold) ≡ time_of rules (holder_at m x.hold)
 time_kept rules Reserved is n m f x one two = numbers_alike rules n m f.hold x.hold one two
 time_kept rules Bound is n m f x one two = sessions_alike rules n m f.hold x.hold one two
-time_kept rules Numbers is n m f x one two = absurd (false≢true is)
 time_kept rules Sessions is n m f x one two = absurd (false≢true is)
 time_kept rules Bundles is n m f x one two = absurd (false≢true is)
 
@@ -39,23 +38,22 @@ stays time a b now later none =
       | inr high ↦ absurd (false≢true (sym none ∙ le-leb time (now - a) (omega (arith, high, later))))
     ]
 
-later_stays : (servers : List Nas) (rules : Rules) (now : ℕ) (kind : Kind) → is_by_touch kind ≡ true → (f x : Link) → is_of kind f ≡ true → is_of kind x ≡ true → f.touched ≤ x.touched
+later_stays : (servers : List Nas) (rules : Rules) (now : ℕ) (kind : OrderKind) → is_by_touch kind ≡ true → (f x : Link) → is_of kind f ≡ true → is_of kind x ≡ true → f.touched ≤ x.touched
     → lapses_at rules now (link_seen servers f) ≡ false → lapses_at rules now (link_seen servers x) ≡ false
 unfolding lapses_at link_seen
 later_stays servers rules now kind is f x one two later none =
     let time = time_kept rules kind is (server_at servers f.nas) (server_at servers x.nas) f x one two in
     stays _ f.touched x.touched now later (sym (ap (λ t. nat_le t (now - f.touched)) time) ∙ none)
 
-by_touch : (kind : Kind) → is_by_touch kind ≡ true → (links : List Link) (a b : ℕ) → is_before (rank_at kind links a) (rank_at kind links b) ≡ true
-    → is_before ((link_at links a).touched ∷ 0 ∷ [], a) ((link_at links b).touched ∷ 0 ∷ [], b) ≡ true
+by_touch : (kind : OrderKind) → is_by_touch kind ≡ true → (links : List Link) (a b : ℕ) → is_before (key_at kind links a) (key_at kind links b) ≡ true
+    → is_before ((link_at links a).touched ∷ [], a) ((link_at links b).touched ∷ [], b) ≡ true
 by_touch Reserved is links a b h = h
 by_touch Bound is links a b h = h
-by_touch Numbers is links a b h = absurd (false≢true is)
 by_touch Sessions is links a b h = absurd (false≢true is)
 by_touch Bundles is links a b h = absurd (false≢true is)
 
 -- the first of an order was touched no later than any other
-pub first_touched : (kind : Kind) → is_by_touch kind ≡ true → (links : List Link) (order : List ℕ) → IsOrderOf kind links order → (x : ℕ) → x < length links → is_of kind (link_at links x) ≡ true
+pub first_touched : (kind : OrderKind) → is_by_touch kind ≡ true → (links : List Link) (order : List ℕ) → IsOrderOf kind links order → (x : ℕ) → x < length links → is_of kind (link_at links x) ≡ true
     → (x ≡ get_or order 0 0) ⊎ (((link_at links (get_or order 0 0)).touched < (link_at links x).touched)
     ⊎ (((link_at links (get_or order 0 0)).touched ≡ (link_at links x).touched) × (get_or order 0 0 < x)))
 first_touched kind is links order o x within here =
@@ -63,10 +61,10 @@ first_touched kind is links order o x within here =
     elim (cases_eq s.at zero) [
       | inl same ↦ inl (sym s.is ∙ ap (λ n. get_or order n 0) same)
       | inr other ↦ inr (touched_order (link_at links (get_or order 0 0)).touched (link_at links x).touched (get_or order 0 0) x
-          (by_touch kind is links (get_or order 0 0) x (subst (λ n. is_before (rank_at kind links (get_or order 0 0)) (rank_at kind links n) ≡ true) s.is (o.rises zero s.at (omega (arith, other)) s.within))))
+          (by_touch kind is links (get_or order 0 0) x (subst (λ n. is_before (key_at kind links (get_or order 0 0)) (key_at kind links n) ≡ true) s.is (o.rises zero s.at (omega (arith, other)) s.within))))
     ]
 
-pub none_lapses : (servers : List Nas) (rules : Rules) (now : ℕ) (kind : Kind) → is_by_touch kind ≡ true → (links : List Link) (order : List ℕ) → IsOrderOf kind links order → 0 < length order
+pub none_lapses : (servers : List Nas) (rules : Rules) (now : ℕ) (kind : OrderKind) → is_by_touch kind ≡ true → (links : List Link) (order : List ℕ) → IsOrderOf kind links order → 0 < length order
     → lapses_at rules now (link_seen servers (link_at links (get_or order 0 0))) ≡ false
     → (x : ℕ) → x < length links → is_of kind (link_at links x) ≡ true → lapses_at rules now (link_seen servers (link_at links x)) ≡ false
 none_lapses servers rules now kind is links order o some none x within here =
@@ -79,7 +77,7 @@ none_lapses servers rules now kind is links order o some none x within here =
     ]
 
 -- an empty order has no links of its kind
-pub none_of : (kind : Kind) (links : List Link) (order : List ℕ) → IsOrderOf kind links order → length order ≡ 0 → (x : ℕ) → x < length links → is_of kind (link_at links x) ≡ false
+pub none_of : (kind : OrderKind) (links : List Link) (order : List ℕ) → IsOrderOf kind links order → length order ≡ 0 → (x : ℕ) → x < length links → is_of kind (link_at links x) ≡ false
 none_of kind links order o empty x within = by_cases (is_of kind (link_at links x)) refl where
   by_cases : (b : Bool) → is_of kind (link_at links x) ≡ b → is_of kind (link_at links x) ≡ false
   by_cases true e =
@@ -114,3 +112,27 @@ some_there (suc n) r is none = omega arith
 
 pub none_there : (n : ℕ) (r : Bool) → r ≡ (n == 0) → r ≡ true → n ≡ 0
 none_there n r is all = eqb-true n 0 (sym is ∙ all)
+
+-- no link lapses where none of those that are reserved does, and none of those that are bound
+each_hold : (hold : Hold) → (holds_number hold ≡ true) ⊎ (holds_session hold ≡ true)
+each_hold (Number number) = inl refl
+each_hold (Session id) = inr refl
+
+pub none_lapses_of_both : (servers : List Nas) (rules : Rules) (now : ℕ) (links : List Link) (one two : OrderKind) → one ≡ Reserved → two ≡ Bound
+    → ((at : ℕ) → at < length links → is_of one (link_at links at) ≡ true → lapses_at rules now (link_seen servers (link_at links at)) ≡ false)
+    → ((at : ℕ) → at < length links → is_of two (link_at links at) ≡ true → lapses_at rules now (link_seen servers (link_at links at)) ≡ false)
+    → (at : ℕ) → at < length links → lapses_at rules now (link_seen servers (link_at links at)) ≡ false
+none_lapses_of_both servers rules now links one two reserved bound none_reserved none_bound at within =
+    elim (each_hold (link_at links at).hold) [
+      | inl is ↦ none_reserved at within (ap (λ (kind : OrderKind). is_of kind (link_at links at)) reserved ∙ is)
+      | inr is ↦ none_bound at within (ap (λ (kind : OrderKind). is_of kind (link_at links at)) bound ∙ is)
+    ]
+
+-- what stands where nothing was found
+pub where_none : (found : Option ℕ) (P : Type 0) → is_some found ≡ false → IfNone found P → P
+where_none None P none then = then
+where_none (Some at) P none then = absurd (false≢true (sym none))
+
+pub not_none : (found : Option ℕ) (P : Type 0) → is_some found ≡ true → IfNone found P
+not_none None P some = absurd (false≢true some)
+not_none (Some at) P some = tt

@@ -10,7 +10,7 @@ use Rattle.rsl_session.specs.Book.{BookLink, is_bound, is_live_at, is_reservatio
 use Rattle.rsl_links.specs.declared.link.Link.{Link}
 use Rattle.rsl_links.specs.declared.link.Hold.{Hold}
 use Rattle.rsl_links.specs.declared.link.Hold.TheVariants.{Number, Session}
-use Rattle.rsl_links.specs.declared.order.Kind.TheVariants.{Reserved, Bound}
+use Rattle.rsl_links.specs.declared.order.OrderKind.TheVariants.{Reserved, Bound}
 use Rattle.rsl_links.specs.LinkList.{is_bound_until}
 use Rattle.rsl_links.specs.Order.{holds_number, holds_session, is_of}
 use Rattle.rsl_links.specs.Seen.{holder_at, link_seen, links_seen, server_at}

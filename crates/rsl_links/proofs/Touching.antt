@@ -1,6 +1,7 @@
 -- The places that links take, where one opens, or an alive touches one.
 use Rattle.std.proofs.Common.{◌≡◌, ℕ, ◌+◌, ◌-◌, ◌<◌, ◌≤◌, List, [], ◌∷◌, ◌++◌, set, get_or, length, Bool, true, false, cond, not, refl, ap, sym, ◌∙◌, arith}
 use Rattle.std.specs.Prelude.{Option, is_none}
+use Rattle.std.specs.Int.{from_bool}
 use Rattle.rsl_event.specs.declared.nas.Nas.{Nas}
 use Rattle.rsl_session.specs.Places.{places_of}
 use Rattle.rsl_session.specs.Book.{bundles_in}
@@ -51,3 +52,8 @@ joined_within false places new old is sum = omega arith
 pub joined_less : (b : Bool) (places new old : ℕ) → places ≡ old → new + cond b 1 0 ≡ old → places - cond b 1 0 ≡ new
 joined_less true places new old is sum = omega arith
 joined_less false places new old is sum = omega arith
+
+-- what a test counts
+pub one_of : (b : Bool) (n : ℕ) → n ≡ from_bool b → n ≡ cond b 1 0
+one_of true n is = is
+one_of false n is = is

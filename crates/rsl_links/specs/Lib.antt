@@ -5,7 +5,7 @@ pub mod Counted
 pub mod Named
 pub mod Order
 pub mod Slots
-pub mod Lines
+pub mod Ranked
 pub mod LinkList
 pub mod Steps
-pub mod Marks
+pub mod Fingerprints

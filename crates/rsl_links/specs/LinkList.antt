@@ -1,7 +1,7 @@
 -- What a contract sees of a list of links: the links in the order in which they opened, and the
 -- room for them. Inside, its orders list the slots of the reserved links and of those that are
--- bound, by their last touch, of those that are reserved, by their accept numbers, and of all, by
--- their sessions and by their bundles.
+-- bound, by their last touch, of those that are bound, by their sessions, and of those in a bundle,
+-- by it.
 use Rattle.std.specs.Prelude.{◌≡◌, ℕ, ◌<◌, ◌≤◌, ◌==◌, ◌&&◌, nat_le, List, [], Bool, true, false, Option, None, Some, vec_capacity, length}
 use Rattle.std.specs.VecDeque.{deque_capacity}
 use Rattle.rsl_session.specs.Same.{same_octets}
@@ -10,9 +10,9 @@ use Rattle.rsl_links.specs.declared.link.Hold.TheVariants.{Number, Session}
 use Rattle.rsl_links.specs.declared.link.Link.{Link}
 use Rattle.rsl_links.specs.declared.list.LinkList.TheInside.{Inside}
 use Rattle.rsl_links.specs.declared.list.Orders.{Orders}
-use Rattle.rsl_links.specs.declared.order.Kind.TheVariants.{Reserved, Bound, Numbers, Sessions, Bundles}
+use Rattle.rsl_links.specs.declared.order.OrderKind.TheVariants.{Reserved, Bound, Sessions, Bundles}
 use Rattle.rsl_links.specs.declared.slots.Slots.{Slots}
-use Rattle.rsl_links.specs.Lines.{IsLineBut}
+use Rattle.rsl_links.specs.Ranked.{IsRankedBut}
 use Rattle.rsl_links.specs.Order.{holds_session, link_at}
 use Rattle.rsl_links.specs.Slots.{IsKept, links_of}
 
@@ -23,39 +23,47 @@ pub record RoomyList : Type 0 where
 abbrev pub list_seen : Inside → RoomyList
 list_seen list = record { items = links_of list.slots; room = vec_capacity list.slots.slots }
 
+-- each order has a kind of its own
+pub record HaveKinds (orders : Orders) : Type 0 where
+  pub reserved : orders.reserved.kind ≡ Reserved
+  pub bound : orders.bound.kind ≡ Bound
+  pub sessions : orders.sessions.kind ≡ Sessions
+  pub bundles : orders.bundles.kind ≡ Bundles
+
 -- the orders list the links of their kinds, but for one; and all of them
 pub record AreOrdersBut (slots : Slots) (but : ℕ) (orders : Orders) : Type 0 where
-  pub reserved : IsLineBut Reserved slots but orders.reserved.items
-  pub bound : IsLineBut Bound slots but orders.bound.items
-  pub numbers : IsLineBut Numbers slots but orders.numbers.items
-  pub sessions : IsLineBut Sessions slots but orders.sessions.items
-  pub bundles : IsLineBut Bundles slots but orders.bundles.items
+  pub reserved : IsRankedBut slots but orders.reserved
+  pub bound : IsRankedBut slots but orders.bound
+  pub sessions : IsRankedBut slots but orders.sessions
+  pub bundles : IsRankedBut slots but orders.bundles
 
 abbrev pub AreOrders : Slots → Orders → Type 0
 AreOrders slots orders = AreOrdersBut slots (length (links_of slots)) orders
 
 pub record AreNoOrders (orders : Orders) : Type 0 where
-  pub reserved : orders.reserved.items ≡ []
-  pub bound : orders.bound.items ≡ []
-  pub numbers : orders.numbers.items ≡ []
-  pub sessions : orders.sessions.items ≡ []
-  pub bundles : orders.bundles.items ≡ []
+  pub reserved : orders.reserved.slots.items ≡ []
+  pub bound : orders.bound.slots.items ≡ []
+  pub sessions : orders.sessions.slots.items ≡ []
+  pub bundles : orders.bundles.slots.items ≡ []
 
 -- each order has room for so many links
 pub record HaveOrdersRoom (most : ℕ) (orders : Orders) : Type 0 where
-  pub reserved : most ≤ deque_capacity orders.reserved
-  pub bound : most ≤ deque_capacity orders.bound
-  pub numbers : most ≤ deque_capacity orders.numbers
-  pub sessions : most ≤ deque_capacity orders.sessions
-  pub bundles : most ≤ deque_capacity orders.bundles
+  pub reserved : most ≤ deque_capacity orders.reserved.slots
+  pub bound : most ≤ deque_capacity orders.bound.slots
+  pub sessions : most ≤ deque_capacity orders.sessions.slots
+  pub bundles : most ≤ deque_capacity orders.bundles.slots
 
 pub record IsRanked (list : Inside) : Type 0 where
   pub kept : IsKept list.slots
+  pub kinds : HaveKinds list.orders
   pub orders : AreOrders list.slots list.orders
   pub room : HaveOrdersRoom (vec_capacity list.slots.slots) list.orders
 
--- whether a link at the access server of a place is bound to the session of this id, is reserved by
--- a number that a class names, or is in the bundle of this id
+-- whether a link at the access server of an index is bound, is bound to the session of this id, is
+-- reserved by a number that a class names, or is in the bundle of this id
+unfoldable pub is_bound_at : ℕ → Link → Bool
+is_bound_at nas link = holds_session link.hold && link.nas == nas
+
 abbrev pub is_id : List ℕ → Hold → Bool
 is_id id (Number number) = false
 is_id id (Session own) = same_octets own id

@@ -5,6 +5,7 @@ ghost use Rattle.rsl_session.specs.Book.{is_stale_at};
 ghost use Rattle.rsl_session.specs.BookLinks.{lapses_at};
 ghost use Rattle.rsl_links.specs.Seen.{link_seen};
 ghost use Rattle.rsl_links.specs.Changed.{bound_link, joined_link, renewed_link};
+ghost use Rattle.rsl_links.specs.LinkList.{is_for};
 
 use crate::servers::Servers;
 use rsl_accounts::Rules;
@@ -33,17 +34,17 @@ impl Hold {
     }
 }
 
-/// A link of a book.
+/// A link of a book. What most look-ups read stands first, so that it lies in one line of memory.
 #[derive(Drop)]
 pub struct Link {
-    /// Its access server, by its place in the table.
+    /// Its access server, by its index in the table.
     pub nas: usize,
+    /// The clock at its last touch.
+    pub touched: u64,
     /// What has it.
     pub hold: Hold,
     /// Its bundle, by its Acct-Multi-Session-Id, if it is in one.
     pub bundle: Option<Octets>,
-    /// The clock at its last touch.
-    pub touched: u64,
 }
 
 impl Link {
@@ -103,9 +104,22 @@ impl Link {
         servers.is_at(self.nas, nas)
     }
 
+    /// Whether it is reserved at the access server of an index, by the number that a class names if
+    /// there is one.
+    #[tactic(auto, unfolding(crate::specs::LinkList::is_for))]
+    pub fn is_for(&self, nas: usize, class: Option<u64>) -> bool
+        ensures { result ≡ is_for nas class self.now }
+    {
+        match (&self.hold, class) {
+            (Hold::Number(number), Some(wanted)) => *number == wanted && self.nas == nas,
+            (Hold::Number(_), None) => self.nas == nas,
+            (Hold::Session(_), _) => false,
+        }
+    }
+
     /// Touches it at this clock.
     #[tactic(auto, unfolding(crate::specs::Changed::renewed_link))]
-    pub fn renew(&mut self, now: u64)
+    pub(crate) fn renew(&mut self, now: u64)
         ensures { self.new ≡ renewed_link now self.old }
     {
         self.touched = now;
@@ -113,7 +127,7 @@ impl Link {
 
     /// Puts it into the bundle of an alive, if it is in none.
     #[tactic(auto, unfolding(crate::specs::Changed::joined_link))]
-    pub fn join(&mut self, bundle: Option<Octets>)
+    pub(crate) fn join(&mut self, bundle: Option<Octets>)
         ensures { self.new ≡ joined_link bundle self.old }
     {
         if self.bundle.is_none() {
@@ -123,7 +137,7 @@ impl Link {
 
     /// Binds it to the session of this id, which touches it at this clock.
     #[tactic(auto, unfolding(crate::specs::Changed::bound_link))]
-    pub fn bind(&mut self, now: u64, id: Octets)
+    pub(crate) fn bind(&mut self, now: u64, id: Octets)
         ensures { self.new ≡ bound_link now id self.old }
     {
         self.hold = Hold::Session(id);

@@ -141,7 +141,7 @@ impl Links {
         ensures ports { self.new.ports ≡ self.old.ports }
         ensures room { self.new.list.room ≡ self.old.list.room }
     {
-        self.places += one_if(self.adds_a_place(servers, link.nas, &link.bundle));
+        self.places += u64::from(self.adds_a_place(servers, link.nas, &link.bundle));
         self.list.push(link);
     }
 
@@ -156,8 +156,9 @@ impl Links {
         ensures ports { self.new.ports ≡ self.old.ports }
         ensures room { self.new.list.room ≡ self.old.list.room }
     {
-        self.places -= one_if(self.joins_a_place(servers, at, &bundle));
-        self.list.touch(at, now, bundle);
+        self.places -= u64::from(self.joins_a_place(servers, at, &bundle));
+        self.list.join(at, bundle);
+        self.list.renew(at, now);
     }
 
     /// Takes a link for the session of this id, by an alive that may carry a bundle.
@@ -178,8 +179,9 @@ impl Links {
         ensures ports { self.new.ports ≡ self.old.ports }
         ensures room { self.new.list.room ≡ self.old.list.room }
     {
-        self.places -= one_if(self.joins_a_place(servers, at, &bundle));
-        self.list.take(at, now, id, bundle);
+        self.places -= u64::from(self.joins_a_place(servers, at, &bundle));
+        self.list.bind(at, now, id);
+        self.list.join(at, bundle);
     }
 
     /// Ends each link that lapses at this clock.

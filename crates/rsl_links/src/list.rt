@@ -5,51 +5,47 @@ ghost use Rattle.std.specs.Prelude.{count_by, drop, false, get_or, length, take,
 ghost use Rattle.std.specs.List.{list_any};
 ghost use Rattle.rsl_accounts.specs.Limits.{RulesFit};
 ghost use Rattle.rsl_session.specs.BookLinks.{lapses_at};
-ghost use Rattle.rsl_links.specs.Changed.{bound_link, joined_link, renewed_link, taken_link};
-ghost use Rattle.rsl_links.specs.Changed.{touched_link};
+ghost use Rattle.rsl_links.specs.Changed.{bound_link, joined_link, renewed_link};
 ghost use Rattle.rsl_links.specs.First.{IsFirst, change_at};
-ghost use Rattle.rsl_links.specs.Lines.{IsLineOf};
-ghost use Rattle.rsl_links.specs.Order.{is_by_touch, is_of, holds_session, link_at};
-ghost use Rattle.rsl_links.specs.Slots.{IsKept, links_of};
+ghost use Rattle.rsl_links.specs.Order.{is_of, holds_session, link_at};
+ghost use Rattle.rsl_links.specs.Slots.{IsKept};
 ghost use Rattle.rsl_links.specs.LinkList.{AreOrders, AreOrdersBut, AreNoOrders, HaveOrdersRoom};
-ghost use Rattle.rsl_links.specs.LinkList.{IsOldest};
+ghost use Rattle.rsl_links.specs.LinkList.{HaveKinds, IsOldest, is_bound_at};
 ghost use Rattle.rsl_links.specs.LinkList.{is_bound_until, is_for, is_held, is_member};
-ghost use Rattle.rsl_links.specs.declared.order.Kind.TheVariants.{Reserved, Bound};
+ghost use Rattle.rsl_links.specs.declared.order.OrderKind.TheVariants.{Reserved, Bound};
 ghost use Rattle.rsl_links.specs.Named.{named_by_links};
 ghost use Rattle.rsl_links.specs.Seen.{link_seen};
 
 use crate::link::Link;
-use crate::order::Kind;
+use crate::order::{Order, OrderKind};
 use crate::servers::Servers;
 use crate::slots::Slots;
 use rsl_accounts::Rules;
 use rsl_wire::{NoMemory, Octets};
 use std::alloc::Global;
-use std::collections::VecDeque;
 use std::marker::Model;
 
 /// The orders of a book's links.
 #[derive(Drop)]
 struct Orders {
-    reserved: VecDeque<usize>,
-    bound: VecDeque<usize>,
-    numbers: VecDeque<usize>,
-    sessions: VecDeque<usize>,
-    bundles: VecDeque<usize>,
+    reserved: Order,
+    bound: Order,
+    sessions: Order,
+    bundles: Order,
 }
 
 impl Orders {
     /// Orders of no links, with room for so many. It fails only where memory is refused.
     fn new(alloc: Global, room: usize) -> Result<Orders, NoMemory>
+        ensures kinds { IfOk result HaveKinds }
         ensures empty { IfOk result AreNoOrders }
         ensures room { IfOk result (λ orders. HaveOrdersRoom room orders) }
     {
         Ok(Orders {
-            reserved: VecDeque::with_capacity(alloc, room)?,
-            bound: VecDeque::with_capacity(alloc, room)?,
-            numbers: VecDeque::with_capacity(alloc, room)?,
-            sessions: VecDeque::with_capacity(alloc, room)?,
-            bundles: VecDeque::with_capacity(alloc, room)?,
+            reserved: Order::new(alloc, OrderKind::Reserved, room)?,
+            bound: Order::new(alloc, OrderKind::Bound, room)?,
+            sessions: Order::new(alloc, OrderKind::Sessions, room)?,
+            bundles: Order::new(alloc, OrderKind::Bundles, room)?,
         })
     }
 
@@ -58,14 +54,14 @@ impl Orders {
         requires kept { IsKept slots.now }
         requires within { at < slots.now.count }
         requires orders { AreOrders slots.now self.old }
+        ensures kinds { HaveKinds self.old → HaveKinds self.new }
         ensures orders { AreOrdersBut slots.now at self.new }
         ensures room { (most : ℕ) → HaveOrdersRoom most self.old → HaveOrdersRoom most self.new }
     {
-        Kind::Reserved.withdraw(&mut self.reserved, slots, at);
-        Kind::Bound.withdraw(&mut self.bound, slots, at);
-        Kind::Numbers.withdraw(&mut self.numbers, slots, at);
-        Kind::Sessions.withdraw(&mut self.sessions, slots, at);
-        Kind::Bundles.withdraw(&mut self.bundles, slots, at);
+        self.reserved.withdraw(slots, at);
+        self.bound.withdraw(slots, at);
+        self.sessions.withdraw(slots, at);
+        self.bundles.withdraw(slots, at);
     }
 
     /// Puts the link at a position into the orders of its kind.
@@ -74,23 +70,24 @@ impl Orders {
         requires within { at < slots.now.count }
         requires orders { AreOrdersBut slots.now at self.old }
         requires room { HaveOrdersRoom slots.now.count self.old }
+        ensures kinds { HaveKinds self.old → HaveKinds self.new }
         ensures orders { AreOrders slots.now self.new }
         ensures room { (most : ℕ) → HaveOrdersRoom most self.old → HaveOrdersRoom most self.new }
     {
-        Kind::Reserved.enter(&mut self.reserved, slots, at);
-        Kind::Bound.enter(&mut self.bound, slots, at);
-        Kind::Numbers.enter(&mut self.numbers, slots, at);
-        Kind::Sessions.enter(&mut self.sessions, slots, at);
-        Kind::Bundles.enter(&mut self.bundles, slots, at);
+        self.reserved.enter(slots, at);
+        self.bound.enter(slots, at);
+        self.sessions.enter(slots, at);
+        self.bundles.enter(slots, at);
     }
 }
 
 /// The links of a book, in the order in which they opened.
 ///
 /// The clock never falls, so the link that is touched goes to the end of its order, and those that
-/// lapse, or could yield, stand at the front. A link that ends leaves its place in each order, where
-/// others move up by a word each; no other link is looked at but those at which an order is halved
-/// to find that place.
+/// lapse, or could yield, stand at the front. A link that ends leaves its orders, where others move
+/// up by a word each; no other link is looked at but those at which an order is halved to find its
+/// rank. A reservation stands in one order alone: one ends or is bound soon after it opened, and
+/// there are at most as many as places.
 #[derive(Drop)]
 pub struct LinkList {
     slots: Slots,
@@ -155,134 +152,115 @@ impl LinkList {
     }
 
     /// Touches a link at this clock. What its session and its bundle stand by stays.
-    fn renew(&mut self, at: usize, now: u64)
+    pub fn renew(&mut self, at: usize, now: u64)
         requires { at < length self.old.items }
         ensures items { self.new.items ≡ change_at at (renewed_link now) self.old.items }
         ensures room { self.new.room ≡ self.old.room }
     {
-        Kind::Reserved.withdraw(&mut self.orders.reserved, &self.slots, at);
-        Kind::Bound.withdraw(&mut self.orders.bound, &self.slots, at);
+        self.orders.reserved.withdraw(&self.slots, at);
+        self.orders.bound.withdraw(&self.slots, at);
         self.slots.renew(at, now);
-        Kind::Reserved.enter(&mut self.orders.reserved, &self.slots, at);
-        Kind::Bound.enter(&mut self.orders.bound, &self.slots, at);
+        self.orders.reserved.enter(&self.slots, at);
+        self.orders.bound.enter(&self.slots, at);
     }
 
-    /// Binds a link to the session of this id, which touches it at this clock. What its bundle
-    /// stands by stays.
-    fn bind(&mut self, at: usize, now: u64, id: Octets)
+    /// Binds a link to the session of this id, which touches it at this clock.
+    pub fn bind(&mut self, at: usize, now: u64, id: Octets)
         requires { at < length self.old.items }
         ensures items { self.new.items ≡ change_at at (bound_link now id) self.old.items }
         ensures room { self.new.room ≡ self.old.room }
     {
-        Kind::Reserved.withdraw(&mut self.orders.reserved, &self.slots, at);
-        Kind::Bound.withdraw(&mut self.orders.bound, &self.slots, at);
-        Kind::Numbers.withdraw(&mut self.orders.numbers, &self.slots, at);
-        Kind::Sessions.withdraw(&mut self.orders.sessions, &self.slots, at);
+        self.orders.withdraw(&self.slots, at);
         self.slots.bind(at, now, id);
-        Kind::Reserved.enter(&mut self.orders.reserved, &self.slots, at);
-        Kind::Bound.enter(&mut self.orders.bound, &self.slots, at);
-        Kind::Numbers.enter(&mut self.orders.numbers, &self.slots, at);
-        Kind::Sessions.enter(&mut self.orders.sessions, &self.slots, at);
+        self.orders.enter(&self.slots, at);
     }
 
     /// Puts a link that is in no bundle into one, if an alive carries it.
-    fn join(&mut self, at: usize, bundle: Option<Octets>)
+    pub fn join(&mut self, at: usize, bundle: Option<Octets>)
         requires { at < length self.old.items }
         ensures items { self.new.items ≡ change_at at (joined_link bundle) self.old.items }
         ensures room { self.new.room ≡ self.old.room }
     {
-        // A link whose bundle stays keeps its place in the order of bundles.
+        // A link whose bundle stays keeps its rank in the order of bundles.
         if bundle.is_some() && self.slots.link(at).bundle.is_none() {
-            Kind::Bundles.withdraw(&mut self.orders.bundles, &self.slots, at);
+            self.orders.bundles.withdraw(&self.slots, at);
             self.slots.join(at, bundle);
-            Kind::Bundles.enter(&mut self.orders.bundles, &self.slots, at);
+            self.orders.bundles.enter(&self.slots, at);
         }
     }
 
-    /// Touches a link, by an alive that may carry a bundle.
-    pub fn touch(&mut self, at: usize, now: u64, bundle: Option<Octets>)
-        requires { at < length self.old.items }
-        ensures items { self.new.items ≡ change_at at (touched_link now bundle) self.old.items }
-        ensures room { self.new.room ≡ self.old.room }
-    {
-        self.join(at, bundle);
-        self.renew(at, now);
-    }
-
-    /// Takes a link for the session of this id, by an alive that may carry a bundle.
-    pub fn take(&mut self, at: usize, now: u64, id: Octets, bundle: Option<Octets>)
-        requires { at < length self.old.items }
-        ensures items { self.new.items ≡ change_at at (taken_link now id bundle) self.old.items }
-        ensures room { self.new.room ≡ self.old.room }
-    {
-        self.join(at, bundle);
-        self.bind(at, now, id);
-    }
-
-    /// The first link that is bound to the session of this id at the access server of a place.
+    /// The position of the first link that is bound to the session of this id at the access server
+    /// of an index.
     pub fn session(&self, nas: usize, id: &[u8]) -> Option<usize>
         ensures found { IfSome result (λ at. IsFirst (is_held nas id.now) self.now.items at) }
         ensures missed { IfNone result (list_any (is_held nas id.now) self.now.items ≡ false) }
     {
-        Kind::Sessions.first_of(&self.orders.sessions, &self.slots, nas as u64, 1, id)
+        self.orders.sessions.first_of(&self.slots, nas as u64, id)
     }
 
-    /// The first link that is reserved at the access server of a place, by the number that a class
-    /// names if there is one.
+    /// The position of the first link that is reserved at the access server of an index, by the
+    /// number that a class names if there is one.
     pub fn reservation(&self, nas: usize, class: Option<u64>) -> Option<usize>
         ensures found { IfSome result (λ at. IsFirst (is_for nas class) self.now.items at) }
         ensures missed { IfNone result (list_any (is_for nas class) self.now.items ≡ false) }
     {
-        let slots = &self.slots;
-        match class {
-            None => Kind::Sessions.first_of(&self.orders.sessions, slots, nas as u64, 0, &[]),
-            Some(number) => {
-                Kind::Numbers.first_of(&self.orders.numbers, slots, number, nas as u64, &[])
-            }
-        }
+        self.orders
+            .reserved
+            .first_reservation(&self.slots, nas, class)
     }
 
     /// How many links are reserved.
     pub fn reserved(&self) -> usize
         ensures { result ≡ count_by (is_of Reserved) self.now.items }
     {
-        self.orders.reserved.len()
+        self.orders.reserved.slots.len()
     }
 
     /// How many links are bound.
     pub fn bound(&self) -> usize
         ensures { result ≡ count_by (is_of Bound) self.now.items }
     {
-        self.orders.bound.len()
+        self.orders.bound.slots.len()
     }
 
     /// How many links are bound, and were touched at this clock or before.
     pub fn bound_until(&self, clock: u64) -> usize
         ensures { result ≡ count_by (is_bound_until clock) self.now.items }
     {
-        Kind::Bound.count_before(&self.orders.bound, &self.slots, clock, 0, &[], u64::MAX)
+        let order = &self.orders.bound;
+        order.count_before(&self.slots, clock, &[], u64::MAX)
     }
 
-    /// How many links are in the bundle of this id at the access server of a place.
+    /// How many links are in the bundle of this id at the access server of an index.
     pub fn members(&self, nas: usize, id: &[u8]) -> usize
         ensures { result ≡ count_by (is_member nas id.now) self.now.items }
     {
         let order = &self.orders.bundles;
-        let first = Kind::Bundles.count_before(order, &self.slots, nas as u64, 1, id, 0);
-        let end = Kind::Bundles.count_before(order, &self.slots, nas as u64, 1, id, u64::MAX);
+        let first = order.count_before(&self.slots, nas as u64, id, 0);
+        let end = order.count_before(&self.slots, nas as u64, id, u64::MAX);
         end - first
     }
 
-    /// Whether a link names a place of the table of access servers.
+    /// Whether a bound link names an index of the table of access servers.
+    fn sessions_name(&self, nas: usize) -> bool
+        ensures { result ≡ list_any (is_bound_at nas) self.now.items }
+    {
+        let order = &self.orders.sessions;
+        let rank = order.count_before(&self.slots, nas as u64, &[], 0);
+        if rank == order.slots.len() {
+            return false;
+        }
+        self.slots.slots[order.slots[rank]].link.nas == nas
+    }
+
+    /// Whether a link names an index of the table of access servers.
     pub fn names(&self, nas: usize) -> bool
         ensures { result ≡ named_by_links self.now.items nas }
     {
-        let order = &self.orders.bundles;
-        let place = Kind::Bundles.count_before(order, &self.slots, nas as u64, 0, &[], 0);
-        if place == order.len() {
-            return false;
+        if self.sessions_name(nas) {
+            return true;
         }
-        self.slots.slots[order[place]].link.nas == nas
+        self.reservation(nas, None).is_some()
     }
 
     /// A link that lapses at this clock, if there is one: the first in its order.
@@ -295,17 +273,14 @@ impl LinkList {
             lapses_at rules.now now (link_seen servers.now (link_at self.now.items at)) ≡ false) }
     {
         let slots = &self.slots;
-        match first_lapsed(
-            Kind::Reserved,
-            &self.orders.reserved,
-            slots,
-            servers,
-            rules,
-            now,
-        ) {
-            Some(at) => Some(at),
-            None => first_lapsed(Kind::Bound, &self.orders.bound, slots, servers, rules, now),
+        let reserved = self
+            .orders
+            .reserved
+            .first_lapsed(slots, servers, rules, now);
+        if reserved.is_some() {
+            return reserved;
         }
+        self.orders.bound.first_lapsed(slots, servers, rules, now)
     }
 
     /// The bound link that was touched longest ago, and of these the first.
@@ -314,10 +289,11 @@ impl LinkList {
         ensures missed { IfNone result ((at : ℕ) → at < length self.now.items →
             holds_session (link_at self.now.items at).hold ≡ false) }
     {
-        if self.orders.bound.is_empty() {
+        let order = &self.orders.bound;
+        if order.slots.is_empty() {
             return None;
         }
-        Some(self.slots.position(self.orders.bound[0]))
+        Some(self.slots.position(order.slots[0]))
     }
 
     /// Equal links, with room for so many. It fails only where memory is refused.
@@ -330,38 +306,5 @@ impl LinkList {
             copy.push(self.index(at).try_copy(alloc)?);
         }
         Ok(copy)
-    }
-}
-
-/// The position of a link of an order that lapses at this clock, if one does: then the first does.
-fn first_lapsed(
-    kind: Kind,
-    order: &VecDeque<usize>,
-    slots: &Slots,
-    servers: &Servers,
-    rules: &Rules,
-    now: u64,
-) -> Option<usize>
-    requires fit { RulesFit rules.now }
-    requires touch { is_by_touch kind ≡ true }
-    requires kept { IsKept slots.now }
-    requires order { IsLineOf kind slots.now order.now.items }
-    ensures within { IfSome result (λ at. at < length (links_of slots.now)) }
-    ensures found { IfSome result (λ at. lapses_at rules.now now (link_seen servers.now
-        (link_at (links_of slots.now) at)) ≡ true) }
-    ensures missed { IfNone result ((at : ℕ) → at < length (links_of slots.now) →
-        is_of kind (link_at (links_of slots.now) at) ≡ true →
-        lapses_at rules.now now (link_seen servers.now (link_at (links_of slots.now) at))
-        ≡ false) }
-{
-    if order.is_empty() {
-        return None;
-    }
-    // The position is wanted only where the link lapses, which its slot alone tells.
-    let first = order[0];
-    if slots.slots[first].link.lapses(servers, rules, now) {
-        Some(slots.position(first))
-    } else {
-        None
     }
 }

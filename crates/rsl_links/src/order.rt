@@ -1,46 +1,53 @@
 //! Orders of a book's links: lists of their slots, so that a link is found without a look at each.
 
-ghost use Rattle.std.specs.Prelude.{◌≡◌, ◌<◌, ◌≤◌, ◌∷◌, get_or, length, true, false, IfSome};
-ghost use Rattle.std.specs.Prelude.{IfNone};
+ghost use Rattle.std.specs.Prelude.{◌≡◌, ◌<◌, ◌≤◌, ◌∷◌, [], get_or, length, true, false, IfOk};
+ghost use Rattle.std.specs.Prelude.{IfNone, IfSome, ℕ};
 ghost use Rattle.std.specs.List.{insert, list_any};
 ghost use Rattle.std.specs.VecDeque.{deque_capacity};
+ghost use Rattle.rsl_accounts.specs.Limits.{RulesFit};
+ghost use Rattle.rsl_session.specs.BookLinks.{lapses_at};
+ghost use Rattle.rsl_links.specs.declared.order.OrderKind.TheVariants.{Reserved};
 ghost use Rattle.rsl_links.specs.First.{IsFirst};
-ghost use Rattle.rsl_links.specs.Lines.{IsLineBut, IsLineOf, IsSearchable, slot_rank};
-ghost use Rattle.rsl_links.specs.Order.{IsSplit, goes_by, is_before, is_of, link_at, order_key};
-ghost use Rattle.rsl_links.specs.Order.{order_mark, order_number, order_octets};
+ghost use Rattle.rsl_links.specs.LinkList.{is_for};
+ghost use Rattle.rsl_links.specs.Order.{IsSplit, goes_by, is_before, is_by_touch, is_of, link_at};
+ghost use Rattle.rsl_links.specs.Order.{order_key, order_number, order_octets};
+ghost use Rattle.rsl_links.specs.Ranked.{IsRankedBut, IsRankedOf, IsSearchable, slot_key};
+ghost use Rattle.rsl_links.specs.Seen.{link_seen};
 ghost use Rattle.rsl_links.specs.Slots.{IsKept, links_of, opened_of};
 
 use crate::link::{Hold, Link};
+use crate::servers::Servers;
 use crate::slots::{Slot, Slots};
+use rsl_accounts::Rules;
+use rsl_wire::NoMemory;
+use std::alloc::Global;
 use std::collections::VecDeque;
 
 /// Which links an order lists, and by what it goes. Links that are alike in this stand as they
 /// opened.
 #[derive(Clone, Copy)]
-pub(crate) enum Kind {
+pub(crate) enum OrderKind {
     /// The reserved links, by their last touch.
     Reserved,
     /// The bound links, by their last touch.
     Bound,
-    /// The reserved links, by their accept number and the place of the access server.
-    Numbers,
-    /// All links, by their sessions: the place of the access server, and the Acct-Session-Id. Those
-    /// that are reserved come first.
+    /// The bound links, by their sessions: the index of the access server, and the
+    /// Acct-Session-Id.
     Sessions,
-    /// All links, by their bundles: the place of the access server, and the Acct-Multi-Session-Id.
-    /// Those that are in none come first.
+    /// The links in a bundle, by it: the index of the access server, and the
+    /// Acct-Multi-Session-Id.
     Bundles,
 }
 
-impl Kind {
+impl OrderKind {
     /// Whether a link is of this kind.
     fn holds(self, link: &Link) -> bool
         ensures { result ≡ is_of self link.now }
     {
         match self {
-            Kind::Reserved | Kind::Numbers => matches!(&link.hold, Hold::Number(_)),
-            Kind::Bound => matches!(&link.hold, Hold::Session(_)),
-            Kind::Sessions | Kind::Bundles => true,
+            OrderKind::Reserved => matches!(&link.hold, Hold::Number(_)),
+            OrderKind::Bound | OrderKind::Sessions => matches!(&link.hold, Hold::Session(_)),
+            OrderKind::Bundles => link.bundle.is_some(),
         }
     }
 
@@ -48,33 +55,19 @@ impl Kind {
     fn number(self, link: &Link) -> u64
         ensures { result ≡ order_number self link.now }
     {
-        match (self, &link.hold) {
-            (Kind::Reserved | Kind::Bound, _) => link.touched,
-            (Kind::Numbers, Hold::Number(number)) => *number,
-            (Kind::Numbers, Hold::Session(_)) => 0,
-            (Kind::Sessions | Kind::Bundles, _) => link.nas as u64,
+        match self {
+            OrderKind::Reserved | OrderKind::Bound => link.touched,
+            OrderKind::Sessions | OrderKind::Bundles => link.nas as u64,
         }
     }
 
-    /// The mark that a link of this kind goes by then: 1 for one with a session, or in a bundle.
-    fn mark(self, link: &Link) -> u64
-        ensures { result ≡ order_mark self link.now }
-    {
-        match (self, &link.hold, &link.bundle) {
-            (Kind::Numbers, _, _) => link.nas as u64,
-            (Kind::Sessions, Hold::Session(_), _) => 1,
-            (Kind::Bundles, _, Some(_)) => 1,
-            _ => 0,
-        }
-    }
-
-    /// The octets that a link of this kind goes by at last.
+    /// The octets that a link of this kind goes by then.
     fn octets(self, link: &Link) -> &[u8]
         ensures { result.now ≡ order_octets self link.now }
     {
         match (self, &link.hold, &link.bundle) {
-            (Kind::Sessions, Hold::Session(id), _) => id.as_slice(),
-            (Kind::Bundles, _, Some(id)) => id.as_slice(),
+            (OrderKind::Sessions, Hold::Session(id), _) => id.as_slice(),
+            (OrderKind::Bundles, _, Some(id)) => id.as_slice(),
             _ => &[],
         }
     }
@@ -82,42 +75,69 @@ impl Kind {
     /// Whether the link in a slot stands before what goes by these and opened as this number.
     #[inline(always)]
     #[tactic(auto, unfolding(crate::specs::Order::is_before))]
-    fn is_before(self, slot: &Slot, number: u64, mark: u64, octets: &[u8], opened: u64) -> bool
+    fn is_before(self, slot: &Slot, number: u64, octets: &[u8], opened: u64) -> bool
         ensures { result ≡ is_before (order_key self slot.now.link, slot.now.opened)
-            (number ∷ mark ∷ octets.now, opened) }
+            (number ∷ octets.now, opened) }
     {
         let link = &slot.link;
-        (
-            self.number(link),
-            self.mark(link),
-            self.octets(link),
-            slot.opened,
-        )
-            .cmp(&(number, mark, octets, opened))
+        (self.number(link), self.octets(link), slot.opened)
+            .cmp(&(number, octets, opened))
             .is_lt()
     }
 
-    /// How many links of an order stand before what goes by these and opened as this number.
+    /// Whether a link is of this kind and goes by these.
+    #[tactic(auto, unfolding(crate::specs::Order::goes_by))]
+    fn goes_by(self, link: &Link, number: u64, octets: &[u8]) -> bool
+        ensures { result ≡ goes_by self number octets.now link.now }
+    {
+        self.holds(link) && self.number(link) == number && self.octets(link) == octets
+    }
+}
+
+/// An order of links.
+#[derive(Drop)]
+pub(crate) struct Order {
+    /// Which links it lists, and by what it goes.
+    pub kind: OrderKind,
+    /// Their slots, each at its rank.
+    pub slots: VecDeque<usize>,
+}
+
+impl Order {
+    /// An order of no links, with room for so many. It fails only where memory is refused.
+    pub(crate) fn new(alloc: Global, kind: OrderKind, room: usize) -> Result<Order, NoMemory>
+        ensures kind { IfOk result (λ order. order.kind ≡ kind) }
+        ensures empty { IfOk result (λ order. order.slots.items ≡ []) }
+        ensures room { IfOk result (λ order. room ≤ deque_capacity order.slots) }
+    {
+        Ok(Order {
+            kind,
+            slots: VecDeque::with_capacity(alloc, room)?,
+        })
+    }
+
+    /// How many of its links stand before what goes by these and opened as this number.
     #[inline(always)]
     pub(crate) fn count_before(
-        self,
-        order: &VecDeque<usize>,
+        &self,
         slots: &Slots,
         number: u64,
-        mark: u64,
         octets: &[u8],
         opened: u64,
     ) -> usize
-        requires { IsSearchable self slots.now.slots.items order.now.items }
-        ensures { IsSplit (slot_rank self slots.now.slots.items) order.now.items
-            (number ∷ mark ∷ octets.now, opened) result }
+        requires { IsSearchable self.now.kind slots.now.slots.items self.now.slots.items }
+        ensures { IsSplit (slot_key self.now.kind slots.now.slots.items) self.now.slots.items
+            (number ∷ octets.now, opened) result }
     {
         let mut low = 0;
-        let mut high = order.len();
+        let mut high = self.slots.len();
         while low < high {
             let middle = low + (high - low) / 2;
-            let place = order[middle];
-            if self.is_before(&slots.slots[place], number, mark, octets, opened) {
+            let slot = self.slots[middle];
+            if self
+                .kind
+                .is_before(&slots.slots[slot], number, octets, opened)
+            {
                 low = middle + 1;
             } else {
                 high = middle;
@@ -126,122 +146,173 @@ impl Kind {
         low
     }
 
-    /// Whether a link is of this kind and goes by these.
-    #[tactic(auto, unfolding(crate::specs::Order::goes_by))]
-    fn goes_by(self, link: &Link, number: u64, mark: u64, octets: &[u8]) -> bool
-        ensures { result ≡ goes_by self number mark octets.now link.now }
-    {
-        self.holds(link)
-            && self.number(link) == number
-            && self.mark(link) == mark
-            && self.octets(link) == octets
-    }
-
-    /// The position of the first link that goes by these, if one of an order does.
-    pub(crate) fn first_of(
-        self,
-        order: &VecDeque<usize>,
-        slots: &Slots,
-        number: u64,
-        mark: u64,
-        octets: &[u8],
-    ) -> Option<usize>
+    /// The position of its first link that goes by these, if one does.
+    pub(crate) fn first_of(&self, slots: &Slots, number: u64, octets: &[u8]) -> Option<usize>
         requires kept { IsKept slots.now }
-        requires order { IsLineOf self slots.now order.now.items }
+        requires order { IsRankedOf slots.now self.now }
         ensures found { IfSome result (λ at.
-            IsFirst (goes_by self number mark octets.now) (links_of slots.now) at) }
-        ensures missed { IfNone result (list_any (goes_by self number mark octets.now)
+            IsFirst (goes_by self.now.kind number octets.now) (links_of slots.now) at) }
+        ensures missed { IfNone result (list_any (goes_by self.now.kind number octets.now)
             (links_of slots.now) ≡ false) }
     {
-        let place = self.count_before(order, slots, number, mark, octets, 0);
-        if place == order.len() {
+        let rank = self.count_before(slots, number, octets, 0);
+        if rank == self.slots.len() {
             return None;
         }
-        let slot = order[place];
-        if self.goes_by(&slots.slots[slot].link, number, mark, octets) {
+        let slot = self.slots[rank];
+        if self.kind.goes_by(&slots.slots[slot].link, number, octets) {
             Some(slots.position(slot))
         } else {
             None
         }
     }
 
-    /// How many links of an order stand before the link in a slot. The link that is touched goes to
-    /// the end of an order by touch, so that place is tried first.
-    fn count_before_link(self, order: &VecDeque<usize>, slots: &Slots, slot: usize) -> usize
+    /// The position of the first link of an order of the reserved ones that an alive at an access
+    /// server, with this class, can take. Each is looked at: they are at most as many as places.
+    pub(crate) fn first_reservation(
+        &self,
+        slots: &Slots,
+        nas: usize,
+        class: Option<u64>,
+    ) -> Option<usize>
+        requires kept { IsKept slots.now }
+        requires kind { self.now.kind ≡ Reserved }
+        requires order { IsRankedOf slots.now self.now }
+        ensures found { IfSome result (λ at. IsFirst (is_for nas class) (links_of slots.now) at) }
+        ensures missed { IfNone result
+            (list_any (is_for nas class) (links_of slots.now) ≡ false) }
+    {
+        let mut first = 0;
+        // Openings have lower numbers.
+        let mut opened = u64::MAX;
+        for rank in 0..self.slots.len() {
+            let slot = self.slots[rank];
+            let one = &slots.slots[slot];
+            if one.opened < opened && one.link.is_for(nas, class) {
+                first = slot;
+                opened = one.opened;
+            }
+        }
+        if opened < u64::MAX {
+            Some(slots.position(first))
+        } else {
+            None
+        }
+    }
+
+    /// The position of a link that lapses at this clock, if one does: then the first does.
+    pub(crate) fn first_lapsed(
+        &self,
+        slots: &Slots,
+        servers: &Servers,
+        rules: &Rules,
+        now: u64,
+    ) -> Option<usize>
+        requires fit { RulesFit rules.now }
+        requires touch { is_by_touch self.now.kind ≡ true }
+        requires kept { IsKept slots.now }
+        requires order { IsRankedOf slots.now self.now }
+        ensures within { IfSome result (λ at. at < length (links_of slots.now)) }
+        ensures found { IfSome result (λ at. lapses_at rules.now now (link_seen servers.now
+            (link_at (links_of slots.now) at)) ≡ true) }
+        ensures missed { IfNone result ((at : ℕ) → at < length (links_of slots.now) →
+            is_of self.now.kind (link_at (links_of slots.now) at) ≡ true →
+            lapses_at rules.now now (link_seen servers.now (link_at (links_of slots.now) at))
+            ≡ false) }
+    {
+        if self.slots.is_empty() {
+            return None;
+        }
+        // The position is wanted only where the link lapses, which its slot alone tells.
+        let first = self.slots[0];
+        if slots.slots[first].link.lapses(servers, rules, now) {
+            Some(slots.position(first))
+        } else {
+            None
+        }
+    }
+
+    /// How many of its links stand before the link in a slot. The link that is touched goes to the
+    /// end of an order by touch, so that rank is tried first.
+    fn count_before_link(&self, slots: &Slots, slot: usize) -> usize
         requires within { slot < length slots.now.slots.items }
-        requires order { IsSearchable self slots.now.slots.items order.now.items }
-        ensures { IsSplit (slot_rank self slots.now.slots.items) order.now.items
-            (slot_rank self slots.now.slots.items slot) result }
+        requires order { IsSearchable self.now.kind slots.now.slots.items self.now.slots.items }
+        ensures { IsSplit (slot_key self.now.kind slots.now.slots.items) self.now.slots.items
+            (slot_key self.now.kind slots.now.slots.items slot) result }
     {
         let own = &slots.slots[slot];
-        let link = &own.link;
-        let (number, mark, octets) = (self.number(link), self.mark(link), self.octets(link));
-        let end = order.len();
+        let (number, octets) = (self.kind.number(&own.link), self.kind.octets(&own.link));
+        let end = self.slots.len();
         if end > 0 {
-            let last = order[end - 1];
-            if self.is_before(&slots.slots[last], number, mark, octets, own.opened) {
+            let last = self.slots[end - 1];
+            if self
+                .kind
+                .is_before(&slots.slots[last], number, octets, own.opened)
+            {
                 return end;
             }
         }
-        self.count_before(order, slots, number, mark, octets, own.opened)
+        self.count_before(slots, number, octets, own.opened)
     }
 
-    /// Where the link at a position stands in the order of its kind. Links are mostly touched in
-    /// turn, so the first of an order is tried first.
-    fn place_of(self, order: &VecDeque<usize>, slots: &Slots, at: usize) -> usize
+    /// The rank of the link at a position. Links are mostly touched in turn, so the first is tried
+    /// first.
+    fn rank_of(&self, slots: &Slots, at: usize) -> usize
         requires kept { IsKept slots.now }
         requires within { at < slots.now.count }
-        requires order { IsLineOf self slots.now order.now.items }
-        requires kind { is_of self (link_at (links_of slots.now) at) ≡ true }
-        ensures within { result < length order.now.items }
-        ensures stands { get_or order.now.items result 0 ≡ get_or (opened_of slots.now) at 0 }
+        requires order { IsRankedOf slots.now self.now }
+        requires kind { is_of self.now.kind (link_at (links_of slots.now) at) ≡ true }
+        ensures within { result < length self.now.slots.items }
+        ensures stands { get_or self.now.slots.items result 0 ≡ get_or (opened_of slots.now) at 0 }
     {
         let slot = slots.slot(at);
-        if order.len() > 0 && order[0] == slot {
+        if self.slots.len() > 0 && self.slots[0] == slot {
             return 0;
         }
-        self.count_before_link(order, slots, slot)
+        self.count_before_link(slots, slot)
     }
 
-    /// Takes the link at a position out of an order, if it is of its kind.
-    pub(crate) fn withdraw(self, order: &mut VecDeque<usize>, slots: &Slots, at: usize)
+    /// Takes the link at a position out, if it is of its kind.
+    pub(crate) fn withdraw(&mut self, slots: &Slots, at: usize)
         requires kept { IsKept slots.now }
         requires within { at < slots.now.count }
-        requires order { IsLineOf self slots.now order.old.items }
-        ensures order { IsLineBut self slots.now at order.new.items }
-        ensures room { deque_capacity order.new ≡ deque_capacity order.old }
+        requires order { IsRankedOf slots.now self.old }
+        ensures order { IsRankedBut slots.now at self.new }
+        ensures kind { self.new.kind ≡ self.old.kind }
+        ensures room { deque_capacity self.new.slots ≡ deque_capacity self.old.slots }
     {
-        if self.holds(slots.link(at)) {
-            let place = self.place_of(order, slots, at);
-            let _ = order.remove(place);
+        if self.kind.holds(slots.link(at)) {
+            let rank = self.rank_of(slots, at);
+            let _ = self.slots.remove(rank);
         }
     }
 
-    /// Puts the link at a position into an order of links of its kind.
-    pub(crate) fn enter(self, order: &mut VecDeque<usize>, slots: &Slots, at: usize)
+    /// Puts the link at a position in, if it is of its kind.
+    pub(crate) fn enter(&mut self, slots: &Slots, at: usize)
         requires kept { IsKept slots.now }
         requires within { at < slots.now.count }
-        requires order { IsLineBut self slots.now at order.old.items }
-        requires room { slots.now.count ≤ deque_capacity order.old }
-        ensures order { IsLineOf self slots.now order.new.items }
-        ensures room { deque_capacity order.new ≡ deque_capacity order.old }
+        requires order { IsRankedBut slots.now at self.old }
+        requires room { slots.now.count ≤ deque_capacity self.old.slots }
+        ensures order { IsRankedOf slots.now self.new }
+        ensures kind { self.new.kind ≡ self.old.kind }
+        ensures room { deque_capacity self.new.slots ≡ deque_capacity self.old.slots }
     {
-        if self.holds(slots.link(at)) {
+        if self.kind.holds(slots.link(at)) {
             let slot = slots.slot(at);
-            let place = self.count_before_link(order, slots, slot);
-            insert_reserved(order, place, slot);
+            let rank = self.count_before_link(slots, slot);
+            insert_reserved(&mut self.slots, rank, slot);
         }
     }
 }
 
-/// Puts a slot into a place of an order that has room for it.
-fn insert_reserved(order: &mut VecDeque<usize>, place: usize, slot: usize)
-    requires within { place ≤ length order.old.items }
+/// Puts a slot in at a rank, where there is room for it.
+fn insert_reserved(order: &mut VecDeque<usize>, rank: usize, slot: usize)
+    requires within { rank ≤ length order.old.items }
     requires room { length order.old.items < deque_capacity order.old }
-    ensures items { order.new.items ≡ insert order.old.items place slot }
+    ensures items { order.new.items ≡ insert order.old.items rank slot }
     ensures room { deque_capacity order.new ≡ deque_capacity order.old }
 {
-    order.rotate_left(place);
+    order.rotate_left(rank);
     order.push_front_reserved(slot);
-    order.rotate_right(place);
+    order.rotate_right(rank);
 }

@@ -1,5 +1,5 @@
 ghost use Rattle.std.specs.Prelude.{◌≡◌, ◌≢◌, ℕ, ◌<◌, IfOk, IfNone, IfSome, length, set};
-ghost use Rattle.rsl_links.specs.Marks.{mark_of, mark_with};
+ghost use Rattle.rsl_links.specs.Fingerprints.{fingerprint_of, fingerprint_with};
 ghost use Rattle.rsl_links.specs.Named.{IsPlace};
 ghost use Rattle.rsl_links.specs.Seen.{server_at, unnamed};
 ghost use Rattle.rsl_session.specs.Same.{same_nas};
@@ -11,10 +11,10 @@ use std::marker::Model;
 
 /// The access servers that a book names. All its room is taken at once.
 ///
-/// Beside each stands its mark, so that most others are told apart from it with one test.
+/// Beside each stands its fingerprint, so that most others are told apart from it with one test.
 #[derive(Drop)]
 pub struct Servers {
-    marks: Vec<u32>,
+    fingerprints: Vec<u32>,
     table: Vec<Nas>,
     beyond: Nas,
 }
@@ -28,32 +28,32 @@ impl Model for Servers {
     ghost view = { λ s. s.table.items };
 
     ghost use Rattle.rsl_event.specs.declared.nas.NasName.TheVariants.{Unnamed};
-    ghost use Rattle.rsl_links.specs.Marks.{marks_of};
+    ghost use Rattle.rsl_links.specs.Fingerprints.{fingerprints_of};
 
     ghost invariant = { λ s. (s.beyond ≡ record { client = 0; name = Unnamed }) ×
-        (s.marks.items ≡ marks_of s.table.items) };
+        (s.fingerprints.items ≡ fingerprints_of s.table.items) };
 }
 
-/// The mark of octets behind what a mark was made of.
-#[tactic(auto, using(crate::proofs::Marks::mark_steps))]
-fn mark_with(start: u32, octets: &[u8]) -> u32
-    ensures { result ≡ mark_with start octets.now }
+/// The fingerprint of octets behind what a fingerprint was made of.
+#[tactic(auto, using(crate::proofs::Fingerprints::fingerprint_steps))]
+fn fingerprint_with(start: u32, octets: &[u8]) -> u32
+    ensures { result ≡ fingerprint_with start octets.now }
 {
-    let mut mark = start;
+    let mut fingerprint = start;
     for octet in octets {
-        mark = mark.wrapping_mul(31).wrapping_add(*octet as u32);
+        fingerprint = fingerprint.wrapping_mul(31).wrapping_add(*octet as u32);
     }
-    mark
+    fingerprint
 }
 
-/// The mark of an access server.
-fn mark_of(nas: &Nas) -> u32
-    ensures { result ≡ mark_of nas.now }
+/// The fingerprint of an access server.
+fn fingerprint_of(nas: &Nas) -> u32
+    ensures { result ≡ fingerprint_of nas.now }
 {
     match &nas.name {
-        NasName::Identifier(name) => mark_with(nas.client, name.as_slice()),
-        NasName::Address(address) => mark_with(nas.client, address.as_slice()),
-        NasName::Unnamed => mark_with(nas.client, &[]),
+        NasName::Identifier(name) => fingerprint_with(nas.client, name.as_slice()),
+        NasName::Address(address) => fingerprint_with(nas.client, address.as_slice()),
+        NasName::Unnamed => fingerprint_with(nas.client, &[]),
     }
 }
 
@@ -72,15 +72,15 @@ impl Servers {
     pub fn new(alloc: Global, room: usize) -> Result<Servers, NoMemory>
         ensures { IfOk result (λ servers. length servers ≡ room) }
     {
-        let mut marks = Vec::with_capacity(alloc, room)?;
+        let mut fingerprints = Vec::with_capacity(alloc, room)?;
         let mut table = Vec::with_capacity(alloc, room)?;
         while table.len() < room {
             let nas = nobody();
-            marks.push(mark_of(&nas))?;
+            fingerprints.push(fingerprint_of(&nas))?;
             table.push(nas)?;
         }
         Ok(Servers {
-            marks,
+            fingerprints,
             table,
             beyond: nobody(),
         })
@@ -96,7 +96,7 @@ impl Servers {
             table.push(nas.try_copy(alloc)?)?;
         }
         Ok(Servers {
-            marks: Vec::from_slice(alloc, &self.marks)?,
+            fingerprints: Vec::from_slice(alloc, &self.fingerprints)?,
             table,
             beyond: nobody(),
         })
@@ -141,9 +141,9 @@ impl Servers {
         ensures missed { IfNone result ((at : ℕ) → at < length self.now →
             server_at self.now at ≢ nas.now) }
     {
-        let mark = mark_of(nas);
+        let fingerprint = fingerprint_of(nas);
         for at in 0..self.table.len() {
-            if self.marks[at] == mark && self.at(at).is_same(nas) {
+            if self.fingerprints[at] == fingerprint && self.at(at).is_same(nas) {
                 return Some(at);
             }
         }
@@ -155,7 +155,7 @@ impl Servers {
         requires { at < length self.old }
         ensures { self.new ≡ set self.old at nas }
     {
-        self.marks[at] = mark_of(&nas);
+        self.fingerprints[at] = fingerprint_of(&nas);
         self.table[at] = nas;
     }
 }

@@ -14,10 +14,10 @@ use std::collections::VecDeque;
 /// What a slot has: a link, or what stands there for none.
 #[derive(Drop)]
 pub(crate) struct Slot {
-    /// The link.
-    pub link: Link,
     /// The number of its opening, which is greater for a link that opened later.
     pub opened: u64,
+    /// The link.
+    pub link: Link,
 }
 
 impl Slot {
@@ -27,11 +27,11 @@ impl Slot {
     {
         let link = Link {
             nas: 0,
+            touched: 0,
             hold: Hold::Number(0),
             bundle: None,
-            touched: 0,
         };
-        Slot { link, opened: 0 }
+        Slot { opened: 0, link }
     }
 }
 
@@ -185,7 +185,7 @@ impl Slots {
             self.grow();
         }
         let slot = self.places[self.count];
-        self.slots[slot] = Slot { link, opened };
+        self.slots[slot] = Slot { opened, link };
         self.count += 1;
     }
 

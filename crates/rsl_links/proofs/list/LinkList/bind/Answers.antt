@@ -1,11 +1,10 @@
 use Rattle.std.proofs.Common.{length, ap, ◌∙◌, arith}
-use Rattle.rsl_links.specs.declared.order.Kind.TheVariants.{Reserved, Bound, Numbers, Sessions}
+use Rattle.std.specs.Prelude.{vec_capacity}
 use Rattle.rsl_links.specs.Changed.{bound_link}
 use Rattle.rsl_links.specs.First.{change_at}
 use Rattle.rsl_links.specs.LinkList.{RoomyList}
-use Rattle.rsl_links.proofs.Lined.{line_changed}
-use Rattle.rsl_links.proofs.Ordered.{bound_bundles}
-use Rattle.rsl_links.proofs.Slotted.{long_links}
+use Rattle.rsl_links.proofs.Ordered.{orders_changed, roomy_for}
+use Rattle.rsl_links.proofs.Slotted.{few_links, long_links}
 use Rattle.rsl_links.proofs.list.LinkList.bind.Goals as goal
 
 pub withdraw-requires-clause-within : goal.withdraw-requires-clause-within
@@ -14,43 +13,25 @@ withdraw-requires-clause-within c =
     let long = long_links c.self.inside.slots c.self.invariant.kept in
     omega (arith, few, long, c.requires)
 
-pub enter-requires-clause-order : goal.enter-requires-clause-order
-enter-requires-clause-order c =
-    line_changed Reserved (bound_link c.args.now c.args.id) c.args.at c.self.inside.slots c.bind.new.self c.withdraw.new.order.items c.bind.ensures c.withdraw.ensures.order
+pub enter-requires-clause-orders : goal.enter-requires-clause-orders
+enter-requires-clause-orders c =
+    orders_changed (bound_link c.args.now c.args.id) c.args.at c.self.inside.slots c.bind.new.self c.withdraw.new.self c.bind.ensures c.withdraw.ensures.orders
 
-pub enter-requires-2-clause-order : goal.enter-requires-2-clause-order
-enter-requires-2-clause-order c =
-    line_changed Bound (bound_link c.args.now c.args.id) c.args.at c.self.inside.slots c.bind.new.self c.withdraw-2.new.order.items c.bind.ensures c.withdraw-2.ensures.order
-
-pub enter-requires-3-clause-order : goal.enter-requires-3-clause-order
-enter-requires-3-clause-order c =
-    line_changed Numbers (bound_link c.args.now c.args.id) c.args.at c.self.inside.slots c.bind.new.self c.withdraw-3.new.order.items c.bind.ensures c.withdraw-3.ensures.order
-
-pub enter-requires-4-clause-order : goal.enter-requires-4-clause-order
-enter-requires-4-clause-order c =
-    line_changed Sessions (bound_link c.args.now c.args.id) c.args.at c.self.inside.slots c.bind.new.self c.withdraw-4.new.order.items c.bind.ensures c.withdraw-4.ensures.order
+pub enter-requires-clause-room : goal.enter-requires-clause-room
+enter-requires-clause-room c =
+    let capacity = c.bind.ensures.count in
+    let most = few_links c.self.inside.slots c.self.invariant.kept in
+    roomy_for (vec_capacity c.self.inside.slots.slots) c.bind.new.self.count c.withdraw.new.self (omega (arith, capacity, most)) (c.withdraw.ensures.room (vec_capacity c.self.inside.slots.slots) c.self.invariant.room)
 
 pub invariant_of-self : goal.invariant_of-self
 invariant_of-self c =
-    let inside = c.self.inside in
-    let few = ap (λ (value : RoomyList). length value.items) c.self.view_is in
-    let capacity = c.bind.ensures.room in
     record {
       kept = c.bind.ensures.kept;
-      orders = record {
-        reserved = c.enter.ensures.order;
-        bound = c.enter-2.ensures.order;
-        numbers = c.enter-3.ensures.order;
-        sessions = c.enter-4.ensures.order;
-        bundles = bound_bundles c.args.now c.args.id c.args.at inside.slots c.bind.new.self inside.orders.bundles.items (omega (arith, few, c.requires)) c.bind.ensures c.self.invariant.orders.bundles;
-      };
-      room = record {
-        reserved = let one = c.withdraw.ensures.room in let two = c.enter.ensures.room in let room = c.self.invariant.room.reserved in omega (arith, one, two, room, capacity);
-        bound = let one = c.withdraw-2.ensures.room in let two = c.enter-2.ensures.room in let room = c.self.invariant.room.bound in omega (arith, one, two, room, capacity);
-        numbers = let one = c.withdraw-3.ensures.room in let two = c.enter-3.ensures.room in let room = c.self.invariant.room.numbers in omega (arith, one, two, room, capacity);
-        sessions = let one = c.withdraw-4.ensures.room in let two = c.enter-4.ensures.room in let room = c.self.invariant.room.sessions in omega (arith, one, two, room, capacity);
-        bundles = let room = c.self.invariant.room.bundles in omega (arith, room, capacity);
-      };
+      kinds = c.enter.ensures.kinds (c.withdraw.ensures.kinds c.self.invariant.kinds);
+      orders = c.enter.ensures.orders;
+      room = let one = c.bind.ensures.room in
+          roomy_for (vec_capacity c.self.inside.slots.slots) _ c.enter.new.self (omega (arith, one))
+          (c.enter.ensures.room (vec_capacity c.self.inside.slots.slots) (c.withdraw.ensures.room (vec_capacity c.self.inside.slots.slots) c.self.invariant.room));
     }
 
 pub returns-clause-items : goal.returns-clause-items

@@ -1,22 +1,28 @@
-use Rattle.std.proofs.Common.{arith}
 use Rattle.rsl_links.proofs.list.Orders.new.Goals as goal
+
+pub returns-clause-kinds : goal.returns-clause-kinds
+returns-clause-kinds c =
+    record {
+      reserved = c.in_ok-new.ensures.kind;
+      bound = c.in_ok-new-2.ensures.kind;
+      sessions = c.in_ok-new-3.ensures.kind;
+      bundles = c.in_ok-new-4.ensures.kind;
+    }
 
 pub returns-clause-empty : goal.returns-clause-empty
 returns-clause-empty c =
     record {
-      reserved = c.in_ok-with_capacity.ensures.items;
-      bound = c.in_ok-with_capacity-2.ensures.items;
-      numbers = c.in_ok-with_capacity-3.ensures.items;
-      sessions = c.in_ok-with_capacity-4.ensures.items;
-      bundles = c.in_ok-with_capacity-5.ensures.items;
+      reserved = c.in_ok-new.ensures.empty;
+      bound = c.in_ok-new-2.ensures.empty;
+      sessions = c.in_ok-new-3.ensures.empty;
+      bundles = c.in_ok-new-4.ensures.empty;
     }
 
 pub returns-clause-room : goal.returns-clause-room
 returns-clause-room c =
     record {
-      reserved = let one = c.in_ok-with_capacity.ensures.exact in omega (arith, one);
-      bound = let one = c.in_ok-with_capacity-2.ensures.exact in omega (arith, one);
-      numbers = let one = c.in_ok-with_capacity-3.ensures.exact in omega (arith, one);
-      sessions = let one = c.in_ok-with_capacity-4.ensures.exact in omega (arith, one);
-      bundles = let one = c.in_ok-with_capacity-5.ensures.exact in omega (arith, one);
+      reserved = c.in_ok-new.ensures.room;
+      bound = c.in_ok-new-2.ensures.room;
+      sessions = c.in_ok-new-3.ensures.room;
+      bundles = c.in_ok-new-4.ensures.room;
     }
