@@ -8,3 +8,4 @@ pub mod Values
 pub mod Files
 pub mod Parts
 pub mod Memory
+pub mod Texts

@@ -5,8 +5,8 @@ use Rattle.rsl_accounts.specs.declared.entry.Entry.{Entry}
 use Rattle.rsl_accounts.specs.declared.fault.ConfigFault.{ConfigFault}
 use Rattle.rsl_accounts.specs.declared.fault.ConfigFault.TheVariants.{TwiceClient, TwiceAccount, KeepTooLong}
 use Rattle.rsl_accounts.specs.declared.settings.Settings.{Settings}
-use Rattle.rsl_accounts.specs.Configuration.{Configuration, walk_over, configuration_of, checks_of, fault_if, comes_twice, addresses, names, with_times}
-use Rattle.rsl_accounts.specs.Walk.{first_fault}
+use Rattle.rsl_accounts.specs.Configuration.{Configuration, configuration_of, checks_of, fault_if, comes_twice, addresses, names, with_times}
+use Rattle.rsl_accounts.specs.Walk.{walk_over, first_fault}
 use Rattle.rsl_accounts.proofs.Faults.{first_fault-append, first_fault-stays}
 use Rattle.std.proofs.lemmas.Bool.Decides.{nat_tests}
 

@@ -1,7 +1,7 @@
 -- Settings, clients and accounts that pass the walk are within their limits.
 use Rattle.std.proofs.Common.{◌≡◌, ◌≢◌, ℕ, ◌≤◌, Bool, true, false, not, leb, eqb, List, [], ◌∷◌, ◌++◌, map, length, get_or, All, Option, None, Some, IfSome, unwrap_or, refl, sym, ap, ◌∙◌}
 use Rattle.std.proofs.lemmas.Bool.{and_parts, leb-true, eq-eqb}
-use Rattle.std.proofs.lemmas.List.{length-map, map-append}
+use Rattle.std.proofs.lemmas.List.{length-map}
 use Rattle.std.proofs.lemmas.List.Elements.{All-nil, All-cons, All-map}
 use Rattle.std.proofs.lemmas.List.Sums.{AllPass-from_list_all}
 use Rattle.std.specs.List.{flat_map, AllByRecursion}
@@ -10,17 +10,13 @@ use Rattle.rsl_accounts.specs.declared.entry.Entry.{Entry}
 use Rattle.rsl_accounts.specs.declared.fault.ConfigFault.{ConfigFault}
 use Rattle.rsl_accounts.specs.declared.field.Field.{Field}
 use Rattle.rsl_accounts.specs.declared.field.Field.TheVariants as field
-use Rattle.rsl_accounts.specs.declared.given.Given.{Given}
 use Rattle.rsl_accounts.specs.declared.settings.Settings.{Settings}
-use Rattle.rsl_accounts.specs.Client.{given_in_client}
-use Rattle.rsl_accounts.specs.Configuration.{walk_over, with_times, comes_twice, addresses, names}
-use Rattle.rsl_accounts.specs.Entry.{given_in_entry, given_option}
+use Rattle.rsl_accounts.specs.Configuration.{with_times, comes_twice, addresses, names}
 use Rattle.rsl_accounts.specs.Field.{is_between, is_secret, is_name, has_no_nul, is_visible, takes_number, takes_count, takes_text}
 use Rattle.rsl_accounts.specs.Limits.{IsTime, SettingsFit, IsSecret, IsName, IsAccount, IsConfiguration}
-use Rattle.rsl_accounts.specs.Settings.{given_in_head, own_time}
+use Rattle.rsl_accounts.specs.Settings.{own_time}
 use Rattle.rsl_accounts.specs.Version.{knows_own_times}
-use Rattle.rsl_accounts.specs.Walk.{checks, walk, first_fault, fault_of, given_if, file_fields, client_fields, common_fields, own_times, account_fields}
-use Rattle.rsl_accounts.proofs.Faults.{first_fault-append}
+use Rattle.rsl_accounts.specs.Walk.{walk_over, settings_checks, count_checks, client_checks, common_checks, own_times_checks, own_checks, account_checks, first_fault, fault_unless, number_fault, text_fault, count_fault, option_fault}
 use Rattle.rsl_accounts.proofs.Made.{made}
 
 -- checks without a fault have all passed
@@ -34,29 +30,28 @@ passed-append [] ys none = (refl, none)
 passed-append (None ∷ xs) ys none = passed-append xs ys none
 passed-append (Some fault ∷ xs) ys none = cc
 
--- the checks of two lists of fields, and of both joined
-pub passed-both : (fields more : List Field) (given : Field → Given) → first_fault (checks (fields ++ more) given) ≡ None
-    → (first_fault (checks fields given) ≡ None) × (first_fault (checks more given) ≡ None)
-passed-both fields more given none =
-    passed-append (checks fields given) (checks more given) (ap first_fault (sym (map-append (λ f. fault_of f (given f)) fields more)) ∙ none)
-
-pub pass-both : (fields more : List Field) (given : Field → Given) → first_fault (checks fields given) ≡ None → first_fault (checks more given) ≡ None
-    → first_fault (checks (fields ++ more) given) ≡ None
-pass-both fields more given none none_more =
-    ap first_fault (map-append (λ f. fault_of f (given f)) fields more)
-    ∙ first_fault-append (checks fields given) (checks more given) none
-    ∙ none_more
-
-pub passed-flat_map : {X : Type 0} (fields : List Field) (given : X → Field → Given) (xs : List X) → first_fault (flat_map (checks fields) (map given xs)) ≡ None → All (λ x. first_fault (checks fields (given x)) ≡ None) xs
-passed-flat_map fields given [] none = All-nil (λ x. first_fault (checks fields (given x)) ≡ None)
-passed-flat_map fields given (x ∷ xs) none =
-    let (here, there) = passed-append (checks fields (given x)) (flat_map (checks fields) (map given xs)) none in
-    All-cons (λ x. first_fault (checks fields (given x)) ≡ None) x xs here (passed-flat_map fields given xs there)
+pub passed-flat_map : {X : Type 0} (checks_of : X → List (Option ConfigFault)) (xs : List X) → first_fault (flat_map checks_of xs) ≡ None → All (λ x. first_fault (checks_of x) ≡ None) xs
+passed-flat_map checks_of [] none = All-nil (λ x. first_fault (checks_of x) ≡ None)
+passed-flat_map checks_of (x ∷ xs) none =
+    let (here, there) = passed-append (checks_of x) (flat_map checks_of xs) none in
+    All-cons (λ x. first_fault (checks_of x) ≡ None) x xs here (passed-flat_map checks_of xs there)
 
 -- a field that has no fault has a right value
-pub is_right : (f : Field) (right : Bool) → fault_of f (given_if right) ≡ None → right ≡ true
-is_right f true none = refl
-is_right f false none = cc
+is_right : (right : Bool) (f : Field) → fault_unless right f ≡ None → right ≡ true
+is_right true f none = refl
+is_right false f none = cc
+
+pub right_number : (f : Field) (number : ℕ) → number_fault f number ≡ None → takes_number f number ≡ true
+unfolding number_fault
+right_number f number none = is_right (takes_number f number) f none
+
+right_text : (f : Field) (text : List ℕ) → text_fault f text ≡ None → takes_text f text ≡ true
+unfolding text_fault
+right_text f text none = is_right (takes_text f text) f none
+
+right_count : (f : Field) (count : ℕ) → count_fault f count ≡ None → takes_count f count ≡ true
+unfolding count_fault
+right_count f count none = is_right (takes_count f count) f none
 
 pub between : (least most number : ℕ) → is_between least most number ≡ true → (least ≤ number) × (number ≤ most)
 between least most number right =
@@ -80,20 +75,21 @@ record HeadFits (settings : Settings) (client_count account_count : ℕ) : Type 
   clients : (1 ≤ client_count) × (client_count ≤ 256)
   accounts : (1 ≤ account_count) × (account_count ≤ 16384)
 
-head_fits : (settings : Settings) (clients accounts : ℕ) → first_fault (checks file_fields (given_in_head settings clients accounts)) ≡ None → HeadFits settings clients accounts
-unfolding file_fields
-head_fits settings clients accounts none =
-    let p = passed (checks file_fields (given_in_head settings clients accounts)) none in
+head_fits : (settings : Settings) (clients accounts : ℕ) → first_fault (settings_checks settings) ≡ None → first_fault (count_checks clients accounts) ≡ None → HeadFits settings clients accounts
+unfolding settings_checks count_checks
+head_fits settings clients accounts none counts =
+    let p = passed (settings_checks settings) none in
+    let q = passed (count_checks clients accounts) counts in
     record {
-      version = between 1 2 settings.version (is_right field.Version (takes_number field.Version settings.version) p.0);
-      shards = between 1 4 settings.shards (is_right field.Shards (takes_number field.Shards settings.shards) p.1.0);
-      reserve = time settings.reserve (is_right field.ReserveSecs (takes_number field.ReserveSecs settings.reserve) p.1.1.0);
-      live = time settings.live (is_right field.LiveSecs (takes_number field.LiveSecs settings.live) p.1.1.1.0);
-      grace = time settings.grace (is_right field.GraceSecs (takes_number field.GraceSecs settings.grace) p.1.1.1.1.0);
-      closed = time settings.closed (is_right field.ClosedSecs (takes_number field.ClosedSecs settings.closed) p.1.1.1.1.1.0);
-      keep = time settings.keep (is_right field.KeepSecs (takes_number field.KeepSecs settings.keep) p.1.1.1.1.1.1.0);
-      clients = between 1 256 clients (is_right field.Client (takes_count field.Client clients) p.1.1.1.1.1.1.1.0);
-      accounts = between 1 16384 accounts (is_right field.Account (takes_count field.Account accounts) p.1.1.1.1.1.1.1.1.0);
+      version = between 1 2 settings.version (right_number field.Version settings.version p.0);
+      shards = between 1 4 settings.shards (right_number field.Shards settings.shards p.1.0);
+      reserve = time settings.reserve (right_number field.ReserveSecs settings.reserve p.1.1.0);
+      live = time settings.live (right_number field.LiveSecs settings.live p.1.1.1.0);
+      grace = time settings.grace (right_number field.GraceSecs settings.grace p.1.1.1.1.0);
+      closed = time settings.closed (right_number field.ClosedSecs settings.closed p.1.1.1.1.1.0);
+      keep = time settings.keep (right_number field.KeepSecs settings.keep p.1.1.1.1.1.1.0);
+      clients = between 1 256 clients (right_count field.Client clients q.0);
+      accounts = between 1 16384 accounts (right_count field.Account accounts q.1.0);
     }
 
 no_zero : (octet : ℕ) → not (eqb octet 0) ≡ true → octet ≢ 0
@@ -122,54 +118,50 @@ name text right =
       visible = λ k d within. between 33 126 _ (AllPass-from_list_all (λ octet. is_between 33 126 octet) text clean k d within);
     }
 
-client_fits : (client : Client) → first_fault (checks client_fields (given_in_client client)) ≡ None → IsSecret client.secret
-unfolding client_fields
+client_fits : (client : Client) → first_fault (client_checks client) ≡ None → IsSecret client.secret
+unfolding client_checks
 client_fits client none =
-    let p = passed (checks client_fields (given_in_client client)) none in
-    secret client.secret (is_right field.Secret (takes_text field.Secret client.secret) p.1.0)
+    let p = passed (client_checks client) none in
+    secret client.secret (right_text field.Secret client.secret p.0)
 
-optional : (f : Field) → ((n : ℕ) → takes_number f n ≡ is_between 1 4294967295 n) → (number : Option ℕ) → fault_of f (given_option f number) ≡ None → IfSome number (λ n. 1 ≤ n)
+optional : (f : Field) → ((n : ℕ) → takes_number f n ≡ is_between 1 4294967295 n) → (number : Option ℕ) → option_fault f number ≡ None → IfSome number (λ n. 1 ≤ n)
 optional f takes None none = tt
-optional f takes (Some n) none = (between 1 4294967295 n (sym (takes n) ∙ is_right f (takes_number f n) none)).0
+optional f takes (Some n) none = (between 1 4294967295 n (sym (takes n) ∙ right_number f n none)).0
 
 -- an account's own time is within its limits where the version knows it
-own_fits : (f : Field) → ((n : ℕ) → takes_number f n ≡ is_between 1 86400 n) → (own : Option ℕ) (common : ℕ) → IsTime common → fault_of f (given_option f own) ≡ None → IsTime (unwrap_or own common)
+own_fits : (f : Field) → ((n : ℕ) → takes_number f n ≡ is_between 1 86400 n) → (own : Option ℕ) (common : ℕ) → IsTime common → option_fault f own ≡ None → IsTime (unwrap_or own common)
 own_fits f takes None common fits none = fits
-own_fits f takes (Some n) common fits none = time n (sym (takes n) ∙ is_right f (takes_number f n) none)
+own_fits f takes (Some n) common fits none = time n (sym (takes n) ∙ right_number f n none)
 
-module _ (settings : Settings) (fits : SettingsFit settings) (entry : Entry) (none : first_fault (checks (account_fields settings.version) (given_in_entry entry)) ≡ None) where
-  common_pass : first_fault (checks common_fields (given_in_entry entry)) ≡ None
-  common_pass = by (knows_own_times settings.version) refl
-    where
-      by : (known : Bool) → knows_own_times settings.version ≡ known → first_fault (checks common_fields (given_in_entry entry)) ≡ None
-      by true known =
-          let all : first_fault (checks (common_fields ++ own_times) (given_in_entry entry)) ≡ None = rw known at none in
-          (passed-both common_fields own_times (given_in_entry entry) all).0
-      by false known = rw known at none
+module _ (settings : Settings) (fits : SettingsFit settings) (entry : Entry) (none : first_fault (account_checks settings.version entry) ≡ None) where
+  both : (first_fault (common_checks entry) ≡ None) × (first_fault (own_checks settings.version entry) ≡ None)
+  unfolding account_checks
+  both = passed-append (common_checks entry) (own_checks settings.version entry) none
 
   times_fit : IsTime (own_time settings.version entry.own_live settings.live) × IsTime (own_time settings.version entry.own_grace settings.grace)
-  unfolding own_times
+  unfolding own_checks own_times_checks
   times_fit = by (knows_own_times settings.version) refl
     where
       by : (known : Bool) → knows_own_times settings.version ≡ known
           → IsTime (own_time settings.version entry.own_live settings.live) × IsTime (own_time settings.version entry.own_grace settings.grace)
       by true known =
-          let all : first_fault (checks (common_fields ++ own_times) (given_in_entry entry)) ≡ None = rw known at none in
-          let p = passed (checks own_times (given_in_entry entry)) (passed-both common_fields own_times (given_in_entry entry) all).1 in
+          let both_ = both in
+          let own : first_fault (own_times_checks entry) ≡ None = rw known at both_.1 in
+          let p = passed (own_times_checks entry) own in
           rw known (own_fits field.OwnLive (λ n. refl) entry.own_live settings.live fits.live p.0, own_fits field.OwnGrace (λ n. refl) entry.own_grace settings.grace fits.grace p.1.0)
       by false known = rw known (fits.live, fits.grace)
 
   entry_fits : IsAccount settings (with_times settings entry)
-  unfolding common_fields
+  unfolding common_checks
   entry_fits =
-      let p = passed (checks common_fields (given_in_entry entry)) common_pass in
-      let ports = between 1 16 entry.rules.ports (is_right field.Ports (takes_number field.Ports entry.rules.ports) p.1.1.1.0) in
+      let p = passed (common_checks entry) both.0 in
+      let ports = between 1 16 entry.rules.ports (right_number field.Ports entry.rules.ports p.1.1.1.0) in
       let times = times_fit in
       record {
-        name = name entry.name (is_right field.Name (takes_text field.Name entry.name) p.0);
-        password = secret entry.password (is_right field.Password (takes_text field.Password entry.password) p.1.0);
+        name = name entry.name (right_text field.Name entry.name p.0);
+        password = secret entry.password (right_text field.Password entry.password p.1.0);
         rules = record {
-          places = (between 0 64 entry.rules.places (is_right field.Places (takes_number field.Places entry.rules.places) p.1.1.0)).1;
+          places = (between 0 64 entry.rules.places (right_number field.Places entry.rules.places p.1.1.0)).1;
           a_port = ports.0;
           ports = ports.1;
           reserve = fits.reserve;
@@ -192,15 +184,16 @@ names-with_times settings [] = refl
 names-with_times settings (entry ∷ accounts) = ap (λ rest. entry.name ∷ rest) (names-with_times settings accounts)
 
 pub made_fits : (settings : Settings) (clients : List Client) (accounts : List Entry) → first_fault (walk_over settings clients accounts) ≡ None → comes_twice (addresses clients) ≡ false → comes_twice (names accounts) ≡ false → settings.keep ≤ settings.reserve → IsConfiguration (made settings clients accounts)
-unfolding walk
+unfolding walk_over
 made_fits settings clients accounts none differ differ_too short =
-    let head = checks file_fields (given_in_head settings (length clients) (length accounts)) in
-    let of_clients = flat_map (checks client_fields) (map given_in_client clients) in
-    let fields = account_fields settings.version in
-    let of_accounts = flat_map (checks fields) (map given_in_entry accounts) in
-    let (front, accounts_pass) = passed-append (head ++ of_clients) of_accounts none in
-    let (head_passes, clients_pass) = passed-append head of_clients front in
-    let fits = head_fits settings (length clients) (length accounts) head_passes in
+    let head = settings_checks settings in
+    let counts = count_checks (length clients) (length accounts) in
+    let of_clients = flat_map client_checks clients in
+    let of_accounts = flat_map (account_checks settings.version) accounts in
+    let (front, accounts_pass) = passed-append (head ++ counts ++ of_clients) of_accounts none in
+    let (both, clients_pass) = passed-append (head ++ counts) of_clients front in
+    let (head_passes, counts_pass) = passed-append head counts both in
+    let fits = head_fits settings (length clients) (length accounts) head_passes counts_pass in
     let settings_fit : SettingsFit settings = record {
       a_version = fits.version.0;
       version = fits.version.1;
@@ -213,8 +206,8 @@ made_fits settings clients accounts none differ differ_too short =
       keep = fits.keep;
       keep_within_reserve = short;
     } in
-    let each_client = passed-flat_map client_fields given_in_client clients clients_pass in
-    let each_entry = passed-flat_map fields given_in_entry accounts accounts_pass in
+    let each_client = passed-flat_map client_checks clients clients_pass in
+    let each_entry = passed-flat_map (account_checks settings.version) accounts accounts_pass in
     record {
       settings = settings_fit;
       a_client = fits.clients.0;

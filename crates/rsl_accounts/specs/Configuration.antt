@@ -1,6 +1,6 @@
 -- The configuration of some settings, clients and accounts: the checks that they have to pass, and
 -- what is looked up in it.
-use Rattle.std.specs.Prelude.{◌≡◌, ℕ, Bool, false, ◌||◌, if◌then◌else◌, nat_lt, nat_eq, List, [], ◌∷◌, ◌++◌, map, length, position, Option, None, Some, Result, Ok, Err}
+use Rattle.std.specs.Prelude.{◌≡◌, ℕ, Bool, false, ◌||◌, if◌then◌else◌, nat_lt, nat_eq, List, [], ◌∷◌, ◌++◌, map, position, Option, None, Some, Result, Ok, Err}
 use Rattle.std.specs.Cmp.Lexicographic.{pointwise}
 use Rattle.std.specs.List.{list_any}
 use Rattle.rsl_accounts.specs.declared.client.Client.{Client}
@@ -8,10 +8,8 @@ use Rattle.rsl_accounts.specs.declared.entry.Entry.{Entry}
 use Rattle.rsl_accounts.specs.declared.fault.ConfigFault.{ConfigFault}
 use Rattle.rsl_accounts.specs.declared.fault.ConfigFault.TheVariants.{TwiceClient, TwiceAccount, KeepTooLong}
 use Rattle.rsl_accounts.specs.declared.settings.Settings.{Settings}
-use Rattle.rsl_accounts.specs.Client.{given_in_client}
-use Rattle.rsl_accounts.specs.Entry.{given_in_entry}
-use Rattle.rsl_accounts.specs.Settings.{given_in_head, rules_of}
-use Rattle.rsl_accounts.specs.Walk.{walk, first_fault}
+use Rattle.rsl_accounts.specs.Settings.{rules_of}
+use Rattle.rsl_accounts.specs.Walk.{walk_over, first_fault}
 
 -- clients and accounts stand in the order of the file, in which they are numbered from 0
 pub record Configuration : Type 0 where
@@ -35,14 +33,6 @@ names accounts = map (λ account. account.name) accounts
 
 abbrev pub fault_if : Bool → ConfigFault → Option ConfigFault
 fault_if wrong fault = if wrong then Some fault else None
-
--- the walk over settings, clients and accounts
-abbrev pub walk_over : Settings → List Client → List Entry → List (Option ConfigFault)
-walk_over settings clients accounts =
-    walk settings.version
-    (given_in_head settings (length clients) (length accounts))
-    (map given_in_client clients)
-    (map given_in_entry accounts)
 
 -- the checks of a configuration, in their order
 unfoldable pub checks_of : Settings → List Client → List Entry → List (Option ConfigFault)

@@ -1,7 +1,6 @@
--- The fields of an account file: their keys, which may be left out, and which values each may have.
-use Rattle.std.specs.Prelude.{ℕ, List, Bool, true, false, not, ◌==◌, ◌&&◌, nat_le, length, codes, is_some}
+-- The fields of an account file: their keys, and which values each may have.
+use Rattle.std.specs.Prelude.{ℕ, List, Bool, false, not, ◌==◌, ◌&&◌, nat_le, length, codes}
 use Rattle.std.specs.List.{list_all}
-use Rattle.rsl_accounts.specs.Address.{address_of}
 use Rattle.rsl_accounts.specs.declared.field.Field.{Field}
 use Rattle.rsl_accounts.specs.declared.field.Field.TheVariants.{Version, Shards, ReserveSecs, LiveSecs, GraceSecs, ClosedSecs, KeepSecs, Client, Account, Address, Secret, Name, Password, Signed, Places, Ports, ServiceType, FramedProtocol, SessionTimeout, IdleTimeout, OwnLive, OwnGrace}
 
@@ -30,17 +29,6 @@ field_key IdleTimeout = codes "idle_timeout"
 field_key OwnLive = codes "live_secs"
 field_key OwnGrace = codes "grace_secs"
 
--- a field that a client or an account may leave out
-abbrev pub is_optional : Field → Bool
-is_optional Signed = true
-is_optional ServiceType = true
-is_optional FramedProtocol = true
-is_optional SessionTimeout = true
-is_optional IdleTimeout = true
-is_optional OwnLive = true
-is_optional OwnGrace = true
-is_optional _ = false
-
 abbrev pub is_between : ℕ → ℕ → ℕ → Bool
 is_between least most number = nat_le least number && nat_le number most
 
@@ -62,11 +50,6 @@ takes_number IdleTimeout number = is_between 1 4294967295 number
 takes_number OwnLive number = is_between 1 86400 number
 takes_number OwnGrace number = is_between 1 86400 number
 takes_number _ number = false
-
--- whether the field may have true and false
-abbrev pub takes_boolean : Field → Bool
-takes_boolean Signed = true
-takes_boolean _ = false
 
 -- how many tables the field may have
 abbrev pub takes_count : Field → ℕ → Bool
@@ -94,5 +77,4 @@ abbrev pub takes_text : Field → List ℕ → Bool
 takes_text Secret text = is_secret text
 takes_text Password text = is_secret text
 takes_text Name text = is_name text
-takes_text Address text = is_some (address_of text)
 takes_text _ text = false

@@ -1,25 +1,23 @@
--- The configuration of an account file: what it gives for each field, and what its parts hold once
--- the walk has passed.
-use Rattle.std.specs.Prelude.{ℕ, ℤ, pos, negsuc, Bool, false, nat_lt, if◌then◌else◌, List, [], ◌∷◌, map, length, Option, None, Some, option_map, option_and_then, unwrap_or, Result, Err, is_some}
+-- The configuration of an account file: the value of each field or its fault, and the parts that they make.
+use Rattle.std.specs.Prelude.{ℕ, pos, Bool, false, nat_lt, ◌&&◌, if◌then◌else◌, List, [], ◌∷◌, length, Option, None, Some, option_map, unwrap_or, ok_or, Result, Ok, Err, is_some}
 use Rattle.std.specs.List.{list_all}
+use Rattle.std.specs.Result.{result_map_both}
 use Rattle.std.specs.Str.{is_utf8}
-use Rattle.toml.specs.Data.{Data, string, integer, boolean, array, table, Items, no_items, item, get, as_array, as_bool, as_integer, as_str, as_table}
+use Rattle.toml.specs.Data.{Data, string, integer, boolean, array, table, Items, no_items, item, get, as_table}
 use Rattle.toml.specs.Parse.{parse_document}
 use Rattle.rsl_accounts.specs.declared.client.Client.{Client}
 use Rattle.rsl_accounts.specs.declared.entry.Entry.{Entry}
 use Rattle.rsl_accounts.specs.declared.fault.ConfigFault.{ConfigFault}
-use Rattle.rsl_accounts.specs.declared.fault.ConfigFault.TheVariants.{NotToml}
+use Rattle.rsl_accounts.specs.declared.fault.ConfigFault.TheVariants.{NotToml, Missing, BadValue}
 use Rattle.rsl_accounts.specs.declared.field.Field.{Field}
 use Rattle.rsl_accounts.specs.declared.field.Field.TheVariants as field
-use Rattle.rsl_accounts.specs.declared.given.Given.{Given}
-use Rattle.rsl_accounts.specs.declared.given.Given.TheVariants.{Absent, Wrong}
 use Rattle.rsl_accounts.specs.declared.rules.Rules.{Rules}
 use Rattle.rsl_accounts.specs.declared.settings.Settings.{Settings}
 use Rattle.rsl_accounts.specs.Address.{address_of}
-use Rattle.rsl_accounts.specs.Configuration.{Configuration, configuration_of, fault_or}
-use Rattle.rsl_accounts.specs.Field.{field_key}
+use Rattle.rsl_accounts.specs.Configuration.{Configuration, configuration_of}
+use Rattle.rsl_accounts.specs.Field.{field_key, takes_number, takes_count, takes_text}
+use Rattle.rsl_accounts.specs.Settings.{rules_of_places}
 use Rattle.rsl_accounts.specs.Version.{knows_own_times}
-use Rattle.rsl_accounts.specs.Walk.{given_number, given_boolean, given_text, given_count, walk, first_fault}
 
 -- the table that the text is, if it is UTF-8 and TOML
 unfoldable pub file_of : List ℕ → Option Data
@@ -29,10 +27,23 @@ file_of text = if is_utf8 text then option_map table (parse_document text) else 
 abbrev pub member_in : Data → Field → Option Data
 member_in value field = get (field_key field) value
 
--- a number that is not negative
-abbrev pub natural : ℤ → Option ℕ
-natural (pos number) = Some number
-natural (negsuc number) = None
+-- the number, the text, the octets of the address, the truth and the tables that a value is, if the
+-- field may have them
+abbrev pub number_of : Field → Data → Option ℕ
+number_of field (integer (pos number)) = if takes_number field number then Some number else None
+number_of field _ = None
+
+abbrev pub text_of : Field → Data → Option (List ℕ)
+text_of field (string text) = if takes_text field text then Some text else None
+text_of field _ = None
+
+abbrev pub address_value : Data → Option (List ℕ)
+address_value (string text) = address_of text
+address_value _ = None
+
+abbrev pub boolean_value : Data → Option Bool
+boolean_value (boolean flag) = Some flag
+boolean_value _ = None
 
 abbrev pub list_of : Items → List Data
 list_of no_items = []
@@ -41,115 +52,127 @@ list_of (item value rest) = value ∷ list_of rest
 abbrev pub are_tables : List Data → Bool
 are_tables items = list_all (λ value. is_some (as_table value)) items
 
--- what a value is for a field: a number, a text, and an array of tables each have their limits;
--- true and false have none
-abbrev pub given_natural : Field → Option ℕ → Given
-given_natural field None = Wrong
-given_natural field (Some number) = given_number field number
+abbrev pub tables_of_list : Field → List Data → Option (List Data)
+tables_of_list field items =
+    if are_tables items && takes_count field (length items) then Some items else None
 
-abbrev pub given_items : Field → List Data → Given
-given_items field items = if are_tables items then given_count field (length items) else Wrong
+abbrev pub tables_of : Field → Data → Option (List Data)
+tables_of field (array items) = tables_of_list field (list_of items)
+tables_of field _ = None
 
-abbrev pub given_value : Field → Data → Given
-given_value field (integer number) = given_natural field (natural number)
-given_value field (string text) = given_text field text
-given_value field (boolean flag) = given_boolean field
-given_value field (array items) = given_items field (list_of items)
-given_value field _ = Wrong
+-- the value of a field that a table must have, and of one that it may leave out, or the fault
+abbrev pub required : {T : Type 0} → Field → (Data → Option T) → Option Data → Result T ConfigFault
+required field value_of None = Err (Missing field)
+required field value_of (Some value) = ok_or (value_of value) (BadValue field)
 
-abbrev pub given_member : Field → Option Data → Given
-given_member field None = Absent
-given_member field (Some value) = given_value field value
+abbrev pub optional : {T : Type 0} → Field → (Data → Option T) → Option Data
+    → Result (Option T) ConfigFault
+optional field value_of None = Ok None
+optional field value_of (Some value) =
+    result_map_both Some (λ fault. fault) (ok_or (value_of value) (BadValue field))
 
-abbrev pub given_in : Data → Field → Given
-given_in value field = given_member field (member_in value field)
+unfoldable pub number_in : Data → Field → Result ℕ ConfigFault
+number_in value field = required field (number_of field) (member_in value field)
 
--- the number, the text, the truth and the tables of a field
-abbrev pub file_number : Data → Field → Option ℕ
-file_number value field =
-    option_and_then natural (option_and_then as_integer (member_in value field))
+unfoldable pub option_in : Data → Field → Result (Option ℕ) ConfigFault
+option_in value field = optional field (number_of field) (member_in value field)
 
-abbrev pub below_32_bits : ℕ → Option ℕ
-below_32_bits number = if nat_lt number 4294967296 then Some number else None
+unfoldable pub text_in : Data → Field → Result (List ℕ) ConfigFault
+text_in value field = required field (text_of field) (member_in value field)
 
-abbrev pub short_number_in : Data → Field → Option ℕ
-short_number_in value field = option_and_then below_32_bits (file_number value field)
+unfoldable pub tables_in : Data → Field → Result (List Data) ConfigFault
+tables_in value field = required field (tables_of field) (member_in value field)
 
-abbrev pub text_in : Data → Field → Option (List ℕ)
-text_in value field = option_and_then as_str (member_in value field)
+unfoldable pub address_in : Data → Result (List ℕ) ConfigFault
+address_in value = required field.Address address_value (member_in value field.Address)
 
-abbrev pub boolean_in : Data → Field → Bool
-boolean_in value field = unwrap_or (option_and_then as_bool (member_in value field)) false
-
-abbrev pub tables_in : Data → Field → List Data
-tables_in value field =
-    unwrap_or (option_map list_of (option_and_then as_array (member_in value field))) []
-
--- the parts of a file. What a field should be and is not has a fault in the walk, so what stands
--- for it here is never used
-abbrev pub version_in : Data → ℕ
-version_in value = unwrap_or (file_number value field.Version) 0
-
-unfoldable pub settings_in : Data → Settings
-settings_in value = record {
-  version = version_in value;
-  shards = unwrap_or (file_number value field.Shards) 0;
-  reserve = unwrap_or (file_number value field.ReserveSecs) 0;
-  live = unwrap_or (file_number value field.LiveSecs) 0;
-  grace = unwrap_or (file_number value field.GraceSecs) 0;
-  closed = unwrap_or (file_number value field.ClosedSecs) 0;
-  keep = unwrap_or (file_number value field.KeepSecs) 0;
-}
-
-abbrev pub address_in : Data → List ℕ
-address_in value =
-    unwrap_or (option_and_then address_of (text_in value field.Address)) (0 ∷ 0 ∷ 0 ∷ 0 ∷ [])
-
-unfoldable pub client_in : Data → Client
-client_in value = record {
-  address = address_in value;
-  secret = unwrap_or (text_in value field.Secret) [];
-  signed = boolean_in value field.Signed;
-}
+-- a client that does not say so is not signed
+unfoldable pub signed_in : Data → Result Bool ConfigFault
+signed_in value =
+    result_map_both (λ flag. unwrap_or flag false) (λ fault. fault)
+    (optional field.Signed boolean_value (member_in value field.Signed))
 
 -- a time of an account's own, which version 1 does not know
-abbrev pub own_number : (version : ℕ) → Data → Field → Option ℕ
-own_number version value field = if knows_own_times version then file_number value field else None
+unfoldable pub own_in : (version : ℕ) → Data → Field → Result (Option ℕ) ConfigFault
+own_in version value field = if knows_own_times version then option_in value field else Ok None
+
+-- what goes on with a value, or its fault
+abbrev pub and_then : {T U : Type 0} → Result T ConfigFault → (T → Result U ConfigFault)
+    → Result U ConfigFault
+and_then (Ok value) next = next value
+and_then (Err fault) next = Err fault
+
+-- the parts of a file, by the values of their fields in the order of the walk
+unfoldable pub settings_in : Data → Result Settings ConfigFault
+settings_in value =
+    and_then (number_in value field.Version) (λ version.
+    and_then (number_in value field.Shards) (λ shards.
+    and_then (number_in value field.ReserveSecs) (λ reserve.
+    and_then (number_in value field.LiveSecs) (λ live.
+    and_then (number_in value field.GraceSecs) (λ grace.
+    and_then (number_in value field.ClosedSecs) (λ closed.
+    and_then (number_in value field.KeepSecs) (λ keep.
+    Ok (record {
+      version = version;
+      shards = shards;
+      reserve = reserve;
+      live = live;
+      grace = grace;
+      closed = closed;
+      keep = keep;
+    }))))))))
+
+unfoldable pub client_in : Data → Result Client ConfigFault
+client_in value =
+    and_then (address_in value) (λ address.
+    and_then (text_in value field.Secret) (λ secret.
+    and_then (signed_in value) (λ signed.
+    Ok (record { address = address; secret = secret; signed = signed }))))
 
 -- the times of the rules are filled in later
-unfoldable pub rules_in : Data → Rules
-rules_in value = record {
-  places = unwrap_or (file_number value field.Places) 0;
-  ports = unwrap_or (file_number value field.Ports) 0;
-  reserve = 0;
-  live = 0;
-  grace = 0;
-  closed = 0;
-  keep = 0;
-}
+unfoldable pub entry_in : (version : ℕ) → Data → Result Entry ConfigFault
+entry_in version value =
+    and_then (text_in value field.Name) (λ name.
+    and_then (text_in value field.Password) (λ password.
+    and_then (number_in value field.Places) (λ places.
+    and_then (number_in value field.Ports) (λ ports.
+    and_then (option_in value field.ServiceType) (λ service_type.
+    and_then (option_in value field.FramedProtocol) (λ framed_protocol.
+    and_then (option_in value field.SessionTimeout) (λ session_timeout.
+    and_then (option_in value field.IdleTimeout) (λ idle_timeout.
+    and_then (own_in version value field.OwnLive) (λ own_live.
+    and_then (own_in version value field.OwnGrace) (λ own_grace.
+    Ok (record {
+      name = name;
+      password = password;
+      rules = rules_of_places places ports;
+      service_type = service_type;
+      framed_protocol = framed_protocol;
+      session_timeout = session_timeout;
+      idle_timeout = idle_timeout;
+      own_live = own_live;
+      own_grace = own_grace;
+    })))))))))))
 
-unfoldable pub entry_in : (version : ℕ) → Data → Entry
-entry_in version value = record {
-  name = unwrap_or (text_in value field.Name) [];
-  password = unwrap_or (text_in value field.Password) [];
-  rules = rules_in value;
-  service_type = short_number_in value field.ServiceType;
-  framed_protocol = short_number_in value field.FramedProtocol;
-  session_timeout = short_number_in value field.SessionTimeout;
-  idle_timeout = short_number_in value field.IdleTimeout;
-  own_live = own_number version value field.OwnLive;
-  own_grace = own_number version value field.OwnGrace;
-}
+-- what each value is, or the first fault
+abbrev pub each : {T : Type 0} → (Data → Result T ConfigFault) → List Data
+    → Result (List T) ConfigFault
+each part_in [] = Ok []
+each part_in (value ∷ values) =
+    and_then (part_in value) (λ part.
+    and_then (each part_in values) (λ parts.
+    Ok (part ∷ parts)))
 
--- the first fault of the walk, or else what its settings, clients and accounts make
+-- the first fault of the walk over the file, or else what its parts make: first the settings, then
+-- how many clients and accounts there are, then each client, then each account
 unfoldable pub configuration_of_file : Data → Result Configuration ConfigFault
 configuration_of_file file =
-    let version = version_in file in
-    let clients = tables_in file field.Client in
-    let accounts = tables_in file field.Account in
-    fault_or (first_fault
-    (walk version (given_in file) (map given_in clients) (map given_in accounts)))
-    (configuration_of (settings_in file) (map client_in clients) (map (entry_in version) accounts))
+    and_then (settings_in file) (λ settings.
+    and_then (tables_in file field.Client) (λ client_tables.
+    and_then (tables_in file field.Account) (λ account_tables.
+    and_then (each client_in client_tables) (λ clients.
+    and_then (each (entry_in settings.version) account_tables) (λ accounts.
+    configuration_of settings clients accounts)))))
 
 abbrev pub configuration_of_parsed : Option Data → Result Configuration ConfigFault
 configuration_of_parsed None = Err NotToml

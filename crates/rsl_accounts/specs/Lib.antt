@@ -4,8 +4,7 @@ pub mod Field
 pub mod Version
 pub mod Walk
 pub mod Settings
-pub mod Client
-pub mod Entry
 pub mod Configuration
-pub mod Inside
+pub mod TextSeen
+pub mod ConfigSeen
 pub mod File

@@ -1,73 +1,87 @@
--- The walk over the fields of an account file: in which order they stand, and the first fault.
-use Rattle.std.specs.Prelude.{ℕ, Bool, List, [], ◌∷◌, ◌++◌, map, if◌then◌else◌, Option, None, Some}
+-- The walk over settings, clients and accounts: in which order their values are checked, and the first fault.
+use Rattle.std.specs.Prelude.{ℕ, Bool, List, [], ◌∷◌, ◌++◌, if◌then◌else◌, length, Option, None, Some}
 use Rattle.std.specs.List.{flat_map}
-use Rattle.rsl_accounts.specs.declared.field.Field.{Field}
-use Rattle.rsl_accounts.specs.declared.field.Field.TheVariants.{Version, Shards, ReserveSecs, LiveSecs, GraceSecs, ClosedSecs, KeepSecs, Client, Account, Address, Secret, Signed, Name, Password, Places, Ports, ServiceType, FramedProtocol, SessionTimeout, IdleTimeout, OwnLive, OwnGrace}
+use Rattle.rsl_accounts.specs.declared.client.Client.{Client}
+use Rattle.rsl_accounts.specs.declared.entry.Entry.{Entry}
 use Rattle.rsl_accounts.specs.declared.fault.ConfigFault.{ConfigFault}
-use Rattle.rsl_accounts.specs.declared.fault.ConfigFault.TheVariants.{Missing, BadValue}
-use Rattle.rsl_accounts.specs.declared.given.Given.{Given}
-use Rattle.rsl_accounts.specs.declared.given.Given.TheVariants.{Absent, Wrong, Right}
-use Rattle.rsl_accounts.specs.Field.{is_optional, takes_number, takes_boolean, takes_count, takes_text}
+use Rattle.rsl_accounts.specs.declared.fault.ConfigFault.TheVariants.{BadValue}
+use Rattle.rsl_accounts.specs.declared.field.Field.{Field}
+use Rattle.rsl_accounts.specs.declared.field.Field.TheVariants as field
+use Rattle.rsl_accounts.specs.declared.settings.Settings.{Settings}
+use Rattle.rsl_accounts.specs.Field.{takes_number, takes_count, takes_text}
 use Rattle.rsl_accounts.specs.Version.{knows_own_times}
 
--- the fields at the head of a file, in the order of the walk
-unfoldable pub file_fields : List Field
-file_fields =
-    Version ∷ Shards ∷ ReserveSecs ∷ LiveSecs ∷ GraceSecs ∷ ClosedSecs ∷ KeepSecs ∷ Client ∷ Account
+-- the fault of a field, unless it may have its value
+abbrev pub fault_unless : (is_right : Bool) → Field → Option ConfigFault
+fault_unless is_right field = if is_right then None else Some (BadValue field)
+
+unfoldable pub number_fault : Field → ℕ → Option ConfigFault
+number_fault field number = fault_unless (takes_number field number) field
+
+unfoldable pub text_fault : Field → List ℕ → Option ConfigFault
+text_fault field text = fault_unless (takes_text field text) field
+
+unfoldable pub count_fault : Field → ℕ → Option ConfigFault
+count_fault field count = fault_unless (takes_count field count) field
+
+-- the same of a number that may be left out
+abbrev pub option_fault : Field → Option ℕ → Option ConfigFault
+option_fault field None = None
+option_fault field (Some number) = number_fault field number
+
+-- the checks of the settings, each the fault of a field or `None`
+unfoldable pub settings_checks : Settings → List (Option ConfigFault)
+settings_checks settings =
+    number_fault field.Version settings.version
+    ∷ number_fault field.Shards settings.shards
+    ∷ number_fault field.ReserveSecs settings.reserve
+    ∷ number_fault field.LiveSecs settings.live
+    ∷ number_fault field.GraceSecs settings.grace
+    ∷ number_fault field.ClosedSecs settings.closed
+    ∷ number_fault field.KeepSecs settings.keep
     ∷ []
 
--- the fields of a client
-unfoldable pub client_fields : List Field
-client_fields = Address ∷ Secret ∷ Signed ∷ []
+-- the checks of how many clients and accounts there are
+unfoldable pub count_checks : (clients accounts : ℕ) → List (Option ConfigFault)
+count_checks clients accounts =
+    count_fault field.Client clients ∷ count_fault field.Account accounts ∷ []
 
--- the fields of an account in every version
-unfoldable pub common_fields : List Field
-common_fields =
-    Name ∷ Password ∷ Places ∷ Ports ∷ ServiceType ∷ FramedProtocol ∷ SessionTimeout ∷ IdleTimeout
+-- the checks of a client: any four octets are an address, and a client is signed or is not
+unfoldable pub client_checks : Client → List (Option ConfigFault)
+client_checks client = text_fault field.Secret client.secret ∷ []
+
+-- the checks of an account in every version
+unfoldable pub common_checks : Entry → List (Option ConfigFault)
+common_checks entry =
+    text_fault field.Name entry.name
+    ∷ text_fault field.Password entry.password
+    ∷ number_fault field.Places entry.rules.places
+    ∷ number_fault field.Ports entry.rules.ports
+    ∷ option_fault field.ServiceType entry.service_type
+    ∷ option_fault field.FramedProtocol entry.framed_protocol
+    ∷ option_fault field.SessionTimeout entry.session_timeout
+    ∷ option_fault field.IdleTimeout entry.idle_timeout
     ∷ []
 
--- times of an account's own, which version 1 does not know
-unfoldable pub own_times : List Field
-own_times = OwnLive ∷ OwnGrace ∷ []
+-- the checks of an account's own times, which version 1 does not know
+unfoldable pub own_times_checks : Entry → List (Option ConfigFault)
+own_times_checks entry =
+    option_fault field.OwnLive entry.own_live ∷ option_fault field.OwnGrace entry.own_grace ∷ []
 
--- the fields of an account
-abbrev pub account_fields : (version : ℕ) → List Field
-account_fields version =
-    if knows_own_times version then common_fields ++ own_times else common_fields
+unfoldable pub own_checks : (version : ℕ) → Entry → List (Option ConfigFault)
+own_checks version entry = if knows_own_times version then own_times_checks entry else []
 
--- what a value is for its field
-abbrev pub given_if : (is_right : Bool) → Given
-given_if is_right = if is_right then Right else Wrong
+unfoldable pub account_checks : (version : ℕ) → Entry → List (Option ConfigFault)
+account_checks version entry = common_checks entry ++ own_checks version entry
 
-abbrev pub given_number : Field → ℕ → Given
-given_number field number = given_if (takes_number field number)
-
-abbrev pub given_count : Field → ℕ → Given
-given_count field count = given_if (takes_count field count)
-
-abbrev pub given_boolean : Field → Given
-given_boolean field = given_if (takes_boolean field)
-
-abbrev pub given_text : Field → List ℕ → Given
-given_text field text = given_if (takes_text field text)
-
--- the fault of a field
-abbrev pub fault_of : Field → Given → Option ConfigFault
-fault_of field Absent = if is_optional field then None else Some (Missing field)
-fault_of field Wrong = Some (BadValue field)
-fault_of field Right = None
-
--- the checks of some fields, in order: the fault of each, or `None` where it has none
-abbrev pub checks : List Field → (Field → Given) → List (Option ConfigFault)
-checks fields given = map (λ field. fault_of field (given field)) fields
-
--- the checks of the whole walk: the head of the file, then each client, then each account
-unfoldable pub walk : (version : ℕ) → (Field → Given) → List (Field → Given) → List (Field → Given)
-    → List (Option ConfigFault)
-walk version head clients accounts =
-    checks file_fields head
-    ++ flat_map (checks client_fields) clients
-    ++ flat_map (checks (account_fields version)) accounts
+-- the checks of the whole walk: the settings, how many clients and accounts there are, then each
+-- client, then each account
+unfoldable pub walk_over : Settings → List Client → List Entry → List (Option ConfigFault)
+walk_over settings clients accounts =
+    settings_checks settings
+    ++ count_checks (length clients) (length accounts)
+    ++ flat_map client_checks clients
+    ++ flat_map (account_checks settings.version) accounts
 
 -- the first fault of some checks
 abbrev pub first_fault : List (Option ConfigFault) → Option ConfigFault

@@ -1,5 +1,9 @@
+ghost use Rattle.std.specs.Prelude.{◌≡◌};
+ghost use Rattle.std.specs.Result.{result_err};
+ghost use Rattle.rsl_accounts.specs.Walk.{client_checks, first_fault};
+
+use crate::fault::ConfigFault;
 use crate::field::Field;
-use crate::given::{Fields, Given};
 use crate::secret::Secret;
 
 /// An access server that may send packets.
@@ -14,22 +18,13 @@ pub struct Client {
     pub signed: bool,
 }
 
-/// Reads the fields of a client.
-pub(crate) enum Clients {}
-
-impl Fields for Clients {
-    type Part = Client;
-
-    ghost use Rattle.rsl_accounts.specs.Client.{given_in_client};
-
-    ghost given_of = { given_in_client };
-
-    fn given(part: &Client, field: Field) -> Given {
-        match field {
-            Field::Address => Given::Right,
-            Field::Secret => Given::text(field, part.secret.expose()),
-            Field::Signed => Given::Right,
-            _ => Given::Absent,
-        }
+impl Client {
+    /// `BadValue` of the first field with a wrong value: any four octets are an address, and a client
+    /// is signed or is not.
+    #[tactic(auto, unfolding(crate::specs::Walk::client_checks))]
+    pub(crate) fn check(&self) -> Result<(), ConfigFault>
+        ensures { result_err result ≡ first_fault (client_checks self.now) }
+    {
+        Field::Secret.check_text(self.secret.expose())
     }
 }

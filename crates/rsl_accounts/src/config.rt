@@ -15,10 +15,8 @@ ghost use Rattle.std.specs.Prelude.{
   map,
 };
 ghost use Rattle.std.specs.List.{list_any};
-ghost use Rattle.std.specs.Result.{result_err};
 ghost use Rattle.rsl_accounts.specs.Configuration.{
   same_octets,
-  walk_over,
   configuration_of,
   PassesBeforeNames,
   client_number,
@@ -29,15 +27,16 @@ ghost use Rattle.rsl_accounts.specs.Configuration.{
   with_times,
 };
 ghost use Rattle.rsl_accounts.specs.File.{configuration_of_text};
-ghost use Rattle.rsl_accounts.specs.Walk.{first_fault};
+ghost use Rattle.rsl_accounts.specs.Walk.{first_fault, walk_over};
 ghost use Rattle.rsl_accounts.specs.Limits.{IsConfiguration, IsAccount, IsSecret};
 
-use crate::client::{Client, Clients};
-use crate::entry::{Entries, Entry};
+use crate::client::Client;
+use crate::entry::Entry;
 use crate::fault::ConfigFault;
 use crate::field::Field;
-use crate::file::{FileParts, parse, read_clients, read_entries, settings, tables, version};
-use crate::settings::{Head, Heads, Settings};
+use crate::file::{clients, entries, parse, settings};
+use crate::settings::Settings;
+use crate::table::tables;
 use crate::walk::walk;
 use indexmap::IndexSet;
 use std::alloc::Global;
@@ -58,7 +57,7 @@ impl Model for Config {
 
     ghost Value = { Configuration };
 
-    ghost use Rattle.rsl_accounts.specs.Inside.{configuration_in, IsKept};
+    ghost use Rattle.rsl_accounts.specs.ConfigSeen.{configuration_in, IsKept};
 
     ghost view = { configuration_in };
 
@@ -86,7 +85,7 @@ impl Config {
         ensures memory { IfErr result (λ fault. fault ≡ ConfigFault.NoMemory →
             PassesBeforeNames settings clients.items accounts.items) }
     {
-        walk_over(settings, clients.as_slice(), accounts.as_slice())?;
+        walk(&settings, clients.as_slice(), accounts.as_slice())?;
         Config::assemble(alloc, settings, clients, accounts)
     }
 
@@ -100,13 +99,11 @@ impl Config {
             configuration_of_text text.now ≡ Err fault) }
     {
         let file = parse(alloc, text)?;
-        let clients = tables(&file, Field::Client);
-        let accounts = tables(&file, Field::Account);
-        let version = version(&file);
-        walk::<FileParts, FileParts, FileParts>(version, &file, clients, accounts)?;
-        let settings = settings(&file);
-        let clients = read_clients(alloc, clients)?;
-        let accounts = read_entries(alloc, version, accounts)?;
+        let settings = settings(&file)?;
+        let client_tables = tables(&file, Field::Client)?;
+        let account_tables = tables(&file, Field::Account)?;
+        let clients = clients(alloc, client_tables)?;
+        let accounts = entries(alloc, settings.version, account_tables)?;
         Config::assemble(alloc, settings, clients, accounts)
     }
 
@@ -209,22 +206,10 @@ impl Config {
     }
 }
 
-/// Walks over the settings, the clients and the accounts, and gives the first fault.
-fn walk_over(settings: Settings, clients: &[Client], accounts: &[Entry]) -> Result<(), ConfigFault>
-    ensures { result_err result ≡ first_fault (walk_over settings clients.now accounts.now) }
-{
-    let head = Head {
-        settings,
-        clients: clients.len(),
-        accounts: accounts.len(),
-    };
-    walk::<Heads, Clients, Entries>(settings.version, &head, clients, accounts)
-}
-
-/// The place of the first client with the address.
+/// The index of the first client with the address.
 fn position_of(clients: &[Client], address: [u8; 4]) -> Option<usize>
-    ensures place { result ≡ position (λ client. same_octets address client.address) clients.now }
-    ensures within { IfSome result (λ place. place < length clients.now) }
+    ensures index { result ≡ position (λ client. same_octets address client.address) clients.now }
+    ensures within { IfSome result (λ index. index < length clients.now) }
 {
     clients.iter().position(|client| address == client.address)
 }

@@ -1,21 +1,24 @@
 ghost use Rattle.std.specs.Prelude.{◌≡◌};
-ghost use Rattle.rsl_accounts.specs.Entry.{given_option};
+ghost use Rattle.std.specs.Result.{result_err};
+ghost use Rattle.rsl_accounts.specs.Walk.{
+  account_checks,
+  common_checks,
+  own_checks,
+  first_fault,
+};
 
+use crate::fault::ConfigFault;
 use crate::field::Field;
-use crate::given::{Fields, Given};
 use crate::rules::Rules;
 use crate::secret::Secret;
+use crate::settings::knows_own_times;
 use crate::text::Text;
 
-/// An account.
+/// An account. What each login reads of it stands first, as fields lie in memory in their order.
 #[derive(Debug, PartialEq, Eq, Drop)]
 pub struct Entry {
-    /// The User-Name: 1 to 64 octets, each 0x21 to 0x7E.
-    pub name: Text,
     /// The password: 1 to 128 octets of UTF-8 without NUL.
     pub password: Secret,
-    /// The session limit.
-    pub rules: Rules,
     /// The Service-Type of the account's accepts (RFC 2865 section 5.6), at least 1.
     pub service_type: Option<u32>,
     /// The Framed-Protocol of the account's accepts (RFC 2865 section 5.7), at least 1.
@@ -24,55 +27,51 @@ pub struct Entry {
     pub session_timeout: Option<u32>,
     /// The Idle-Timeout of the account's accepts in seconds (RFC 2865 section 5.28), at least 1.
     pub idle_timeout: Option<u32>,
+    /// The session limit.
+    pub rules: Rules,
+    /// The User-Name: 1 to 64 octets, each 0x21 to 0x7E.
+    pub name: Text,
     /// The live time of the account's own in seconds, 1 to 86,400; in version 1 it is passed over.
     pub own_live: Option<u64>,
     /// The grace time of the account's own in seconds, 1 to 86,400; in version 1 it is passed over.
     pub own_grace: Option<u64>,
 }
 
-/// Reads the fields of an account.
-pub(crate) enum Entries {}
+impl Entry {
+    /// `BadValue` of the first field with a wrong value, in the order of the walk. The times of its
+    /// own are passed over in a version that does not know them.
+    #[tactic(auto, using(crate::proofs::Faults::checks_steps), unfolding(crate::specs::Walk::account_checks))]
+    pub(crate) fn check(&self, version: u64) -> Result<(), ConfigFault>
+        ensures { result_err result ≡ first_fault (account_checks version self.now) }
+    {
+        self.check_common()?;
+        self.check_own_times(version)
+    }
 
-impl Fields for Entries {
-    type Part = Entry;
+    /// The same of the fields that each version knows.
+    #[tactic(auto, unfolding(crate::specs::Walk::common_checks))]
+    fn check_common(&self) -> Result<(), ConfigFault>
+        ensures { result_err result ≡ first_fault (common_checks self.now) }
+    {
+        Field::Name.check_text(self.name.as_bytes())?;
+        Field::Password.check_text(self.password.expose())?;
+        Field::Places.check_number(self.rules.places)?;
+        Field::Ports.check_number(self.rules.ports)?;
+        Field::ServiceType.check_short(self.service_type)?;
+        Field::FramedProtocol.check_short(self.framed_protocol)?;
+        Field::SessionTimeout.check_short(self.session_timeout)?;
+        Field::IdleTimeout.check_short(self.idle_timeout)
+    }
 
-    ghost use Rattle.rsl_accounts.specs.Entry.{given_in_entry};
-
-    ghost given_of = { given_in_entry };
-
-    fn given(part: &Entry, field: Field) -> Given {
-        match field {
-            Field::Name => Given::text(field, part.name.as_bytes()),
-            Field::Password => Given::text(field, part.password.expose()),
-            Field::Places => Given::number(field, part.rules.places),
-            Field::Ports => Given::number(field, part.rules.ports),
-            Field::ServiceType => short(field, part.service_type),
-            Field::FramedProtocol => short(field, part.framed_protocol),
-            Field::SessionTimeout => short(field, part.session_timeout),
-            Field::IdleTimeout => short(field, part.idle_timeout),
-            Field::OwnLive => optional(field, part.own_live),
-            Field::OwnGrace => optional(field, part.own_grace),
-            _ => Given::Absent,
+    /// The same of its own times.
+    #[tactic(auto, unfolding(crate::specs::Walk::own_checks, crate::specs::Walk::own_times_checks))]
+    fn check_own_times(&self, version: u64) -> Result<(), ConfigFault>
+        ensures { result_err result ≡ first_fault (own_checks version self.now) }
+    {
+        if !knows_own_times(version) {
+            return Ok(());
         }
-    }
-}
-
-/// What is given for a field where there may be a number of 32 bits.
-fn short(field: Field, number: Option<u32>) -> Given
-    ensures { result ≡ given_option field number }
-{
-    match number {
-        None => Given::Absent,
-        Some(number) => Given::number(field, number as u64),
-    }
-}
-
-/// What is given for a field where there may be a number.
-fn optional(field: Field, number: Option<u64>) -> Given
-    ensures { result ≡ given_option field number }
-{
-    match number {
-        None => Given::Absent,
-        Some(number) => Given::number(field, number),
+        Field::OwnLive.check_option(self.own_live)?;
+        Field::OwnGrace.check_option(self.own_grace)
     }
 }

@@ -1,24 +1,28 @@
 ghost use Rattle.std.specs.Prelude.{◌≡◌, Some};
+ghost use Rattle.std.specs.Result.{result_err};
+ghost use Rattle.rsl_accounts.specs.Walk.{number_fault, option_fault, count_fault, text_fault};
 ghost use Rattle.rsl_accounts.specs.Field.{
   field_key,
-  is_optional,
   is_between,
   is_secret,
   is_name,
   has_no_nul,
   is_visible,
   takes_number,
-  takes_boolean,
   takes_count,
   takes_text,
 };
 
-use crate::address::address_of;
-use crate::rules::{MAX_PLACES, MAX_PORTS, MAX_TIME};
+use crate::fault::ConfigFault;
+use crate::rules::{MAX_PLACES, MAX_PORTS, MAX_TIME, MIN_PORTS, MIN_TIME};
+use crate::settings::{MAX_VERSION, MIN_VERSION};
 use std::fmt;
 
 /// The most shards of a server.
 const MAX_SHARDS: u64 = 4;
+
+/// The most that an attribute of an account's accepts can have: 32 bits.
+const MAX_OPTION: u64 = u32::MAX as u64;
 
 /// The most clients of a file.
 const MAX_CLIENTS: u64 = 256;
@@ -112,28 +116,12 @@ impl Field {
         }
     }
 
-    /// Whether a file may leave the field out.
-    pub(crate) fn is_optional(self) -> bool
-        ensures { result ≡ is_optional self }
-    {
-        match self {
-            Field::Signed
-            | Field::ServiceType
-            | Field::FramedProtocol
-            | Field::SessionTimeout
-            | Field::IdleTimeout
-            | Field::OwnLive
-            | Field::OwnGrace => true,
-            _ => false,
-        }
-    }
-
     /// Whether the field may have the number.
     pub(crate) fn takes_number(self, number: u64) -> bool
         ensures { result ≡ takes_number self number }
     {
         match self {
-            Field::Version => is_between(1, 2, number),
+            Field::Version => is_between(MIN_VERSION, MAX_VERSION, number),
             Field::Shards => is_between(1, MAX_SHARDS, number),
             Field::ReserveSecs
             | Field::LiveSecs
@@ -141,22 +129,15 @@ impl Field {
             | Field::ClosedSecs
             | Field::KeepSecs
             | Field::OwnLive
-            | Field::OwnGrace => is_between(1, MAX_TIME, number),
+            | Field::OwnGrace => is_between(MIN_TIME, MAX_TIME, number),
             Field::Places => is_between(0, MAX_PLACES, number),
-            Field::Ports => is_between(1, MAX_PORTS, number),
+            Field::Ports => is_between(MIN_PORTS, MAX_PORTS, number),
             Field::ServiceType
             | Field::FramedProtocol
             | Field::SessionTimeout
-            | Field::IdleTimeout => is_between(1, u32::MAX as u64, number),
+            | Field::IdleTimeout => is_between(1, MAX_OPTION, number),
             _ => false,
         }
-    }
-
-    /// Whether the field may have true and false.
-    pub(crate) fn takes_boolean(self) -> bool
-        ensures { result ≡ takes_boolean self }
-    {
-        matches!(self, Field::Signed)
     }
 
     /// Whether the field may have this many tables.
@@ -177,8 +158,63 @@ impl Field {
         match self {
             Field::Secret | Field::Password => is_secret(text),
             Field::Name => is_name(text),
-            Field::Address => address_of(text).is_some(),
             _ => false,
+        }
+    }
+
+    /// `BadValue` unless the field may have the number.
+    #[tactic(auto, unfolding(crate::specs::Walk::number_fault))]
+    pub(crate) fn check_number(self, number: u64) -> Result<(), ConfigFault>
+        ensures { result_err result ≡ number_fault self number }
+    {
+        if self.takes_number(number) {
+            Ok(())
+        } else {
+            Err(ConfigFault::BadValue(self))
+        }
+    }
+
+    /// The same of a number that may be left out.
+    pub(crate) fn check_option(self, number: Option<u64>) -> Result<(), ConfigFault>
+        ensures { result_err result ≡ option_fault self number }
+    {
+        match number {
+            Some(number) => self.check_number(number),
+            None => Ok(()),
+        }
+    }
+
+    /// The same of one of 32 bits.
+    pub(crate) fn check_short(self, number: Option<u32>) -> Result<(), ConfigFault>
+        ensures { result_err result ≡ option_fault self number }
+    {
+        match number {
+            Some(number) => self.check_number(u64::from(number)),
+            None => Ok(()),
+        }
+    }
+
+    /// `BadValue` unless the field may have this many tables.
+    #[tactic(auto, unfolding(crate::specs::Walk::count_fault))]
+    pub(crate) fn check_count(self, count: usize) -> Result<(), ConfigFault>
+        ensures { result_err result ≡ count_fault self count }
+    {
+        if self.takes_count(count) {
+            Ok(())
+        } else {
+            Err(ConfigFault::BadValue(self))
+        }
+    }
+
+    /// `BadValue` unless the field may have the text.
+    #[tactic(auto, unfolding(crate::specs::Walk::text_fault))]
+    pub(crate) fn check_text(self, text: &[u8]) -> Result<(), ConfigFault>
+        ensures { result_err result ≡ text_fault self text.now }
+    {
+        if self.takes_text(text) {
+            Ok(())
+        } else {
+            Err(ConfigFault::BadValue(self))
         }
     }
 }

@@ -5,7 +5,8 @@
 //! `Config::make`. Each answers exactly what its definition says, `configuration_of_text` of
 //! `specs/File.antt` and `configuration_of` of `specs/Configuration.antt`, or that memory was
 //! refused. Every `Config` is within the limits of `specs/Limits.antt`. The order of the checks
-//! stands in `specs/Walk.antt`, and the values that a field may have in `specs/Field.antt`.
+//! stands in `specs/Walk.antt` and, for a file, in `specs/File.antt`, and the values that a field may
+//! have in `specs/Field.antt`.
 #![tactic(auto)]
 
 mod address;
@@ -15,10 +16,11 @@ mod entry;
 mod fault;
 mod field;
 mod file;
-mod given;
 mod rules;
 mod secret;
 mod settings;
+mod short;
+mod table;
 mod text;
 mod walk;
 

@@ -1,11 +1,18 @@
-ghost use Rattle.std.specs.Prelude.{◌↔◌, IsTrue};
+ghost use Rattle.std.specs.Prelude.{◌≡◌, ◌↔◌, IsTrue};
 ghost use Rattle.rsl_accounts.specs.Limits.{IsTime, RulesFit};
+ghost use Rattle.rsl_accounts.specs.Settings.{rules_of_places};
 
 /// The most places that an account can have.
 pub(crate) const MAX_PLACES: u64 = 64;
 
+/// The fewest links that a place can have.
+pub(crate) const MIN_PORTS: u64 = 1;
+
 /// The most links that a place can have.
 pub(crate) const MAX_PORTS: u64 = 16;
+
+/// The fewest seconds that a time can have.
+pub(crate) const MIN_TIME: u64 = 1;
 
 /// The most seconds that a time can have: a day.
 pub(crate) const MAX_TIME: u64 = 86_400;
@@ -30,13 +37,29 @@ pub struct Rules {
 }
 
 impl Rules {
+    /// The session limit of so many places and ports, whose times `Config::make` fills in: until
+    /// then each is 0, and the rules do not fit.
+    pub fn of_places(places: u64, ports: u64) -> Rules
+        ensures { result ≡ rules_of_places places ports }
+    {
+        Rules {
+            places,
+            ports,
+            reserve: 0,
+            live: 0,
+            grace: 0,
+            closed: 0,
+            keep: 0,
+        }
+    }
+
     /// Whether every number is within its limits: at most 64 places, 1 to 16 ports, each time 1 to
     /// 86,400 seconds, and `keep` at most `reserve`.
     pub fn fits(&self) -> bool
         ensures { IsTrue result ↔ RulesFit self.now }
     {
         self.places <= MAX_PLACES
-            && 1 <= self.ports
+            && MIN_PORTS <= self.ports
             && self.ports <= MAX_PORTS
             && is_time(self.reserve)
             && is_time(self.live)
@@ -51,5 +74,5 @@ impl Rules {
 fn is_time(seconds: u64) -> bool
     ensures { IsTrue result ↔ IsTime seconds }
 {
-    1 <= seconds && seconds <= MAX_TIME
+    MIN_TIME <= seconds && seconds <= MAX_TIME
 }

@@ -1,4 +1,4 @@
-ghost use Rattle.std.specs.Prelude.{◌≡◌, IfOk, nat_eq};
+ghost use Rattle.std.specs.Prelude.{◌≡◌, ◌≤◌, IfOk, IsOk, length, nat_eq};
 ghost use Rattle.std.specs.Str.{IsUtf8};
 ghost use Rattle.std.specs.Cmp.{partial_equiv_from_equiv};
 ghost use Rattle.std.specs.Cmp.Lexicographic.{pointwise, nat_list_eq_equiv};
@@ -25,9 +25,11 @@ impl Model for Secret {
 }
 
 impl Secret {
-    /// A secret with the octets of the text. It fails only where memory is refused.
+    /// A secret with the octets of the text. It fails only where memory is refused, and takes none for
+    /// up to 22 octets.
     pub fn from_str(alloc: Global, text: &str) -> Result<Secret, NoMemory>
-        ensures { IfOk result (λ secret. secret ≡ text.now) }
+        ensures copy { IfOk result (λ secret. secret ≡ text.now) }
+        ensures short { length text.now ≤ 22 → IsOk result }
     {
         Ok(Secret {
             text: Text::from_str(alloc, text)?,
@@ -42,9 +44,10 @@ impl Secret {
         self.text.as_bytes()
     }
 
-    /// An equal secret. It fails only where memory is refused.
+    /// An equal secret. It fails only where memory is refused, and takes none for up to 22 octets.
     pub fn try_copy(&self, alloc: Global) -> Result<Secret, NoMemory>
-        ensures { IfOk result (λ copy. copy ≡ self.now) }
+        ensures copy { IfOk result (λ copy. copy ≡ self.now) }
+        ensures short { length self.now ≤ 22 → IsOk result }
     {
         Ok(Secret {
             text: self.text.try_copy(alloc)?,

@@ -1,11 +1,22 @@
 ghost use Rattle.std.specs.Prelude.{◌≡◌};
+ghost use Rattle.std.specs.Result.{result_err};
 ghost use Rattle.rsl_accounts.specs.Settings.{own_time};
+ghost use Rattle.rsl_accounts.specs.Version.{knows_own_times};
+ghost use Rattle.rsl_accounts.specs.Walk.{settings_checks, first_fault};
 
 use crate::entry::Entry;
+use crate::fault::ConfigFault;
 use crate::field::Field;
-use crate::given::{Fields, Given};
 use crate::rules::Rules;
-use crate::walk::knows_own_times;
+
+/// The first version of the file's format.
+pub(crate) const MIN_VERSION: u64 = 1;
+
+/// The last one.
+pub(crate) const MAX_VERSION: u64 = 2;
+
+/// The version in which an account can have times of its own.
+const OWN_TIMES_VERSION: u64 = 2;
 
 /// What an account file says once, for all accounts.
 #[derive(Clone, Copy, Debug, PartialEq, Eq)]
@@ -27,6 +38,20 @@ pub struct Settings {
 }
 
 impl Settings {
+    /// `BadValue` of the first field with a wrong value, in the order of the walk.
+    #[tactic(auto, unfolding(crate::specs::Walk::settings_checks))]
+    pub(crate) fn check(&self) -> Result<(), ConfigFault>
+        ensures { result_err result ≡ first_fault (settings_checks self.now) }
+    {
+        Field::Version.check_number(self.version)?;
+        Field::Shards.check_number(self.shards)?;
+        Field::ReserveSecs.check_number(self.reserve)?;
+        Field::LiveSecs.check_number(self.live)?;
+        Field::GraceSecs.check_number(self.grace)?;
+        Field::ClosedSecs.check_number(self.closed)?;
+        Field::KeepSecs.check_number(self.keep)
+    }
+
     ghost use Rattle.rsl_accounts.specs.Settings.{rules_of};
 
     /// The session limit of the account, with its times: its own where the version knows them and
@@ -46,6 +71,13 @@ impl Settings {
     }
 }
 
+/// Whether an account can have times of its own.
+pub(crate) fn knows_own_times(version: u64) -> bool
+    ensures { result ≡ knows_own_times version }
+{
+    version == OWN_TIMES_VERSION
+}
+
 /// A time of an account: its own where the version knows one, else the common one.
 fn own_time(version: u64, own: Option<u64>, common: u64) -> u64
     ensures { result ≡ own_time version own common }
@@ -54,39 +86,5 @@ fn own_time(version: u64, own: Option<u64>, common: u64) -> u64
         own.unwrap_or(common)
     } else {
         common
-    }
-}
-
-/// The head of a file: the settings, and how many clients and accounts there are.
-#[derive(Clone, Copy)]
-pub(crate) struct Head {
-    pub(crate) settings: Settings,
-    pub(crate) clients: usize,
-    pub(crate) accounts: usize,
-}
-
-/// Reads the fields of a head.
-pub(crate) enum Heads {}
-
-impl Fields for Heads {
-    type Part = Head;
-
-    ghost use Rattle.rsl_accounts.specs.Settings.{given_in_head};
-
-    ghost given_of = { λ head. given_in_head head.settings head.clients head.accounts };
-
-    fn given(part: &Head, field: Field) -> Given {
-        match field {
-            Field::Version => Given::number(field, part.settings.version),
-            Field::Shards => Given::number(field, part.settings.shards),
-            Field::ReserveSecs => Given::number(field, part.settings.reserve),
-            Field::LiveSecs => Given::number(field, part.settings.live),
-            Field::GraceSecs => Given::number(field, part.settings.grace),
-            Field::ClosedSecs => Given::number(field, part.settings.closed),
-            Field::KeepSecs => Given::number(field, part.settings.keep),
-            Field::Client => Given::count(field, part.clients),
-            Field::Account => Given::count(field, part.accounts),
-            _ => Given::Absent,
-        }
     }
 }

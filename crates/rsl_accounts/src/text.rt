@@ -1,42 +1,75 @@
-ghost use Rattle.std.specs.Prelude.{◌≡◌, ◌<◌, ◌^◌, IsTrue, ◌↔◌, IfOk, nat_eq, length};
+ghost use Rattle.std.specs.Prelude.{
+  ◌≡◌,
+  ◌<◌,
+  ◌≤◌,
+  ◌^◌,
+  ◌↔◌,
+  IsTrue,
+  IsOk,
+  IfOk,
+  nat_eq,
+  length,
+};
 ghost use Rattle.std.specs.Str.{IsUtf8};
 ghost use Rattle.std.specs.Cmp.{partial_equiv_from_equiv};
 ghost use Rattle.std.specs.Cmp.Lexicographic.{pointwise, nat_list_eq_equiv};
 
+use crate::short::ShortText;
 use rsl_wire::NoMemory;
 use std::alloc::Global;
+use std::fmt;
 use std::marker::Model;
+
+/// Where the octets of a text are.
+#[derive(Drop)]
+enum Held {
+    /// In the value itself, if they are few.
+    Short(ShortText),
+    /// In memory of their own.
+    Long(String),
+}
 
 /// A text in UTF-8. A contract sees it as the list of its octets, and not where it lies in memory
 /// or how much room it has.
-#[derive(Debug, Drop)]
+///
+/// A text of at most 22 octets takes no memory: it lies in the value, as most names and passwords
+/// of accounts do.
+#[derive(Drop)]
 pub struct Text {
-    text: String,
+    held: Held,
 }
 
 impl Model for Text {
-    ghost use Rattle.std.specs.Prelude.{List, ℕ, string_bytes};
+    ghost use Rattle.std.specs.Prelude.{List, ℕ};
+    ghost use Rattle.rsl_accounts.specs.TextSeen.{text_held};
 
     ghost Value = { List ℕ };
 
-    ghost view = { λ t. string_bytes t.text };
+    ghost view = { λ text. text_held text.held };
 }
 
 impl Text {
-    /// A copy of the text. It fails only where memory is refused.
+    /// A copy of the text. It fails only where memory is refused, and takes none for up to 22
+    /// octets.
     pub fn from_str(alloc: Global, text: &str) -> Result<Text, NoMemory>
-        ensures { IfOk result (λ copy. copy ≡ text.now) }
+        ensures copy { IfOk result (λ copy. copy ≡ text.now) }
+        ensures short { length text.now ≤ 22 → IsOk result }
     {
-        Ok(Text {
-            text: String::from_str(alloc, text)?,
-        })
+        let held = match ShortText::of(text) {
+            Some(short) => Held::Short(short),
+            None => Held::Long(String::from_str(alloc, text)?),
+        };
+        Ok(Text { held })
     }
 
     /// The text, lent.
     pub fn as_str(&self) -> &str
         ensures { result.now ≡ self.now }
     {
-        self.text.as_str()
+        match &self.held {
+            Held::Short(short) => short.as_str(),
+            Held::Long(text) => text.as_str(),
+        }
     }
 
     /// The octets of the text, lent. They are UTF-8, as the type keeps.
@@ -44,7 +77,10 @@ impl Text {
         ensures octets { result.now ≡ self.now }
         ensures utf8 { IsUtf8 self.now }
     {
-        self.text.as_str().as_bytes()
+        match &self.held {
+            Held::Short(short) => short.as_bytes(),
+            Held::Long(text) => text.as_str().as_bytes(),
+        }
     }
 
     /// How many octets there are: less than 2^63, as the type keeps.
@@ -52,21 +88,30 @@ impl Text {
         ensures number { result ≡ length self.now }
         ensures limit { length self.now < 2 ^ 63 }
     {
-        self.text.len()
+        match &self.held {
+            Held::Short(short) => short.as_bytes().len(),
+            Held::Long(text) => text.len(),
+        }
     }
 
     /// Whether there is no octet.
     pub fn is_empty(&self) -> bool
         ensures { IsTrue result ↔ (length self.now ≡ 0) }
     {
-        self.text.is_empty()
+        self.len() == 0
     }
 
-    /// An equal text. It fails only where memory is refused.
+    /// An equal text. It fails only where memory is refused, and takes none for up to 22 octets.
     pub fn try_copy(&self, alloc: Global) -> Result<Text, NoMemory>
-        ensures { IfOk result (λ copy. copy ≡ self.now) }
+        ensures copy { IfOk result (λ copy. copy ≡ self.now) }
+        ensures short { length self.now ≤ 22 → IsOk result }
     {
-        Text::from_str(alloc, self.as_str())
+        match &self.held {
+            Held::Short(short) => Ok(Text {
+                held: Held::Short(*short),
+            }),
+            Held::Long(text) => Text::from_str(alloc, text.as_str()),
+        }
     }
 }
 
@@ -77,7 +122,17 @@ impl From<String> for Text {
 
     /// The text of a `String`. This takes no memory.
     fn from(text: String) -> Text {
-        Text { text }
+        let held = match ShortText::of(text.as_str()) {
+            Some(short) => Held::Short(short),
+            None => Held::Long(text),
+        };
+        Text { held }
+    }
+}
+
+impl fmt::Debug for Text {
+    fn fmt<W: fmt::Write>(&self, f: &mut fmt::Formatter<W>) -> fmt::Result {
+        fmt::Debug::fmt(self.as_str(), f)
     }
 }
 

@@ -17,19 +17,20 @@ use Rattle.rsl_session.specs.BookLinks.{lapses_at}
 use Rattle.rsl_session.specs.BookStep.{come_to, open_link}
 use Rattle.rsl_session.proofs.Callers.{length-le-places}
 use Rattle.rsl_book.specs.declared.book.Book.TheInside.{Inside}
-use Rattle.rsl_book.specs.declared.links.Links.{Links}
-use Rattle.rsl_book.specs.declared.link.Link.{Link}
-use Rattle.rsl_book.specs.declared.link.Hold.TheVariants.{Number, Session as InSession}
+use Rattle.rsl_links.specs.declared.links.Links.{Links}
+use Rattle.rsl_links.specs.declared.link.Link.{Link}
+use Rattle.rsl_links.specs.declared.link.Hold.TheVariants.{Number, Session as InSession}
 use Rattle.rsl_book.specs.declared.kept.StoredAsk.{StoredAsk}
 use Rattle.rsl_book.specs.declared.kept.StoredStop.{StoredStop}
 use Rattle.rsl_book.specs.RuledBook.{RuledBook, IsWithinLimit}
 use Rattle.rsl_book.specs.Sound.{IsSound, running, book_seen}
-use Rattle.rsl_book.specs.Seen.{link_seen, links_seen, ask_seen, asks_seen, stop_seen, stops_seen, server_at, bundle_with}
-use Rattle.rsl_book.specs.Counted.{AreCounted}
-use Rattle.rsl_book.specs.Named.{ArePlaced}
-use Rattle.rsl_book.proofs.Opened.{length-bundles, bundles-push}
-use Rattle.rsl_book.proofs.Placed.{placed_none}
-use Rattle.rsl_book.proofs.Touching.{own_bundle}
+use Rattle.rsl_links.specs.Seen.{link_seen, links_seen, server_at, bundle_with}
+use Rattle.rsl_book.specs.Seen.{ask_seen, asks_seen, stop_seen, stops_seen}
+use Rattle.rsl_links.specs.Counted.{AreCounted}
+use Rattle.rsl_links.specs.Named.{ArePlaced}
+use Rattle.rsl_links.proofs.Callers.{length-bundles, bundles-push}
+use Rattle.rsl_links.proofs.Callers.{placed_none}
+use Rattle.rsl_links.proofs.Callers.{own_bundle}
 
 -- two values that agree in all but the lists, and in these
 pub same_value : (rules : Rules) (clock accepts over : ℕ) {l m : List BookLink} {a b : List KeptAsk} {s t : List KeptStop} → l ≡ m → a ≡ b → s ≡ t

@@ -1,26 +1,4 @@
-pub mod Lists
-pub mod Opened
 pub mod Swept
-pub mod Ending
 pub mod Naming
-pub mod Found
-pub mod Touching
 pub mod Slices
 pub mod Insides
-pub mod Stepping
-pub mod OneByOne
-pub mod Before
-pub mod Orders
-pub mod OfLinks
-pub mod Slotted
-pub mod Grown
-pub mod Freed
-pub mod Lined
-pub mod Ordered
-pub mod Standing
-pub mod Yielding
-pub mod Counting
-pub mod Sought
-pub mod Placed
-pub mod Tallied
-mod Marks

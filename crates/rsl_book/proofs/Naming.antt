@@ -7,11 +7,13 @@ use Rattle.std.proofs.lemmas.Bool.{or_parts, eq-eqb, ne_eqb, eqb-true, cases_eq,
 use Rattle.std.proofs.lemmas.List.{length-map, get_or-set_other}
 use Rattle.rsl_event.specs.declared.nas.Nas.{Nas}
 use Rattle.rsl_session.specs.BookLinks.{without_first}
-use Rattle.rsl_book.specs.declared.link.Link.{Link}
+use Rattle.rsl_links.specs.declared.link.Link.{Link}
 use Rattle.rsl_book.specs.declared.kept.StoredAsk.{StoredAsk}
 use Rattle.rsl_book.specs.declared.kept.StoredStop.{StoredStop}
-use Rattle.rsl_book.specs.Named.{is_named, named_by_links, named_by_asks, named_by_stops}
-use Rattle.rsl_book.specs.Seen.{server_at, link_seen, links_seen, ask_seen, asks_seen, stop_seen, stops_seen}
+use Rattle.rsl_links.specs.Named.{named_by_links}
+use Rattle.rsl_book.specs.Named.{is_named, named_by_asks, named_by_stops}
+use Rattle.rsl_links.specs.Seen.{server_at, link_seen, links_seen}
+use Rattle.rsl_book.specs.Seen.{ask_seen, asks_seen, stop_seen, stops_seen}
 
 any-append : {A : Type 0} (p : A → Bool) (xs ys : List A) → list_any p (xs ++ ys) ≡ (list_any p xs || list_any p ys)
 any-append p [] ys = refl

@@ -6,7 +6,8 @@ use Rattle.rsl_event.specs.declared.nas.Nas.{Nas}
 use Rattle.rsl_session.specs.BookStep.{sweep_ask, sweep_stop}
 use Rattle.rsl_book.specs.declared.kept.StoredAsk.{StoredAsk}
 use Rattle.rsl_book.specs.declared.kept.StoredStop.{StoredStop}
-use Rattle.rsl_book.specs.Seen.{ask_seen, asks_seen, stop_seen, stops_seen, server_at}
+use Rattle.rsl_links.specs.Seen.{server_at}
+use Rattle.rsl_book.specs.Seen.{ask_seen, asks_seen, stop_seen, stops_seen}
 use Rattle.std.specs.Prelude.{◌||◌}
 use Rattle.rsl_session.specs.Same.{same_nas}
 

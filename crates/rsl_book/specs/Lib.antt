@@ -1,13 +1,4 @@
 pub mod RuledBook
-pub mod First
 pub mod Seen
-pub mod Changed
-pub mod Counted
 pub mod Named
-pub mod Order
-pub mod Slots
-pub mod Lines
-pub mod LinkList
-pub mod Steps
 pub mod Sound
-pub mod Marks

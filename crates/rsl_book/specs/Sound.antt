@@ -6,8 +6,9 @@ use Rattle.rsl_accounts.specs.Limits.{RulesFit}
 use Rattle.rsl_session.specs.Book.{Book}
 use Rattle.rsl_book.specs.declared.book.Book.TheInside.{Inside}
 use Rattle.rsl_book.specs.RuledBook.{RuledBook}
-use Rattle.rsl_book.specs.Seen.{links_seen, asks_seen, stops_seen}
-use Rattle.rsl_book.specs.Counted.{AreCounted}
+use Rattle.rsl_links.specs.Seen.{links_seen}
+use Rattle.rsl_book.specs.Seen.{asks_seen, stops_seen}
+use Rattle.rsl_links.specs.Counted.{AreCounted}
 
 abbrev pub running : Inside → Book
 running book =

@@ -17,22 +17,20 @@ ghost use Rattle.rsl_session.specs.BookLinks.{without_first};
 ghost use Rattle.rsl_session.specs.BookStep.{come_to, refuse, accept_beside, fresh_ask, ask};
 ghost use Rattle.rsl_session.specs.BookStep.{open_link, bind, alive, stop, sweep, act_on, step};
 ghost use Rattle.rsl_book.specs.RuledBook.{RuledBook, IsWithinLimit};
-ghost use Rattle.rsl_book.specs.First.{IsFirst, change_at};
-ghost use Rattle.rsl_book.specs.Seen.{bundle_with};
-ghost use Rattle.rsl_book.specs.Steps.{touch_here, take_here, without_at};
+ghost use Rattle.rsl_links.specs.First.{IsFirst, change_at};
+ghost use Rattle.rsl_links.specs.Seen.{bundle_with};
+ghost use Rattle.rsl_links.specs.Steps.{touch_here, take_here, without_at};
 
 use crate::kept::{
     StoredAsk, StoredStop, copy_of_asks, copy_of_stops, is_closed, repeated, sweep_asks,
     sweep_stops,
 };
-use crate::link::{Hold, Link};
-use crate::links::{Links, one_if};
 use crate::same::{has_same_asks, has_same_links, has_same_stops};
-use crate::servers::Servers;
 use crate::table::place_for;
 use circular_buffer::HeapCircularBuffer;
 use rsl_accounts::Rules;
 use rsl_event::{Act, Decision, Event, Key, Nas};
+use rsl_links::{Hold, Link, Links, Servers, one_if};
 use rsl_session::{KEPT_ASKS, KEPT_STOPS};
 use rsl_wire::{NoMemory, Octets};
 use std::alloc::Global;

@@ -8,12 +8,13 @@ ghost use Rattle.rsl_session.specs.Same.{same_nas};
 ghost use Rattle.rsl_session.specs.Ask.{repeats};
 ghost use Rattle.rsl_session.specs.Closed.{closes};
 ghost use Rattle.rsl_session.specs.BookStep.{sweep_ask, sweep_stop};
-ghost use Rattle.rsl_book.specs.Seen.{server_at, ask_seen, asks_seen, stop_seen, stops_seen};
+ghost use Rattle.rsl_links.specs.Seen.{server_at};
+ghost use Rattle.rsl_book.specs.Seen.{ask_seen, asks_seen, stop_seen, stops_seen};
 
-use crate::servers::Servers;
 use circular_buffer::HeapCircularBuffer;
 use rsl_accounts::Rules;
 use rsl_event::{Decision, Key, Nas};
+use rsl_links::Servers;
 use rsl_wire::{NoMemory, Octets};
 use std::alloc::Global;
 
@@ -115,7 +116,7 @@ impl StoredStop {
 }
 
 /// The decision of the first of some asks that an ask of this key repeats.
-#[tactic(auto, using(crate::proofs::Lists::find_steps), unfolding(crate::specs::Seen::asks_seen, crate::specs::Seen::ask_seen))]
+#[tactic(auto, using(rsl_links::proofs::Callers::find_steps), unfolding(crate::specs::Seen::asks_seen, crate::specs::Seen::ask_seen))]
 fn repeated_in(
     asks: &[StoredAsk],
     servers: &Servers,
@@ -153,7 +154,7 @@ pub(crate) fn repeated(
 }
 
 /// Whether one of some stops closes the session of this id at an access server.
-#[tactic(auto, using(crate::proofs::Lists::any_steps), unfolding(crate::specs::Seen::stops_seen))]
+#[tactic(auto, using(rsl_links::proofs::Callers::any_steps), unfolding(crate::specs::Seen::stops_seen))]
 fn closed_by(
     stops: &[StoredStop],
     servers: &Servers,
@@ -261,7 +262,7 @@ impl StoredStop {
 
 /// Puts equal stops after those of a ring that has room for them. It fails only where memory is
 /// refused.
-#[tactic(auto, using(crate::proofs::Lists::push_steps))]
+#[tactic(auto, using(rsl_links::proofs::Callers::push_steps))]
 fn push_stops(
     alloc: Global,
     copy: &mut HeapCircularBuffer<StoredStop>,

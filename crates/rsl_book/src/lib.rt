@@ -13,13 +13,7 @@
 
 mod book;
 mod kept;
-mod link;
-mod links;
-mod list;
-mod order;
 mod same;
-mod servers;
-mod slots;
 mod table;
 
 pub use book::{Book, Stored};

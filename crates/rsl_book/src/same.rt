@@ -3,15 +3,15 @@
 ghost use Rattle.std.specs.Prelude.{◌≡◌, ◌↔◌, ◌<◌, get_or, length, IsTrue};
 ghost use Rattle.rsl_book.specs.declared.kept.StoredAsk.{StoredAsk};
 ghost use Rattle.rsl_book.specs.declared.kept.StoredStop.{StoredStop};
-ghost use Rattle.rsl_book.specs.Seen.{links_seen, ask_seen, asks_seen, stop_seen, stops_seen};
+ghost use Rattle.rsl_links.specs.Seen.{links_seen};
+ghost use Rattle.rsl_book.specs.Seen.{ask_seen, asks_seen, stop_seen, stops_seen};
 
 use crate::kept::{StoredAsk, StoredStop};
-use crate::list::LinkList;
-use crate::servers::Servers;
 use circular_buffer::HeapCircularBuffer;
+use rsl_links::{LinkList, Servers};
 
 /// Whether two books have the same links, in the same order.
-#[tactic(auto, using(crate::proofs::OneByOne::same_steps), unfolding(crate::specs::Seen::links_seen))]
+#[tactic(auto, using(rsl_links::proofs::Callers::same_steps), unfolding(rsl_links::specs::Seen::links_seen))]
 pub(crate) fn has_same_links(
     links: &LinkList,
     servers: &Servers,
@@ -56,7 +56,7 @@ fn is_same_ask_at(
 }
 
 /// Whether two books keep the same asks, in the same order.
-#[tactic(auto, using(crate::proofs::OneByOne::same_steps), unfolding(crate::specs::Seen::asks_seen))]
+#[tactic(auto, using(rsl_links::proofs::Callers::same_steps), unfolding(crate::specs::Seen::asks_seen))]
 pub(crate) fn has_same_asks(
     asks: &HeapCircularBuffer<StoredAsk>,
     servers: &Servers,
@@ -98,7 +98,7 @@ fn is_same_stop_at(
 }
 
 /// Whether two books keep the same stops, in the same order.
-#[tactic(auto, using(crate::proofs::OneByOne::same_steps), unfolding(crate::specs::Seen::stops_seen))]
+#[tactic(auto, using(rsl_links::proofs::Callers::same_steps), unfolding(crate::specs::Seen::stops_seen))]
 pub(crate) fn has_same_stops(
     stops: &HeapCircularBuffer<StoredStop>,
     servers: &Servers,

@@ -1,12 +1,13 @@
 ghost use Rattle.std.specs.Prelude.{◌≡◌, ◌+◌, ◌<◌, false, length};
-ghost use Rattle.rsl_book.specs.Seen.{server_at, links_seen, asks_seen, stops_seen};
-ghost use Rattle.rsl_book.specs.Named.{ArePlaced, IsPlace, is_named, named_by_asks, named_by_stops};
+ghost use Rattle.rsl_links.specs.Seen.{server_at, links_seen};
+ghost use Rattle.rsl_book.specs.Seen.{asks_seen, stops_seen};
+ghost use Rattle.rsl_links.specs.Named.{ArePlaced, IsPlace};
+ghost use Rattle.rsl_book.specs.Named.{is_named, named_by_asks, named_by_stops};
 
 use crate::kept::{StoredAsk, StoredStop};
-use crate::list::LinkList;
-use crate::servers::Servers;
 use circular_buffer::HeapCircularBuffer;
 use rsl_event::Nas;
+use rsl_links::{LinkList, Servers};
 
 /// Whether one of some asks names a place of the table.
 #[tactic(auto, unfolding(crate::specs::Named::named_by_asks))]

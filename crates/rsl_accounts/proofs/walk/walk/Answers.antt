@@ -1,17 +1,28 @@
-use Rattle.std.proofs.Common.{map}
+use Rattle.std.proofs.Common.{◌++◌, length}
 use Rattle.std.proofs.lemmas.Result.{err_from_is_err_and}
-use Rattle.rsl_accounts.specs.Walk.{file_fields, client_fields}
-use Rattle.rsl_accounts.proofs.Faults.{walk_at_head, walk_at_clients}
+use Rattle.std.specs.List.{flat_map}
+use Rattle.rsl_accounts.specs.Walk.{walk_over, settings_checks, count_checks, client_checks, account_checks}
+use Rattle.rsl_accounts.proofs.Faults.{checks_here, checks_next}
 use Rattle.rsl_accounts.proofs.walk.walk.Goals as goal
 
-pub returns-in_err-walk_one : goal.returns-in_err-walk_one
-unfolding file_fields
-returns-in_err-walk_one g c =
+pub returns-in_err-check : goal.returns-in_err-check
+unfolding walk_over
+returns-in_err-check c =
     let p = err_from_is_err_and c.from_residual.result c.from_residual.ensures.1 in
-    rw (p.1, p.2) (walk_at_head c.args.version (g.H.Fields.given_of c.args.head.now) (map g.C.Fields.given_of c.args.clients.now) (map g.A.Fields.given_of c.args.accounts.now) _ c.in_err-walk_one.ensures)
+    let settings = settings_checks c.args.settings.now in
+    let counts = count_checks (length c.args.clients.now) (length c.args.accounts.now) in
+    let clients = flat_map client_checks c.args.clients.now in
+    let accounts = flat_map (account_checks c.args.settings.now.version) c.args.accounts.now in
+    rw (p.1, p.2)
+    (checks_here (settings ++ counts ++ clients) accounts (checks_here (settings ++ counts) clients (checks_here settings counts c.in_err-check.ensures)))
 
-pub returns-in_err-walk_each : goal.returns-in_err-walk_each
-unfolding file_fields client_fields
-returns-in_err-walk_each g c =
-    let p = err_from_is_err_and c.from_residual-in_err-walk_each.result c.from_residual-in_err-walk_each.ensures.1 in
-    rw (p.1, p.2) (walk_at_clients c.args.version (g.H.Fields.given_of c.args.head.now) (map g.C.Fields.given_of c.args.clients.now) (map g.A.Fields.given_of c.args.accounts.now) _ c.in_ok-walk_one.ensures c.in_err-walk_each.ensures)
+pub returns-in_err-check_counts : goal.returns-in_err-check_counts
+unfolding walk_over
+returns-in_err-check_counts c =
+    let p = err_from_is_err_and c.from_residual-in_err-check_counts.result c.from_residual-in_err-check_counts.ensures.1 in
+    let settings = settings_checks c.args.settings.now in
+    let counts = count_checks (length c.args.clients.now) (length c.args.accounts.now) in
+    let clients = flat_map client_checks c.args.clients.now in
+    let accounts = flat_map (account_checks c.args.settings.now.version) c.args.accounts.now in
+    rw (p.1, p.2)
+    (checks_here (settings ++ counts ++ clients) accounts (checks_here (settings ++ counts) clients (checks_next settings counts c.in_ok-check.ensures c.in_err-check_counts.ensures)))

@@ -1,6 +1,6 @@
 use Rattle.std.proofs.Common.{arith}
 use Rattle.rsl_book.specs.Seen.{ask_seen, asks_seen}
-use Rattle.rsl_book.proofs.OneByOne.{ring_more, ring_not}
+use Rattle.rsl_links.proofs.Callers.{ring_more, ring_not}
 use Rattle.rsl_book.proofs.same.has_same_asks.Goals as goal
 
 pub returns-then-not-is_same_ask_at : goal.returns-then-not-is_same_ask_at

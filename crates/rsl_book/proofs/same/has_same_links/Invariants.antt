@@ -1,5 +1,5 @@
 use Rattle.std.proofs.Common.{◌≡◌, take}
-use Rattle.rsl_book.specs.Seen.{links_seen}
+use Rattle.rsl_links.specs.Seen.{links_seen}
 use Rattle.rsl_book.proofs.same.has_same_links.Given as goal
 
 abbrev pub invariant-loop-at : goal.invariant-loop-at

@@ -1,6 +1,6 @@
 use Rattle.std.proofs.Common.{arith}
 use Rattle.rsl_book.specs.Seen.{stop_seen, stops_seen}
-use Rattle.rsl_book.proofs.OneByOne.{ring_more, ring_not}
+use Rattle.rsl_links.proofs.Callers.{ring_more, ring_not}
 use Rattle.rsl_book.proofs.same.has_same_stops.Goals as goal
 
 pub returns-then-not-is_same_stop_at : goal.returns-then-not-is_same_stop_at

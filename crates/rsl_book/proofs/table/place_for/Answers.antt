@@ -1,8 +1,9 @@
 use Rattle.std.proofs.Common.{◌<◌, length, ◌∙◌, ap, sym, subst, arith}
-use Rattle.rsl_book.specs.Seen.{links_seen, asks_seen, stops_seen}
+use Rattle.rsl_links.specs.Seen.{links_seen}
+use Rattle.rsl_book.specs.Seen.{asks_seen, stops_seen}
 use Rattle.rsl_book.proofs.Naming.{links_put, asks_put, stops_put, not_named}
-use Rattle.rsl_book.specs.Named.{ArePlaced, IsPlace}
-use Rattle.rsl_book.proofs.Placed.{new_place, placed_put}
+use Rattle.rsl_links.specs.Named.{ArePlaced, IsPlace}
+use Rattle.rsl_links.proofs.Callers.{new_place, placed_put}
 use Rattle.rsl_book.proofs.table.place_for.Goals as goal
 
 pub returns-in-None-clause-links : goal.returns-in-None-clause-links

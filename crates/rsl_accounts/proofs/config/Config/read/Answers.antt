@@ -1,35 +1,77 @@
-use Rattle.std.proofs.Common.{◌≡◌, Ok, sym, ◌∙◌}
+use Rattle.std.proofs.Common.{◌≡◌, Ok, sym, ap, length, None, ◌∙◌}
+use Rattle.std.proofs.lemmas.List.{length-map}
 use Rattle.std.proofs.lemmas.Result.{err_from_is_err_and, IfOk-weaker, IfErr-weaker}
 use Rattle.toml.specs.View.{view}
+use Rattle.rsl_accounts.specs.declared.field.Field.TheVariants as field
 use Rattle.rsl_accounts.specs.Configuration.{configuration_of}
-use Rattle.rsl_accounts.specs.File.{configuration_of_text}
-use Rattle.rsl_accounts.proofs.Files.{fault_in_file, made_of_file, parts_of_file}
+use Rattle.rsl_accounts.specs.File.{configuration_of_file, configuration_of_text}
+use Rattle.rsl_accounts.specs.Walk.{count_fault}
+use Rattle.rsl_accounts.proofs.Parts.{parts_pass}
 use Rattle.rsl_accounts.proofs.config.Config.read.Goals as goal
 
-pub returns-in_err-walk-clause-fault : goal.returns-in_err-walk-clause-fault
-returns-in_err-walk-clause-fault c =
-    let p = err_from_is_err_and c.from_residual-in_err-walk.result c.from_residual-in_err-walk.ensures.1 in
+pub returns-in_err-settings-clause-fault : goal.returns-in_err-settings-clause-fault
+unfolding configuration_of_file
+returns-in_err-settings-clause-fault c =
+    let p = err_from_is_err_and c.from_residual-in_err-settings.result c.from_residual-in_err-settings.ensures.1 in
+    rw (p.1, p.2) (λ _. rw (c.in_ok-file.ensures.ok, ← c.in_err-settings.ensures.value))
+
+pub returns-in_err-client_tables-clause-fault : goal.returns-in_err-client_tables-clause-fault
+unfolding configuration_of_file
+returns-in_err-client_tables-clause-fault c =
+    let p = err_from_is_err_and c.from_residual-in_err-client_tables.result c.from_residual-in_err-client_tables.ensures.1 in
+    rw (p.1, p.2) (λ _. rw (c.in_ok-file.ensures.ok, ← c.in_ok-settings.ensures.value, c.in_err-client_tables.ensures.fault))
+
+pub returns-in_err-account_tables-clause-fault : goal.returns-in_err-account_tables-clause-fault
+unfolding configuration_of_file
+returns-in_err-account_tables-clause-fault c =
+    let p = err_from_is_err_and c.from_residual-in_err-account_tables.result c.from_residual-in_err-account_tables.ensures.1 in
     rw (p.1, p.2)
-    (λ _. fault_in_file c.args.text.now (view c.in_ok-file.file) c.in_ok-file.ensures.ok c.version-version.result c.version-version.ensures c.tables-clients.result.now c.tables-accounts.result.now c.tables-clients.ensures c.tables-accounts.ensures c.in_err-walk.field-0.0 (sym c.in_err-walk.ensures))
+    (λ _. rw (c.in_ok-file.ensures.ok, ← c.in_ok-settings.ensures.value, c.in_ok-client_tables.ensures.ok, c.in_err-account_tables.ensures.fault))
+
+pub returns-in_err-clients-clause-fault : goal.returns-in_err-clients-clause-fault
+unfolding configuration_of_file
+returns-in_err-clients-clause-fault c =
+    let p = err_from_is_err_and c.from_residual-in_err-clients.result c.from_residual-in_err-clients.ensures.1 in
+    rw (p.1, p.2)
+    (λ other. rw (c.in_ok-file.ensures.ok, ← c.in_ok-settings.ensures.value, c.in_ok-client_tables.ensures.ok, c.in_ok-account_tables.ensures.ok, c.in_err-clients.ensures.fault other))
+
+pub returns-in_err-accounts-clause-fault : goal.returns-in_err-accounts-clause-fault
+unfolding configuration_of_file
+returns-in_err-accounts-clause-fault c =
+    let p = err_from_is_err_and c.from_residual-in_err-accounts.result c.from_residual-in_err-accounts.ensures.1 in
+    rw (p.1, p.2)
+    (λ other.
+    rw (c.in_ok-file.ensures.ok, ← c.in_ok-settings.ensures.value, c.in_ok-client_tables.ensures.ok, c.in_ok-account_tables.ensures.ok, c.in_ok-clients.ensures.ok, c.in_err-accounts.ensures.fault other))
 
 pub returns-clause-ok : goal.returns-clause-ok
+unfolding configuration_of_file
 returns-clause-ok c =
     IfOk-weaker c.assemble.result
-    (λ config. configuration_of c.settings-settings.result c.in_ok-clients.clients.items c.in_ok-accounts.accounts.items ≡ Ok config)
+    (λ config. configuration_of c.in_ok-settings.settings c.in_ok-clients.clients.items c.in_ok-accounts.accounts.items ≡ Ok config)
     (λ config. configuration_of_text c.args.text.now ≡ Ok config)
     (λ config made.
-    made_of_file c.args.text.now (view c.in_ok-file.file) c.in_ok-file.ensures.ok c.version-version.result c.version-version.ensures c.tables-clients.result.now c.tables-accounts.result.now c.tables-clients.ensures c.tables-accounts.ensures (sym c.in_ok-walk.ensures) c.settings-settings.result c.in_ok-clients.clients.items c.in_ok-accounts.accounts.items c.settings-settings.ensures c.in_ok-clients.ensures c.in_ok-accounts.ensures
-    ∙ made)
+    rw (c.in_ok-file.ensures.ok, ← c.in_ok-settings.ensures.value, c.in_ok-client_tables.ensures.ok, c.in_ok-account_tables.ensures.ok, c.in_ok-clients.ensures.ok, c.in_ok-accounts.ensures.ok) made)
     c.assemble.ensures.ok
 
 pub returns-clause-fault : goal.returns-clause-fault
+unfolding configuration_of_file
 returns-clause-fault c =
     IfErr-weaker c.assemble.result _ _
     (λ fault made other.
-    made_of_file c.args.text.now (view c.in_ok-file.file) c.in_ok-file.ensures.ok c.version-version.result c.version-version.ensures c.tables-clients.result.now c.tables-accounts.result.now c.tables-clients.ensures c.tables-accounts.ensures (sym c.in_ok-walk.ensures) c.settings-settings.result c.in_ok-clients.clients.items c.in_ok-accounts.accounts.items c.settings-settings.ensures c.in_ok-clients.ensures c.in_ok-accounts.ensures
-    ∙ made other)
+    rw (c.in_ok-file.ensures.ok, ← c.in_ok-settings.ensures.value, c.in_ok-client_tables.ensures.ok, c.in_ok-account_tables.ensures.ok, c.in_ok-clients.ensures.ok, c.in_ok-accounts.ensures.ok) (made other))
     c.assemble.ensures.fault
 
 pub assemble-requires : goal.assemble-requires
 assemble-requires c =
-    parts_of_file c.args.text.now (view c.in_ok-file.file) c.in_ok-file.ensures.ok c.version-version.result c.version-version.ensures c.tables-clients.result.now c.tables-accounts.result.now c.tables-clients.ensures c.tables-accounts.ensures (sym c.in_ok-walk.ensures) c.settings-settings.result c.in_ok-clients.clients.items c.in_ok-accounts.accounts.items c.settings-settings.ensures c.in_ok-clients.ensures c.in_ok-accounts.ensures
+    let clients_count : count_fault field.Client (length c.in_ok-clients.clients.items) ≡ None =
+    ap (count_fault field.Client) c.in_ok-clients.ensures.number ∙ c.in_ok-client_tables.ensures.right
+    in
+    let accounts_count : count_fault field.Account (length c.in_ok-accounts.accounts.items) ≡ None =
+    ap (count_fault field.Account) c.in_ok-accounts.ensures.number ∙ c.in_ok-account_tables.ensures.right
+    in
+    parts_pass c.in_ok-settings.settings c.in_ok-clients.clients.items c.in_ok-accounts.accounts.items
+    c.in_ok-settings.ensures.right
+    clients_count
+    accounts_count
+    c.in_ok-clients.ensures.right
+    c.in_ok-accounts.ensures.right

@@ -6,10 +6,11 @@ use Rattle.rsl_session.specs.Book.{Book, places_in, bundles_in}
 use Rattle.rsl_book.specs.RuledBook.{RuledBook}
 use Rattle.rsl_book.specs.declared.kept.StoredAsk.{StoredAsk}
 use Rattle.rsl_book.specs.Sound.{running}
-use Rattle.rsl_book.specs.Seen.{links_seen, asks_seen}
+use Rattle.rsl_links.specs.Seen.{links_seen}
+use Rattle.rsl_book.specs.Seen.{asks_seen}
 use Rattle.rsl_session.specs.BookStep.{accept_beside, keep_ask}
-use Rattle.rsl_book.specs.declared.link.Hold.TheVariants.{Number}
-use Rattle.rsl_book.proofs.Opened.{more_alone}
+use Rattle.rsl_links.specs.declared.link.Hold.TheVariants.{Number}
+use Rattle.rsl_links.proofs.Callers.{more_alone}
 use Rattle.rsl_book.proofs.Insides.{same_book, held_places, room_in_table, room_for_one, counted_again, opened_within, opened_seen, reserved_seen, pushed_ask}
 use Rattle.rsl_book.proofs.book.Book.accept.Goals as goal
 

@@ -3,8 +3,8 @@ use Rattle.rsl_session.specs.Book.{places_in, bundles_in}
 use Rattle.rsl_session.specs.Places.{places_of}
 use Rattle.rsl_session.specs.BookStep.{accept_beside}
 use Rattle.rsl_book.specs.RuledBook.{RuledBook}
-use Rattle.rsl_book.specs.Steps.{without_at}
-use Rattle.rsl_book.proofs.Stepping.{in_place_yes, in_place_no, freed_place}
+use Rattle.rsl_links.specs.Steps.{without_at}
+use Rattle.rsl_links.proofs.Callers.{in_place_yes, in_place_no, freed_place}
 use Rattle.rsl_book.proofs.book.Book.ask_in_place.Goals as goal
 
 pub accept-requires-clause-place : goal.accept-requires-clause-place

@@ -1,7 +1,7 @@
 use Rattle.std.proofs.Common.{◌∙◌, ap}
 use Rattle.rsl_session.specs.Book.{Book}
 use Rattle.rsl_book.specs.RuledBook.{RuledBook}
-use Rattle.rsl_book.proofs.Stepping.{bind_takes}
+use Rattle.rsl_links.proofs.Callers.{bind_takes}
 use Rattle.rsl_book.proofs.book.Book.bind.Goals as goal
 
 pub returns-in-Some : goal.returns-in-Some

@@ -1,7 +1,7 @@
 use Rattle.std.proofs.Common.{◌∙◌, ap, refl}
 use Rattle.rsl_book.proofs.Insides.{same_value, within_seen}
-use Rattle.rsl_book.proofs.Stepping.{seen_without}
-use Rattle.rsl_book.specs.Seen.{links_seen}
+use Rattle.rsl_links.proofs.Callers.{seen_without}
+use Rattle.rsl_links.specs.Seen.{links_seen}
 use Rattle.rsl_book.proofs.book.Book.end_link.Goals as goal
 
 pub end_at-requires-clause-within : goal.end_at-requires-clause-within

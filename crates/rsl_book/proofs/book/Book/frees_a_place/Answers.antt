@@ -1,10 +1,10 @@
 use Rattle.std.proofs.Common.{◌+◌, cond, sym, ◌∙◌, ap}
 use Rattle.rsl_book.proofs.Insides.{held_places, within_seen}
-use Rattle.rsl_book.proofs.Stepping.{seen_without}
+use Rattle.rsl_links.proofs.Callers.{seen_without}
 use Rattle.rsl_session.specs.Places.{places_of}
 use Rattle.rsl_session.specs.Book.{bundles_in}
-use Rattle.rsl_book.specs.Steps.{without_at}
-use Rattle.rsl_book.specs.Seen.{links_seen}
+use Rattle.rsl_links.specs.Steps.{without_at}
+use Rattle.rsl_links.specs.Seen.{links_seen}
 use Rattle.rsl_book.proofs.book.Book.frees_a_place.Goals as goal
 
 pub frees_a_place-requires-clause-within : goal.frees_a_place-requires-clause-within

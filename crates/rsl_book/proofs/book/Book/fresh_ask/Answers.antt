@@ -1,6 +1,6 @@
 use Rattle.std.proofs.Common.{ap, arith}
 use Rattle.rsl_accounts.specs.declared.rules.Rules.{Rules}
-use Rattle.rsl_book.proofs.Stepping.{fresh_fits, fresh_full, fresh_in_place}
+use Rattle.rsl_links.proofs.Callers.{fresh_fits, fresh_full, fresh_in_place}
 use Rattle.rsl_book.proofs.book.Book.fresh_ask.Goals as goal
 
 pub returns-then-held-rules-clause-step : goal.returns-then-held-rules-clause-step

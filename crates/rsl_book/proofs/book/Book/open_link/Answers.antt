@@ -2,8 +2,8 @@ use Rattle.std.proofs.Common.{◌≡◌, sym, ◌∙◌, ap, arith, cond}
 use Rattle.rsl_session.specs.Book.{Book}
 use Rattle.rsl_book.specs.RuledBook.{RuledBook}
 use Rattle.rsl_book.specs.Sound.{running}
-use Rattle.rsl_book.specs.Seen.{links_seen, bundle_with, server_at}
-use Rattle.rsl_book.specs.declared.link.Hold.TheVariants.{Session}
+use Rattle.rsl_links.specs.Seen.{links_seen, bundle_with, server_at}
+use Rattle.rsl_links.specs.declared.link.Hold.TheVariants.{Session}
 use Rattle.rsl_book.proofs.Insides.{same_value, room_in_table, room_for_one, counted_again, opened_within, opened_seen, bound_seen, open_sum, open_yes, open_not, over_value}
 use Rattle.rsl_book.proofs.book.Book.open_link.Goals as goal
 

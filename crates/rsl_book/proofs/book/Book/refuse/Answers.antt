@@ -3,7 +3,8 @@ use Rattle.circular_buffer.specs.Buffer.{Buffer}
 use Rattle.rsl_event.specs.declared.event.Decision.TheVariants.{LimitReject}
 use Rattle.rsl_session.specs.Book.{Book}
 use Rattle.rsl_book.specs.declared.kept.StoredAsk.{StoredAsk}
-use Rattle.rsl_book.specs.Seen.{links_seen, asks_seen}
+use Rattle.rsl_links.specs.Seen.{links_seen}
+use Rattle.rsl_book.specs.Seen.{asks_seen}
 use Rattle.rsl_session.specs.BookStep.{refuse, keep_ask}
 use Rattle.rsl_book.proofs.Insides.{same_book, room_in_table, pushed_ask}
 use Rattle.rsl_book.proofs.book.Book.refuse.Goals as goal

@@ -1,7 +1,8 @@
 use Rattle.std.proofs.Common.{refl, ◌≡◌, ◌∙◌, ap, length, false}
 use Rattle.circular_buffer.specs.Buffer.{Buffer}
 use Rattle.rsl_book.specs.declared.kept.StoredStop.{StoredStop}
-use Rattle.rsl_book.specs.Seen.{links_seen, stops_seen}
+use Rattle.rsl_links.specs.Seen.{links_seen}
+use Rattle.rsl_book.specs.Seen.{stops_seen}
 use Rattle.rsl_session.specs.BookStep.{stop}
 use Rattle.rsl_book.proofs.Insides.{same_value, few_after, pushed_stop}
 use Rattle.rsl_book.proofs.book.Book.stop.Goals as goal

@@ -1,9 +1,9 @@
 use Rattle.std.proofs.Common.{◌∙◌, ap, refl}
 use Rattle.rsl_book.proofs.Insides.{same_value, within_seen}
-use Rattle.rsl_book.proofs.Found.{seen_changed, seen_taken}
-use Rattle.rsl_book.specs.Seen.{links_seen}
-use Rattle.rsl_book.specs.Steps.{take_here}
-use Rattle.rsl_book.specs.Changed.{taken_link}
+use Rattle.rsl_links.proofs.Callers.{seen_changed, seen_taken}
+use Rattle.rsl_links.specs.Seen.{links_seen}
+use Rattle.rsl_links.specs.Steps.{take_here}
+use Rattle.rsl_links.specs.Changed.{taken_link}
 use Rattle.rsl_book.proofs.book.Book.take_link.Goals as goal
 
 pub take_at-requires-clause-within : goal.take_at-requires-clause-within

@@ -1,9 +1,9 @@
 use Rattle.std.proofs.Common.{◌∙◌, ap, refl}
 use Rattle.rsl_book.proofs.Insides.{same_value, within_seen}
-use Rattle.rsl_book.proofs.Found.{seen_changed, seen_touched}
-use Rattle.rsl_book.specs.Seen.{links_seen}
-use Rattle.rsl_book.specs.Steps.{touch_here}
-use Rattle.rsl_book.specs.Changed.{touched_link}
+use Rattle.rsl_links.proofs.Callers.{seen_changed, seen_touched}
+use Rattle.rsl_links.specs.Seen.{links_seen}
+use Rattle.rsl_links.specs.Steps.{touch_here}
+use Rattle.rsl_links.specs.Changed.{touched_link}
 use Rattle.rsl_book.proofs.book.Book.touch_link.Goals as goal
 
 pub touch_at-requires-clause-within : goal.touch_at-requires-clause-within

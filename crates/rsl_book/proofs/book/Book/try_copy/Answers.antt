@@ -2,7 +2,8 @@ use Rattle.std.proofs.Common.{ap, ◌∙◌, arith, length}
 use Rattle.circular_buffer.specs.Buffer.{Buffer}
 use Rattle.rsl_book.specs.declared.kept.StoredAsk.{StoredAsk}
 use Rattle.rsl_book.specs.declared.kept.StoredStop.{StoredStop}
-use Rattle.rsl_book.specs.Seen.{links_seen, asks_seen, stops_seen}
+use Rattle.rsl_links.specs.Seen.{links_seen}
+use Rattle.rsl_book.specs.Seen.{asks_seen, stops_seen}
 use Rattle.rsl_book.proofs.Insides.{same_value, few_links, counted_copy}
 use Rattle.rsl_book.proofs.book.Book.try_copy.Goals as goal
 

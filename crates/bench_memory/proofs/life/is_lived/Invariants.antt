@@ -1,0 +1,28 @@
+use Rattle.rsl_shard.specs.Restep.{new_books}
+use Rattle.rsl_shard.specs.Setup.{setup_of}
+use Rattle.bench_memory.proofs.life.is_lived.Given as goal
+
+-- each ledger is that of its shard
+abbrev pub ghosts-is_ended-L0-Ledger : goal.ghosts-is_ended-L0-Ledger
+ghosts-is_ended-L0-Ledger g a = record { name = a.blanks.blank0.name; parts = 1025 }
+
+abbrev pub ghosts-is_ended-L1-Ledger : goal.ghosts-is_ended-L1-Ledger
+ghosts-is_ended-L1-Ledger g a = record { name = a.blanks.blank1.name; parts = 1025 }
+
+abbrev pub ghosts-is_ended-L2-Ledger : goal.ghosts-is_ended-L2-Ledger
+ghosts-is_ended-L2-Ledger g a = record { name = a.blanks.blank2.name; parts = 1025 }
+
+abbrev pub ghosts-is_ended-L3-Ledger : goal.ghosts-is_ended-L3-Ledger
+ghosts-is_ended-L3-Ledger g a = record { name = a.blanks.blank3.name; parts = 1025 }
+
+abbrev pub ghosts-is_ended-L0-Tally : goal.ghosts-is_ended-L0-Tally
+ghosts-is_ended-L0-Tally g a = record { setup = setup_of a.config 0; books = new_books a.config 0 }
+
+abbrev pub ghosts-is_ended-L1-Tally : goal.ghosts-is_ended-L1-Tally
+ghosts-is_ended-L1-Tally g a = record { setup = setup_of a.config 1; books = new_books a.config 1 }
+
+abbrev pub ghosts-is_ended-L2-Tally : goal.ghosts-is_ended-L2-Tally
+ghosts-is_ended-L2-Tally g a = record { setup = setup_of a.config 2; books = new_books a.config 2 }
+
+abbrev pub ghosts-is_ended-L3-Tally : goal.ghosts-is_ended-L3-Tally
+ghosts-is_ended-L3-Tally g a = record { setup = setup_of a.config 3; books = new_books a.config 3 }

@@ -1,0 +1,93 @@
+use rsl_accounts::ConfigFault;
+use rsl_receive::ReceiveFault;
+use rsl_script::ScriptFault;
+use rsl_wire::NoMemory;
+use std::alloc::{AllocError, AllocFailed};
+use std::io::{self, ErrorKind};
+use thiserror::Error;
+
+/// Why a work was given up. It prints as the text for standard error.
+#[derive(Clone, Copy, Debug, PartialEq, Eq, Error)]
+pub(crate) enum Stop {
+    /// The arguments are wrong.
+    #[error("usage: bench_memory [calls | steps | shard | service | cuts | receive NUMBER.. | expire NUMBER..]")]
+    Usage,
+    /// The script is wrong.
+    #[error("bad script: {0}")]
+    Script(ScriptFault),
+    /// The configuration of the script is refused.
+    #[error("bad script: {0}")]
+    Config(ConfigFault),
+    /// A read or a write failed.
+    #[error("input or output fault")]
+    InputOutput,
+    /// Memory was refused outside of the calls that are made again.
+    #[error("no memory")]
+    NoMemory,
+}
+
+impl Stop {
+    /// The status with which the process ends.
+    pub(crate) fn status(self) -> u8 {
+        match self {
+            Stop::Usage | Stop::Script(_) | Stop::Config(_) => 1,
+            Stop::InputOutput => 2,
+            Stop::NoMemory => 3,
+        }
+    }
+}
+
+impl From<NoMemory> for Stop {
+    fn from(_refused: NoMemory) -> Stop {
+        Stop::NoMemory
+    }
+}
+
+impl From<AllocError> for Stop {
+    fn from(_refused: AllocError) -> Stop {
+        Stop::NoMemory
+    }
+}
+
+impl<T: Drop> From<AllocFailed<T>> for Stop {
+    fn from(_refused: AllocFailed<T>) -> Stop {
+        Stop::NoMemory
+    }
+}
+
+impl From<ScriptFault> for Stop {
+    fn from(fault: ScriptFault) -> Stop {
+        match fault {
+            ScriptFault::NoMemory => Stop::NoMemory,
+            _ => Stop::Script(fault),
+        }
+    }
+}
+
+impl From<ConfigFault> for Stop {
+    fn from(fault: ConfigFault) -> Stop {
+        match fault {
+            ConfigFault::NoMemory => Stop::NoMemory,
+            _ => Stop::Config(fault),
+        }
+    }
+}
+
+impl From<ReceiveFault> for Stop {
+    fn from(fault: ReceiveFault) -> Stop {
+        match fault {
+            ReceiveFault::Down(_) => Stop::InputOutput,
+            ReceiveFault::NoMemory => Stop::NoMemory,
+        }
+    }
+}
+
+impl From<io::Error> for Stop {
+    fn from(error: io::Error) -> Stop {
+        if error.kind() == ErrorKind::OutOfMemory {
+            Stop::NoMemory
+        } else {
+            Stop::InputOutput
+        }
+    }
+}

@@ -1,0 +1,237 @@
+//! The values of fields in a table of TOML: each with its value, or with the fault of the field.
+ghost use Rattle.std.specs.Prelude.{
+  ◌≡◌,
+  ◌≢◌,
+  ◌<◌,
+  ◌^◌,
+  ℕ,
+  None,
+  IfOk,
+  IfErr,
+  IfSome,
+  is_some,
+  length,
+  map,
+  option_copied,
+  option_map,
+};
+ghost use Rattle.std.specs.List.{list_all};
+ghost use Rattle.toml.specs.Data.{as_table};
+ghost use Rattle.toml.specs.View.{view};
+ghost use Rattle.rsl_accounts.specs.File.{
+  member_in,
+  number_of,
+  text_of,
+  address_value,
+  tables_of_list,
+  tables_of,
+  number_in,
+  option_in,
+  text_in,
+  address_in,
+  signed_in,
+  own_in,
+  tables_in,
+};
+ghost use Rattle.rsl_accounts.specs.Walk.{number_fault, option_fault, text_fault, count_fault};
+
+use crate::address::address_of;
+use crate::fault::ConfigFault;
+use crate::field::Field;
+use crate::settings::knows_own_times;
+use crate::text::Text;
+use std::alloc::Global;
+use toml::Value;
+
+/// What a table has under the key of a field.
+fn member(table: &Value, field: Field) -> Option<&Value>
+    ensures { option_map (λ value. view value.now) result ≡ member_in (view table.now) field }
+{
+    table.get(field.key())
+}
+
+/// What a table has under the key of a field that it must have.
+fn present(table: &Value, field: Field) -> Result<&Value, ConfigFault>
+    ensures ok { IfOk result (λ value. member_in (view table.now) field ≡ Some (view value.now)) }
+    ensures fault { IfErr result (λ fault.
+        (member_in (view table.now) field ≡ None) × (fault ≡ ConfigFault.Missing field)) }
+{
+    match member(table, field) {
+        Some(value) => Ok(value),
+        None => Err(ConfigFault::Missing(field)),
+    }
+}
+
+/// The number that a value is, if the field may have it.
+#[tactic(auto, unfolding(crate::specs::Walk::number_fault))]
+fn number_of(value: &Value, field: Field) -> Option<u64>
+    ensures value { result ≡ number_of field (view value.now) }
+    ensures right { IfSome result (λ number. number_fault field number ≡ None) }
+{
+    let number = value.as_integer()?;
+    if 0 <= number && field.takes_number(number.unsigned_abs()) {
+        Some(number.unsigned_abs())
+    } else {
+        None
+    }
+}
+
+/// The number of a field.
+#[tactic(auto, unfolding(crate::specs::File::number_in))]
+pub(crate) fn number(table: &Value, field: Field) -> Result<u64, ConfigFault>
+    ensures value { result ≡ number_in (view table.now) field }
+    ensures right { IfOk result (λ number. number_fault field number ≡ None) }
+{
+    match number_of(present(table, field)?, field) {
+        Some(number) => Ok(number),
+        None => Err(ConfigFault::BadValue(field)),
+    }
+}
+
+/// The number of a field that may be left out.
+#[tactic(auto, unfolding(crate::specs::File::option_in))]
+pub(crate) fn optional_number(table: &Value, field: Field) -> Result<Option<u64>, ConfigFault>
+    ensures value { result ≡ option_in (view table.now) field }
+    ensures right { IfOk result (λ number. option_fault field number ≡ None) }
+{
+    match member(table, field) {
+        Some(value) => match number_of(value, field) {
+            Some(number) => Ok(Some(number)),
+            None => Err(ConfigFault::BadValue(field)),
+        },
+        None => Ok(None),
+    }
+}
+
+/// The same of a field whose numbers have 32 bits.
+pub(crate) fn short_number(table: &Value, field: Field) -> Result<Option<u32>, ConfigFault>
+    requires { (number : ℕ) → number_fault field number ≡ None → number < 2 ^ 32 }
+    ensures value { result ≡ option_in (view table.now) field }
+    ensures right { IfOk result (λ number. option_fault field number ≡ None) }
+{
+    match optional_number(table, field)? {
+        Some(number) => Ok(Some(number as u32)),
+        None => Ok(None),
+    }
+}
+
+/// A time of an account's own, which version 1 does not know.
+#[tactic(auto, unfolding(crate::specs::File::own_in))]
+pub(crate) fn own_time(
+    version: u64,
+    table: &Value,
+    field: Field,
+) -> Result<Option<u64>, ConfigFault>
+    ensures value { result ≡ own_in version (view table.now) field }
+    ensures right { IfOk result (λ number. option_fault field number ≡ None) }
+{
+    if knows_own_times(version) {
+        optional_number(table, field)
+    } else {
+        Ok(None)
+    }
+}
+
+/// The text that a value is, if the field may have it.
+#[tactic(auto, unfolding(crate::specs::Walk::text_fault))]
+fn text_of(value: &Value, field: Field) -> Option<&str>
+    ensures value { option_copied result ≡ text_of field (view value.now) }
+    ensures right { IfSome result (λ text. text_fault field text.now ≡ None) }
+{
+    let text = value.as_str()?;
+    if field.takes_text(text.as_bytes()) {
+        Some(text)
+    } else {
+        None
+    }
+}
+
+/// The text of a field, as a text of its own. `NoMemory` comes after the faults of the field.
+#[tactic(auto, unfolding(crate::specs::File::text_in))]
+pub(crate) fn text(alloc: Global, table: &Value, field: Field) -> Result<Text, ConfigFault>
+    ensures ok { IfOk result (λ text. text_in (view table.now) field ≡ Ok text) }
+    ensures fault { IfErr result (λ fault. fault ≢ ConfigFault.NoMemory →
+        text_in (view table.now) field ≡ Err fault) }
+    ensures right { IfOk result (λ text. text_fault field text ≡ None) }
+{
+    match text_of(present(table, field)?, field) {
+        Some(text) => Ok(Text::from_str(alloc, text)?),
+        None => Err(ConfigFault::BadValue(field)),
+    }
+}
+
+/// The octets that a value spells, if it is the text of an address.
+fn address_value(value: &Value) -> Option<[u8; 4]>
+    ensures { result ≡ address_value (view value.now) }
+{
+    address_of(value.as_str()?.as_bytes())
+}
+
+/// The octets of the address of a client.
+#[tactic(auto, unfolding(crate::specs::File::address_in))]
+pub(crate) fn address(table: &Value) -> Result<[u8; 4], ConfigFault>
+    ensures { result ≡ address_in (view table.now) }
+{
+    match address_value(present(table, Field::Address)?) {
+        Some(address) => Ok(address),
+        None => Err(ConfigFault::BadValue(Field::Address)),
+    }
+}
+
+/// Whether a client signs its requests; one that does not say so does not.
+#[tactic(auto, unfolding(crate::specs::File::signed_in))]
+pub(crate) fn signed(table: &Value) -> Result<bool, ConfigFault>
+    ensures { result ≡ signed_in (view table.now) }
+{
+    match member(table, Field::Signed) {
+        Some(value) => match value.as_bool() {
+            Some(signed) => Ok(signed),
+            None => Err(ConfigFault::BadValue(Field::Signed)),
+        },
+        None => Ok(false),
+    }
+}
+
+/// The tables of a field.
+#[tactic(auto, unfolding(crate::specs::File::tables_in))]
+pub(crate) fn tables(table: &Value, field: Field) -> Result<&[Value], ConfigFault>
+    ensures ok { IfOk result (λ tables.
+        tables_in (view table.now) field ≡ Ok (map view tables.now)) }
+    ensures fault { IfErr result (λ fault. tables_in (view table.now) field ≡ Err fault) }
+    ensures right { IfOk result (λ tables. count_fault field (length tables.now) ≡ None) }
+{
+    match tables_of(present(table, field)?, field) {
+        Some(tables) => Ok(tables),
+        None => Err(ConfigFault::BadValue(field)),
+    }
+}
+
+/// The tables that a value is, if the field may have so many.
+fn tables_of(value: &Value, field: Field) -> Option<&[Value]>
+    ensures value { option_map (λ tables. map view tables.now) result
+        ≡ tables_of field (view value.now) }
+    ensures right { IfSome result (λ tables. count_fault field (length tables.now) ≡ None) }
+{
+    tables_of_list(value.as_array()?.as_slice(), field)
+}
+
+/// The items of an array, if they are tables and the field may have so many.
+#[tactic(auto, unfolding(crate::specs::Walk::count_fault))]
+fn tables_of_list(items: &[Value], field: Field) -> Option<&[Value]>
+    ensures value { option_map (λ tables. map view tables.now) result
+        ≡ tables_of_list field (map view items.now) }
+    ensures right { IfSome result (λ tables. count_fault field (length tables.now) ≡ None) }
+{
+    if are_tables(items) && field.takes_count(items.len()) {
+        Some(items)
+    } else {
+        None
+    }
+}
+
+/// Whether each item is a table.
+fn are_tables(items: &[Value]) -> bool
+    ensures { result ≡ list_all (λ item. is_some (as_table (view item))) items.now }
+{
+    items.iter().all(|item| item.is_table())
+}

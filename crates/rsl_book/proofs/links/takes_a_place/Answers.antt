@@ -1,5 +1,0 @@
-use Rattle.rsl_book.proofs.Opened.{share_more}
-use Rattle.rsl_book.proofs.links.takes_a_place.Goals as goal
-
-pub returns : goal.returns
-returns c = share_more c.args.others c.args.ports c.requires

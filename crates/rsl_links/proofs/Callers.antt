@@ -1,0 +1,10 @@
+-- The lemmas that this crate offers to the proofs of others, as its definitions are offered. Another crate cites no other
+-- file of these proofs.
+
+pub use Rattle.rsl_links.proofs.Found.{seen_changed, seen_taken, seen_touched}
+pub use Rattle.rsl_links.proofs.Lists.{any_steps, find_steps, push_steps}
+pub use Rattle.rsl_links.proofs.OneByOne.{ring_more, ring_not, same_steps}
+pub use Rattle.rsl_links.proofs.Opened.{bundles-push, length-bundles, more_alone}
+pub use Rattle.rsl_links.proofs.Placed.{new_place, placed_none, placed_put}
+pub use Rattle.rsl_links.proofs.Stepping.{alive_renews, bind_takes, freed_place, fresh_fits, fresh_full, fresh_in_place, in_place_no, in_place_yes, seen_without}
+pub use Rattle.rsl_links.proofs.Touching.{own_bundle}

@@ -1,0 +1,304 @@
+-- What a split of an order finds: the first link of a session or a reservation, the links of a bundle, those that were
+-- touched by a clock, and whether a link names a place of the table.
+use Rattle.std.proofs.Common.{◌≡◌, ℕ, zero, suc, ◌-◌, ◌<◌, ◌≤◌, List, [], ◌∷◌, drop, take, get_or, length, Bool, true, false, refl, ap, sym, ◌∙◌, subst, inl, inr, arith}
+use Rattle.std.specs.Prelude.{Option, None, Some, count_by, ◌==◌, ◌||◌, ◌&&◌}
+use Rattle.std.specs.List.{list_any}
+use Rattle.std.proofs.lemmas.Bool.{and_from, and_parts, cases_eq, cases_lt, eq-eqb, eqb-true, false≢true, le-leb, lt-leb}
+use Rattle.std.proofs.Math.Bool.{and-false, and-true}
+use Rattle.rsl_session.specs.Same.{same_octets}
+use Rattle.std.proofs.lemmas.List.{get_or_default}
+use Rattle.std.proofs.lemmas.Slice.Eq.{bytes_eq-Decides}
+use Rattle.rsl_links.specs.declared.link.Link.{Link}
+use Rattle.rsl_links.specs.declared.link.Hold.{Hold}
+use Rattle.rsl_links.specs.declared.link.Hold.TheVariants.{Number, Session}
+use Rattle.rsl_links.specs.declared.order.Kind.{Kind}
+use Rattle.rsl_links.specs.declared.order.Kind.TheVariants.{Bound, Numbers, Sessions, Bundles}
+use Rattle.rsl_links.specs.First.{IsFirst}
+use Rattle.rsl_links.specs.LinkList.{is_bound_until, is_bundle_id, is_for, is_held, is_id, is_member, is_wanted_hold}
+use Rattle.rsl_links.specs.Named.{named_by_links}
+use Rattle.rsl_links.specs.Order.{Rank, IsOrderOf, IsSplit, rank_at, goes_by, id_of, id_of_bundle, is_before, is_of, holds_number, holds_session, order_key, order_mark, order_number, order_octets, link_at, mark_of_bundle, mark_of_hold, no_link, number_of}
+use Rattle.rsl_links.proofs.Before.{alike_or_before, first_of_key, heads, later_target, lower_before, lower_first, lower_head, touched_order}
+use Rattle.rsl_links.proofs.Counting.{counted_between}
+use Rattle.rsl_links.proofs.Orders.{same_order}
+use Rattle.rsl_links.proofs.Yielding.{any_none, any_nowhere}
+
+-- what goes by numbers and octets is of the kind and has them for its key; and what has this key goes by them
+parts_of : (a b c d : Bool) → (a && b && c && d) ≡ true → (a ≡ true) × ((b ≡ true) × ((c ≡ true) × (d ≡ true)))
+parts_of true true true true is = (refl, (refl, (refl, refl)))
+parts_of true true true false is = absurd (false≢true is)
+parts_of true true false d is = absurd (false≢true is)
+parts_of true false c d is = absurd (false≢true is)
+parts_of false b c d is = absurd (false≢true is)
+
+key_of : (kind : Kind) (number mark : ℕ) (octets : List ℕ) (link : Link) → goes_by kind number mark octets link ≡ true → (is_of kind link ≡ true) × (order_key kind link ≡ number ∷ mark ∷ octets)
+unfolding goes_by
+key_of kind number mark octets link is =
+    let parts = parts_of (is_of kind link) (order_number kind link == number) (order_mark kind link == mark) (same_octets (order_octets kind link) octets) is in (
+      parts.0,
+      ap (λ n. n ∷ order_mark kind link ∷ order_octets kind link) (eqb-true (order_number kind link) number parts.1.0)
+          ∙ ap (λ n. number ∷ n ∷ order_octets kind link) (eqb-true (order_mark kind link) mark parts.1.1.0)
+          ∙ ap (λ (own : List ℕ). number ∷ mark ∷ own) ((bytes_eq-Decides (order_octets kind link) octets).0 parts.1.1.1),
+    )
+
+of_key : (kind : Kind) (number mark : ℕ) (octets : List ℕ) (link : Link) → is_of kind link ≡ true → order_key kind link ≡ number ∷ mark ∷ octets → goes_by kind number mark octets link ≡ true
+unfolding goes_by
+of_key kind number mark octets link of_kind key =
+    rw (
+      of_kind,
+      eq-eqb (order_number kind link) number (ap (λ xs. get_or xs 0 0) key),
+      eq-eqb (order_mark kind link) mark (ap (λ xs. get_or xs 1 0) key),
+      (bytes_eq-Decides (order_octets kind link) octets).1 (ap (λ xs. drop 2 xs) key),
+    ) refl
+
+member_key : (nas : ℕ) (id : List ℕ) (link : Link) → is_member nas id link ≡ true → order_key Bundles link ≡ nas ∷ 1 ∷ id
+unfolding is_member
+member_key nas id link member =
+    let parts = and_parts (link.nas == nas) (is_bundle_id id link.bundle) member in
+    ap (λ n. n ∷ mark_of_bundle link.bundle ∷ id_of_bundle link.bundle) (eqb-true link.nas nas parts.0) ∙ by_bundle link.bundle parts.1
+  where
+    by_bundle : (bundle : Option (List ℕ)) → is_bundle_id id bundle ≡ true → nas ∷ mark_of_bundle bundle ∷ id_of_bundle bundle ≡ nas ∷ 1 ∷ id
+    by_bundle None is = absurd (false≢true is)
+    by_bundle (Some own) is = ap (λ octets. nas ∷ 1 ∷ octets) ((bytes_eq-Decides own id).0 is)
+
+key_member : (nas : ℕ) (id : List ℕ) (link : Link) → order_key Bundles link ≡ nas ∷ 1 ∷ id → is_member nas id link ≡ true
+unfolding is_member
+key_member nas id link key =
+    and_from _ _ (eq-eqb link.nas nas (ap (λ xs. get_or xs 0 0) key)) (by_bundle link.bundle (ap (λ xs. get_or xs 1 0) key) (ap (λ xs. drop 2 xs) key))
+  where
+    by_bundle : (bundle : Option (List ℕ)) → mark_of_bundle bundle ≡ 1 → id_of_bundle bundle ≡ id → is_bundle_id id bundle ≡ true
+    by_bundle None marked same = absurd (omega (arith, marked))
+    by_bundle (Some own) marked same = (bytes_eq-Decides own id).1 same
+
+pub read_link : (links : List Link) (at : ℕ) (d : Link) → at < length links → get_or links at d ≡ link_at links at
+read_link links at d within = get_or_default links at d no_link within
+
+module _ (kind : Kind) (links : List Link) (order : List ℕ) (o : IsOrderOf kind links order) (number mark : ℕ) (octets : List ℕ) (place : ℕ) (split : IsSplit (rank_at kind links) order (number ∷ mark ∷ octets, 0) place) where
+  -- where a link goes by these, the first of them stands at the split
+  sought_there : (x : ℕ) → x < length links → goes_by kind number mark octets (link_at links x) ≡ true
+      → (place < length order) × ((goes_by kind number mark octets (link_at links (get_or order place 0)) ≡ true) × (get_or order place 0 ≤ x))
+  sought_there x within sought =
+      let key = key_of kind number mark octets (link_at links x) sought in
+      let s = o.all x (record { within = within; other = omega (arith, within); of_kind = key.0 }) in
+      let w = s.within in
+      let own : rank_at kind links (get_or order s.at 0) ≡ (number ∷ mark ∷ octets, x) = ap (rank_at kind links) s.is ∙ ap (λ (k : List ℕ). (k, x)) key.1 in
+      elim (cases_lt s.at place) [
+        | inl low ↦ absurd (false≢true (sym (first_of_key (number ∷ mark ∷ octets) x) ∙ subst (λ (e : Rank). is_before e (number ∷ mark ∷ octets, 0) ≡ true) own (split.before s.at low)))
+        | inr high ↦ elim (cases_eq s.at place) [
+          | inl same ↦ (
+              let is : get_or order place 0 ≡ x = sym (ap (λ n. get_or order n 0) same) ∙ s.is in
+              (omega (arith, w, same), (ap (λ n. goes_by kind number mark octets (link_at links n)) is ∙ sought, omega (arith, is)))
+              )
+          | inr other ↦ (
+              let inside : place < length order = omega (arith, w, high, other) in
+              let rise : is_before (rank_at kind links (get_or order place 0)) (number ∷ mark ∷ octets, x) ≡ true =
+              subst (λ (e : Rank). is_before (rank_at kind links (get_or order place 0)) e ≡ true) own (o.rises place s.at (omega (arith, high, other)) w) in
+              elim (alike_or_before (order_key kind (link_at links (get_or order place 0))) (number ∷ mark ∷ octets) (get_or order place 0) x rise) [
+                | inl same ↦ (
+                    let less = lower_first (number ∷ mark ∷ octets) (get_or order place 0) x (subst (λ (k : List ℕ). is_before (k, get_or order place 0) (number ∷ mark ∷ octets, x) ≡ true) same rise) in
+                    (inside, (of_key kind number mark octets (link_at links (get_or order place 0)) (o.each place inside).of_kind same, omega (arith, less)))
+                    )
+                | inr before ↦ absurd (false≢true (sym (split.after place (omega arith) inside) ∙ before))
+              ]
+              )
+        ]
+      ]
+
+  pub first_sought : place < length order → goes_by kind number mark octets (link_at links (get_or order place 0)) ≡ true → IsFirst (goes_by kind number mark octets) links (get_or order place 0)
+  first_sought inside sought =
+      let front = (o.each place inside).within in
+      record {
+        within = front;
+        passed = λ d. ap (goes_by kind number mark octets) (read_link links (get_or order place 0) d front) ∙ sought;
+        before = any_none (goes_by kind number mark octets) links (get_or order place 0) (λ i d low within. ap (goes_by kind number mark octets) (read_link links i d within) ∙ not_sought i low within (goes_by kind number mark octets (link_at links i)) refl);
+      }
+    where
+      not_sought : (i : ℕ) → i < get_or order place 0 → i < length links → (b : Bool) → goes_by kind number mark octets (link_at links i) ≡ b → goes_by kind number mark octets (link_at links i) ≡ false
+      not_sought i low within false e = e
+      not_sought i low within true e = absurd (let first = (sought_there i within e).1.1 in omega (arith, low, first))
+
+  pub none_sought : (place < length order → goes_by kind number mark octets (link_at links (get_or order place 0)) ≡ false) → list_any (goes_by kind number mark octets) links ≡ false
+  none_sought none = any_nowhere (goes_by kind number mark octets) links (λ i d within. ap (goes_by kind number mark octets) (read_link links i d within) ∙ not_sought i within (goes_by kind number mark octets (link_at links i)) refl) where
+    not_sought : (i : ℕ) → i < length links → (b : Bool) → goes_by kind number mark octets (link_at links i) ≡ b → goes_by kind number mark octets (link_at links i) ≡ false
+    not_sought i within false e = e
+    not_sought i within true e = absurd (let found = sought_there i within e in false≢true (sym (none found.0) ∙ found.1.0))
+
+-- what a session, and a reservation, goes by
+and_then : (a b c : Bool) → ((a && b) && c) ≡ (a && (b && c))
+and_then true b c = refl
+and_then false b c = refl
+
+pub held_is : (nas : ℕ) (id : List ℕ) (link : Link) → goes_by Sessions nas 1 id link ≡ is_held nas id link
+unfolding goes_by is_held
+held_is nas id link = by_hold link.hold where
+  by_hold : (hold : Hold) → (link.nas == nas && mark_of_hold hold == 1 && same_octets (id_of hold) id) ≡ (link.nas == nas && is_id id hold)
+  by_hold (Number number) = and_then (link.nas == nas) false (same_octets [] id)
+  by_hold (Session own) = and_then (link.nas == nas) true (same_octets own id)
+
+pub any_is : (nas : ℕ) (link : Link) → goes_by Sessions nas 0 [] link ≡ is_for nas None link
+unfolding goes_by is_for
+any_is nas link = by_hold link.hold where
+  by_hold : (hold : Hold) → (link.nas == nas && mark_of_hold hold == 0 && same_octets (id_of hold) []) ≡ (is_wanted_hold None hold && link.nas == nas)
+  by_hold (Number number) = and-true (link.nas == nas && true) ∙ and-true (link.nas == nas)
+  by_hold (Session own) = and_then (link.nas == nas) false (same_octets own []) ∙ and-false (link.nas == nas)
+
+pub number_is : (nas number : ℕ) (link : Link) → goes_by Numbers number nas [] link ≡ is_for nas (Some number) link
+unfolding goes_by is_for
+number_is nas number link = by_hold link.hold where
+  by_hold : (hold : Hold) → (holds_number hold && number_of hold == number && link.nas == nas && same_octets [] []) ≡ (is_wanted_hold (Some number) hold && link.nas == nas)
+  by_hold (Number own) = and-true (own == number && link.nas == nas)
+  by_hold (Session own) = refl
+
+-- tests that say the same of each link
+any_as : (p q : Link → Bool) → ((link : Link) → p link ≡ q link) → (links : List Link) → list_any p links ≡ list_any q links
+any_as p q same [] = refl
+any_as p q same (link ∷ links) = ap (λ b. b || list_any p links) (same link) ∙ ap (λ b. q link || b) (any_as p q same links)
+
+pub first_as : (p q : Link → Bool) → ((link : Link) → p link ≡ q link) → (links : List Link) (at : ℕ) → IsFirst p links at → IsFirst q links at
+first_as p q same links at first =
+    record {
+      within = first.within;
+      passed = λ d. sym (same (get_or links at d)) ∙ first.passed d;
+      before = sym (any_as p q same (take at links)) ∙ first.before;
+    }
+
+pub none_as : (p q : Link → Bool) → ((link : Link) → p link ≡ q link) → (links : List Link) → list_any p links ≡ false → list_any q links ≡ false
+none_as p q same links none = sym (any_as p q same links) ∙ none
+
+-- how many links of a kind pass, where they stand together in its order
+counted_of : (kind : Kind) (p : Link → Bool) (links : List Link) (order : List ℕ) (a b : ℕ) → IsOrderOf kind links order → ((link : Link) → is_of kind link ≡ false → p link ≡ false) → a ≤ b → b ≤ length order
+    → ((k : ℕ) → k < a → k < length order → p (link_at links (get_or order k 0)) ≡ false)
+    → ((k : ℕ) → a ≤ k → k < b → k < length order → p (link_at links (get_or order k 0)) ≡ true)
+    → ((k : ℕ) → b ≤ k → k < length order → p (link_at links (get_or order k 0)) ≡ false)
+    → b - a ≡ count_by p links
+counted_of kind p links order a b o others in_turn most before inside after =
+    counted_between (is_of kind) p no_link links (rank_at kind links) order a b others
+    (same_order order o (λ x l. (l.within, l.of_kind)) (λ x l. record { within = l.0; other = (let w = l.0 in omega (arith, w)); of_kind = l.1 }) (λ x l. refl))
+    in_turn most before inside after
+
+pub counted_all : (kind : Kind) (links : List Link) (order : List ℕ) → IsOrderOf kind links order → length order ≡ count_by (is_of kind) links
+counted_all kind links order o =
+    let all = counted_of kind (is_of kind) links order 0 (length order) o (λ link is. is) (omega arith) (omega arith)
+    (λ k low within. absurd (omega (arith, low))) (λ k from low within. (o.each k within).of_kind) (λ k high within. absurd (omega (arith, high, within))) in
+    omega (arith, all)
+
+pub counted_until : (clock : ℕ) (links : List Link) (order : List ℕ) (end : ℕ) → IsOrderOf Bound links order → IsSplit (rank_at Bound links) order (clock ∷ 0 ∷ [], length links) end → end ≡ count_by (is_bound_until clock) links
+unfolding is_bound_until
+counted_until clock links order end o split =
+    let all = counted_of Bound (is_bound_until clock) links order 0 end o (λ link is. rw is refl) (omega arith) split.within
+    (λ k low within. absurd (omega (arith, low)))
+    (λ k from low within. and_from _ _ (o.each k within).of_kind (le-leb (link_at links (get_or order k 0)).touched clock (until k (split.before k low))))
+    (λ k high within. rw (lt-leb (link_at links (get_or order k 0)).touched clock (past k within (split.after k high within))) (and-false (holds_session (link_at links (get_or order k 0)).hold))) in
+    omega (arith, all)
+  where
+    until : (k : ℕ) → is_before (rank_at Bound links (get_or order k 0)) (clock ∷ 0 ∷ [], length links) ≡ true → (link_at links (get_or order k 0)).touched ≤ clock
+    until k before = elim (touched_order (link_at links (get_or order k 0)).touched clock (get_or order k 0) (length links) before) [
+      | inl less ↦ omega (arith, less)
+      | inr tied ↦ (let same = tied.0 in omega (arith, same))
+    ]
+
+    past : (k : ℕ) → k < length order → is_before (rank_at Bound links (get_or order k 0)) (clock ∷ 0 ∷ [], length links) ≡ false → clock < (link_at links (get_or order k 0)).touched
+    past k within after = elim (cases_lt clock (link_at links (get_or order k 0)).touched) [
+      | inl less ↦ less
+      | inr most ↦ elim (cases_eq (link_at links (get_or order k 0)).touched clock) [
+        | inl same ↦ absurd (false≢true (sym after ∙ ap (λ n. is_before (n ∷ 0 ∷ [], get_or order k 0) (clock ∷ 0 ∷ [], length links)) same ∙ lower_before (clock ∷ 0 ∷ []) (get_or order k 0) (length links) (o.each k within).within))
+        | inr other ↦ absurd (false≢true (sym after ∙ lower_head (link_at links (get_or order k 0)).touched clock (0 ∷ []) (0 ∷ []) (get_or order k 0) (length links) (omega (arith, most, other))))
+      ]
+    ]
+
+longer : (octet x : ℕ) (octets : List ℕ) → is_before (octet ∷ octets, x) ([], 0) ≡ true → false ≡ true
+unfolding is_before
+longer octet x octets before = before
+
+not_empty : (octets : List ℕ) (x : ℕ) → is_before (octets, x) ([], 0) ≡ true → false ≡ true
+not_empty [] x before = sym (first_of_key [] x) ∙ before
+not_empty (octet ∷ octets) x before = longer octet x octets before
+
+not_below : (nas m : ℕ) (octets : List ℕ) (x : ℕ) → is_before (nas ∷ m ∷ octets, x) (nas ∷ 0 ∷ [], 0) ≡ true → false ≡ true
+not_below nas m octets x before =
+    elim (heads nas nas (m ∷ octets) (0 ∷ []) x 0 before) [
+      | inl low ↦ absurd (omega (arith, low))
+      | inr rest ↦ elim (heads m 0 octets [] x 0 rest.1) [
+        | inl low ↦ absurd (omega (arith, low))
+        | inr last ↦ not_empty octets x last.1
+      ]
+    ]
+
+module _ (links : List Link) (order : List ℕ) (o : IsOrderOf Bundles links order) where
+  module _ (nas : ℕ) (id : List ℕ) (first end : ℕ) (from : IsSplit (rank_at Bundles links) order (nas ∷ 1 ∷ id, 0) first) (to : IsSplit (rank_at Bundles links) order (nas ∷ 1 ∷ id, length links) end) where
+    pub in_turn : first ≤ end
+    in_turn = elim (cases_lt end first) [
+      | inl low ↦ absurd (
+          let inside : end < length order = let w = from.within in omega (arith, low, w) in
+          false≢true (sym (to.after end (omega arith) inside) ∙ later_target (order_key Bundles (link_at links (get_or order end 0))) (nas ∷ 1 ∷ id) (get_or order end 0) 0 (length links) (omega arith) (from.before end low)))
+      | inr high ↦ high
+    ]
+
+    pub members_between : end - first ≡ count_by (is_member nas id) links
+    members_between =
+        counted_of Bundles (is_member nas id) links order first end o (λ link none. absurd (false≢true (sym none))) in_turn to.within
+        (λ k low within. not_member (get_or order k 0) (is_member nas id (link_at links (get_or order k 0))) refl
+        (λ key. sym (first_of_key (nas ∷ 1 ∷ id) (get_or order k 0)) ∙ subst (λ (t : List ℕ). is_before (t, get_or order k 0) (nas ∷ 1 ∷ id, 0) ≡ true) key (from.before k low)))
+        (λ k high low within. elim (alike_or_before (order_key Bundles (link_at links (get_or order k 0))) (nas ∷ 1 ∷ id) (get_or order k 0) (length links) (to.before k low)) [
+          | inl same ↦ key_member nas id (link_at links (get_or order k 0)) same
+          | inr before ↦ absurd (false≢true (sym (from.after k high within) ∙ before))
+        ])
+        (λ k high within. not_member (get_or order k 0) (is_member nas id (link_at links (get_or order k 0))) refl
+        (λ key. sym (to.after k high within) ∙ subst (λ (t : List ℕ). is_before (t, get_or order k 0) (nas ∷ 1 ∷ id, length links) ≡ true) (sym key) (lower_before (nas ∷ 1 ∷ id) (get_or order k 0) (length links) (o.each k within).within)))
+      where
+        not_member : (x : ℕ) (b : Bool) → is_member nas id (link_at links x) ≡ b → (order_key Bundles (link_at links x) ≡ nas ∷ 1 ∷ id → false ≡ true) → is_member nas id (link_at links x) ≡ false
+        not_member x false e other = e
+        not_member x true e other = absurd (false≢true (other (member_key nas id (link_at links x) e)))
+
+  module _ (nas place : ℕ) (split : IsSplit (rank_at Bundles links) order (nas ∷ 0 ∷ [], 0) place) where
+    -- where a link names the place, the one at the split does
+    named_there : (x : ℕ) → x < length links → (link_at links x).nas ≡ nas → (place < length order) × ((link_at links (get_or order place 0)).nas ≡ nas)
+    named_there x within is =
+        let s = o.all x (record { within = within; other = omega (arith, within); of_kind = refl }) in
+        let w = s.within in
+        let mark = mark_of_bundle (link_at links x).bundle in
+        let octets = id_of_bundle (link_at links x).bundle in
+        let own : rank_at Bundles links (get_or order s.at 0) ≡ (nas ∷ mark ∷ octets, x) = ap (rank_at Bundles links) s.is ∙ ap (λ (n : ℕ). (n ∷ mark ∷ octets, x)) is in
+        elim (cases_lt s.at place) [
+          | inl low ↦ absurd (false≢true (not_below nas mark octets x (subst (λ (e : Rank). is_before e (nas ∷ 0 ∷ [], 0) ≡ true) own (split.before s.at low))))
+          | inr high ↦ elim (cases_eq s.at place) [
+            | inl same ↦ (omega (arith, w, same), ap (λ n. (link_at links n).nas) (sym (ap (λ n. get_or order n 0) same) ∙ s.is) ∙ is)
+            | inr other ↦ (
+                let inside : place < length order = omega (arith, w, high, other) in
+                let front = link_at links (get_or order place 0) in
+                let rise : is_before (rank_at Bundles links (get_or order place 0)) (nas ∷ mark ∷ octets, x) ≡ true =
+                subst (λ (e : Rank). is_before (rank_at Bundles links (get_or order place 0)) e ≡ true) own (o.rises place s.at (omega (arith, high, other)) w) in
+                elim (heads front.nas nas (mark_of_bundle front.bundle ∷ id_of_bundle front.bundle) (mark ∷ octets) (get_or order place 0) x rise) [
+                  | inl low ↦ absurd (false≢true (sym (split.after place (omega arith) inside) ∙ lower_head front.nas nas (mark_of_bundle front.bundle ∷ id_of_bundle front.bundle) (0 ∷ []) (get_or order place 0) 0 low))
+                  | inr same ↦ (inside, same.0)
+                ]
+                )
+          ]
+        ]
+
+    pub names_front : place < length order → (link_at links (get_or order place 0)).nas ≡ nas → named_by_links links nas ≡ true
+    unfolding named_by_links
+    names_front inside is =
+        any_at (λ (link : Link). link.nas == nas) links (get_or order place 0) no_link (o.each place inside).within (eq-eqb (link_at links (get_or order place 0)).nas nas is)
+      where
+        any_at : (p : Link → Bool) (xs : List Link) (i : ℕ) (d : Link) → i < length xs → p (get_or xs i d) ≡ true → list_any p xs ≡ true
+        any_at p [] i d within is = absurd (omega (arith, within))
+        any_at p (x ∷ xs) zero d within is = rw is refl
+        any_at p (x ∷ xs) (suc i) d within is = by_cases (p x) (any_at p xs i d (omega (arith, within)) is) where
+          by_cases : (b : Bool) → list_any p xs ≡ true → (b || list_any p xs) ≡ true
+          by_cases true rest = refl
+          by_cases false rest = rest
+
+    pub names_none : (place < length order → ((link_at links (get_or order place 0)).nas == nas) ≡ false) → named_by_links links nas ≡ false
+    unfolding named_by_links
+    names_none none = any_nowhere (λ (link : Link). link.nas == nas) links (λ i d within. ap (λ (link : Link). link.nas == nas) (read_link links i d within) ∙ other i within ((link_at links i).nas == nas) refl) where
+      other : (i : ℕ) → i < length links → (b : Bool) → ((link_at links i).nas == nas) ≡ b → ((link_at links i).nas == nas) ≡ false
+      other i within false e = e
+      other i within true e =
+          absurd (let found = named_there i within (eqb-true (link_at links i).nas nas e) in
+          false≢true (sym (none found.0) ∙ eq-eqb (link_at links (get_or order place 0)).nas nas found.1))
+
+    pub names_is : place < length order → ((link_at links (get_or order place 0)).nas == nas) ≡ named_by_links links nas
+    names_is inside = by_cases ((link_at links (get_or order place 0)).nas == nas) refl where
+      by_cases : (b : Bool) → ((link_at links (get_or order place 0)).nas == nas) ≡ b → ((link_at links (get_or order place 0)).nas == nas) ≡ named_by_links links nas
+      by_cases true e = e ∙ sym (names_front inside (eqb-true (link_at links (get_or order place 0)).nas nas e))
+      by_cases false e = e ∙ sym (names_none (λ within. e))

@@ -1,0 +1,229 @@
+-- The links that lapse, and the one that yields, found by what the first of an order tells.
+use Rattle.std.proofs.Common.{◌≡◌, ℕ, zero, suc, ◌+◌, ◌-◌, ◌<◌, ◌≤◌, List, [], ◌∷◌, ◌++◌, take, drop, get_or, length, length-append, length-drop, Bool, true, false, cond, not, refl, ap, sym, ◌∙◌, subst, arith, add-one, inl, inr}
+use Rattle.std.specs.Prelude.{filter, find, nat_le, None, Some}
+use Rattle.std.proofs.lemmas.Option.{none-some}
+use Rattle.std.specs.List.{list_any, list_all}
+use Rattle.std.proofs.lemmas.Bool.{false≢true, and_parts, and_from, cases_lt, lt-leb, le-leb}
+use Rattle.std.proofs.lemmas.List.{get_or-map, length-map, length-take-le}
+use Rattle.rsl_accounts.specs.declared.rules.Rules.{Rules}
+use Rattle.rsl_event.specs.declared.nas.Nas.{Nas}
+use Rattle.rsl_session.specs.Book.{BookLink, is_bound, is_stale_at}
+use Rattle.rsl_session.specs.BookLinks.{can_yield, lapses_at}
+use Rattle.rsl_links.specs.declared.link.Link.{Link}
+use Rattle.rsl_links.specs.declared.link.Hold.{Hold}
+use Rattle.rsl_links.specs.declared.link.Hold.TheVariants.{Number, Session}
+use Rattle.rsl_links.specs.declared.links.Links.{Links}
+use Rattle.rsl_links.specs.Counted.{AreCounted}
+use Rattle.rsl_links.specs.First.{IsFirst}
+use Rattle.rsl_links.specs.LinkList.{IsOldest}
+use Rattle.rsl_links.specs.Order.{holds_session, link_at, no_link}
+use Rattle.rsl_links.specs.Seen.{holder_at, link_seen, links_seen, server_at}
+use Rattle.rsl_links.proofs.Lists.{find_none}
+use Rattle.rsl_links.proofs.Stepping.{seen_without}
+use Rattle.rsl_links.specs.Steps.{without_at}
+
+module _ {B : Type 0} where
+  filter_less : (keep : B → Bool) (xs : List B) (at : ℕ) → at < length xs → ((d : B) → keep (get_or xs at d) ≡ false) → filter keep (take at xs ++ drop (suc at) xs) ≡ filter keep xs
+  filter_less keep [] at within gone = absurd (omega (arith, within))
+  filter_less keep (x ∷ xs) zero within gone = rw (gone x) refl
+  filter_less keep (x ∷ xs) (suc at) within gone = ap (λ ys. cond (keep x) (x ∷ ys) ys) (filter_less keep xs at (omega (arith, within)) gone)
+
+  filter_same : (keep : B → Bool) (xs : List B) → ((i : ℕ) (d : B) → i < length xs → keep (get_or xs i d) ≡ true) → filter keep xs ≡ xs
+  filter_same keep [] all = refl
+  filter_same keep (x ∷ xs) all = rw (all zero x (omega arith)) (ap (λ ys. x ∷ ys) (filter_same keep xs (λ i d within. all (suc i) d (omega (arith, within)))))
+
+  pub any_none : (p : B → Bool) (xs : List B) (n : ℕ) → ((i : ℕ) (d : B) → i < n → i < length xs → p (get_or xs i d) ≡ false) → list_any p (take n xs) ≡ false
+  any_none p xs zero none = refl
+  any_none p [] (suc n) none = refl
+  any_none p (x ∷ xs) (suc n) none = rw (none zero x (omega arith) (omega arith)) (any_none p xs n (λ i d low within. none (suc i) d (omega (arith, low)) (omega (arith, within))))
+
+  pub any_nowhere : (p : B → Bool) (xs : List B) → ((i : ℕ) (d : B) → i < length xs → p (get_or xs i d) ≡ false) → list_any p xs ≡ false
+  any_nowhere p [] none = refl
+  any_nowhere p (x ∷ xs) none = rw (none zero x (omega arith)) (any_nowhere p xs (λ i d within. none (suc i) d (omega (arith, within))))
+
+  all_of : (q t : B → Bool) (xs : List B) → ((i : ℕ) (d : B) → i < length xs → t (get_or xs i d) ≡ true → q (get_or xs i d) ≡ true) → list_all q (filter t xs) ≡ true
+  all_of q t [] each = refl
+  all_of q t (x ∷ xs) each = by_cases (t x) refl (all_of q t xs (λ i d within. each (suc i) d (omega (arith, within)))) where
+    by_cases : (b : Bool) → t x ≡ b → list_all q (filter t xs) ≡ true → list_all q (cond b (x ∷ filter t xs) (filter t xs)) ≡ true
+    by_cases true is rest = rw (each zero x (omega arith) is) rest
+    by_cases false is rest = rest
+
+  one_of : (q t : B → Bool) (xs : List B) (i : ℕ) (d : B) → list_all q (filter t xs) ≡ true → i < length xs → t (get_or xs i d) ≡ true → q (get_or xs i d) ≡ true
+  one_of q t [] i d all within is = absurd (omega (arith, within))
+  one_of q t (x ∷ xs) zero d all within is =
+      (and_parts (q x) (list_all q (filter t xs)) (subst (λ b. list_all q (cond b (x ∷ filter t xs) (filter t xs)) ≡ true) is all)).0
+  one_of q t (x ∷ xs) (suc i) d all within is = one_of q t xs i d (rest (t x) all) (omega (arith, within)) is where
+    rest : (b : Bool) → list_all q (cond b (x ∷ filter t xs) (filter t xs)) ≡ true → list_all q (filter t xs) ≡ true
+    rest true some = (and_parts (q x) (list_all q (filter t xs)) some).1
+    rest false some = some
+
+read_seen : (servers : List Nas) (links : List Link) (i : ℕ) (d : BookLink) → i < length links → get_or (links_seen servers links) i d ≡ link_seen servers (link_at links i)
+unfolding links_seen
+read_seen servers links i d within = get_or-map (link_seen servers) links i no_link d within
+
+length_seen : (servers : List Nas) (links : List Link) → length (links_seen servers links) ≡ length links
+unfolding links_seen
+length_seen servers links = length-map links (link_seen servers)
+
+-- a link that ends is taken out, and in the end there is none
+pub ended_step : (servers : List Nas) (ends : BookLink → Bool) (links left : List Link) (at : ℕ) → at < length links → ((d : BookLink) → ends (get_or (links_seen servers links) at d) ≡ true) → left ≡ take at links ++ drop (at + 1) links
+    → filter (λ (link : BookLink). not (ends link)) (links_seen servers left) ≡ filter (λ (link : BookLink). not (ends link)) (links_seen servers links)
+unfolding without_at
+ended_step servers ends links left at within passed is =
+    let long = length_seen servers links in
+    let gone = filter_less (λ (link : BookLink). not (ends link)) (links_seen servers links) at (omega (arith, within, long)) (λ d. ap not (passed d)) in
+    ap (λ xs. filter (λ (link : BookLink). not (ends link)) (links_seen servers xs)) is
+    ∙ ap (filter (λ (link : BookLink). not (ends link))) (seen_without servers links at)
+    ∙ rw add-one gone
+
+pub ended_all : {B : Type 0} (ends : B → Bool) (xs : List B) → find ends xs ≡ None → filter (λ x. not (ends x)) xs ≡ xs
+ended_all ends [] none = refl
+ended_all ends (x ∷ xs) none = by_cases (ends x) none (ended_all ends xs) where
+  by_cases : (b : Bool) → cond b (Some x) (find ends xs) ≡ None → (find ends xs ≡ None → filter (λ y. not (ends y)) xs ≡ xs) → cond (not b) (x ∷ filter (λ y. not (ends y)) xs) (filter (λ y. not (ends y)) xs) ≡ x ∷ xs
+  by_cases true none rest = absurd (none-some x (sym none))
+  by_cases false none rest = ap (λ ys. x ∷ ys) (rest none)
+
+pub fewer_found : (servers : List Nas) (ends : BookLink → Bool) (links : List Link) (at : ℕ) → IsFirst ends (links_seen servers links) at → at < length links
+fewer_found servers ends links at first = let long = length_seen servers links in let front = first.within in omega (arith, long, front)
+
+-- what is left of some links once those that end are taken out one by one
+pub record AreLeft (ends : BookLink → Bool) (servers : List Nas) (old now : Links) : Type 0 where
+  pub left : filter (λ (link : BookLink). not (ends link)) (links_seen servers now.list.items)
+      ≡ filter (λ (link : BookLink). not (ends link)) (links_seen servers old.list.items)
+  pub counted : AreCounted servers now
+  pub fewer : now.places ≤ old.places
+  pub ports : now.ports ≡ old.ports
+  pub room : now.list.room ≡ old.list.room
+
+pub one_less : {ends : BookLink → Bool} {servers : List Nas} {old now next : Links} → AreLeft ends servers old now
+    → filter (λ (link : BookLink). not (ends link)) (links_seen servers next.list.items) ≡ filter (λ (link : BookLink). not (ends link)) (links_seen servers now.list.items)
+    → AreCounted servers next → next.places ≤ now.places → next.ports ≡ now.ports → next.list.room ≡ now.list.room → AreLeft ends servers old next
+one_less so_far left counted fewer ports room =
+    record {
+      left = left ∙ so_far.left;
+      counted = counted;
+      fewer = (let before = so_far.fewer in omega (arith, fewer, before));
+      ports = ports ∙ so_far.ports;
+      room = room ∙ so_far.room;
+    }
+
+-- a link that lapses is taken out, and in the end none does
+pub lapse_step : (servers : List Nas) (rules : Rules) (now : ℕ) (links left : List Link) (at : ℕ) → at < length links → lapses_at rules now (link_seen servers (link_at links at)) ≡ true
+    → left ≡ take at links ++ drop (at + 1) links
+    → filter (λ (link : BookLink). not (lapses_at rules now link)) (links_seen servers left) ≡ filter (λ (link : BookLink). not (lapses_at rules now link)) (links_seen servers links)
+lapse_step servers rules now links left at within lapses is =
+    ended_step servers (lapses_at rules now) links left at within
+    (λ d. ap (lapses_at rules now) (read_seen servers links at d within) ∙ lapses) is
+
+pub lapse_end : (servers : List Nas) (rules : Rules) (now : ℕ) (links : List Link) → ((at : ℕ) → at < length links → lapses_at rules now (link_seen servers (link_at links at)) ≡ false)
+    → filter (λ (link : BookLink). not (lapses_at rules now link)) (links_seen servers links) ≡ links_seen servers links
+lapse_end servers rules now links none =
+    let long = length_seen servers links in
+    filter_same (λ (link : BookLink). not (lapses_at rules now link)) (links_seen servers links)
+    (λ i d within. ap (λ (link : BookLink). not (lapses_at rules now link)) (read_seen servers links i d (omega (arith, within, long))) ∙ ap not (none i (omega (arith, within, long))))
+
+-- stale links are bound
+stale_parts : (servers : List Nas) (rules : Rules) (now : ℕ) (link : Link) → is_stale_at rules now (link_seen servers link) ≡ true → (holds_session link.hold ≡ true) × (nat_le rules.live (now - link.touched) ≡ true)
+unfolding is_stale_at link_seen
+stale_parts servers rules now link stale =
+    let parts = and_parts (is_bound (holder_at (server_at servers link.nas) link.hold)) (nat_le rules.live (now - link.touched)) stale in
+    (by_hold (server_at servers link.nas) link.hold parts.0, parts.1)
+  where
+    by_hold : (nas : Nas) (hold : Hold) → is_bound (holder_at nas hold) ≡ true → holds_session hold ≡ true
+    by_hold nas (Number number) is = is
+    by_hold nas (Session id) is = refl
+
+stale_from : (servers : List Nas) (rules : Rules) (now : ℕ) (link : Link) → holds_session link.hold ≡ true → nat_le rules.live (now - link.touched) ≡ true → is_stale_at rules now (link_seen servers link) ≡ true
+unfolding is_stale_at link_seen
+stale_from servers rules now link bound old = and_from _ _ (by_hold (server_at servers link.nas) link.hold bound) old where
+  by_hold : (nas : Nas) (hold : Hold) → holds_session hold ≡ true → is_bound (holder_at nas hold) ≡ true
+  by_hold nas (Number number) is = is
+  by_hold nas (Session id) is = refl
+
+touched_seen : (servers : List Nas) (link : Link) → (link_seen servers link).touched ≡ link.touched
+unfolding link_seen
+touched_seen servers link = refl
+
+old_enough : (live a b now : ℕ) → a ≤ b → nat_le live (now - b) ≡ true → nat_le live (now - a) ≡ true
+old_enough live a b now later old =
+    elim (cases_lt (now - b) live) [
+      | inl low ↦ absurd (false≢true (sym (lt-leb live (now - b) low) ∙ old))
+      | inr high ↦ le-leb live (now - a) (omega (arith, high, later))
+    ]
+
+pub yields_first : (servers : List Nas) (rules : Rules) (now : ℕ) (links : List Link) (at : ℕ) → IsOldest links at → is_stale_at rules now (link_seen servers (link_at links at)) ≡ true
+    → IsFirst (can_yield rules now (links_seen servers links)) (links_seen servers links) at
+unfolding can_yield link_seen
+yields_first servers rules now links at oldest stale =
+    let long = length_seen servers links in
+    let front = oldest.within in
+    record {
+      within = omega (arith, front, long);
+      passed = λ d. subst (λ (one : BookLink). can_yield rules now (links_seen servers links) one ≡ true) (sym (read_seen servers links at d front))
+          (and_from _ _ stale (all_of (λ (other : BookLink). nat_le (link_seen servers (link_at links at)).touched other.touched) (is_stale_at rules now) (links_seen servers links)
+          (λ i d within old.
+          let inside : i < length links = omega (arith, within, long) in
+          let read = read_seen servers links i d inside in
+          let own : is_stale_at rules now (link_seen servers (link_at links i)) ≡ true = subst (λ (one : BookLink). is_stale_at rules now one ≡ true) read old in
+          subst (λ (one : BookLink). nat_le (link_seen servers (link_at links at)).touched one.touched ≡ true) (sym read)
+          (least i inside (stale_parts servers rules now (link_at links i) own).0))));
+      before = any_none (can_yield rules now (links_seen servers links)) (links_seen servers links) at
+          (λ i d low within. earlier i (omega (arith, within, long)) low (get_or (links_seen servers links) i d) (read_seen servers links i d (omega (arith, within, long))));
+    }
+  where
+    least : (i : ℕ) → i < length links → holds_session (link_at links i).hold ≡ true → nat_le (link_seen servers (link_at links at)).touched (link_seen servers (link_at links i)).touched ≡ true
+    least i inside bound = le-leb _ _ (oldest.oldest i inside bound)
+
+    earlier : (i : ℕ) → i < length links → i < at → (one : BookLink) → one ≡ link_seen servers (link_at links i) → can_yield rules now (links_seen servers links) one ≡ false
+    earlier i inside low one read = by_cases (can_yield rules now (links_seen servers links) one) refl where
+      by_cases : (b : Bool) → can_yield rules now (links_seen servers links) one ≡ b → can_yield rules now (links_seen servers links) one ≡ false
+      by_cases false e = e
+      by_cases true e =
+          let parts = and_parts (is_stale_at rules now one) (list_all (λ (other : BookLink). nat_le one.touched other.touched) (filter (is_stale_at rules now) (links_seen servers links))) e in
+          let own : is_stale_at rules now (link_seen servers (link_at links i)) ≡ true = subst (λ (x : BookLink). is_stale_at rules now x ≡ true) read parts.0 in
+          let less = oldest.first i low (stale_parts servers rules now (link_at links i) own).0 in
+          let here = read_seen servers links at one oldest.within in
+          let long = length_seen servers links in
+          let front = oldest.within in
+          let no_later = one_of (λ (other : BookLink). nat_le one.touched other.touched) (is_stale_at rules now) (links_seen servers links) at one parts.1 (omega (arith, front, long))
+          (subst (λ (x : BookLink). is_stale_at rules now x ≡ true) (sym here) stale) in
+          let mine : one.touched ≡ (link_at links i).touched = ap (λ (x : BookLink). x.touched) read ∙ touched_seen servers (link_at links i) in
+          let its : (get_or (links_seen servers links) at one).touched ≡ (link_at links at).touched = ap (λ (x : BookLink). x.touched) here ∙ touched_seen servers (link_at links at) in
+          absurd (false≢true (sym (lt-leb one.touched (get_or (links_seen servers links) at one).touched (omega (arith, less, mine, its))) ∙ no_later))
+
+none_yields : (servers : List Nas) (rules : Rules) (now : ℕ) (links : List Link) → ((i : ℕ) → i < length links → is_stale_at rules now (link_seen servers (link_at links i)) ≡ false)
+    → find (can_yield rules now (links_seen servers links)) (links_seen servers links) ≡ None
+unfolding can_yield
+none_yields servers rules now links none =
+    let long = length_seen servers links in
+    find_none (can_yield rules now (links_seen servers links)) (links_seen servers links) (any_nowhere (can_yield rules now (links_seen servers links)) (links_seen servers links)
+    (λ i d within.
+    let inside : i < length links = omega (arith, within, long) in
+    let no : is_stale_at rules now (get_or (links_seen servers links) i d) ≡ false = ap (is_stale_at rules now) (read_seen servers links i d inside) ∙ none i inside in
+    rw no refl))
+
+pub none_bound : (servers : List Nas) (rules : Rules) (now : ℕ) (links : List Link) → ((i : ℕ) → i < length links → holds_session (link_at links i).hold ≡ false)
+    → find (can_yield rules now (links_seen servers links)) (links_seen servers links) ≡ None
+none_bound servers rules now links none = none_yields servers rules now links (λ i within. not_stale i within (is_stale_at rules now (link_seen servers (link_at links i))) refl) where
+  not_stale : (i : ℕ) → i < length links → (b : Bool) → is_stale_at rules now (link_seen servers (link_at links i)) ≡ b → is_stale_at rules now (link_seen servers (link_at links i)) ≡ false
+  not_stale i within true e = absurd (false≢true (sym (none i within) ∙ (stale_parts servers rules now (link_at links i) e).0))
+  not_stale i within false e = e
+
+pub none_stale : (servers : List Nas) (rules : Rules) (now : ℕ) (links : List Link) (at : ℕ) → IsOldest links at → is_stale_at rules now (link_seen servers (link_at links at)) ≡ false
+    → find (can_yield rules now (links_seen servers links)) (links_seen servers links) ≡ None
+none_stale servers rules now links at oldest fresh = none_yields servers rules now links (λ i within. not_stale i within (is_stale_at rules now (link_seen servers (link_at links i))) refl) where
+  not_stale : (i : ℕ) → i < length links → (b : Bool) → is_stale_at rules now (link_seen servers (link_at links i)) ≡ b → is_stale_at rules now (link_seen servers (link_at links i)) ≡ false
+  not_stale i within false e = e
+  not_stale i within true e =
+      let parts = stale_parts servers rules now (link_at links i) e in
+      let old = old_enough rules.live (link_at links at).touched (link_at links i).touched now (oldest.oldest i within parts.0) parts.1 in
+      absurd (false≢true (sym fresh ∙ stale_from servers rules now (link_at links at) oldest.bound old))
+
+-- and there is one link less
+pub fewer_left : (links left : List Link) (at : ℕ) → at < length links → left ≡ take at links ++ drop (at + 1) links → length left < length links
+fewer_left links left at within is =
+    let all = ap length is in
+    let sum = length-append (take at links) (drop (at + 1) links) in
+    let front = length-take-le at links (omega (arith, within)) in
+    let back = length-drop (at + 1) links in
+    omega (arith, all, sum, front, back, within)

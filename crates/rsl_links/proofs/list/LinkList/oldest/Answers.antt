@@ -1,0 +1,33 @@
+use Rattle.std.proofs.Common.{◌≡◌, ℕ, ◌<◌, get_or, length, sym, subst, arith, rules}
+use Rattle.std.specs.VecDeque.{deque_len}
+use Rattle.rsl_links.specs.declared.order.Kind.TheVariants.{Bound}
+use Rattle.rsl_links.specs.LinkList.{IsOldest, RoomyList}
+use Rattle.rsl_links.specs.Slots.{links_of, opened_of}
+use Rattle.rsl_links.proofs.Lined.{line_found, line_stands, long_line}
+use Rattle.rsl_links.proofs.Slotted.{long_opened}
+use Rattle.rsl_links.proofs.Standing.{oldest_first, some_there}
+use Rattle.rsl_links.proofs.list.LinkList.oldest.Goals as goal
+
+pub position-requires-clause-stands : goal.position-requires-clause-stands
+position-requires-clause-stands c =
+    let slots = c.self.inside.slots in
+    let bound = c.self.inside.orders.bound in
+    let long : deque_len bound ≡ length bound.items = search rules in
+    let one = some_there (deque_len bound) c.is_empty.result c.is_empty.ensures c.if-is_empty.false in
+    line_stands Bound slots.slots.items (opened_of slots) c.self.invariant.kept.placed.rising (length (links_of slots)) bound.items c.self.invariant.orders.bound 0 c.index.result.now (omega (arith, long, one)) c.index.ensures
+
+pub returns-clause-found : goal.returns-clause-found
+returns-clause-found c =
+    let slots = c.self.inside.slots in
+    let bound = c.self.inside.orders.bound in
+    let line = c.self.invariant.orders.bound in
+    let long : deque_len bound ≡ length bound.items = search rules in
+    let one = some_there (deque_len bound) c.is_empty.result c.is_empty.ensures c.if-is_empty.false in
+    let some : 0 < length bound.items = omega (arith, long, one) in
+    let same = long_line Bound (links_of slots) (opened_of slots) (length (links_of slots)) bound.items line in
+    let few = long_opened slots.slots.items slots.places.items slots.count c.self.invariant.kept.placed in
+    let low = c.position.ensures.within in
+    subst (λ (at : ℕ). IsOldest c.args.self.now.items at)
+    (sym (line_found Bound slots.slots.items (opened_of slots) c.self.invariant.kept.placed.rising (length (links_of slots)) bound.items line 0 c.index.result.now c.position.result some c.index.ensures (omega (arith, few, low)) c.position.ensures.stands))
+    (subst (λ (value : RoomyList). IsOldest value.items (get_or line.positions 0 0)) c.self.view_is
+    (oldest_first (links_of slots) line.positions line.in_order (omega (arith, some, same))))

@@ -1,0 +1,12 @@
+use Rattle.std.proofs.Common.{arith}
+use Rattle.rsl_links.proofs.list.Orders.withdraw.Goals as goal
+
+pub returns-clause-room : goal.returns-clause-room
+returns-clause-room c =
+    λ most roomy. record {
+      reserved = let one = c.withdraw.ensures.room in let room = roomy.reserved in omega (arith, one, room);
+      bound = let one = c.withdraw-2.ensures.room in let room = roomy.bound in omega (arith, one, room);
+      numbers = let one = c.withdraw-3.ensures.room in let room = roomy.numbers in omega (arith, one, room);
+      sessions = let one = c.withdraw-4.ensures.room in let room = roomy.sessions in omega (arith, one, room);
+      bundles = let one = c.withdraw-5.ensures.room in let room = roomy.bundles in omega (arith, one, room);
+    }

@@ -1,0 +1,11 @@
+pub mod First
+pub mod Seen
+pub mod Changed
+pub mod Counted
+pub mod Named
+pub mod Order
+pub mod Slots
+pub mod Lines
+pub mod LinkList
+pub mod Steps
+pub mod Marks

@@ -1,0 +1,83 @@
+-- Where a book keeps its links: each in a slot, where it stays until it ends. The places are all the slots, first those of
+-- the links, in the order in which these opened, and then those that are free.
+use Rattle.std.specs.Prelude.{◌≡◌, ◌≢◌, ℕ, ◌+◌, ◌<◌, ◌≤◌, List, [], ◌∷◌, ◌++◌, get_or, length, map, take, vec_capacity}
+use Rattle.std.specs.List.{remove}
+use Rattle.std.specs.VecDeque.{deque_capacity}
+use Rattle.rsl_links.specs.declared.link.Link.{Link}
+use Rattle.rsl_links.specs.declared.slots.Slot.{Slot}
+use Rattle.rsl_links.specs.declared.slots.Slots.{Slots}
+use Rattle.rsl_links.specs.First.{change_at}
+use Rattle.rsl_links.specs.Order.{no_link}
+
+-- what stands in a slot that is free
+abbrev pub no_slot : Slot
+no_slot = record { link = no_link; opened = 0 }
+
+-- the link in a slot, and the number of its opening
+abbrev pub link_in : List Slot → ℕ → Link
+link_in slots at = (get_or slots at no_slot).link
+
+abbrev pub opened_in : List Slot → ℕ → ℕ
+opened_in slots at = (get_or slots at no_slot).opened
+
+-- the slots of the links, in the order in which these opened, and the links
+abbrev pub opened_of : Slots → List ℕ
+opened_of slots = take slots.count slots.places.items
+
+abbrev pub links_in : List Slot → List ℕ → List Link
+links_in slots opened = map (link_in slots) opened
+
+abbrev pub links_of : Slots → List Link
+links_of slots = links_in slots.slots.items (opened_of slots)
+
+-- the numbers of the openings rise, and the greatest number of all is free
+pub record IsRising (slots : List Slot) (opened : List ℕ) : Type 0 where
+  pub within : (k : ℕ) → k < length opened → get_or opened k 0 < length slots
+  pub rises : (j k : ℕ) → j < k → k < length opened → opened_in slots (get_or opened j 0) < opened_in slots (get_or opened k 0)
+  pub below : (k : ℕ) → k < length opened → opened_in slots (get_or opened k 0) < 18446744073709551615
+
+-- each slot stands in one place
+pub record ArePlaced (slots : List Slot) (places : List ℕ) (count : ℕ) : Type 0 where
+  pub few : count ≤ length places
+  pub all : length places ≡ length slots
+  pub within : (k : ℕ) → k < length places → get_or places k 0 < length slots
+  pub apart : (j k : ℕ) → j < k → k < length places → get_or places j 0 ≢ get_or places k 0
+  pub rising : IsRising slots (take count places)
+
+pub record IsKept (slots : Slots) : Type 0 where
+  pub placed : ArePlaced slots.slots.items slots.places.items slots.count
+  pub fit : length slots.places.items ≤ vec_capacity slots.slots
+  pub room : vec_capacity slots.slots ≤ deque_capacity slots.places
+
+-- the links are as they were, and there is as much room
+pub record AreSame (old new : Slots) : Type 0 where
+  pub kept : IsKept new
+  pub opened : opened_of new ≡ opened_of old
+  pub count : new.count ≡ old.count
+  pub links : links_of new ≡ links_of old
+  pub room : vec_capacity new.slots ≡ vec_capacity old.slots
+
+-- a link is changed where it is
+pub record IsChanged (at : ℕ) (change : Link → Link) (old new : Slots) : Type 0 where
+  pub kept : IsKept new
+  pub opened : opened_of new ≡ opened_of old
+  pub count : new.count ≡ old.count
+  pub links : links_of new ≡ change_at at change (links_of old)
+  pub room : vec_capacity new.slots ≡ vec_capacity old.slots
+
+-- a link more, after the others
+pub record IsMore (link : Link) (old new : Slots) : Type 0 where
+  pub kept : IsKept new
+  pub slot : ℕ
+  pub opened : opened_of new ≡ opened_of old ++ slot ∷ []
+  pub count : new.count ≡ old.count + 1
+  pub links : links_of new ≡ links_of old ++ link ∷ []
+  pub room : vec_capacity new.slots ≡ vec_capacity old.slots
+
+-- a link less
+pub record IsLess (at : ℕ) (old new : Slots) : Type 0 where
+  pub kept : IsKept new
+  pub opened : opened_of new ≡ remove (opened_of old) at
+  pub count : new.count + 1 ≡ old.count
+  pub links : links_of new ≡ remove (links_of old) at
+  pub room : vec_capacity new.slots ≡ vec_capacity old.slots

@@ -1,0 +1,19 @@
+//! The links of one account, and the access servers that they name.
+//!
+//! A link is found as the definitions find it: the one of a session, the first that an alive may
+//! take, those of a bundle, the one that lapses and the one that was touched longest ago. Orders of
+//! the links lead there, so that no other is looked at. What a link stands for is told by
+//! `specs/Seen.antt`, and what is found by `specs/LinkList.antt` and `specs/First.antt`.
+#![tactic(auto)]
+
+mod link;
+mod links;
+mod list;
+mod order;
+mod servers;
+mod slots;
+
+pub use link::{Hold, Link};
+pub use links::{Links, one_if};
+pub use list::LinkList;
+pub use servers::Servers;

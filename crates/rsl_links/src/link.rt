@@ -1,0 +1,132 @@
+ghost use Rattle.std.specs.Prelude.{◌≡◌, ◌↔◌, Option, IfOk, IsTrue};
+ghost use Rattle.rsl_accounts.specs.Limits.{RulesFit};
+ghost use Rattle.rsl_session.specs.Same.{same_nas};
+ghost use Rattle.rsl_session.specs.Book.{is_stale_at};
+ghost use Rattle.rsl_session.specs.BookLinks.{lapses_at};
+ghost use Rattle.rsl_links.specs.Seen.{link_seen};
+ghost use Rattle.rsl_links.specs.Changed.{bound_link, joined_link, renewed_link};
+
+use crate::servers::Servers;
+use rsl_accounts::Rules;
+use rsl_event::Nas;
+use rsl_wire::{NoMemory, Octets};
+use std::alloc::Global;
+
+/// What has a link.
+#[derive(PartialEq, Eq, Drop)]
+pub enum Hold {
+    /// The accept number that reserves it.
+    Number(u64),
+    /// The session that it is bound to, by its Acct-Session-Id.
+    Session(Octets),
+}
+
+impl Hold {
+    /// An equal one. It fails only where memory is refused.
+    pub fn try_copy(&self, alloc: Global) -> Result<Hold, NoMemory>
+        ensures { IfOk result (λ copy. copy ≡ self.now) }
+    {
+        Ok(match self {
+            Hold::Number(number) => Hold::Number(*number),
+            Hold::Session(id) => Hold::Session(id.try_copy(alloc)?),
+        })
+    }
+}
+
+/// A link of a book.
+#[derive(Drop)]
+pub struct Link {
+    /// Its access server, by its place in the table.
+    pub nas: usize,
+    /// What has it.
+    pub hold: Hold,
+    /// Its bundle, by its Acct-Multi-Session-Id, if it is in one.
+    pub bundle: Option<Octets>,
+    /// The clock at its last touch.
+    pub touched: u64,
+}
+
+impl Link {
+    /// An equal link. It fails only where memory is refused.
+    pub fn try_copy(&self, alloc: Global) -> Result<Link, NoMemory>
+        ensures { IfOk result (λ copy. copy ≡ self.now) }
+    {
+        Ok(Link {
+            nas: self.nas,
+            hold: self.hold.try_copy(alloc)?,
+            bundle: Octets::try_copy_option(alloc, &self.bundle)?,
+            touched: self.touched,
+        })
+    }
+
+    /// Whether it is the same as one of another book.
+    #[tactic(auto, unfolding(crate::specs::Seen::link_seen))]
+    pub fn is_same(&self, servers: &Servers, other: &Link, others: &Servers) -> bool
+        ensures { IsTrue result ↔ (link_seen servers.now self.now ≡
+            link_seen others.now other.now) }
+    {
+        servers.at(self.nas).is_same(others.at(other.nas))
+            && self.hold == other.hold
+            && self.bundle == other.bundle
+            && self.touched == other.touched
+    }
+
+    /// Whether it lapses at this clock.
+    #[tactic(auto, unfolding(crate::specs::Seen::link_seen, rsl_session::specs::BookLinks::lapses_at))]
+    pub fn lapses(&self, servers: &Servers, rules: &Rules, now: u64) -> bool
+        requires { RulesFit rules.now }
+        ensures { result ≡ lapses_at rules.now now (link_seen servers.now self.now) }
+    {
+        let stands = match &self.hold {
+            Hold::Number(_) => rules.reserve,
+            Hold::Session(_) => rules.live + rules.grace,
+        };
+        stands <= now.saturating_sub(self.touched)
+    }
+
+    /// Whether it is bound, and stale at this clock.
+    #[tactic(auto, unfolding(crate::specs::Seen::link_seen, rsl_session::specs::Book::is_stale_at))]
+    pub fn is_stale(&self, servers: &Servers, rules: &Rules, now: u64) -> bool
+        ensures { result ≡ is_stale_at rules.now now (link_seen servers.now self.now) }
+    {
+        match &self.hold {
+            Hold::Number(_) => false,
+            Hold::Session(_) => rules.live <= now.saturating_sub(self.touched),
+        }
+    }
+
+    /// Whether it is at an access server.
+    #[tactic(auto, unfolding(crate::specs::Seen::link_seen))]
+    pub fn is_at(&self, servers: &Servers, nas: &Nas) -> bool
+        ensures { result ≡ same_nas (link_seen servers.now self.now).nas nas.now }
+    {
+        servers.is_at(self.nas, nas)
+    }
+
+    /// Touches it at this clock.
+    #[tactic(auto, unfolding(crate::specs::Changed::renewed_link))]
+    pub fn renew(&mut self, now: u64)
+        ensures { self.new ≡ renewed_link now self.old }
+    {
+        self.touched = now;
+    }
+
+    /// Puts it into the bundle of an alive, if it is in none.
+    #[tactic(auto, unfolding(crate::specs::Changed::joined_link))]
+    pub fn join(&mut self, bundle: Option<Octets>)
+        ensures { self.new ≡ joined_link bundle self.old }
+    {
+        if self.bundle.is_none() {
+            self.bundle = bundle;
+        }
+    }
+
+    /// Binds it to the session of this id, which touches it at this clock.
+    #[tactic(auto, unfolding(crate::specs::Changed::bound_link))]
+    pub fn bind(&mut self, now: u64, id: Octets)
+        ensures { self.new ≡ bound_link now id self.old }
+    {
+        self.hold = Hold::Session(id);
+        self.touched = now;
+    }
+}

@@ -1,0 +1,234 @@
+//! Where a book keeps its links, and the order in which they opened.
+
+ghost use Rattle.std.specs.Prelude.{◌≡◌, ℕ, ◌<◌, ◌+◌, get_or, length, vec_capacity, IfOk, []};
+ghost use Rattle.rsl_links.specs.Changed.{bound_link, joined_link, renewed_link};
+ghost use Rattle.rsl_links.specs.Order.{Stands, link_at};
+ghost use Rattle.rsl_links.specs.Slots.{AreSame, IsChanged, IsKept, IsLess, IsMore, links_of, no_slot};
+ghost use Rattle.rsl_links.specs.Slots.{opened_in, opened_of};
+
+use crate::link::{Hold, Link};
+use rsl_wire::{NoMemory, Octets};
+use std::alloc::Global;
+use std::collections::VecDeque;
+
+/// What a slot has: a link, or what stands there for none.
+#[derive(Drop)]
+pub(crate) struct Slot {
+    /// The link.
+    pub link: Link,
+    /// The number of its opening, which is greater for a link that opened later.
+    pub opened: u64,
+}
+
+impl Slot {
+    /// A slot that is free.
+    fn free() -> Slot
+        ensures { result ≡ no_slot }
+    {
+        let link = Link {
+            nas: 0,
+            hold: Hold::Number(0),
+            bundle: None,
+            touched: 0,
+        };
+        Slot { link, opened: 0 }
+    }
+}
+
+/// The links of a book, each in a slot, where it stays until it ends.
+///
+/// A link that opens or ends moves words of `places`, and no link. To find the position of a slot's
+/// link, only those are looked at at which `places` is halved.
+#[derive(Drop)]
+pub(crate) struct Slots {
+    /// The slots, in no order.
+    pub slots: Vec<Slot>,
+    /// All slots: first those of the links, in the order in which these opened, and then those that
+    /// are free.
+    pub places: VecDeque<usize>,
+    /// How many links there are.
+    pub count: usize,
+}
+
+impl Slots {
+    /// No links, with room for so many. It fails only where memory is refused.
+    pub(crate) fn new(alloc: Global, room: usize) -> Result<Slots, NoMemory>
+        ensures kept { IfOk result IsKept }
+        ensures none { IfOk result (λ slots. opened_of slots ≡ []) }
+        ensures room { IfOk result (λ slots. vec_capacity slots.slots ≡ room) }
+    {
+        Ok(Slots {
+            slots: Vec::with_capacity(alloc, room)?,
+            places: VecDeque::with_capacity(alloc, room)?,
+            count: 0,
+        })
+    }
+
+    /// The slot of the link at a position.
+    pub(crate) fn slot(&self, at: usize) -> usize
+        requires kept { IsKept self.now }
+        requires within { at < self.now.count }
+        ensures slot { result ≡ get_or (opened_of self.now) at 0 }
+        ensures within { result < length self.now.slots.items }
+    {
+        self.places[at]
+    }
+
+    /// The link at a position.
+    pub(crate) fn link(&self, at: usize) -> &Link
+        requires kept { IsKept self.now }
+        requires within { at < self.now.count }
+        ensures { result.now ≡ link_at (links_of self.now) at }
+    {
+        &self.slots[self.slot(at)].link
+    }
+
+    /// How many links opened before the one in a slot.
+    fn count_before(&self, slot: usize) -> usize
+        requires kept { IsKept self.now }
+        requires stands { Stands (opened_of self.now) slot }
+        ensures within { result < self.now.count }
+        ensures stands { get_or (opened_of self.now) result 0 ≡ slot }
+    {
+        let opened = self.slots[slot].opened;
+        let mut low = 0;
+        let mut high = self.count;
+        while low < high {
+            let middle = low + (high - low) / 2;
+            if self.slots[self.slot(middle)].opened < opened {
+                low = middle + 1;
+            } else {
+                high = middle;
+            }
+        }
+        low
+    }
+
+    /// The position of the link in a slot. It is tried first where the link stands if none that
+    /// opened between the first and it has ended.
+    pub(crate) fn position(&self, slot: usize) -> usize
+        requires kept { IsKept self.now }
+        requires stands { Stands (opened_of self.now) slot }
+        ensures within { result < self.now.count }
+        ensures stands { get_or (opened_of self.now) result 0 ≡ slot }
+    {
+        if self.count > 0 {
+            let first = self.slots[self.slot(0)].opened;
+            let since = self.slots[slot].opened.saturating_sub(first);
+            if since < self.count as u64 && self.slot(since as usize) == slot {
+                return since as usize;
+            }
+        }
+        self.count_before(slot)
+    }
+
+    /// Numbers the openings of the links anew, from 0 on.
+    fn renumber(&mut self)
+        requires kept { IsKept self.old }
+        requires few { self.old.count < vec_capacity self.old.slots }
+        ensures same { AreSame self.old self.new }
+        ensures places { self.new.places ≡ self.old.places }
+        ensures numbers { (k : ℕ) → k < self.new.count →
+            opened_in self.new.slots.items (get_or (opened_of self.new) k 0) ≡ k }
+    {
+        for at in 0..self.count {
+            let slot = self.places[at];
+            self.slots[slot].opened = at as u64;
+        }
+    }
+
+    /// The number of the opening that comes next. Once all numbers are used up the openings are
+    /// numbered anew: then each link is looked at, once in 2^64 openings.
+    fn next_number(&mut self) -> u64
+        requires kept { IsKept self.old }
+        requires few { self.old.count < vec_capacity self.old.slots }
+        ensures same { AreSame self.old self.new }
+        ensures places { self.new.places ≡ self.old.places }
+        ensures later { (k : ℕ) → k < self.new.count →
+            opened_in self.new.slots.items (get_or (opened_of self.new) k 0) < result }
+        ensures below { result < 18446744073709551615 }
+    {
+        if self.count == 0 {
+            return 0;
+        }
+        let last = self.slots[self.slot(self.count - 1)].opened;
+        if last < u64::MAX - 1 {
+            return last + 1;
+        }
+        self.renumber();
+        self.count as u64
+    }
+
+    /// Makes a slot more, which is free.
+    fn grow(&mut self)
+        requires kept { IsKept self.old }
+        requires room { length self.old.places.items < vec_capacity self.old.slots }
+        ensures same { AreSame self.old self.new }
+        ensures more { length self.new.places.items ≡ length self.old.places.items + 1 }
+        ensures numbers { (k : ℕ) → k < self.new.count →
+            opened_in self.new.slots.items (get_or (opened_of self.new) k 0) ≡
+            opened_in self.old.slots.items (get_or (opened_of self.old) k 0) }
+    {
+        let slot = self.slots.len();
+        self.slots.push_reserved(Slot::free());
+        self.places.push_back_reserved(slot);
+    }
+
+    /// Adds a link after the others.
+    pub(crate) fn push(&mut self, link: Link)
+        requires kept { IsKept self.old }
+        requires room { self.old.count < vec_capacity self.old.slots }
+        ensures { IsMore link self.old self.new }
+    {
+        let opened = self.next_number();
+        if self.count == self.places.len() {
+            self.grow();
+        }
+        let slot = self.places[self.count];
+        self.slots[slot] = Slot { link, opened };
+        self.count += 1;
+    }
+
+    /// Takes a link out.
+    pub(crate) fn remove(&mut self, at: usize)
+        requires kept { IsKept self.old }
+        requires within { at < self.old.count }
+        ensures { IsLess at self.old self.new }
+    {
+        let slot = self.slot(at);
+        let _ = self.places.remove(at);
+        self.places.push_back_reserved(slot);
+        self.count -= 1;
+        self.slots[slot] = Slot::free();
+    }
+
+    /// Touches a link at this clock.
+    pub(crate) fn renew(&mut self, at: usize, now: u64)
+        requires kept { IsKept self.old }
+        requires within { at < self.old.count }
+        ensures { IsChanged at (renewed_link now) self.old self.new }
+    {
+        let slot = self.slot(at);
+        self.slots[slot].link.renew(now);
+    }
+
+    /// Puts a link into the bundle of an alive, if it is in none.
+    pub(crate) fn join(&mut self, at: usize, bundle: Option<Octets>)
+        requires kept { IsKept self.old }
+        requires within { at < self.old.count }
+        ensures { IsChanged at (joined_link bundle) self.old self.new }
+    {
+        let slot = self.slot(at);
+        self.slots[slot].link.join(bundle);
+    }
+
+    /// Binds a link to the session of this id, which touches it at this clock.
+    pub(crate) fn bind(&mut self, at: usize, now: u64, id: Octets)
+        requires kept { IsKept self.old }
+        requires within { at < self.old.count }
+        ensures { IsChanged at (bound_link now id) self.old self.new }
+    {
+        let slot = self.slot(at);
+        self.slots[slot].link.bind(now, id);
+    }
+}

@@ -1,0 +1,304 @@
+//! Tests of `rsl_script`: what the lines of a script say. Which lines are right and which are wrong
+//! is shown by `test_scripts`.
+
+use rsl_accounts::{Client, Entry};
+use rsl_script::{
+    AccessRequest, AccountingRequest, AttributeText, EventLine, Happening, Script, ScriptFault,
+};
+use std::alloc::Global;
+use std::str;
+use std::test::Fail;
+use test_rows::{Hex, Plain, Subject, check_rows, length, printed, push_printed, shown};
+
+/// Octets as text.
+fn text(octets: &[u8]) -> Plain<'_> {
+    Plain(str::from_utf8(octets).unwrap_or("no text"))
+}
+
+fn option_text(octets: &Option<AttributeText>) -> Plain<'_> {
+    match octets {
+        Some(octets) => text(octets.as_slice()),
+        None => Plain("none"),
+    }
+}
+
+/// Tells the method, access server, name, password, Identifier and text of an Access-Request.
+fn tell_access(found: &mut String, request: &AccessRequest) -> Result<(), Fail> {
+    let nas = option_text(&request.nas);
+    let (name, password) = (
+        text(request.name.as_slice()),
+        text(request.password.expose()),
+    );
+    let digested = text(request.text.expose());
+    push_printed(
+        found,
+        &(request.method, nas, name, password, request.id, digested),
+    )
+}
+
+/// Tells the status, access server, name, session, bundle and class of an Accounting-Request.
+fn tell_accounting(found: &mut String, request: &AccountingRequest) -> Result<(), Fail> {
+    let (nas, name) = (option_text(&request.nas), option_text(&request.name));
+    let (session, bundle) = (option_text(&request.session), option_text(&request.bundle));
+    push_printed(
+        found,
+        &(request.status, nas, name, session, bundle, request.class),
+    )
+}
+
+/// An event line in words: its moment, where its datagram comes from, and what that says.
+fn told(alloc: Global, line: &EventLine) -> Result<String, Fail> {
+    let mut found = printed(alloc, &line.moment)?;
+    tell(&mut found, &line.happening)?;
+    Ok(found)
+}
+
+fn tell(found: &mut String, happening: &Happening) -> Result<(), Fail> {
+    match happening {
+        Happening::Access { address, request } => {
+            push_printed(found, address)?;
+            tell_access(found, request)
+        }
+        Happening::Accounting { address, request } => {
+            push_printed(found, address)?;
+            tell_accounting(found, request)
+        }
+        Happening::Raw {
+            address,
+            port,
+            octets,
+        } => push_printed(found, &(*address, *port, Hex(octets.as_slice()))),
+        Happening::Tick => push_printed(found, &Plain("tick")),
+    }
+}
+
+/// The one line of a script: what it says happens.
+struct Happens;
+
+impl Subject for Happens {
+    fn found(&self, alloc: Global, fields: &[&str]) -> Result<String, Fail> {
+        let [line] = fields else {
+            return Err("an event line")?;
+        };
+        let script = Script::read(alloc, line.as_bytes())?;
+        match script.events.first() {
+            Some(event) => told(alloc, event),
+            None => Err("no event")?,
+        }
+    }
+}
+
+#[test]
+fn event_lines_say_what_happens(rt: HostRuntime) -> Result<(), Fail> {
+    check_rows(
+        &rt,
+        &Happens,
+        "
+an ask | ask 7 192.168.1.16 n u pw 255 \
+    | 7 [192, 168, 1, 16] (Pap, n, u, pw, 255, ask 192.168.1.16 n u pw 255)
+a CHAP ask | chap 18446744073709551615 10.0.0.1 - u pw 007 \
+    | 18446744073709551615 [10, 0, 0, 1] (Chap, none, u, pw, 7, chap 10.0.0.1 - u pw 007)
+a start | start 1 10.0.0.1 n u s multi=m class=9 \
+    | 1 [10, 0, 0, 1] (Start, n, u, s, m, Some(9))
+a session like a bundle | interim 1 10.0.0.1 n u multi=s class=9 \
+    | 1 [10, 0, 0, 1] (Interim, n, u, multi=s, none, Some(9))
+a bundle like a class | interim 1 10.0.0.1 n u s multi=class=1 \
+    | 1 [10, 0, 0, 1] (Interim, n, u, s, class=1, None)
+a stop | stop 1 10.0.0.1 - u s | 1 [10, 0, 0, 1] (Stop, none, u, s, none, None)
+an on | on 1 10.0.0.1 n | 1 [10, 0, 0, 1] (On, n, none, none, none, None)
+an off | off 1 10.0.0.1 - | 1 [10, 0, 0, 1] (Off, none, none, none, none, None)
+octets for authentication | raw-auth 1 10.0.0.1 01fF | 1 ([10, 0, 0, 1], Auth, 01ff)
+octets for accounting | raw-acct 1 10.0.0.1 00 | 1 ([10, 0, 0, 1], Acct, 00)
+a tick | tick 3 | 3 tick
+",
+    )
+}
+
+/// A line of a configuration: the client or the account that it gives.
+struct Configured;
+
+impl Subject for Configured {
+    fn found(&self, alloc: Global, fields: &[&str]) -> Result<String, Fail> {
+        let [line] = fields else {
+            return Err("a line")?;
+        };
+        let script = Script::read(alloc, line.as_bytes())?;
+        match (script.clients.as_slice(), script.accounts.as_slice()) {
+            ([client], []) => told_client(alloc, client),
+            ([], [account]) => told_account(alloc, account),
+            _ => Err("not one client and not one account")?,
+        }
+    }
+}
+
+/// A client's address and secret, and whether it has to sign.
+fn told_client(alloc: Global, client: &Client) -> Result<String, Fail> {
+    let secret = text(client.secret.expose());
+    printed(alloc, &(client.address, secret, client.signed))
+}
+
+/// An account's name, password, places, ports, and own live and grace times.
+fn told_account(alloc: Global, account: &Entry) -> Result<String, Fail> {
+    let (name, password) = (
+        Plain(account.name.as_str()),
+        text(account.password.expose()),
+    );
+    let (places, ports) = (account.rules.places, account.rules.ports);
+    let (live, grace) = (account.own_live, account.own_grace);
+    printed(alloc, &(name, password, places, ports, live, grace))
+}
+
+#[test]
+fn configuration_lines_say_what_there_is(rt: HostRuntime) -> Result<(), Fail> {
+    check_rows(
+        &rt,
+        &Configured,
+        "
+a client | client 192.168.1.16 xyzzy5461 | ([192, 168, 1, 16], xyzzy5461, false)
+a client that signs | client 10.0.0.1 s signed | ([10, 0, 0, 1], s, true)
+places | account u pw 1 | (u, pw, 1, 1, None, None)
+ports | account u pw 64 16 | (u, pw, 64, 16, None, None)
+times | account u pw 2 3 live=30 grace=5 | (u, pw, 2, 3, Some(30), Some(5))
+a grace | account u pw 2 grace=5 | (u, pw, 2, 1, None, Some(5))
+",
+    )
+}
+
+/// A script of lines with `/` between them.
+fn read_lines(alloc: Global, lines: &str) -> Result<Result<Script, ScriptFault>, Fail> {
+    let script = lines.replace(alloc, "/", "\n")?;
+    Ok(Script::read(alloc, script.as_bytes()))
+}
+
+/// Lines: the settings of a script of them.
+struct Set;
+
+impl Subject for Set {
+    fn found(&self, alloc: Global, fields: &[&str]) -> Result<String, Fail> {
+        let [lines] = fields else {
+            return Err("lines")?;
+        };
+        match read_lines(alloc, lines)? {
+            Ok(script) => printed(alloc, &script.settings),
+            Err(fault) => printed(alloc, &fault),
+        }
+    }
+}
+
+#[test]
+fn settings_are_those_of_their_last_lines(rt: HostRuntime) -> Result<(), Fail> {
+    check_rows(
+        &rt,
+        &Set,
+        "
+none | \
+    | Settings { version: 2, shards: 1, reserve: 60, live: 900, grace: 900, closed: 3600, keep: 10 }
+all, one twice \
+    | set shards 4/set reserve 1/set live 2/set grace 3/set closed 4/set keep 6/set keep 005/ \
+    | Settings { version: 2, shards: 4, reserve: 1, live: 2, grace: 3, closed: 4, keep: 5 }
+",
+    )
+}
+
+/// A line with the password `Sesame`: `hidden`, or what is printed of it where the password is
+/// seen.
+struct Secretive;
+
+impl Subject for Secretive {
+    fn found(&self, alloc: Global, fields: &[&str]) -> Result<String, Fail> {
+        let [line] = fields else {
+            return Err("a line")?;
+        };
+        let script = Script::read(alloc, line.as_bytes())?;
+        let printed = printed(alloc, &script)?;
+        if is_hidden(printed.as_str()) {
+            return shown(alloc, &"hidden");
+        }
+        Ok(printed)
+    }
+}
+
+/// Whether a text has a secret in it, and neither `Sesame` nor its octets.
+fn is_hidden(printed: &str) -> bool {
+    printed.contains("Secret(..)")
+        && !printed.contains("Sesame")
+        && !printed.contains("83, 101, 115")
+}
+
+#[test]
+fn passwords_are_not_printed(rt: HostRuntime) -> Result<(), Fail> {
+    check_rows(
+        &rt,
+        &Secretive,
+        "
+a client's secret | client 1.2.3.4 Sesame | hidden
+an account's | account u Sesame 1 | hidden
+an ask's | ask 0 1.2.3.4 n u Sesame 1 | hidden
+a CHAP ask's | chap 0 1.2.3.4 n u Sesame 1 | hidden
+",
+    )
+}
+
+/// A line with `WORD` in it, what stands there, so many times over, and how many such lines there
+/// are: how many clients, accounts and events are read of them.
+struct Counted;
+
+impl Subject for Counted {
+    fn found(&self, alloc: Global, fields: &[&str]) -> Result<String, Fail> {
+        let [line, word, times, lines] = fields else {
+            return Err("a line, a word and two numbers")?;
+        };
+        let word = word.repeat(alloc, length(times)?)?;
+        let mut line = line.replace(alloc, "WORD", word.as_str())?;
+        counted_in(alloc, &mut line, length(lines)?)
+    }
+}
+
+fn counted_in(alloc: Global, line: &mut String, lines: usize) -> Result<String, Fail> {
+    line.push('\n')?;
+    let script = line.as_str().repeat(alloc, lines)?;
+    match Script::read(alloc, script.as_bytes()) {
+        Ok(script) => counts_of(alloc, &script),
+        Err(fault) => printed(alloc, &fault),
+    }
+}
+
+fn counts_of(alloc: Global, script: &Script) -> Result<String, Fail> {
+    let (clients, accounts) = (script.clients.len(), script.accounts.len());
+    printed(alloc, &(clients, accounts, script.events.len()))
+}
+
+// No limit of memory is made up: each line is read at the greatest length that it has a use for,
+// and as many lines as a configuration can have.
+#[test]
+fn long_lines_and_many_are_read(rt: HostRuntime) -> Result<(), Fail> {
+    check_rows(
+        &rt,
+        &Counted,
+        "
+a secret | client 1.2.3.4 WORD | s | 65535 | 1 | (1, 0, 0)
+a name | account WORD p 1 | n | 65535 | 1 | (0, 1, 0)
+a password | account n WORD 1 | p | 65535 | 1 | (0, 1, 0)
+a datagram | raw-auth 0 1.2.3.4 WORD | 0f | 65507 | 1 | (0, 0, 1)
+a password of an ask | ask 0 1.2.3.4 n u WORD 1 | p | 128 | 1 | (0, 0, 1)
+a NAS | ask 0 1.2.3.4 WORD u p 1 | n | 253 | 1 | (0, 0, 1)
+a session | start 0 1.2.3.4 n u WORD multi=m | s | 253 | 1 | (0, 0, 1)
+a comment | # WORD | xxxxxxxxxxxxxxxxxxxxxxxxxxxxxxxxxxxxxxxxxxxxxxxxxx | 20000 | 1 | (0, 0, 0)
+clients | client 1.2.3.4 s | | 0 | 257 | (257, 0, 0)
+accounts | account n p 1 | | 0 | 16385 | (0, 16385, 0)
+events | ask 0 1.2.3.4 n u p 1 | | 0 | 5000 | (0, 0, 5000)
+",
+    )
+}
+
+/// So many ticks that a script of them is nearly as long as one may be.
+const TICKS: usize = 149_000; // quick: 1_000
+
+#[test]
+fn as_many_ticks_as_fit_are_read(rt: HostRuntime) -> Result<(), Fail> {
+    let mut line = String::from_str(rt.alloc(), "tick 0")?;
+    let found = counted_in(rt.alloc(), &mut line, TICKS)?;
+    let expected = printed(rt.alloc(), &(0, 0, TICKS))?;
+    assert_eq!(rt; found.as_str(), expected.as_str());
+    Ok(())
+}

@@ -1,0 +1,214 @@
+//! Account files and their faults.
+//!
+//! The fields of a row are edits of the sample: `OLD => NEW` puts a text in the place of another,
+//! `=> NEW` puts one at the end, and a field without `=>` is a whole file. In them `\n` ends a
+//! line.
+
+use super::{SAMPLE, said};
+use rsl_accounts::{Client, Config, Entry};
+use std::alloc::Global;
+use std::test::Fail;
+use test_rows::{Subject, check_rows, printed, replaced, shown};
+
+/// The sample with the edits that the fields write.
+fn file_of(alloc: Global, fields: &[&str]) -> Result<String, Fail> {
+    let mut text = String::from_str(alloc, SAMPLE)?;
+    for edit in fields {
+        text = edited(alloc, text.as_str(), edit)?;
+    }
+    Ok(text)
+}
+
+/// The text with an edit.
+fn edited(alloc: Global, text: &str, edit: &str) -> Result<String, Fail> {
+    match edit.split_once("=>") {
+        Some((old, new)) => placed(alloc, text, old.trim(), new.trim()),
+        None => lines_of(alloc, edit),
+    }
+}
+
+/// The text with a new text in the place of an old one, or at its end where that is empty.
+fn placed(alloc: Global, text: &str, old: &str, new: &str) -> Result<String, Fail> {
+    let new = lines_of(alloc, new)?;
+    if old.is_empty() {
+        return Ok(format!(in alloc; "{text}{new}")?);
+    }
+    let old = lines_of(alloc, old)?;
+    Ok(text.replace(alloc, old.as_str(), new.as_str())?)
+}
+
+/// The lines of which each end is written `\n`.
+fn lines_of(alloc: Global, text: &str) -> Result<String, Fail> {
+    Ok(text.replace(alloc, "\\n", "\n")?)
+}
+
+/// What comes of a file: `Ok`, or what its fault prints.
+struct FileRows;
+
+impl Subject for FileRows {
+    fn found(&self, alloc: Global, fields: &[&str]) -> Result<String, Fail> {
+        let text = file_of(alloc, fields)?;
+        said(alloc, Config::read(alloc, text.as_bytes()))
+    }
+}
+
+#[test]
+fn the_first_fault_of_a_file_is_named(rt: HostRuntime) -> Result<(), Fail> {
+    let rows = r#"
+        the sample | Ok
+        no TOML | = | NotToml
+        nothing | | Missing version
+        another key | keep_secs = 10\n => keep_secs = 10\nnote = 1\n | Ok
+        version 2 | version = 1 => version = 2 | Ok
+        version 0 | version = 1 => version = 0 | BadValue version
+        version 3 | version = 1 => version = 3 | BadValue version
+        a text for the version | version = 1 => version = "1" | BadValue version
+        true for the version | version = 1 => version = true | BadValue version
+        shards below 0 | shards = 2 => shards = -2 | BadValue shards
+        no reserve time | reserve_secs = 60\n => | Missing reserve_secs
+        no live time | live_secs = 900\n => | Missing live_secs
+        no grace time | grace_secs = 900\n => | Missing grace_secs
+        no closed time | closed_secs = 3600\n => | Missing closed_secs
+        no keep time | keep_secs = 10\n => | Missing keep_secs
+        a keep time over the reserve time | keep_secs = 10\n => keep_secs = 61\n | KeepTooLong
+        no client | [[client]] => [[customer]] | Missing client
+        a table for the clients | [[client]] => [client] | BadValue client
+        a number for a client | [[client]]\naddress => client = [1]\naddress | BadValue client
+        a list of no clients | [[client]]\naddress => client = []\naddress | BadValue client
+        no account | [[account]] => [[user]] | Missing account
+        no address | address = "192.168.1.16"\n => | Missing address
+        a 0 before a number | 192.168.1.16 => 192.168.01.16 | BadValue address
+        three numbers | 192.168.1.16 => 192.168.1 | BadValue address
+        a number of 256 | 192.168.1.16 => 192.168.1.256 | BadValue address
+        no secret | secret = "xyzzy5461"\n => | Missing secret
+        an empty secret | xyzzy5461 => | BadValue secret
+        a secret with a zero octet | xyzzy5461 => a\u0000 | BadValue secret
+        a client that signs | 5461"\n => 5461"\nsigned = true\n | Ok
+        one that does not | 5461"\n => 5461"\nsigned = false\n | Ok
+        a number for signed | 5461"\n => 5461"\nsigned = 1\n | BadValue signed
+        a text for signed | 5461"\n => 5461"\nsigned = "true"\n | BadValue signed
+        a list for signed | 5461"\n => 5461"\nsigned = [true]\n | BadValue signed
+        signed first | 5461"\n => 5461"\nsigned = 0.5\n | name = "nemo"\n => | BadValue signed
+        a secret first | 5461"\n => 5461"\nsigned = 1\n | xyzzy => \u0000 | BadValue secret
+        no name | name = "nemo"\n => | Missing name
+        a number for a name | "nemo" => 7 | BadValue name
+        a name with a blank | "nemo" => "ne mo" | BadValue name
+        no password | password = "arctangent"\n => | Missing password
+        true for a password | "arctangent" => true | BadValue password
+        no places | places = 1\n => | Missing places
+        65 places | places = 1 => places = 65 | BadValue places
+        1.0 places | places = 1 => places = 1.0 | BadValue places
+        no ports | ports = 1\n => | Missing ports
+        17 ports | ports = 1 => ports = 17 | BadValue ports
+        two attributes | service_type = 2\n => | idle_timeout = 600\n => | Ok
+        service type 0 | service_type = 2 => service_type = 0 | BadValue service_type
+        a text | framed_protocol = 1 => framed_protocol = "1" | BadValue framed_protocol
+        below 0 | session_timeout = 3600 => session_timeout = -1 | BadValue session_timeout
+        idle time-out 0 | idle_timeout = 600 => idle_timeout = 0 | BadValue idle_timeout
+        the greatest | idle_timeout = 600 => idle_timeout = 4294967295 | Ok
+        one more | idle_timeout = 600 => idle_timeout = 4294967296 | BadValue idle_timeout
+        a secret first | secret = "xyzzy5461"\n => | places = 1 => places = 65 | Missing secret
+        keep last | places = 1 => places = 65 | keep_secs = 10 => keep_secs = 61 | BadValue places
+    "#;
+    check_rows(&rt, &FileRows, rows)?;
+    let found = said(rt.alloc(), Config::read(rt.alloc(), b"\xff"))?;
+    assert_eq!(rt; found.as_str(), "NotToml", "no UTF-8");
+    Ok(())
+}
+
+#[test]
+fn clients_and_accounts_that_come_twice_are_told_before_the_keep_time(
+    rt: HostRuntime,
+) -> Result<(), Fail> {
+    let rows = "
+        a client twice | keep_secs = 10 => keep_secs = 61 | \
+          => \\n[[client]]\\naddress = '192.168.1.16'\\nsecret = 'other'\\n | TwiceClient
+        an account twice | keep_secs = 10 => keep_secs = 61 | \
+          => \\n[[account]]\\nname = 'nemo'\\npassword = 'p'\\nplaces = 2\\nports = 1\\n | \
+          TwiceAccount
+        both twice | keep_secs = 10 => keep_secs = 61 | \
+          => \\n[[client]]\\naddress = '192.168.1.16'\\nsecret = 'other'\\n | \
+          => \\n[[account]]\\nname = 'nemo'\\npassword = 'p'\\nplaces = 2\\nports = 1\\n | \
+          TwiceClient
+        a wrong value after both | keep_secs = 10 => keep_secs = 0 | \
+          => \\n[[client]]\\naddress = '192.168.1.16'\\nsecret = 'other'\\n | \
+          => \\n[[account]]\\nname = 'nemo'\\npassword = 'p'\\nplaces = 2\\nports = 1\\n | \
+          BadValue keep_secs
+    ";
+    check_rows(&rt, &FileRows, rows)
+}
+
+/// The live and grace times of the first account's rules, and its own.
+struct TimesRows;
+
+impl Subject for TimesRows {
+    fn found(&self, alloc: Global, fields: &[&str]) -> Result<String, Fail> {
+        let text = file_of(alloc, fields)?;
+        match Config::read(alloc, text.as_bytes()) {
+            Ok(config) => times(alloc, config.entry(0)),
+            Err(fault) => shown(alloc, &fault),
+        }
+    }
+}
+
+fn times(alloc: Global, nemo: &Entry) -> Result<String, Fail> {
+    let (live, grace) = (nemo.rules.live, nemo.rules.grace);
+    printed(alloc, &(live, grace, nemo.own_live, nemo.own_grace))
+}
+
+/// In version 2 an account has its own live and grace times; version 1 does not know them.
+#[test]
+fn own_times_are_those_of_version_2(rt: HostRuntime) -> Result<(), Fail> {
+    let rows = r#"
+        version 1 | (900, 900, None, None)
+        version 2 | <2> | (900, 900, None, None)
+        own live time | <2> | => live_secs = 30\n | (30, 900, Some(30), None)
+        own grace time | <2> | => grace_secs = 86400\n | (900, 86400, None, Some(86400))
+        both own times | <2> | => live_secs = 1\ngrace_secs = 2\n | (1, 2, Some(1), Some(2))
+        in version 1 | => live_secs = 30\n | (900, 900, None, None)
+        wrong in version 1 | => live_secs = 0\ngrace_secs = "x"\n | (900, 900, None, None)
+        live of 0 | <2> | => live_secs = 0\n | BadValue live_secs
+        live of 86401 | <2> | => live_secs = 86401\n | BadValue live_secs
+        grace of 0 | <2> | => grace_secs = 0\n | BadValue grace_secs
+        grace of true | <2> | => grace_secs = true\n | BadValue grace_secs
+        both of 0 | <2> | => live_secs = 0\ngrace_secs = 0\n | BadValue live_secs
+        version 3 | version = 1 => version = 3 | => live_secs = 0\n | BadValue version
+    "#;
+    let rows = replaced(rt.alloc(), rows, "<2> = version = 1 => version = 2")?;
+    check_rows(&rt, &TimesRows, rows.as_str())
+}
+
+/// What the first client and the first account of a file have.
+struct ContentRows;
+
+impl Subject for ContentRows {
+    fn found(&self, alloc: Global, fields: &[&str]) -> Result<String, Fail> {
+        let text = file_of(alloc, fields)?;
+        let config = Config::read(alloc, text.as_bytes())?;
+        contents(alloc, config.client_at(0), config.entry(0))
+    }
+}
+
+fn contents(alloc: Global, client: &Client, nemo: &Entry) -> Result<String, Fail> {
+    let (secret, password) = (client.secret.expose(), nemo.password.expose());
+    let client = (client.address, str::from_utf8(secret)?, client.signed);
+    let texts = (nemo.name.as_str(), str::from_utf8(password)?);
+    let attributes = (nemo.service_type, nemo.framed_protocol);
+    let times = (nemo.session_timeout, nemo.idle_timeout);
+    printed(alloc, &(client, texts, attributes, times, nemo.rules))
+}
+
+#[test]
+fn the_sample_is_read(rt: HostRuntime) -> Result<(), Fail> {
+    let rows = "
+        signed | 5461\"\\n => 5461\"\\nsigned = true\\n | \
+          (([192, 168, 1, 16], \"xyzzy5461\", true), (\"nemo\", \"arctangent\"), \
+          (Some(2), Some(1)), (Some(3600), Some(600)), Rules { places: 1, ports: 1, \
+          reserve: 60, live: 900, grace: 900, closed: 3600, keep: 10 })
+        not signed | \
+          (([192, 168, 1, 16], \"xyzzy5461\", false), (\"nemo\", \"arctangent\"), \
+          (Some(2), Some(1)), (Some(3600), Some(600)), Rules { places: 1, ports: 1, \
+          reserve: 60, live: 900, grace: 900, closed: 3600, keep: 10 })
+    ";
+    check_rows(&rt, &ContentRows, rows)
+}

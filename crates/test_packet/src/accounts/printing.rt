@@ -1,0 +1,143 @@
+//! What faults, secrets and texts print, and copies.
+
+use super::{client, entry};
+use rsl_accounts::{ConfigFault, Field, Secret, Text};
+use std::alloc::Global;
+use std::test::Fail;
+use test_rows::{Subject, check_rows, printed, short_number, shown};
+
+#[test]
+fn faults_are_printed_with_the_key_of_their_field(rt: HostRuntime) -> Result<(), Fail> {
+    let faults = [
+        ConfigFault::NotToml,
+        ConfigFault::TwiceClient,
+        ConfigFault::TwiceAccount,
+        ConfigFault::KeepTooLong,
+        ConfigFault::NoMemory,
+        ConfigFault::Missing(Field::Version),
+        ConfigFault::Missing(Field::Shards),
+        ConfigFault::Missing(Field::ReserveSecs),
+        ConfigFault::Missing(Field::LiveSecs),
+        ConfigFault::Missing(Field::GraceSecs),
+        ConfigFault::Missing(Field::ClosedSecs),
+        ConfigFault::BadValue(Field::KeepSecs),
+        ConfigFault::BadValue(Field::Client),
+        ConfigFault::BadValue(Field::Account),
+        ConfigFault::BadValue(Field::Address),
+        ConfigFault::BadValue(Field::Secret),
+        ConfigFault::BadValue(Field::Signed),
+        ConfigFault::BadValue(Field::Name),
+        ConfigFault::BadValue(Field::Password),
+        ConfigFault::BadValue(Field::Places),
+        ConfigFault::BadValue(Field::Ports),
+        ConfigFault::BadValue(Field::ServiceType),
+        ConfigFault::BadValue(Field::FramedProtocol),
+        ConfigFault::BadValue(Field::SessionTimeout),
+        ConfigFault::BadValue(Field::IdleTimeout),
+        ConfigFault::BadValue(Field::OwnLive),
+        ConfigFault::BadValue(Field::OwnGrace),
+    ];
+    let expected = "NotToml, TwiceClient, TwiceAccount, KeepTooLong, NoMemory, Missing version, \
+        Missing shards, Missing reserve_secs, Missing live_secs, Missing grace_secs, \
+        Missing closed_secs, BadValue keep_secs, BadValue client, BadValue account, \
+        BadValue address, BadValue secret, BadValue signed, BadValue name, BadValue password, \
+        BadValue places, BadValue ports, BadValue service_type, BadValue framed_protocol, \
+        BadValue session_timeout, BadValue idle_timeout, BadValue live_secs, BadValue grace_secs, ";
+    let found = all_shown(rt.alloc(), &faults)?;
+    assert_eq!(rt; found.as_str(), expected);
+    Ok(())
+}
+
+/// What faults print, with `, ` after each.
+fn all_shown(alloc: Global, faults: &[ConfigFault]) -> Result<String, Fail> {
+    let mut text = String::new(alloc);
+    for fault in faults {
+        text.push_str(shown(alloc, fault)?.as_str())?;
+        text.push_str(", ")?;
+    }
+    Ok(text)
+}
+
+/// Whether a text is shown where a client and an account are printed.
+struct ShownRows;
+
+impl Subject for ShownRows {
+    fn found(&self, alloc: Global, fields: &[&str]) -> Result<String, Fail> {
+        let [text] = fields else {
+            return Err("a row has a text")?;
+        };
+        let is_shown = both_printed(alloc)?.as_str().contains(text);
+        shown(alloc, if is_shown { &"shown" } else { &"not shown" })
+    }
+}
+
+/// The Debug of a client and an account.
+fn both_printed(alloc: Global) -> Result<String, Fail> {
+    let client = client(alloc, [10, 0, 0, 1], "xyzzy5461")?;
+    let nemo = entry(alloc, "nemo", "arctangent")?;
+    printed(alloc, &(client, nemo))
+}
+
+#[test]
+fn secrets_and_passwords_are_not_printed(rt: HostRuntime) -> Result<(), Fail> {
+    let alloc = rt.alloc();
+    let secret = printed(alloc, &Secret::from_str(alloc, "xyzzy5461")?)?;
+    assert_eq!(rt; secret.as_str(), "Secret(..)");
+    let rows = "
+        the secret | xyzzy5461 | not shown
+        the password | arctangent | not shown
+        the fixed word for the secret | secret: Secret(..) | shown
+        the fixed word for the password | password: Secret(..) | shown
+        the name | nemo | shown
+    ";
+    check_rows(&rt, &ShownRows, rows)
+}
+
+/// Of a text that is repeated: its octets, whether it is empty, whether its copy and its copy as a
+/// secret have the same octets, and whether each equals another.
+struct CopyRows;
+
+impl Subject for CopyRows {
+    fn found(&self, alloc: Global, fields: &[&str]) -> Result<String, Fail> {
+        let [one, times, other] = fields else {
+            return Err("a row has a text, how many times it stands, and another text")?;
+        };
+        let times = usize::try_from(short_number(times)?)?;
+        let one = one.repeat(alloc, times)?;
+        let other = other.repeat(alloc, times)?;
+        copies_found(alloc, one.as_str(), other.as_str())
+    }
+}
+
+fn copies_found(alloc: Global, one: &str, other: &str) -> Result<String, Fail> {
+    let text = text_found(alloc, one, other)?;
+    let secret = secret_found(alloc, one, other)?;
+    printed(alloc, &(text, secret))
+}
+
+fn text_found(alloc: Global, one: &str, other: &str) -> Result<(usize, bool, bool, bool), Fail> {
+    let text = Text::from(String::from_str(alloc, one)?);
+    let copy = text.try_copy(alloc)?;
+    let equals = copy == Text::from_str(alloc, other)?;
+    Ok((copy.len(), copy.is_empty(), copy.as_str() == one, equals))
+}
+
+fn secret_found(alloc: Global, one: &str, other: &str) -> Result<(bool, bool), Fail> {
+    let secret = Secret::from(Text::from_str(alloc, one)?);
+    let copy = secret.try_copy(alloc)?;
+    let equals = copy == Secret::from_str(alloc, other)?;
+    Ok((copy.expose() == one.as_bytes(), equals))
+}
+
+#[test]
+fn texts_and_secrets_are_copied_and_compared(rt: HostRuntime) -> Result<(), Fail> {
+    let rows = "
+        equal | nemo | 1 | nemo | ((4, false, true, true), (true, true))
+        another octet | nemo | 1 | nema | ((4, false, true, false), (true, false))
+        a prefix | nemo | 1 | nem | ((4, false, true, false), (true, false))
+        none | | 1 | | ((0, true, true, true), (true, true))
+        two octets | \u{e9} | 1 | \u{e9} | ((2, false, true, true), (true, true))
+        65535 octets | n | 65535 | n | ((65535, false, true, true), (true, true))
+    ";
+    check_rows(&rt, &CopyRows, rows)
+}

@@ -1,0 +1,13 @@
+//! Tests of the public calls of `rsl_wire`, `rsl_auth`, `rsl_accounts` and `rsl_event`, a file a
+//! library: rows of text, as `test_rows` has them. Octets come from outside: the RFCs, and Python's
+//! hashlib and hmac.
+#![tactic(auto)]
+
+#[cfg(test)]
+mod accounts;
+#[cfg(test)]
+mod auth;
+#[cfg(test)]
+mod event;
+#[cfg(test)]
+mod wire;
