@@ -3,6 +3,7 @@ use Rattle.std.proofs.Common.{◌≡◌, ◌≤◌, ℕ, List, ◌++◌, length,
 use Rattle.std.proofs.lemmas.List.{append_assoc, length-append, length-take-le, take_at, drop_at, drop-drop}
 use borrow.Rule.Slice.PartMut.{put_mid}
 use Rattle.std.proofs.lemmas.Slice.Eq.{bytes_eq-Decides}
+use Rattle.md5.specs.Md5.{md5}
 use Rattle.rsl_auth.specs.Authenticator.{authenticator, response_authenticator, sealed, is_accounting_authentic}
 use Rattle.rsl_auth.proofs.DigestLemmas.{length-md5}
 
@@ -44,17 +45,24 @@ is_accounting_authentic-sealed packet zeros secret whole none =
     ∙ ap (λ (request_auth : List ℕ). response_authenticator packet request_auth secret) none
     ∙ sym (response_authenticator-sealed packet zeros secret (replicate 16 0) whole))
 
--- the digest written over octets 4 to 19 seals the packet
-sealed_by_write : (packet digest request_auth secret : List ℕ)
-    → digest ≡ response_authenticator packet request_auth secret
-    → put_mid 4 16 packet digest ≡ sealed packet request_auth secret
-unfolding sealed
-sealed_by_write packet digest request_auth secret is =
-    rw (is, drop-drop 16 4 packet)
-    (sym (append_assoc (take 4 packet) (response_authenticator packet request_auth secret) (drop 20 packet)))
+-- the Request Authenticator is written there first, and the digest over it
+pub sealed_by_writes : (packet request_auth first digest second secret : List ℕ) → 20 ≤ length packet → length request_auth ≡ 16
+    → first ≡ request_auth → digest ≡ md5 (put_mid 4 16 packet first ++ secret) → second ≡ digest
+    → put_mid 4 16 (put_mid 4 16 packet first) second ≡ sealed packet request_auth secret
+unfolding sealed response_authenticator
+sealed_by_writes packet request_auth first digest second secret whole sixteen first_is digested second_is =
+    let front : List ℕ = take 4 packet in
+    let back : List ℕ = drop 20 packet in
+    let written_is : put_mid 4 16 packet first ≡ front ++ request_auth ++ back =
+    ap (λ (xs : List ℕ). put_mid 4 16 packet xs) first_is ∙ rw (drop-drop 16 4 packet) (sym (append_assoc front request_auth back)) in
+    let is : second ≡ response_authenticator packet request_auth secret = second_is ∙ digested ∙ ap (λ (xs : List ℕ). md5 (xs ++ secret)) written_is in
+    let p = parts front request_auth back (length-take-le 4 packet (omega arith)) sixteen in
+    (λ k. put_mid 4 16 (written_is k) (is k))
+    ∙ rw (drop-drop 16 4 (front ++ request_auth ++ back), p.0, p.2)
+    (sym (append_assoc front (response_authenticator packet request_auth secret) back))
 
-pub is_accounting_authentic_by_write : (packet digest zeros secret : List ℕ) → 20 ≤ length packet
-    → digest ≡ response_authenticator packet zeros secret → zeros ≡ replicate 16 0
-    → is_accounting_authentic (put_mid 4 16 packet digest) secret ≡ true
-is_accounting_authentic_by_write packet digest zeros secret whole is none =
-    rw (sealed_by_write packet digest zeros secret is) (is_accounting_authentic-sealed packet zeros secret whole none)
+pub is_accounting_authentic_by_seal : (packet other zeros secret : List ℕ) → 20 ≤ length packet
+    → other ≡ sealed packet zeros secret → zeros ≡ replicate 16 0
+    → is_accounting_authentic other secret ≡ true
+is_accounting_authentic_by_seal packet other zeros secret whole is none =
+    rw is (is_accounting_authentic-sealed packet zeros secret whole none)

@@ -275,3 +275,16 @@ matches_password-hidden password secret request_auth high =
       (rw len blocks.whole, rw len blocks.some, rw len (blocks.most high)),
       (nuls_after (length password), revealed-hidden password secret request_auth),
     )
+
+-- two lists that are written one after the other into a buffer
+pub written_together : (front back buffer first second : List ℕ) (n len : ℕ) → n ≡ length front → len ≡ n + length back
+    → first ≡ front → second ≡ back
+    → take len (put_mid n (len - n) (first ++ drop n buffer) second) ≡ front ++ back
+written_together front back buffer first second n len n_is len_is first_is second_is =
+    let rest : List ℕ = drop (len - n) (drop n (front ++ drop n buffer)) in
+    let kept : take n (front ++ drop n buffer) ≡ front = take_at front (drop n buffer) n (sym n_is) in
+    let joined : put_mid n (len - n) (front ++ drop n buffer) back ≡ (front ++ back) ++ rest =
+    ap (λ (xs : List ℕ). xs ++ (back ++ rest)) kept ∙ sym (append_assoc front back rest) in
+    (λ k. take len (put_mid n (len - n) (first_is k ++ drop n buffer) (second_is k)))
+    ∙ ap (λ (xs : List ℕ). take len xs) joined
+    ∙ take_at (front ++ back) rest len (omega (arith, length-append front back, n_is, len_is))

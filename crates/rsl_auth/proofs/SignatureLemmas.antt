@@ -1,6 +1,7 @@
 -- What is signed, and that a packet which was signed is found right.
-use Rattle.std.proofs.Common.{◌≡◌, ℕ, ◌+◌, ◌-◌, ◌≤◌, List, ◌++◌, length, take, drop, replicate, true, arith, ap, sym, ◌∙◌}
+use Rattle.std.proofs.Common.{◌≡◌, ◌↔◌, Bool, IsTrue, ℕ, ◌+◌, ◌-◌, ◌≤◌, List, ◌++◌, length, take, drop, replicate, true, arith, ap, sym, ◌∙◌}
 use Rattle.std.proofs.lemmas.List.{append_assoc, length-append, length-take-le, length-drop, take_all, take_at, drop_at, drop-drop, take-take, drop-take, take-append-drop}
+use Rattle.std.proofs.lemmas.Bool.Decides.{Decides-at}
 use Rattle.std.proofs.lemmas.Slice.Eq.{bytes_eq-Decides}
 use borrow.Rule.Slice.PartMut.{put_mid}
 use Rattle.rsl_auth.specs.Authenticator.{authenticator}
@@ -112,3 +113,9 @@ is_signed-signed packet at request_auth secret header within own =
     (value_at-with_value packet at value long within
     ∙ ap (λ auth. signature packet at auth secret) (own ∙ sym (authenticator-with_value packet at value long within header))
     ∙ sym (signature-with_value packet at value long within header (authenticator (with_value packet at value)) secret))
+
+-- the test of a request's signature
+pub right_by_test : (packet : List ℕ) (at : ℕ) (secret : List ℕ) (test : Bool) → test ≡ is_signed packet at secret
+    → IsTrue test ↔ (value_at packet at ≡ signature packet at (authenticator packet) secret)
+unfolding is_signed
+right_by_test packet at secret test is = Decides-at _ _ is (bytes_eq-Decides _ _)

@@ -1,7 +1,8 @@
 -- HMAC-MD5 (RFC 2104 section 2): MD5(K xor opad, MD5(K xor ipad, message)), where K is the key with
 -- zeros after it to the 64 octets of a block of MD5. A key of more than 64 octets is hashed first.
 use Rattle.std.specs.Prelude.{ℕ, ◌-◌, nat_le, if◌then◌else◌, List, ◌++◌, length, map, replicate, bit_xor}
-use Rattle.md5.specs.Md5.{md5}
+use Rattle.md5.specs.Md5.{Holds, md5}
+use Rattle.rsl_auth.specs.declared.hmac.HmacKey.{HmacKey}
 
 -- the key, or its digest where it has more than 64 octets
 abbrev pub short_key : (key : List ℕ) → List ℕ
@@ -22,3 +23,8 @@ key_xor key pad = padded (key_block key) pad
 -- ipad is 0x36 and opad 0x5c
 unfoldable pub hmac_md5 : (key message : List ℕ) → List ℕ
 hmac_md5 key message = md5 (key_xor key 0x5c ++ md5 (key_xor key 0x36 ++ message))
+
+-- what is kept of a key: a digest that was given K xor ipad, and one that was given K xor opad
+pub record IsKeyOf (key : List ℕ) (kept : HmacKey) : Type 0 where
+  pub inner : Holds kept.inner (key_xor key 0x36)
+  pub outer : Holds kept.outer (key_xor key 0x5c)

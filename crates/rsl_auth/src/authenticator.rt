@@ -3,7 +3,6 @@ ghost use Rattle.rsl_auth.specs.Authenticator.{
   accounting_authenticator,
   authenticator,
   is_accounting_authentic,
-  response_authenticator,
   sealed,
 };
 
@@ -21,8 +20,11 @@ pub fn seal(packet: &mut [u8], request_auth: &[u8; 16], secret: &[u8])
     ensures accounting { request_auth.now ≡ replicate 16 0 →
         IsTrue (is_accounting_authentic packet.new secret.now) }
 {
-    let digest = authenticator_of(packet, request_auth, secret);
-    packet[AUTHENTICATOR_START..HEADER_LEN].copy_from_slice(&digest);
+    packet[AUTHENTICATOR_START..HEADER_LEN].copy_from_slice(request_auth);
+    let mut hasher = Md5::new();
+    hasher.update(&*packet);
+    hasher.update(secret);
+    packet[AUTHENTICATOR_START..HEADER_LEN].copy_from_slice(&hasher.finalize());
 }
 
 /// The packet with its Response Authenticator: `seal` of octets that are moved in. It takes no
@@ -44,19 +46,20 @@ pub fn accounting_ok(packet: &[u8], secret: &[u8]) -> bool
     ensures authentic { IsTrue result ↔
         (authenticator packet.now ≡ accounting_authenticator packet.now secret.now) }
 {
-    let digest = authenticator_of(packet, &[0; 16], secret);
+    let digest = accounting_authenticator(packet, secret);
     &packet[AUTHENTICATOR_START..HEADER_LEN] == digest.as_slice()
 }
 
-/// The Response Authenticator of a packet.
+/// The Request Authenticator of an Accounting-Request.
 #[tactic(auto, unfolding(crate::specs::Authenticator::response_authenticator))]
-fn authenticator_of(packet: &[u8], request_auth: &[u8; 16], secret: &[u8]) -> [u8; 16]
+fn accounting_authenticator(packet: &[u8], secret: &[u8]) -> [u8; 16]
     requires { 20 ≤ length packet.now }
-    ensures { result ≡ response_authenticator packet.now request_auth.now secret.now }
+    ensures { result ≡ accounting_authenticator packet.now secret.now }
 {
+    let mut header = [0u8; HEADER_LEN];
+    header[..AUTHENTICATOR_START].copy_from_slice(&packet[..AUTHENTICATOR_START]);
     let mut hasher = Md5::new();
-    hasher.update(&packet[..AUTHENTICATOR_START]);
-    hasher.update(request_auth);
+    hasher.update(&header);
     hasher.update(&packet[HEADER_LEN..]);
     hasher.update(secret);
     hasher.finalize()

@@ -22,46 +22,58 @@ const OUTER_PAD: u8 = 0x5c;
 pub fn hmac_md5(key: &[u8], message: &[u8]) -> [u8; 16]
     ensures { result ≡ hmac_md5 key.now message.now }
 {
-    let mut hmac = Hmac::new(key);
-    hmac.inner.update(message);
-    hmac.finalize()
+    let key = HmacKey::new(key);
+    let mut inner = key.begun();
+    inner.update(message);
+    key.finished(inner)
 }
 
-/// The two digests of an HMAC. The inner one takes the message, part by part.
-pub(crate) struct Hmac {
-    /// The digest of the message.
-    pub inner: Md5,
-    /// The digest of the inner one.
+/// What HMAC-MD5 makes of a key before any message: the two digests after the key's blocks (RFC
+/// 2104 section 4). Whoever signs again and again with one key keeps this, and spares the digests
+/// of four blocks each time.
+#[derive(Debug, Drop)]
+pub struct HmacKey {
+    /// The digest that was given K xor ipad.
+    inner: Md5,
+    /// The digest that was given K xor opad.
     outer: Md5,
 }
 
-impl Hmac {
-    /// The digests before any of the message.
-    pub(crate) fn new(key: &[u8]) -> Hmac
-        ensures inner { Holds result.inner (key_xor key.now 0x36) }
-        ensures outer { Holds result.outer (key_xor key.now 0x5c) }
+impl HmacKey {
+    ghost use Rattle.rsl_auth.specs.Hmac.{IsKeyOf};
+
+    /// That of a key of any length. It takes no memory.
+    pub fn new(key: &[u8]) -> HmacKey
+        ensures { IsKeyOf key.now result }
     {
         let block = key_block(key);
-        Hmac {
-            inner: begun(&block, INNER_PAD),
-            outer: begun(&block, OUTER_PAD),
+        HmacKey {
+            inner: padded_digest(&block, INNER_PAD),
+            outer: padded_digest(&block, OUTER_PAD),
         }
+    }
+
+    /// The inner digest before any of the message.
+    pub(crate) fn begun(&self) -> Md5
+        ensures { (key : List ℕ) → IsKeyOf key self.now → Holds result (key_xor key 0x36) }
+    {
+        self.inner.clone().unwrap()
     }
 
     /// The HMAC of the message that the inner digest was given.
     #[tactic(auto, unfolding(crate::specs::Hmac::hmac_md5))]
-    pub(crate) fn finalize(self) -> [u8; 16]
-        ensures { (key message : List ℕ) → Holds self.inner (key_xor key 0x36 ++ message) →
-            Holds self.outer (key_xor key 0x5c) → result ≡ hmac_md5 key message }
+    pub(crate) fn finished(&self, inner: Md5) -> [u8; 16]
+        ensures { (key message : List ℕ) → IsKeyOf key self.now →
+            Holds inner (key_xor key 0x36 ++ message) → result ≡ hmac_md5 key message }
     {
-        let Hmac { inner, mut outer } = self;
+        let mut outer = self.outer.clone().unwrap();
         outer.update(&inner.finalize());
         outer.finalize()
     }
 }
 
 /// A digest that was given a key's block xor a pad.
-fn begun(block: &[u8; BLOCK_LEN], pad: u8) -> Md5
+fn padded_digest(block: &[u8; BLOCK_LEN], pad: u8) -> Md5
     ensures { Holds result (padded block.now pad) }
 {
     let mut digest = Md5::new();

@@ -13,6 +13,6 @@ mod signature;
 
 pub use authenticator::{accounting_ok, seal, sealed};
 pub use chap::{CHAP_PASSWORD_LEN, chap_ok, chap_response};
-pub use hmac::hmac_md5;
+pub use hmac::{HmacKey, hmac_md5};
 pub use password::{MAX_PASSWORD_LEN, hide, pap_ok};
 pub use signature::{SIGNATURE_LEN, sign, signature_ok};

@@ -12,6 +12,7 @@ ghost use Rattle.std.specs.Prelude.{
   take,
   replicate,
 };
+ghost use Rattle.md5.specs.Md5.{md5};
 ghost use Rattle.rsl_auth.specs.Password.{
   are_nuls,
   hidden,
@@ -32,6 +33,10 @@ use std::alloc::Global;
 
 /// Octets of a block (RFC 2865 section 5.2).
 const BLOCK_LEN: usize = 16;
+
+/// Octets that are digested in one piece: a block of MD5, in which a secret of up to 48 octets lies
+/// with what stands behind it.
+const PIECE_LEN: usize = 64;
 
 /// The most octets of a password, and of the value that hides it (RFC 2865 section 5.2).
 pub const MAX_PASSWORD_LEN: usize = 128;
@@ -146,15 +151,36 @@ fn mask(block: &[u8], secret: &[u8], before: &[u8]) -> [u8; BLOCK_LEN]
     requires { length block.now ≡ 16 }
     ensures { result ≡ masked block.now secret.now before.now }
 {
-    let mut hasher = Md5::new();
-    hasher.update(secret);
-    hasher.update(before);
-    let digest = hasher.finalize();
+    let digest = digest_of(secret, before);
     let mut octets = [0u8; BLOCK_LEN];
     for i in 0..BLOCK_LEN {
         octets[i] = block[i] ^ digest[i];
     }
     octets
+}
+
+/// MD5(secret, before). Octets that lie in one piece are digested faster.
+fn digest_of(secret: &[u8], before: &[u8]) -> [u8; 16]
+    ensures { result ≡ md5 (secret.now ++ before.now) }
+{
+    let len = secret.len() + before.len();
+    if len > PIECE_LEN {
+        return digest_of_parts(secret, before);
+    }
+    let mut piece = [0u8; PIECE_LEN];
+    piece[..secret.len()].copy_from_slice(secret);
+    piece[secret.len()..len].copy_from_slice(before);
+    Md5::digest(&piece[..len])
+}
+
+/// The same of octets of any length.
+fn digest_of_parts(secret: &[u8], before: &[u8]) -> [u8; 16]
+    ensures { result ≡ md5 (secret.now ++ before.now) }
+{
+    let mut hasher = Md5::new();
+    hasher.update(secret);
+    hasher.update(before);
+    hasher.finalize()
 }
 
 /// Whether octets are the password and NULs alone after it.

@@ -1,8 +1,8 @@
-ghost use Rattle.std.specs.Prelude.{◌≡◌, ◌↔◌, ◌≤◌, ◌+◌, IsTrue, length};
+ghost use Rattle.std.specs.Prelude.{◌≡◌, ◌↔◌, ◌≤◌, ◌+◌, IsTrue, List, ℕ, length};
 ghost use Rattle.rsl_auth.specs.Authenticator.{authenticator};
 ghost use Rattle.rsl_auth.specs.Signature.{is_signed, signature, signed, value_at};
 
-use crate::hmac::Hmac;
+use crate::hmac::HmacKey;
 use md5::Digest;
 use rsl_wire::{AUTHENTICATOR_START, HEADER_LEN};
 
@@ -21,13 +21,11 @@ pub fn sign(packet: &mut [u8], at: usize, request_auth: &[u8; 16], secret: &[u8]
     ensures right { request_auth.now ≡ authenticator packet.old →
         IsTrue (is_signed packet.new at secret.now) }
 {
-    let value = signature_of(packet, at, request_auth, secret);
-    packet[at..at + SIGNATURE_LEN].copy_from_slice(&value);
+    HmacKey::new(secret).sign(packet, at, request_auth);
 }
 
 /// Whether the Message-Authenticator of a request, of which the value stands at `at`, is right (RFC
 /// 3579 section 3.2). It takes no memory.
-#[tactic(auto, unfolding(crate::specs::Signature::is_signed))]
 pub fn signature_ok(packet: &[u8], at: usize, secret: &[u8]) -> bool
     requires after_header { 20 ≤ at }
     requires within { at + 16 ≤ length packet.now }
@@ -35,23 +33,49 @@ pub fn signature_ok(packet: &[u8], at: usize, secret: &[u8]) -> bool
     ensures right { IsTrue result ↔
         (value_at packet.now at ≡ signature packet.now at (authenticator packet.now) secret.now) }
 {
-    let request_auth = &packet[AUTHENTICATOR_START..HEADER_LEN];
-    let value = signature_of(packet, at, request_auth, secret);
-    &packet[at..at + SIGNATURE_LEN] == value.as_slice()
+    HmacKey::new(secret).is_right(packet, at)
 }
 
-/// The value that belongs at a place of a packet.
-#[tactic(auto, unfolding(crate::specs::Signature::signature))]
-fn signature_of(packet: &[u8], at: usize, request_auth: &[u8], secret: &[u8]) -> [u8; 16]
-    requires after_header { 20 ≤ at }
-    requires within { at + 16 ≤ length packet.now }
-    ensures { result ≡ signature packet.now at request_auth.now secret.now }
-{
-    let mut hmac = Hmac::new(secret);
-    hmac.inner.update(&packet[..AUTHENTICATOR_START]);
-    hmac.inner.update(request_auth);
-    hmac.inner.update(&packet[HEADER_LEN..at]);
-    hmac.inner.update(&[0; SIGNATURE_LEN]);
-    hmac.inner.update(&packet[at + SIGNATURE_LEN..]);
-    hmac.finalize()
+impl HmacKey {
+    ghost use Rattle.rsl_auth.specs.Hmac.{IsKeyOf};
+
+    /// `sign` with the secret that this is the key of.
+    pub fn sign(&self, packet: &mut [u8], at: usize, request_auth: &[u8; 16])
+        requires after_header { 20 ≤ at }
+        requires within { at + 16 ≤ length packet.old }
+        ensures { (secret : List ℕ) → IsKeyOf secret self.now →
+            packet.new ≡ signed packet.old at request_auth.now secret }
+    {
+        let value = self.signature_of(packet, at, request_auth);
+        packet[at..at + SIGNATURE_LEN].copy_from_slice(&value);
+    }
+
+    /// `signature_ok` with the secret that this is the key of.
+    #[tactic(auto, unfolding(crate::specs::Signature::is_signed))]
+    pub fn is_right(&self, packet: &[u8], at: usize) -> bool
+        requires after_header { 20 ≤ at }
+        requires within { at + 16 ≤ length packet.now }
+        ensures { (secret : List ℕ) → IsKeyOf secret self.now →
+            result ≡ is_signed packet.now at secret }
+    {
+        let request_auth = &packet[AUTHENTICATOR_START..HEADER_LEN];
+        let value = self.signature_of(packet, at, request_auth);
+        &packet[at..at + SIGNATURE_LEN] == value.as_slice()
+    }
+
+    /// The value that belongs at an offset of a packet.
+    fn signature_of(&self, packet: &[u8], at: usize, request_auth: &[u8]) -> [u8; 16]
+        requires after_header { 20 ≤ at }
+        requires within { at + 16 ≤ length packet.now }
+        ensures { (secret : List ℕ) → IsKeyOf secret self.now →
+            result ≡ signature packet.now at request_auth.now secret }
+    {
+        let mut inner = self.begun();
+        inner.update(&packet[..AUTHENTICATOR_START]);
+        inner.update(request_auth);
+        inner.update(&packet[HEADER_LEN..at]);
+        inner.update(&[0; SIGNATURE_LEN]);
+        inner.update(&packet[at + SIGNATURE_LEN..]);
+        self.finished(inner)
+    }
 }

@@ -1,3 +1,4 @@
+pub mod OccurrenceLaws
 pub mod PreparedLaws
 pub mod SignatureLaws
 pub mod WritingLaws

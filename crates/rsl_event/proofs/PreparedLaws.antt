@@ -12,10 +12,12 @@ use Rattle.rsl_wire.specs.declared.packet.WireFault.{WireFault}
 use Rattle.rsl_event.specs.Request.{access_server_of, named_account, proxy_len, secret_of, account_password, text_of}
 use Rattle.rsl_event.specs.Access.{asks_once, if_shown, shows_password, asker, ask_or_reject, unless_dropped, request_meaning, access_by, access_meaning}
 use Rattle.rsl_event.specs.Signature.{must_sign, signature_drop}
-use Rattle.rsl_event.specs.Accounting.{is_alive, is_stop, is_on_or_off, note_of, unless_empty, class_in, session_act, session_meaning, status_meaning, if_status, accounting_by, accounting_meaning}
+use Rattle.rsl_event.specs.Accounting.{note_of, session_act, session_meaning, if_session, by_status, status_meaning, if_status, accounting_by, accounting_meaning}
 use Rattle.rsl_event.specs.Meaning.{packet_meaning, if_client, if_packet, meaning}
 use Rattle.rsl_event.specs.Prepared.{HasProxyStates, HasAccount, HasRoomForReply, IsOfOneAccount, HasOwnAct}
-use Rattle.rsl_event.specs.declared.event.Act.TheVariants.{Alive, Stop}
+use Rattle.rsl_event.specs.Status.{status_of}
+use Rattle.rsl_event.specs.declared.status.Status.{Status}
+use Rattle.rsl_event.specs.declared.status.Status.TheVariants as statuses
 use Rattle.rsl_event.specs.declared.event.Source.{Source}
 use Rattle.rsl_event.specs.declared.meaning.Port.{Port}
 use Rattle.rsl_event.specs.declared.meaning.Port.TheVariants.{Auth, Acct}
@@ -122,31 +124,38 @@ access_meant config source client fields m e =
 
 -- ---- an Accounting-Request
 
-session_own : (boot client status : ℕ) (attributes : List Attribute) → IsOfOneAccount (session_act boot client status attributes)
-session_own boot client status attributes = by (is_stop status)
-  where
-    by : (stop : Bool) → IsOfOneAccount (cond stop (Stop (access_server_of client attributes) (text_of ACCT_SESSION_ID attributes)) (Alive (access_server_of client attributes) (text_of ACCT_SESSION_ID attributes) (unless_empty (first_of ACCT_MULTI_SESSION_ID attributes)) (class_in boot attributes)))
-    by true = tt
-    by false = tt
+session_own : (boot client : ℕ) (status : Status) (attributes : List Attribute) → IsOfOneAccount (session_act boot client status attributes)
+session_own boot client statuses.Start attributes = tt
+session_own boot client statuses.Stop attributes = tt
+session_own boot client statuses.InterimUpdate attributes = tt
+session_own boot client statuses.AccountingOn attributes = tt
+session_own boot client statuses.AccountingOff attributes = tt
 
-session_meant : (config : Configuration) (boot client status : ℕ) (octets : List ℕ) (attributes : List Attribute) (account : Option ℕ) → HasProxyStates octets → named_account config attributes ≡ account
+session_meant : (config : Configuration) (boot client : ℕ) (status : Status) (octets : List ℕ) (attributes : List Attribute) (account : Option ℕ) → HasProxyStates octets → named_account config attributes ≡ account
     → IsMeant config octets (session_meaning boot client status attributes account)
 session_meant config boot client status octets attributes None has e = record { account = tt; room = has; own = tt }
 session_meant config boot client status octets attributes (Some account) has e = record { account = named_within config (first_of USER_NAME attributes) account e; room = has; own = session_own boot client status attributes }
 
-status_meant : (config : Configuration) (boot client status : ℕ) (octets : List ℕ) (attributes : List Attribute) (m : Meaning) → HasProxyStates octets
-    → status_meaning config boot client status attributes ≡ Ok m → IsMeant config octets m
+if_session_meant : (config : Configuration) (boot client : ℕ) (status : Status) (octets : List ℕ) (attributes : List Attribute) (m : Meaning) → HasProxyStates octets
+    → if_session config boot client status attributes ≡ Ok m → IsMeant config octets m
+if_session_meant config boot client status octets attributes m has e =
+    let meant = session_meaning boot client status attributes (named_account config attributes) in
+    let p = passed (length (text_of ACCT_SESSION_ID attributes) == 0) drops.NoSession (done meant) m e in
+    subst (IsMeant config octets) (ok_is meant m p.1) (session_meant config boot client status octets attributes (named_account config attributes) has refl)
+
+by_status_meant : (config : Configuration) (boot client number : ℕ) (octets : List ℕ) (attributes : List Attribute) (status : Option Status) (m : Meaning) → HasProxyStates octets
+    → by_status config boot client number attributes status ≡ Ok m → IsMeant config octets m
+by_status_meant config boot client number octets attributes (Some statuses.AccountingOn) m has e = subst (IsMeant config octets) (ok_is (Restart (access_server_of client attributes)) m e) (record { account = tt; room = has; own = tt })
+by_status_meant config boot client number octets attributes (Some statuses.AccountingOff) m has e = subst (IsMeant config octets) (ok_is (Restart (access_server_of client attributes)) m e) (record { account = tt; room = has; own = tt })
+by_status_meant config boot client number octets attributes (Some statuses.Start) m has e = if_session_meant config boot client statuses.Start octets attributes m has e
+by_status_meant config boot client number octets attributes (Some statuses.Stop) m has e = if_session_meant config boot client statuses.Stop octets attributes m has e
+by_status_meant config boot client number octets attributes (Some statuses.InterimUpdate) m has e = if_session_meant config boot client statuses.InterimUpdate octets attributes m has e
+by_status_meant config boot client number octets attributes None m has e = subst (IsMeant config octets) (ok_is (Stray (note_of client number attributes)) m e) (record { account = tt; room = has; own = tt })
+
+status_meant : (config : Configuration) (boot client number : ℕ) (octets : List ℕ) (attributes : List Attribute) (m : Meaning) → HasProxyStates octets
+    → status_meaning config boot client number attributes ≡ Ok m → IsMeant config octets m
 unfolding status_meaning
-status_meant config boot client status octets attributes m has e =
-    by (is_on_or_off status) (is_alive status || is_stop status) (length (text_of ACCT_SESSION_ID attributes) == 0) e
-  where
-    by : (restart session empty : Bool)
-        → cond restart (Ok (Restart (access_server_of client attributes))) (cond session (cond empty (Err drops.NoSession) (Ok (session_meaning boot client status attributes (named_account config attributes)))) (Ok (Stray (note_of client status attributes)))) ≡ Ok m
-        → IsMeant config octets m
-    by true session empty e = subst (IsMeant config octets) (ok_is (Restart (access_server_of client attributes)) m e) (record { account = tt; room = has; own = tt })
-    by false true true e = absurd cc
-    by false true false e = subst (IsMeant config octets) (ok_is (session_meaning boot client status attributes (named_account config attributes)) m e) (session_meant config boot client status octets attributes (named_account config attributes) has refl)
-    by false false empty e = subst (IsMeant config octets) (ok_is (Stray (note_of client status attributes)) m e) (record { account = tt; room = has; own = tt })
+status_meant config boot client number octets attributes m has e = by_status_meant config boot client number octets attributes (status_of number) m has e
 
 if_status_meant : (config : Configuration) (boot client : ℕ) (octets : List ℕ) (attributes : List Attribute) (status : Option ℕ) (m : Meaning) → HasProxyStates octets
     → if_status config boot client attributes status ≡ Ok m → IsMeant config octets m

@@ -1,5 +1,5 @@
 -- What is written into a reply, one part after another.
-use Rattle.std.proofs.Common.{◌≡◌, ℕ, ◌≤◌, Bool, append_assoc, List, [], ◌∷◌, ◌++◌, length, Option, Some, refl, sym, ap, subst, ◌∙◌, arith, take, drop}
+use Rattle.std.proofs.Common.{◌≡◌, ℕ, ◌≤◌, Bool, append_assoc, List, [], ◌∷◌, ◌++◌, length, Option, Some, Ok, refl, sym, ap, subst, ◌∙◌, arith, take, drop}
 use Rattle.std.specs.Prelude.{replicate, slice_get}
 use Rattle.std.specs.Option.{option_map_or}
 use Rattle.std.proofs.lemmas.List.{append-nil, drop_all, take_all}
@@ -8,16 +8,17 @@ use Rattle.rsl_accounts.specs.Configuration.{Configuration}
 use Rattle.rsl_accounts.specs.declared.client.Client.{Client}
 use Rattle.rsl_accounts.specs.declared.entry.Entry.{Entry}
 use Rattle.rsl_auth.specs.Authenticator.{sealed}
-use Rattle.rsl_wire.specs.Attributes.{Attribute, attribute_octets, list_octets, attributes_in}
-use Rattle.rsl_wire.specs.Begun.{Begun}
+use Rattle.rsl_wire.specs.Attributes.{Attribute, attribute_list, attribute_octets, list_octets, attributes_in}
+use Rattle.rsl_wire.specs.DraftSeen.{Begun}
 use Rattle.rsl_wire.specs.Packet.{Fields, packet_octets}
-use Rattle.rsl_event.specs.Answer.{number_attribute, optional_attribute, class_attribute, accept_attributes, said_to, code_of, said_attributes, repeated_attributes, signed_if, answer_to}
-use Rattle.rsl_event.specs.Signature.{is_reply_signed, signature_if}
+use Rattle.rsl_event.specs.Answer.{number_attribute, optional_attribute, class_attribute, accept_attributes, said_to, code_of, said_attributes, repeated_attributes, answer_to}
+use Rattle.rsl_event.specs.Signature.{reply_signing, signature_attributes, signed_by}
+use Rattle.rsl_event.specs.declared.signing.Signing.{Signing}
 use Rattle.rsl_event.specs.Request.{proxy_states, proxy_len, secret_of}
 use Rattle.rsl_event.specs.declared.event.Decision.{Decision}
 use Rattle.rsl_event.specs.Prepared.{HasRoomFor}
-use Rattle.rsl_event.specs.declared.kind.Kind.{Kind}
-use Rattle.rsl_event.specs.declared.kind.Kind.TheVariants as kinds
+use Rattle.rsl_event.specs.declared.meaning_kind.MeaningKind.{MeaningKind}
+use Rattle.rsl_event.specs.declared.meaning_kind.MeaningKind.TheVariants as kinds
 use Rattle.rsl_event.specs.declared.words.Said.{Said}
 use Rattle.rsl_event.specs.declared.codes.TheConstants.{PORT_LIMIT, SERVICE_TYPE, FRAMED_PROTOCOL, SESSION_TIMEOUT, IDLE_TIMEOUT}
 
@@ -66,12 +67,19 @@ pub length-proxy_states : (attributes : List Attribute) → length (list_octets 
 length-proxy_states attributes = length-flat_map attribute_octets (proxy_states attributes)
 
 -- what a reply repeats has room, unless nothing is repeated
-pub repeated_short : (octets : List ℕ) (attributes : List Attribute) (kind : Kind) → attributes ≡ attributes_in octets → HasRoomFor octets kind
+pub repeated_short : (octets : List ℕ) (attributes : List Attribute) (kind : MeaningKind) → attributes ≡ attributes_in octets → HasRoomFor octets kind
     → (kind ≡ kinds.Bare → ⊥) → proxy_len attributes ≤ 3900
 repeated_short octets attributes kinds.Bare e has other = absurd (other refl)
 repeated_short octets attributes kinds.Reject e has other = subst (λ (x : List Attribute). proxy_len x ≤ 3900) (sym e) has.short
 repeated_short octets attributes (kinds.Ask account) e has other = subst (λ (x : List Attribute). proxy_len x ≤ 3900) (sym e) has.short
 repeated_short octets attributes kinds.Account e has other = subst (λ (x : List Attribute). proxy_len x ≤ 3900) (sym e) has.short
+
+-- the attributes of a request that is not bare are well formed
+pub formed_unless_bare : (octets : List ℕ) (kind : MeaningKind) → HasRoomFor octets kind → (kind ≡ kinds.Bare → ⊥) → attribute_list octets ≡ Ok (attributes_in octets)
+formed_unless_bare octets kinds.Bare has other = absurd (other refl)
+formed_unless_bare octets kinds.Reject has other = has.formed
+formed_unless_bare octets (kinds.Ask account) has other = has.formed
+formed_unless_bare octets kinds.Account has other = has.formed
 
 -- the attributes of a reply, from the drafts before it
 pub reply_written : (id : ℕ) (signature said repeated : List Attribute) (start first second third : Begun) → start ≡ record { id = id; attributes = [] }
@@ -92,26 +100,26 @@ put_back n was now e f =
     ap (λ (x : List ℕ). take n (now ++ x)) none ∙ ap (take n) (append-nil now) ∙ take_all n now (omega arith)
 
 -- the reply, from the drafts before it
-pub answer_is : (config : Configuration) (boot client : ℕ) (fields : Fields) (kind : Kind) (decision : Decision) (word : Said) (code : ℕ) (is_signed : Bool)
+pub answer_is : (config : Configuration) (boot client : ℕ) (fields : Fields) (kind : MeaningKind) (decision : Decision) (word : Said) (code : ℕ) (signing : Signing)
     (start first second third : Begun) (packet secret result : List ℕ) (found : Client)
-    → start ≡ record { id = fields.id; attributes = [] } → first ≡ with_attributes start (start.attributes ++ list_octets (signature_if is_signed))
+    → start ≡ record { id = fields.id; attributes = [] } → first ≡ with_attributes start (start.attributes ++ list_octets (signature_attributes signing))
     → second ≡ with_attributes first (first.attributes ++ list_octets (said_attributes config boot kind decision))
     → third ≡ with_attributes second (second.attributes ++ list_octets (repeated_attributes (attributes_in fields.attributes) kind))
-    → word ≡ said_to kind decision → is_signed ≡ is_reply_signed word (attributes_in fields.attributes) → code ≡ code_of word
+    → word ≡ said_to kind decision → signing ≡ reply_signing word (attributes_in fields.attributes) → code ≡ code_of word
     → slice_get config.clients client ≡ Some found → secret ≡ found.secret
-    → packet ≡ signed_if is_signed (packet_octets (record { code = code; id = third.id; authenticator = replicate 16 0; attributes = third.attributes })) fields.authenticator secret
+    → packet ≡ signed_by signing (packet_octets (record { code = code; id = third.id; authenticator = replicate 16 0; attributes = third.attributes })) fields.authenticator secret
     → result ≡ sealed packet fields.authenticator secret
     → result ≡ answer_to config boot client fields kind decision
 unfolding answer_to
-answer_is config boot client fields kind decision word code is_signed start first second third packet secret result found e0 e1 e2 e3 ew eg ec ef es ep er =
+answer_is config boot client fields kind decision word code signing start first second third packet secret result found e0 e1 e2 e3 ew eg ec ef es ep er =
     let attributes = attributes_in fields.attributes in
     let said_are = said_attributes config boot kind decision in
     let repeated = repeated_attributes attributes kind in
     let code_is : code ≡ code_of (said_to kind decision) = ec ∙ ap code_of ew in
-    let signed_is : is_signed ≡ is_reply_signed (said_to kind decision) attributes = eg ∙ ap (λ (w : Said). is_reply_signed w attributes) ew in
+    let signing_is : signing ≡ reply_signing (said_to kind decision) attributes = eg ∙ ap (λ (w : Said). reply_signing w attributes) ew in
     let secret_is : secret ≡ secret_of config client = es ∙ sym (ap (λ (o : Option Client). option_map_or (λ c. c.secret) o []) ef) in
-    let third_is = reply_written fields.id (signature_if is_signed) said_are repeated start first second third e0 e1 e2 e3 in
+    let third_is = reply_written fields.id (signature_attributes signing) said_are repeated start first second third e0 e1 e2 e3 in
     let written = ap (λ (x : Begun). packet_octets (record { code = code; id = x.id; authenticator = replicate 16 0; attributes = x.attributes })) third_is in
-    let unsigned = written ∙ (λ k. packet_octets (record { code = code_is k; id = fields.id; authenticator = replicate 16 0; attributes = list_octets (signature_if (signed_is k) ++ said_are ++ repeated) })) in
-    let packet_is = ep ∙ (λ k. signed_if (signed_is k) (unsigned k) fields.authenticator (secret_is k)) in
+    let unsigned = written ∙ (λ k. packet_octets (record { code = code_is k; id = fields.id; authenticator = replicate 16 0; attributes = list_octets (signature_attributes (signing_is k) ++ said_are ++ repeated) })) in
+    let packet_is = ep ∙ (λ k. signed_by (signing_is k) (unsigned k) fields.authenticator (secret_is k)) in
     er ∙ (λ k. sealed (packet_is k) fields.authenticator (secret_is k))

@@ -1,5 +1,5 @@
 -- What an Accounting-Request means (RFC 2866 section 4.1).
-use Rattle.std.specs.Prelude.{ℕ, ◌==◌, ◌&&◌, ◌||◌, nat_lt, Bool, List, [], ◌∷◌, length, take, drop, if◌then◌else◌, Option, Some, None, Result, Ok, Err}
+use Rattle.std.specs.Prelude.{ℕ, ◌==◌, ◌&&◌, nat_lt, List, [], ◌∷◌, length, take, drop, if◌then◌else◌, Option, Some, None, Result, Ok, Err}
 use Rattle.std.specs.Int.{w64, from_be_bytes}
 use Rattle.std.specs.Option.{option_or}
 use Rattle.rsl_accounts.specs.Configuration.{Configuration}
@@ -7,6 +7,7 @@ use Rattle.rsl_auth.specs.Authenticator.{is_accounting_authentic}
 use Rattle.rsl_wire.specs.Attributes.{Attribute, first_of, number_in, attribute_list}
 use Rattle.rsl_wire.specs.Packet.{Fields, packet_octets}
 use Rattle.rsl_event.specs.Request.{access_server_of, named_account, proxy_len, secret_of, text_of}
+use Rattle.rsl_event.specs.Status.{status_number, status_of}
 use Rattle.rsl_event.specs.declared.event.Act.{Act}
 use Rattle.rsl_event.specs.declared.event.Act.TheVariants.{Alive, Stop}
 use Rattle.rsl_event.specs.declared.meaning.Note.{Note}
@@ -14,7 +15,8 @@ use Rattle.rsl_event.specs.declared.meaning.Meaning.{Meaning}
 use Rattle.rsl_event.specs.declared.meaning.Meaning.TheVariants.{Own, Restart, Stray}
 use Rattle.rsl_event.specs.declared.meaning.Dropped.{Dropped}
 use Rattle.rsl_event.specs.declared.meaning.Dropped.TheVariants.{WrongCode, BadAuthenticator, Malformed, ProxyTooLong, NoStatus, NoSession}
-use Rattle.rsl_event.specs.declared.codes.TheConstants as codes
+use Rattle.rsl_event.specs.declared.status.Status.{Status}
+use Rattle.rsl_event.specs.declared.status.Status.TheVariants as statuses
 use Rattle.rsl_event.specs.declared.codes.TheConstants.{ACCOUNTING_REQUEST, USER_NAME, CLASS, CLASS_LEN, ACCT_STATUS_TYPE, ACCT_SESSION_ID, ACCT_MULTI_SESSION_ID, MAX_PROXY_STATE_LEN}
 
 -- the accept number in a Class value of this server: 8 octets of its boot number, and 8 of the
@@ -39,58 +41,62 @@ unless_empty None = None
 unless_empty (Some []) = None
 unless_empty (Some (octet ∷ id)) = Some (octet ∷ id)
 
--- a session goes on: Start and Interim-Update
-abbrev pub is_alive : ℕ → Bool
-is_alive status = status == codes.START || status == codes.INTERIM_UPDATE
-
--- a session has ended
-abbrev pub is_stop : ℕ → Bool
-is_stop status = status == codes.STOP
-
--- an access server has restarted: Accounting-On and Accounting-Off
-abbrev pub is_on_or_off : ℕ → Bool
-is_on_or_off status = status == codes.ACCOUNTING_ON || status == codes.ACCOUNTING_OFF
-
 -- what is noted of a packet
-abbrev pub note_of : (client status : ℕ) → List Attribute → Note
-note_of client status attributes = record {
+abbrev pub note_of : (client number : ℕ) → List Attribute → Note
+note_of client number attributes = record {
   nas = access_server_of client attributes;
-  status = status;
+  status = number;
   name = text_of USER_NAME attributes;
   session = text_of ACCT_SESSION_ID attributes;
 }
 
--- the session of a packet has ended, or goes on
-abbrev pub session_act : (boot client status : ℕ) → List Attribute → Act
-session_act boot client status attributes =
-    if is_stop status
-    then Stop (access_server_of client attributes) (text_of ACCT_SESSION_ID attributes)
-    else Alive (access_server_of client attributes) (text_of ACCT_SESSION_ID attributes)
+-- the session of a packet of this status has ended, or goes on
+abbrev pub session_act : (boot client : ℕ) → Status → List Attribute → Act
+session_act boot client statuses.Stop attributes =
+    Stop (access_server_of client attributes) (text_of ACCT_SESSION_ID attributes)
+session_act boot client _ attributes =
+    Alive (access_server_of client attributes) (text_of ACCT_SESSION_ID attributes)
     (unless_empty (first_of ACCT_MULTI_SESSION_ID attributes)) (class_in boot attributes)
 
 -- that is the act of the account that the packet names, if there is one
-abbrev pub session_meaning : (boot client status : ℕ) → List Attribute → (account : Option ℕ)
+abbrev pub session_meaning : (boot client : ℕ) → Status → List Attribute → (account : Option ℕ)
     → Meaning
-session_meaning boot client status attributes None = Stray (note_of client status attributes)
+session_meaning boot client status attributes None =
+    Stray (note_of client (status_number status) attributes)
 session_meaning boot client status attributes (Some account) =
     Own account (session_act boot client status attributes)
 
--- by the status; a session's packet names the session
-unfoldable pub status_meaning : Configuration → (boot client status : ℕ) → List Attribute
+-- a session's packet names the session
+abbrev pub if_session : Configuration → (boot client : ℕ) → Status → List Attribute
     → Result Meaning Dropped
-status_meaning config boot client status attributes =
-    if is_on_or_off status then Ok (Restart (access_server_of client attributes))
-    else if is_alive status || is_stop status then
-    (if length (text_of ACCT_SESSION_ID attributes) == 0 then Err NoSession
-    else Ok (session_meaning boot client status attributes (named_account config attributes)))
-    else Ok (Stray (note_of client status attributes))
+if_session config boot client status attributes =
+    if length (text_of ACCT_SESSION_ID attributes) == 0 then Err NoSession
+    else Ok (session_meaning boot client status attributes (named_account config attributes))
+
+-- by the status that has this number, if there is one: at Accounting-On and Accounting-Off the
+-- access server has restarted, and the others are of a session
+abbrev pub by_status : Configuration → (boot client number : ℕ) → List Attribute → Option Status
+    → Result Meaning Dropped
+by_status config boot client number attributes (Some statuses.AccountingOn) =
+    Ok (Restart (access_server_of client attributes))
+by_status config boot client number attributes (Some statuses.AccountingOff) =
+    Ok (Restart (access_server_of client attributes))
+by_status config boot client number attributes (Some status) =
+    if_session config boot client status attributes
+by_status config boot client number attributes None = Ok (Stray (note_of client number attributes))
+
+-- by the number of the status
+unfoldable pub status_meaning : Configuration → (boot client number : ℕ) → List Attribute
+    → Result Meaning Dropped
+status_meaning config boot client number attributes =
+    by_status config boot client number attributes (status_of number)
 
 -- by the Acct-Status-Type, if there is one
 abbrev pub if_status : Configuration → (boot client : ℕ) → List Attribute → Option ℕ
     → Result Meaning Dropped
 if_status config boot client attributes None = Err NoStatus
-if_status config boot client attributes (Some status) =
-    status_meaning config boot client status attributes
+if_status config boot client attributes (Some number) =
+    status_meaning config boot client number attributes
 
 -- by the attributes, or the fault in their list
 abbrev pub accounting_by : Configuration → (boot client : ℕ) → Result (List Attribute) ℕ

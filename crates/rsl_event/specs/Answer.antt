@@ -1,21 +1,20 @@
 -- What is answered: the octets of a reply (RFC 2865 sections 4.2 and 4.3, RFC 2866 section 4.2),
 -- and its word.
-use Rattle.std.specs.Prelude.{ℕ, Bool, List, [], ◌∷◌, ◌++◌, replicate, codes, slice_get, if◌then◌else◌, Option, Some, None}
+use Rattle.std.specs.Prelude.{ℕ, List, [], ◌∷◌, ◌++◌, replicate, codes, slice_get, Option, Some, None}
 use Rattle.std.specs.Option.{option_map_or}
 use Rattle.std.specs.Int.{w32, w64, to_be_bytes}
 use Rattle.rsl_accounts.specs.Configuration.{Configuration}
 use Rattle.rsl_accounts.specs.declared.entry.Entry.{Entry}
 use Rattle.rsl_auth.specs.Authenticator.{sealed}
-use Rattle.rsl_auth.specs.Signature.{signed}
 use Rattle.rsl_wire.specs.Attributes.{Attribute, attribute_of, attributes_in, list_octets}
 use Rattle.rsl_wire.specs.Packet.{Fields, packet_octets}
-use Rattle.rsl_event.specs.Kind.{kind_of}
+use Rattle.rsl_event.specs.MeaningKind.{kind_of}
 use Rattle.rsl_event.specs.Request.{proxy_states, secret_of}
-use Rattle.rsl_event.specs.Signature.{is_reply_signed, signature_if}
+use Rattle.rsl_event.specs.Signature.{reply_signing, signature_attributes, signed_by}
 use Rattle.rsl_event.specs.declared.event.Decision.{Decision}
 use Rattle.rsl_event.specs.declared.event.Decision.TheVariants as decisions
-use Rattle.rsl_event.specs.declared.kind.Kind.{Kind}
-use Rattle.rsl_event.specs.declared.kind.Kind.TheVariants as kinds
+use Rattle.rsl_event.specs.declared.meaning_kind.MeaningKind.{MeaningKind}
+use Rattle.rsl_event.specs.declared.meaning_kind.MeaningKind.TheVariants as kinds
 use Rattle.rsl_event.specs.declared.meaning.Meaning.{Meaning}
 use Rattle.rsl_event.specs.declared.words.Said.{Said}
 use Rattle.rsl_event.specs.declared.words.Said.TheVariants as words
@@ -28,7 +27,7 @@ said_of decisions.LimitReject = words.LimitReject
 said_of decisions.Done = words.LimitReject
 
 -- the word for what is answered to a meaning of this kind; the decision tells of an ask alone
-abbrev pub said_to : Kind → Decision → Said
+abbrev pub said_to : MeaningKind → Decision → Said
 said_to kinds.Bare decision = words.Reject
 said_to kinds.Reject decision = words.Reject
 said_to (kinds.Ask account) decision = said_of decision
@@ -85,27 +84,27 @@ decided_attributes config boot account decisions.LimitReject = limit_attributes
 decided_attributes config boot account decisions.Done = limit_attributes
 
 -- what the server says in a reply
-abbrev pub said_attributes : Configuration → (boot : ℕ) → Kind → Decision → List Attribute
+abbrev pub said_attributes : Configuration → (boot : ℕ) → MeaningKind → Decision → List Attribute
 said_attributes config boot (kinds.Ask account) decision =
     decided_attributes config boot account decision
 said_attributes config boot _ decision = []
 
 -- what a reply repeats of the request's attributes
-abbrev pub repeated_attributes : List Attribute → Kind → List Attribute
+abbrev pub repeated_attributes : List Attribute → MeaningKind → List Attribute
 repeated_attributes attributes kinds.Bare = []
 repeated_attributes attributes _ = proxy_states attributes
 
 -- the attributes of a reply, its Message-Authenticator not yet signed: this stands first, and
 -- Proxy-States last, as they came
-abbrev pub reply_attributes : Configuration → (boot : ℕ) → List Attribute → Kind → Decision
+abbrev pub reply_attributes : Configuration → (boot : ℕ) → List Attribute → MeaningKind → Decision
     → List Attribute
 reply_attributes config boot attributes kind decision =
-    signature_if (is_reply_signed (said_to kind decision) attributes)
+    signature_attributes (reply_signing (said_to kind decision) attributes)
     ++ said_attributes config boot kind decision
     ++ repeated_attributes attributes kind
 
 -- the reply before it is signed and sealed
-abbrev pub unsigned_reply : Configuration → (boot : ℕ) → Fields → Kind → Decision → List ℕ
+abbrev pub unsigned_reply : Configuration → (boot : ℕ) → Fields → MeaningKind → Decision → List ℕ
 unsigned_reply config boot fields kind decision = packet_octets (record {
   code = code_of (said_to kind decision);
   id = fields.id;
@@ -114,19 +113,12 @@ unsigned_reply config boot fields kind decision = packet_octets (record {
       list_octets (reply_attributes config boot (attributes_in fields.attributes) kind decision);
 })
 
--- a packet, signed if it is to be: the value of its Message-Authenticator stands at octet 22, and
--- the Request Authenticator counts as its Authenticator (RFC 3579 section 3.2)
-abbrev pub signed_if : Bool → (packet request_auth secret : List ℕ) → List ℕ
-signed_if is_signed packet request_auth secret =
-    if is_signed then signed packet 22 request_auth secret else packet
-
 -- the octets of the reply to a packet of a client with a meaning of this kind: signed if the
 -- request was, and then sealed, with the client's secret
-unfoldable pub answer_to : Configuration → (boot client : ℕ) → Fields → Kind → Decision → List ℕ
+unfoldable pub answer_to : Configuration → (boot client : ℕ) → Fields → MeaningKind → Decision → List ℕ
 answer_to config boot client fields kind decision =
     sealed
-    (signed_if
-    (is_reply_signed (said_to kind decision) (attributes_in fields.attributes))
+    (signed_by (reply_signing (said_to kind decision) (attributes_in fields.attributes))
     (unsigned_reply config boot fields kind decision)
     fields.authenticator (secret_of config client))
     fields.authenticator (secret_of config client)

@@ -1,11 +1,13 @@
 pub mod Request
+pub mod Occurrences
 pub mod Signature
+pub mod Status
 pub mod Access
 pub mod Accounting
 pub mod Dropped
 pub mod Copied
 pub mod Meaning
-pub mod Kind
+pub mod MeaningKind
 pub mod Prepared
 pub mod Answer
 pub mod Draft

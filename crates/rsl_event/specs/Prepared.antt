@@ -6,8 +6,8 @@ use Rattle.rsl_event.specs.Meaning.{Fails}
 use Rattle.rsl_event.specs.Request.{proxy_len}
 use Rattle.rsl_event.specs.declared.event.Act.{Act}
 use Rattle.rsl_event.specs.declared.event.Act.TheVariants.{Sweep, Tick}
-use Rattle.rsl_event.specs.declared.kind.Kind.{Kind}
-use Rattle.rsl_event.specs.declared.kind.Kind.TheVariants as kinds
+use Rattle.rsl_event.specs.declared.meaning_kind.MeaningKind.{MeaningKind}
+use Rattle.rsl_event.specs.declared.meaning_kind.MeaningKind.TheVariants as kinds
 use Rattle.rsl_event.specs.declared.meaning.Dropped.{Dropped}
 use Rattle.rsl_event.specs.declared.meaning.Meaning.{Meaning}
 use Rattle.rsl_event.specs.declared.meaning.Meaning.TheVariants.{Bare, Own}
@@ -30,7 +30,7 @@ HasAccount config (Own account act) = account < length config.accounts
 HasAccount config _ = Unit {0}
 
 -- an account that asks is one of the configuration
-abbrev pub HasAsker : Configuration → Kind → Type 0
+abbrev pub HasAsker : Configuration → MeaningKind → Type 0
 HasAsker config (kinds.Ask account) = account < length config.accounts
 HasAsker config _ = Unit {0}
 
@@ -40,7 +40,7 @@ HasRoomForReply attributes Bare = Unit {0}
 HasRoomForReply attributes _ = HasProxyStates attributes
 
 -- the same of a reply to a meaning of this kind
-abbrev pub HasRoomFor : (attributes : List ℕ) → Kind → Type 0
+abbrev pub HasRoomFor : (attributes : List ℕ) → MeaningKind → Type 0
 HasRoomFor attributes kinds.Bare = Unit {0}
 HasRoomFor attributes _ = HasProxyStates attributes
 
@@ -62,7 +62,7 @@ pub record IsPrepared (config : Configuration) (prepared : Prepared) : Type 0 wh
   pub room : HasRoomForReply prepared.packet.attrs.now prepared.meaning
 
 -- what a reply can be made to: a packet of a client, with a meaning of this kind
-pub record CanReply (config : Configuration) (client : ℕ) (attributes : List ℕ) (kind : Kind)
+pub record CanReply (config : Configuration) (client : ℕ) (attributes : List ℕ) (kind : MeaningKind)
     : Type 0 where
   pub known : client < length config.clients
   pub asker : HasAsker config kind

@@ -4,12 +4,14 @@ use Rattle.std.specs.Prelude.{ℕ, ◌+◌, ◌==◌, ◌&&◌, nat_lt, Bool, tr
 use Rattle.std.specs.List.{before_first}
 use Rattle.std.specs.Option.{option_map_or}
 use Rattle.rsl_accounts.specs.Configuration.{Configuration}
-use Rattle.rsl_auth.specs.Signature.{is_signed}
+use Rattle.rsl_auth.specs.Signature.{is_signed, signed}
 use Rattle.rsl_wire.specs.Attributes.{Attribute, attribute_of, is_kind, list_octets}
 use Rattle.rsl_wire.specs.Packet.{Fields, packet_octets}
 use Rattle.rsl_event.specs.Request.{attribute_count, secret_of, text_of}
 use Rattle.rsl_event.specs.declared.meaning.Dropped.{Dropped}
 use Rattle.rsl_event.specs.declared.meaning.Dropped.TheVariants.{BadSignature, Unsigned}
+use Rattle.rsl_event.specs.declared.signing.Signing.{Signing}
+use Rattle.rsl_event.specs.declared.signing.Signing.TheVariants.{Plain, Signed}
 use Rattle.rsl_event.specs.declared.words.Said.{Said}
 use Rattle.rsl_event.specs.declared.words.Said.TheVariants as words
 use Rattle.rsl_event.specs.declared.codes.TheConstants.{MESSAGE_AUTHENTICATOR}
@@ -29,15 +31,15 @@ before_signature attributes = before_first (is_kind MESSAGE_AUTHENTICATOR) attri
 
 -- where its value stands in the packet: after the header of 20 octets, those attributes, its Type
 -- and its Length
-abbrev pub signature_place : List Attribute → ℕ
-signature_place attributes = 22 + length (list_octets (before_signature attributes))
+abbrev pub signature_offset : List Attribute → ℕ
+signature_offset attributes = 22 + length (list_octets (before_signature attributes))
 
 -- there is exactly one Message-Authenticator, of 16 octets, and it is that of the packet
 unfoldable pub has_right_signature : Fields → List Attribute → (secret : List ℕ) → Bool
 has_right_signature fields attributes secret =
     attribute_count MESSAGE_AUTHENTICATOR attributes == 1
     && length (text_of MESSAGE_AUTHENTICATOR attributes) == 16
-    && is_signed (packet_octets fields) (signature_place attributes) secret
+    && is_signed (packet_octets fields) (signature_offset attributes) secret
 
 -- why a request with these attributes is dropped, if it is for its Message-Authenticator
 abbrev pub signature_drop : Configuration → (client : ℕ) → Fields → List Attribute → Option Dropped
@@ -52,15 +54,27 @@ abbrev pub is_access : Said → Bool
 is_access words.Account = false
 is_access _ = true
 
--- whether a reply is signed: it answers an Access-Request that carried a Message-Authenticator
-abbrev pub is_reply_signed : Said → (request : List Attribute) → Bool
-is_reply_signed word request = is_access word && has_signature request
+-- signed where it is to be
+abbrev pub signing_if : Bool → Signing
+signing_if false = Plain
+signing_if true = Signed
+
+-- that of a reply: it is signed where it answers an Access-Request that carried a
+-- Message-Authenticator
+abbrev pub reply_signing : Said → (request : List Attribute) → Signing
+reply_signing word request = signing_if (is_access word && has_signature request)
 
 -- its Message-Authenticator, before the value is known: the first attribute
 abbrev pub unsigned_signature : Attribute
 unsigned_signature = attribute_of MESSAGE_AUTHENTICATOR (replicate 16 0)
 
--- that of a reply, if it is signed
-abbrev pub signature_if : Bool → List Attribute
-signature_if false = []
-signature_if true = unsigned_signature ∷ []
+-- that of a packet, if it is signed
+abbrev pub signature_attributes : Signing → List Attribute
+signature_attributes Plain = []
+signature_attributes Signed = unsigned_signature ∷ []
+
+-- a packet, signed if it is to be: the value of its Message-Authenticator stands at octet 22, and
+-- the Request Authenticator counts as its Authenticator (RFC 3579 section 3.2)
+abbrev pub signed_by : Signing → (packet request_auth secret : List ℕ) → List ℕ
+signed_by Plain packet request_auth secret = packet
+signed_by Signed packet request_auth secret = signed packet 22 request_auth secret

@@ -1,16 +1,17 @@
 ghost use Rattle.std.specs.Prelude.{◌≡◌, ◌<◌, IfSome, length};
 ghost use Rattle.rsl_wire.specs.Seen.{fields_of};
-ghost use Rattle.rsl_event.specs.Access.{asks_once, shows_password, asker, access_meaning};
+ghost use Rattle.rsl_event.specs.Access.{shows_password, asker, access_meaning};
 ghost use Rattle.rsl_event.specs.Meaning.{Gives};
 
-use crate::codes::{ACCESS_REQUEST, CHAP_CHALLENGE, CHAP_PASSWORD, USER_NAME, USER_PASSWORD};
+use crate::access_attributes::AccessAttributes;
+use crate::codes::ACCESS_REQUEST;
 use crate::event::{Act, Key, Source};
 use crate::meaning::{Dropped, Meaning};
-use crate::request::{access_server_of, account_named, has_long_proxy_states};
+use crate::request::{access_server, account_named};
 use crate::signature::signature_drop;
 use rsl_accounts::Config;
 use rsl_auth::{chap_ok, pap_ok};
-use rsl_wire::{Attrs, Packet};
+use rsl_wire::Packet;
 use std::alloc::Global;
 
 /// What a packet of this client on the authentication port means.
@@ -35,10 +36,11 @@ pub(crate) fn access_meaning(
             Ok(Meaning::Bare)
         };
     };
+    let attributes = AccessAttributes::of(attributes);
     if let Some(dropped) = signature_drop(config, client, packet, &attributes) {
         return Err(dropped);
     }
-    if has_long_proxy_states(&attributes) {
+    if attributes.has_long_proxy_states() {
         return Err(Dropped::ProxyTooLong);
     }
     let Some(account) = asker(config, client, &packet.authenticator, &attributes) else {
@@ -49,7 +51,12 @@ pub(crate) fn access_meaning(
         id: packet.id,
         authenticator: packet.authenticator,
     };
-    let nas = access_server_of(alloc, client, &attributes)?;
+    let nas = access_server(
+        alloc,
+        client,
+        attributes.identifiers.first,
+        attributes.addresses.first,
+    )?;
     Ok(Meaning::Own {
         account,
         act: Act::Ask { key, nas },
@@ -62,16 +69,16 @@ fn asker(
     config: &Config,
     client: u32,
     authenticator: &[u8; 16],
-    attributes: &Attrs<'_>,
+    attributes: &AccessAttributes<'_>,
 ) -> Option<u32>
     requires { client < length config.now.clients }
-    ensures account { result ≡ asker config.now client authenticator.now attributes.now }
+    ensures account { result ≡ asker config.now client authenticator.now attributes.now.all }
     ensures within { IfSome result (λ account. account < length config.now.accounts) }
 {
-    if !asks_once(attributes) {
+    if !attributes.ask_once() {
         return None;
     }
-    let account = account_named(config, attributes)?;
+    let account = account_named(config, attributes.names.first)?;
     let secret = config.client_at(client).secret.expose();
     let password = config.entry(account).password.expose();
     if shows_password(secret, authenticator, attributes, password) {
@@ -81,40 +88,22 @@ fn asker(
     }
 }
 
-/// Whether there is exactly one User-Name, exactly one password, of either kind, and at most one
-/// CHAP-Challenge. It goes over the attributes once.
-fn asks_once(attributes: &Attrs<'_>) -> bool
-    ensures { result ≡ asks_once attributes.now }
-{
-    let mut names = 0usize;
-    let mut passwords = 0usize;
-    let mut challenges = 0usize;
-    for (kind, _) in attributes.iter() {
-        match kind {
-            USER_NAME => names += 1,
-            USER_PASSWORD | CHAP_PASSWORD => passwords += 1,
-            CHAP_CHALLENGE => challenges += 1,
-            _ => (),
-        }
-    }
-    names == 1 && passwords == 1 && challenges <= 1
-}
-
 /// Whether the User-Password or the CHAP-Password is right for this password.
 fn shows_password(
     secret: &[u8],
     authenticator: &[u8; 16],
-    attributes: &Attrs<'_>,
+    attributes: &AccessAttributes<'_>,
     password: &[u8],
 ) -> bool
-    ensures { result ≡ shows_password secret.now authenticator.now attributes.now password.now }
+    ensures { result ≡
+        shows_password secret.now authenticator.now attributes.now.all password.now }
 {
-    if let Some(value) = attributes.first(USER_PASSWORD) {
+    if let Some(value) = attributes.user_passwords.first {
         return pap_ok(value, secret, authenticator, password);
     }
-    match attributes.first(CHAP_PASSWORD) {
+    match attributes.chap_passwords.first {
         Some(value) => {
-            let challenge = attributes.first(CHAP_CHALLENGE).unwrap_or(authenticator);
+            let challenge = attributes.challenges.first.unwrap_or(authenticator);
             chap_ok(value, challenge, password)
         }
         None => false,

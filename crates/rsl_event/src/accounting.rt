@@ -7,6 +7,7 @@ ghost use Rattle.rsl_event.specs.Accounting.{
   class_in,
   unless_empty,
   note_of,
+  if_session,
   session_act,
   status_meaning,
   accounting_meaning,
@@ -14,12 +15,13 @@ ghost use Rattle.rsl_event.specs.Accounting.{
 ghost use Rattle.rsl_event.specs.Meaning.{Gives};
 
 use crate::codes::{
-    ACCOUNTING_OFF, ACCOUNTING_ON, ACCOUNTING_REQUEST, ACCT_MULTI_SESSION_ID, ACCT_SESSION_ID,
-    ACCT_STATUS_TYPE, CLASS, CLASS_LEN, INTERIM_UPDATE, START, STOP, USER_NAME,
+    ACCOUNTING_REQUEST, ACCT_MULTI_SESSION_ID, ACCT_SESSION_ID, ACCT_STATUS_TYPE, CLASS, CLASS_LEN,
+    USER_NAME,
 };
 use crate::event::Act;
 use crate::meaning::{Dropped, Meaning, Note};
 use crate::request::{access_server_of, account_named, has_long_proxy_states, text_of};
+use crate::status::Status;
 use rsl_accounts::Config;
 use rsl_auth::accounting_ok;
 use rsl_wire::{Attrs, NoMemory, Octets, Packet};
@@ -50,42 +52,54 @@ pub(crate) fn accounting_meaning(
     if has_long_proxy_states(&attributes) {
         return Err(Dropped::ProxyTooLong);
     }
-    let Some(status) = attributes.number(ACCT_STATUS_TYPE) else {
+    let Some(number) = attributes.number(ACCT_STATUS_TYPE) else {
         return Err(Dropped::NoStatus);
     };
-    status_meaning(alloc, config, boot, client, status, &attributes)
+    status_meaning(alloc, config, boot, client, number, &attributes)
 }
 
-/// What an accounting packet of this status means.
+/// What an accounting packet means whose Acct-Status-Type has this number.
 #[tactic(auto, unfolding(crate::specs::Accounting::status_meaning))]
 fn status_meaning(
     alloc: Global,
     config: &Config,
     boot: u64,
     client: u32,
-    status: u32,
+    number: u32,
     attributes: &Attrs<'_>,
 ) -> Result<Meaning, Dropped>
-    ensures { Gives result (status_meaning config.now boot client status attributes.now) }
+    ensures { Gives result (status_meaning config.now boot client number attributes.now) }
 {
-    match status {
-        ACCOUNTING_ON | ACCOUNTING_OFF => Ok(Meaning::Restart {
+    match Status::from_number(number) {
+        Some(Status::AccountingOn | Status::AccountingOff) => Ok(Meaning::Restart {
             nas: access_server_of(alloc, client, attributes)?,
         }),
-        START | INTERIM_UPDATE | STOP => {
-            if text_of(attributes, ACCT_SESSION_ID).is_empty() {
-                return Err(Dropped::NoSession);
-            }
-            Ok(match account_named(config, attributes) {
-                Some(account) => Meaning::Own {
-                    account,
-                    act: session_act(alloc, boot, client, status, attributes)?,
-                },
-                None => Meaning::Stray(note_of(alloc, client, status, attributes)?),
-            })
-        }
-        _ => Ok(Meaning::Stray(note_of(alloc, client, status, attributes)?)),
+        Some(status) => session_meaning(alloc, config, boot, client, status, attributes),
+        None => Ok(Meaning::Stray(note_of(alloc, client, number, attributes)?)),
     }
+}
+
+/// What a packet means that reports on a session.
+fn session_meaning(
+    alloc: Global,
+    config: &Config,
+    boot: u64,
+    client: u32,
+    status: Status,
+    attributes: &Attrs<'_>,
+) -> Result<Meaning, Dropped>
+    ensures { Gives result (if_session config.now boot client status attributes.now) }
+{
+    if text_of(attributes, ACCT_SESSION_ID).is_empty() {
+        return Err(Dropped::NoSession);
+    }
+    Ok(match account_named(config, attributes.first(USER_NAME)) {
+        Some(account) => Meaning::Own {
+            account,
+            act: session_act(alloc, boot, client, status, attributes)?,
+        },
+        None => Meaning::Stray(note_of(alloc, client, status.number(), attributes)?),
+    })
 }
 
 /// A session of an account has ended, or goes on.
@@ -93,14 +107,14 @@ fn session_act(
     alloc: Global,
     boot: u64,
     client: u32,
-    status: u32,
+    status: Status,
     attributes: &Attrs<'_>,
 ) -> Result<Act, NoMemory>
     ensures { IfOk result (λ act. act ≡ session_act boot client status attributes.now) }
 {
     let nas = access_server_of(alloc, client, attributes)?;
     let session = Octets::from_slice(alloc, text_of(attributes, ACCT_SESSION_ID))?;
-    if status == STOP {
+    if let Status::Stop = status {
         return Ok(Act::Stop { nas, session });
     }
     let bundle = bundle_in(alloc, attributes)?;
@@ -163,18 +177,18 @@ fn number_of(octets: &[u8]) -> u64
     ])
 }
 
-/// What is noted of a packet.
+/// What is noted of a packet whose Acct-Status-Type has this number.
 fn note_of(
     alloc: Global,
     client: u32,
-    status: u32,
+    number: u32,
     attributes: &Attrs<'_>,
 ) -> Result<Note, NoMemory>
-    ensures { IfOk result (λ note. note ≡ note_of client status attributes.now) }
+    ensures { IfOk result (λ note. note ≡ note_of client number attributes.now) }
 {
     Ok(Note {
         nas: access_server_of(alloc, client, attributes)?,
-        status,
+        status: number,
         name: Octets::from_slice(alloc, text_of(attributes, USER_NAME))?,
         session: Octets::from_slice(alloc, text_of(attributes, ACCT_SESSION_ID))?,
     })

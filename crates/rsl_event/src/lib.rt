@@ -9,25 +9,30 @@
 #![tactic(auto)]
 
 mod access;
+mod access_attributes;
 mod accounting;
 pub mod codes;
 mod event;
-mod kind;
 mod meaning;
+mod meaning_kind;
 mod nas;
+mod occurrences;
 mod preparing;
 mod replying;
 mod request;
 mod signature;
+mod signing;
+mod status;
 mod words;
 mod writing;
 
 pub use event::{Act, Decision, Event, Key, Source};
-pub use kind::Kind;
 pub use meaning::{Dropped, Meaning, Note, Port, Prepared};
+pub use meaning_kind::MeaningKind;
 pub use nas::{Nas, NasName};
 pub use preparing::prepare;
 pub use replying::{reply, reply_to, room, room_in, said};
-pub use signature::{push_signature_if, signed_if};
+pub use signing::Signing;
+pub use status::Status;
 pub use words::Said;
 pub use writing::class_octets;

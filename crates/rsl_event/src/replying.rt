@@ -1,6 +1,6 @@
-ghost use Rattle.std.specs.Prelude.{◌≡◌, ◌<◌, ◌≤◌, [], length, replicate, unwrap_or, vec_capacity, vec_len, IfOk, IfSome, IsOk, IsTrue};
+ghost use Rattle.std.specs.Prelude.{◌≡◌, ◌<◌, ◌≤◌, [], length, replicate, unwrap_or, vec_capacity, vec_len, IfOk, IfSome, IsOk, Ok};
 ghost use Rattle.std.specs.List.{AllByRecursion};
-ghost use Rattle.rsl_wire.specs.Attributes.{IsAttribute, attributes_in, list_octets};
+ghost use Rattle.rsl_wire.specs.Attributes.{IsAttribute, attribute_list, attributes_in, list_octets};
 ghost use Rattle.rsl_wire.specs.Packet.{packet_octets};
 ghost use Rattle.rsl_wire.specs.Seen.{fields_of};
 ghost use Rattle.rsl_event.specs.Answer.{
@@ -11,20 +11,19 @@ ghost use Rattle.rsl_event.specs.Answer.{
   repeated_attributes,
   said,
   said_attributes,
-  signed_if,
 };
 ghost use Rattle.rsl_event.specs.Draft.{with_more};
 ghost use Rattle.rsl_event.specs.Request.{proxy_len};
 ghost use Rattle.rsl_event.specs.declared.codes.TheConstants.{MAX_PROXY_STATE_LEN};
-ghost use Rattle.rsl_event.specs.declared.kind.Kind.TheVariants as kinds;
-ghost use Rattle.rsl_event.specs.Signature.{is_reply_signed};
+ghost use Rattle.rsl_event.specs.declared.meaning_kind.MeaningKind.TheVariants as kinds;
+ghost use Rattle.rsl_event.specs.Signature.{reply_signing, signed_by};
 ghost use Rattle.rsl_event.specs.Prepared.{CanReply, HasAsker, IsPrepared};
 
-use crate::codes::{ACCESS_ACCEPT, ACCESS_REJECT, ACCOUNTING_RESPONSE};
+use crate::codes::{ACCESS_ACCEPT, ACCESS_REJECT, ACCOUNTING_RESPONSE, MESSAGE_AUTHENTICATOR};
 use crate::event::Decision;
-use crate::kind::Kind;
 use crate::meaning::{Meaning, Prepared};
-use crate::signature::{has_signature, push_signature_if, signed_if};
+use crate::meaning_kind::MeaningKind;
+use crate::signing::Signing;
 use crate::words::Said;
 use crate::writing::{push_accept, push_limit_message, push_proxy_states};
 use rsl_accounts::Config;
@@ -94,7 +93,7 @@ pub fn reply(
 pub fn reply_to(
     request: &Packet<'_>,
     client: u32,
-    kind: Kind,
+    kind: MeaningKind,
     config: &Config,
     boot: u64,
     decision: Decision,
@@ -106,40 +105,46 @@ pub fn reply_to(
         answer_to config.now boot client (fields_of request.now) kind decision }
 {
     let word = kind.said(decision);
-    let attributes = attributes_of(request);
-    let is_signed = is_reply_signed(word, &attributes);
+    let attributes = attributes_of(request, kind);
+    let signing = reply_signing(word, &attributes);
     let mut draft = draft;
-    push_signature_if(is_signed, &mut draft);
+    signing.push(&mut draft);
     write_said(config, boot, kind, decision, &mut draft);
     write_repeated(&attributes, kind, &mut draft);
     let request_auth = &request.authenticator;
     let secret = config.client_at(client).secret.expose();
-    let octets = finish(draft, code_of(word), is_signed, request_auth, secret);
+    let octets = finish(draft, code_of(word), signing, request_auth, secret);
     sealed(octets, request_auth, secret)
 }
 
-/// The attributes of a request, and none of a malformed list.
-fn attributes_of<'a>(request: &Packet<'a>) -> Option<Attrs<'a>>
+/// The attributes of a request with a meaning of this kind, and none of a malformed list: only that
+/// of a bare request can be malformed, and the others are not read again.
+fn attributes_of<'a>(request: &Packet<'a>, kind: MeaningKind) -> Option<Attrs<'a>>
+    requires { (kind ≡ kinds.Bare → ⊥) → attribute_list request.now.attrs.now ≡
+        Ok (attributes_in request.now.attrs.now) }
     ensures list { unwrap_or result [] ≡ attributes_in request.now.attrs.now }
     ensures each { IfSome result (AllByRecursion IsAttribute) }
 {
+    let MeaningKind::Bare = kind else {
+        return Some(request.well_formed_attributes());
+    };
     match request.attributes() {
         Ok(attributes) => Some(attributes),
         Err(_) => None,
     }
 }
 
-/// Whether a reply with this word is signed: it answers an Access-Request of which the well-formed
-/// list has a Message-Authenticator.
-fn is_reply_signed(word: Said, request: &Option<Attrs<'_>>) -> bool
-    ensures { result ≡ is_reply_signed word (unwrap_or request.now []) }
+/// The signing of a reply with this word: it is signed where it answers an Access-Request of which
+/// the well-formed list has a Message-Authenticator.
+fn reply_signing(word: Said, request: &Option<Attrs<'_>>) -> Signing
+    ensures { result ≡ reply_signing word (unwrap_or request.now []) }
 {
     if let Said::Account = word {
-        return false;
+        return Signing::Plain;
     }
     match request {
-        Some(attributes) => has_signature(attributes),
-        None => false,
+        Some(attributes) if attributes.count(MESSAGE_AUTHENTICATOR) > 0 => Signing::Signed,
+        _ => Signing::Plain,
     }
 }
 
@@ -148,12 +153,12 @@ fn is_reply_signed(word: Said, request: &Option<Attrs<'_>>) -> bool
 fn finish(
     draft: Draft,
     code: u8,
-    is_signed: bool,
+    signing: Signing,
     request_auth: &[u8; 16],
     secret: &[u8],
 ) -> Vec<u8>
-    requires { IsTrue is_signed → 18 ≤ length draft.attributes }
-    ensures octets { result.items ≡ signed_if is_signed
+    requires { signing ≡ Signing.Signed → 18 ≤ length draft.attributes }
+    ensures octets { result.items ≡ signed_by signing
         (packet_octets (record {
           code = code;
           id = draft.id;
@@ -164,7 +169,7 @@ fn finish(
     ensures header { 20 ≤ vec_len result }
 {
     let octets = draft.finish(code, &[0; 16]);
-    signed_if(is_signed, octets, request_auth, secret)
+    signing.sign(octets, request_auth, secret)
 }
 
 /// The Code of a reply.
@@ -179,7 +184,7 @@ fn code_of(said: Said) -> u8
 }
 
 /// Writes what the server says into a draft that has at most a Message-Authenticator.
-fn write_said(config: &Config, boot: u64, kind: Kind, decision: Decision, draft: &mut Draft)
+fn write_said(config: &Config, boot: u64, kind: MeaningKind, decision: Decision, draft: &mut Draft)
     requires asker { HasAsker config.now kind }
     requires room { length draft.old.attributes ≤ 18 }
     ensures written { draft.new ≡ with_more draft.old
@@ -187,13 +192,13 @@ fn write_said(config: &Config, boot: u64, kind: Kind, decision: Decision, draft:
     ensures short { length draft.new.attributes ≤ 66 }
     ensures kept { length draft.old.attributes ≤ length draft.new.attributes }
 {
-    if let Kind::Ask(account) = kind {
+    if let MeaningKind::Ask(account) = kind {
         write_decision(config, boot, account, decision, draft);
     }
 }
 
 /// Writes what the reply repeats of the request: its Proxy-States.
-fn write_repeated(request: &Option<Attrs<'_>>, kind: Kind, draft: &mut Draft)
+fn write_repeated(request: &Option<Attrs<'_>>, kind: MeaningKind, draft: &mut Draft)
     requires each { IfSome request.now (AllByRecursion IsAttribute) }
     requires room { (kind ≡ kinds.Bare → ⊥) →
         proxy_len (unwrap_or request.now []) ≤ MAX_PROXY_STATE_LEN }
@@ -202,7 +207,7 @@ fn write_repeated(request: &Option<Attrs<'_>>, kind: Kind, draft: &mut Draft)
         (unwrap_or request.now []) kind)) }
     ensures kept { length draft.old.attributes ≤ length draft.new.attributes }
 {
-    if let Kind::Bare = kind {
+    if let MeaningKind::Bare = kind {
         return;
     }
     if let Some(attributes) = request {

@@ -1,8 +1,10 @@
-ghost use Rattle.std.specs.Prelude.{◌≡◌, ◌<◌, IfOk, IfSome, OnErr, length, nat_lt};
+ghost use Rattle.std.specs.Prelude.{◌≡◌, ◌<◌, IfOk, IfSome, OnErr, length, nat_lt, option_and_then};
+ghost use Rattle.rsl_accounts.specs.Configuration.{account_number};
 ghost use Rattle.rsl_event.specs.Copied.{IsNamed};
-ghost use Rattle.rsl_event.specs.Request.{access_server_of, named_account, proxy_len, text_of};
+ghost use Rattle.rsl_event.specs.Occurrences.{value_of};
+ghost use Rattle.rsl_event.specs.Request.{access_server_of, nas_name_of, proxy_len, text_of};
 
-use crate::codes::{MAX_PROXY_STATE_LEN, NAS_IDENTIFIER, NAS_IP_ADDRESS, PROXY_STATE, USER_NAME};
+use crate::codes::{MAX_PROXY_STATE_LEN, NAS_IDENTIFIER, NAS_IP_ADDRESS, PROXY_STATE};
 use crate::nas::{Nas, NasName};
 use rsl_accounts::Config;
 use rsl_wire::{ATTR_HEADER_LEN, Attrs, NoMemory, Octets};
@@ -18,9 +20,29 @@ pub(crate) fn access_server_of(
     ensures found { IfOk result (λ nas. nas ≡ access_server_of client attributes.now) }
     ensures refused { OnErr result (IsNamed (access_server_of client attributes.now).name) }
 {
-    let name = if let Some(identifier) = attributes.first(NAS_IDENTIFIER) {
+    match attributes.first(NAS_IDENTIFIER) {
+        Some(identifier) => access_server(alloc, client, Some(identifier), None),
+        None => access_server(alloc, client, None, attributes.first(NAS_IP_ADDRESS)),
+    }
+}
+
+/// The access server of a client by a NAS-Identifier, else by a NAS-IP-Address, else unnamed.
+pub(crate) fn access_server(
+    alloc: Global,
+    client: u32,
+    identifier: Option<&[u8]>,
+    address: Option<&[u8]>,
+) -> Result<Nas, NoMemory>
+    ensures found { IfOk result (λ nas. nas ≡ record {
+      client = client;
+      name = nas_name_of (value_of identifier.entry) (value_of address.entry);
+    }) }
+    ensures refused { OnErr result (IsNamed (nas_name_of
+        (value_of identifier.entry) (value_of address.entry))) }
+{
+    let name = if let Some(identifier) = identifier {
         NasName::Identifier(Octets::from_slice(alloc, identifier)?)
-    } else if let Some(address) = attributes.first(NAS_IP_ADDRESS) {
+    } else if let Some(address) = address {
         NasName::Address(Octets::from_slice(alloc, address)?)
     } else {
         NasName::Unnamed
@@ -28,12 +50,13 @@ pub(crate) fn access_server_of(
     Ok(Nas { client, name })
 }
 
-/// The number of the account that has the first User-Name.
-pub(crate) fn account_named(config: &Config, attributes: &Attrs<'_>) -> Option<u32>
-    ensures number { result ≡ named_account config.now attributes.now }
+/// The number of the account that has a User-Name, if there is one.
+pub(crate) fn account_named(config: &Config, name: Option<&[u8]>) -> Option<u32>
+    ensures number { result ≡
+        option_and_then (λ found. account_number config.now found) (value_of name.entry) }
     ensures within { IfSome result (λ account. account < length config.now.accounts) }
 {
-    match attributes.first(USER_NAME) {
+    match name {
         Some(name) => config.account(name),
         None => None,
     }

@@ -1,12 +1,12 @@
 -- What is written into an Access-Request, one part after another.
-use Rattle.std.proofs.Common.{◌≡◌, ℕ, Bool, List, [], ◌++◌, sym, ap, ◌∙◌, append_assoc}
+use Rattle.std.proofs.Common.{◌≡◌, ℕ, List, [], ◌++◌, sym, ap, ◌∙◌, append_assoc}
 use Rattle.std.proofs.lemmas.List.Concat.{flat_map-append}
 use Rattle.md5.specs.Md5.{md5}
 use Rattle.rsl_wire.specs.Attributes.{Attribute, attribute_octets, attribute_of, list_octets}
-use Rattle.rsl_wire.specs.Begun.{Begun}
+use Rattle.rsl_wire.specs.DraftSeen.{Begun}
 use Rattle.rsl_wire.specs.Packet.{packet_octets}
-use Rattle.rsl_event.specs.Answer.{signed_if}
-use Rattle.rsl_event.specs.Signature.{signature_if}
+use Rattle.rsl_event.specs.Signature.{signature_attributes, signed_by}
+use Rattle.rsl_event.specs.declared.signing.Signing.{Signing}
 use Rattle.rsl_event.specs.declared.codes.TheConstants.{ACCESS_REQUEST, USER_NAME, NAS_IDENTIFIER}
 use Rattle.rsl_script.specs.declared.request.AccessRequest.{AccessRequest}
 use Rattle.rsl_replay.specs.Access.{access_octets, password_kind, password_value, request_attributes}
@@ -36,21 +36,21 @@ request_pushed request name value kind start a b c en ek ea eb ec =
     λ k. record { id = id_is k; attributes = attributes_are k }
 
 -- the request, from the drafts before it
-pub access_is : (request : AccessRequest) (is_signed : Bool) (secret value auth : List ℕ) (start first written : Begun) (result : List ℕ)
+pub access_is : (request : AccessRequest) (signing : Signing) (secret value auth : List ℕ) (start first written : Begun) (result : List ℕ)
     → start ≡ record { id = request.id; attributes = [] }
-    → first ≡ with_attributes start (start.attributes ++ list_octets (signature_if is_signed))
+    → first ≡ with_attributes start (start.attributes ++ list_octets (signature_attributes signing))
     → written ≡ with_attributes first (first.attributes ++ list_octets (request_attributes request value))
     → value ≡ password_value request.method request secret
     → auth ≡ md5 request.text
-    → result ≡ signed_if is_signed (packet_octets (record { code = ACCESS_REQUEST; id = written.id; authenticator = auth; attributes = written.attributes })) auth secret
-    → result ≡ access_octets request is_signed secret
+    → result ≡ signed_by signing (packet_octets (record { code = ACCESS_REQUEST; id = written.id; authenticator = auth; attributes = written.attributes })) auth secret
+    → result ≡ access_octets request signing secret
 unfolding access_octets
-access_is request is_signed secret value auth start first written result e0 e1 e2 ev ea er =
+access_is request signing secret value auth start first written result e0 e1 e2 ev ea er =
     let id_is : written.id ≡ request.id = ap (λ (x : Begun). x.id) e2 ∙ ap (λ (x : Begun). x.id) e1 ∙ ap (λ (x : Begun). x.id) e0 in
-    let attributes_are : written.attributes ≡ list_octets (signature_if is_signed ++ request_attributes request (password_value request.method request secret)) =
+    let attributes_are : written.attributes ≡ list_octets (signature_attributes signing ++ request_attributes request (password_value request.method request secret)) =
     ap (λ (x : Begun). x.attributes) e2
     ∙ ap (λ (x : Begun). x.attributes ++ list_octets (request_attributes request value)) e1
-    ∙ ap (λ (x : Begun). (x.attributes ++ list_octets (signature_if is_signed)) ++ list_octets (request_attributes request value)) e0
-    ∙ ap (λ (x : List ℕ). list_octets (signature_if is_signed) ++ list_octets (request_attributes request x)) ev
-    ∙ sym (flat_map-append attribute_octets (signature_if is_signed) (request_attributes request (password_value request.method request secret))) in
-    er ∙ (λ k. signed_if is_signed (packet_octets (record { code = ACCESS_REQUEST; id = id_is k; authenticator = ea k; attributes = attributes_are k })) (ea k) secret)
+    ∙ ap (λ (x : Begun). (x.attributes ++ list_octets (signature_attributes signing)) ++ list_octets (request_attributes request value)) e0
+    ∙ ap (λ (x : List ℕ). list_octets (signature_attributes signing) ++ list_octets (request_attributes request x)) ev
+    ∙ sym (flat_map-append attribute_octets (signature_attributes signing) (request_attributes request (password_value request.method request secret))) in
+    er ∙ (λ k. signed_by signing (packet_octets (record { code = ACCESS_REQUEST; id = id_is k; authenticator = ea k; attributes = attributes_are k })) (ea k) secret)

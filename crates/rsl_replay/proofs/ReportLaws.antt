@@ -21,7 +21,7 @@ use Rattle.rsl_steps.specs.Own.{own}
 use Rattle.rsl_steps.specs.Ran.{AreShards, HasBookOf, HasMoved, book_in_shard}
 use Rattle.rsl_steps.specs.declared.step.Step.{Step}
 use Rattle.rsl_replay.specs.Report.{row_after, rows_after}
-use Rattle.rsl_replay.specs.Shards.{AreShardsAfter, row_among, row_at_place, rows_seen}
+use Rattle.rsl_replay.specs.Shards.{AreShardsAfter, row_among, row_at_index, rows_seen}
 
 -- ---- the row of an account
 
@@ -35,21 +35,21 @@ clash : false ≡ true → ⊥
 clash h = cc
 
 -- a row stands where its book does
-row_placed : (first shards place : ℕ) (books : List RuledBook) → slice_get (rows_from first shards books) place ≡ option_map (row_of (first + place * shards)) (slice_get books place)
+row_indexed : (first shards index : ℕ) (books : List RuledBook) → slice_get (rows_from first shards books) index ≡ option_map (row_of (first + index * shards)) (slice_get books index)
 unfolding rows_from
-row_placed first shards place [] = refl
-row_placed first shards zero (ruled ∷ books) = ap (λ (account : ℕ). Some (row_of account ruled)) (omega arith)
-row_placed first shards (suc place) (ruled ∷ books) =
-    let long : suc place * shards ≡ place * shards + shards = suc-mul place shards in
-    row_placed (first + shards) shards place books
-    ∙ ap (λ (account : ℕ). option_map (row_of account) (slice_get books place)) (omega (arith, long))
+row_indexed first shards index [] = refl
+row_indexed first shards zero (ruled ∷ books) = ap (λ (account : ℕ). Some (row_of account ruled)) (omega arith)
+row_indexed first shards (suc index) (ruled ∷ books) =
+    let long : suc index * shards ≡ index * shards + shards = suc-mul index shards in
+    row_indexed (first + shards) shards index books
+    ∙ ap (λ (account : ℕ). option_map (row_of account) (slice_get books index)) (omega (arith, long))
 
--- the row of an account, by the place of its book in its shard
+-- the row of an account, by the index of its book in its shard
 row_in_shard : (setup : Setup) (books : List RuledBook) (account : ℕ) (ruled : RuledBook) → 0 < setup.shards → account % setup.shards ≡ setup.shard
     → book_at setup books account ≡ Some ruled → slice_get (rows_of setup books) (account / setup.shards) ≡ Some (row_of account ruled)
 row_in_shard setup books account ruled some is has =
     let at : account ≡ setup.shard + account / setup.shards * setup.shards = account_is setup.shards setup.shard account is in
-    row_placed setup.shard setup.shards (account / setup.shards) books
+    row_indexed setup.shard setup.shards (account / setup.shards) books
     ∙ ap (λ (n : ℕ). option_map (row_of n) (slice_get books (account / setup.shards))) (sym at)
     ∙ ap (option_map (row_of account)) (sym (book_at_index setup.shard setup.shards account (account / setup.shards) books some at) ∙ has)
 
@@ -64,7 +64,7 @@ row_of_shards config boot before shards account ruled (Some seen) are some is ha
     let in_it : slice_get (rows_seen seen) (account / seen.setup.shards) ≡ Some (row_of account ruled) =
     row_in_shard seen.setup (books_of seen) account ruled (omega (arith, some, ap (λ (s : Setup). s.shards) moved.setup))
     (ap (λ (s : Setup). account % s.shards) moved.setup ∙ sym (ap (λ (s : Setup). s.shard) moved.setup)) has in
-    ap (λ (rows : Option (List Row)). row_at_place rows (account / config.settings.shards)) (slice_get-map rows_seen shards (account % config.settings.shards) ∙ ap (option_map rows_seen) is)
+    ap (λ (rows : Option (List Row)). row_at_index rows (account / config.settings.shards)) (slice_get-map rows_seen shards (account % config.settings.shards) ∙ ap (option_map rows_seen) is)
     ∙ ap (λ (s : Setup). slice_get (rows_seen seen) (account / s.shards)) (sym moved.setup)
     ∙ in_it
 
@@ -169,13 +169,13 @@ table_there items shards account tables some = by (cases_lt (account % shards) (
     by (inl less) = less
     by (inr past) =
         absurd (clash (subst IsSome
-        (ap (λ (rows : Option (List Row)). row_at_place rows (account / shards))
+        (ap (λ (rows : Option (List Row)). row_at_index rows (account / shards))
         (slice_get_past (map items tables) (account % shards) (omega (arith, past, length-map tables items)))) some))
 
 table_is : {V : Type 0} (items : V → List Row) (shards account : ℕ) (tables : List V) (table : V) → account % shards < length tables
     → table ≡ get_or tables (account % shards) table → row_among shards (map items tables) account ≡ slice_get (items table) (account / shards)
 table_is items shards account tables table less is =
-    ap (λ (rows : Option (List Row)). row_at_place rows (account / shards))
+    ap (λ (rows : Option (List Row)). row_at_index rows (account / shards))
     (slice_get-map items tables (account % shards) ∙ ap (option_map items) (slice_get_read tables (length tables) (account % shards) table refl less is))
 
 -- the row is among them

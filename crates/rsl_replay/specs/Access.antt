@@ -1,12 +1,12 @@
 -- The Access-Request that a line stands for (RFC 2865 section 4.1). Its Request Authenticator is
 -- the digest of the line without its moment. That of a client whose requests must be signed has a
 -- Message-Authenticator as its first attribute (RFC 3579 section 3.2).
-use Rattle.std.specs.Prelude.{ℕ, Bool, List, ◌∷◌, ◌++◌}
+use Rattle.std.specs.Prelude.{ℕ, List, ◌∷◌, ◌++◌}
 use Rattle.md5.specs.Md5.{md5}
 use Rattle.rsl_auth.specs.Chap.{chap_response}
 use Rattle.rsl_auth.specs.Password.{hidden}
-use Rattle.rsl_event.specs.Answer.{signed_if}
-use Rattle.rsl_event.specs.Signature.{signature_if}
+use Rattle.rsl_event.specs.Signature.{signature_attributes, signed_by}
+use Rattle.rsl_event.specs.declared.signing.Signing.{Signing}
 use Rattle.rsl_event.specs.declared.codes.TheConstants.{ACCESS_REQUEST, USER_NAME, USER_PASSWORD, CHAP_PASSWORD, NAS_IDENTIFIER}
 use Rattle.rsl_wire.specs.Attributes.{Attribute, attribute_of, list_octets}
 use Rattle.rsl_wire.specs.Packet.{packet_octets}
@@ -34,15 +34,15 @@ request_attributes request password =
     ∷ text_attribute NAS_IDENTIFIER request.nas
 
 -- the octets of the request to a server that shares this secret
-unfoldable pub access_octets : AccessRequest → (is_signed : Bool) → (secret : List ℕ) → List ℕ
-access_octets request is_signed secret =
-    signed_if is_signed
+unfoldable pub access_octets : AccessRequest → Signing → (secret : List ℕ) → List ℕ
+access_octets request signing secret =
+    signed_by signing
     (packet_octets (record {
       code = ACCESS_REQUEST;
       id = request.id;
       authenticator = md5 request.text;
       attributes =
-          list_octets (signature_if is_signed
+          list_octets (signature_attributes signing
           ++ request_attributes request (password_value request.method request secret));
     }))
     (md5 request.text) secret

@@ -20,12 +20,12 @@ pub record AreShardsAfter (config : Configuration) (boot : ℕ) (before : List S
 abbrev pub rows_seen : ShardSeen → List Row
 rows_seen seen = rows_of seen.setup (books_of seen)
 
--- the row at a place of a shard's rows
-abbrev pub row_at_place : Option (List Row) → (place : ℕ) → Option Row
-row_at_place None place = None
-row_at_place (Some rows) place = slice_get rows place
+-- the row at an index of a shard's rows
+abbrev pub row_at_index : Option (List Row) → (index : ℕ) → Option Row
+row_at_index None index = None
+row_at_index (Some rows) index = slice_get rows index
 
 -- the row of an account among the rows of each shard: accounts go to the shards in turn
 abbrev pub row_among : (shards : ℕ) → (tables : List (List Row)) → (account : ℕ) → Option Row
 row_among shards tables account =
-    row_at_place (slice_get tables (account % shards)) (account / shards)
+    row_at_index (slice_get tables (account % shards)) (account / shards)

@@ -1,19 +1,20 @@
 -- The steps that event lines stand for.
-use Rattle.std.specs.Prelude.{ℕ, ◌+◌, Bool, true, false, List, [], ◌∷◌, ◌++◌, map, codes, Option, Some, None, if◌then◌else◌}
+use Rattle.std.specs.Prelude.{ℕ, ◌+◌, List, [], ◌∷◌, ◌++◌, map, codes, Option, Some, None}
 use Rattle.std.specs.List.{flat_map, range_with_len}
 use Rattle.rsl_accounts.specs.Configuration.{Configuration, client_number}
 use Rattle.rsl_event.specs.Request.{nas_name_of, secret_of}
-use Rattle.rsl_event.specs.Signature.{must_sign}
+use Rattle.rsl_event.specs.Signature.{must_sign, signing_if}
 use Rattle.rsl_event.specs.declared.nas.Nas.{Nas}
 use Rattle.rsl_event.specs.declared.meaning.Port.{Port}
 use Rattle.rsl_event.specs.declared.meaning.Port.TheVariants.{Auth, Acct}
+use Rattle.rsl_event.specs.declared.signing.Signing.{Signing}
+use Rattle.rsl_event.specs.declared.signing.Signing.TheVariants.{Plain}
 use Rattle.rsl_script.specs.declared.event_line.EventLine.{EventLine}
 use Rattle.rsl_script.specs.declared.event_line.Happening.{Happening}
 use Rattle.rsl_script.specs.declared.event_line.Happening.TheVariants.{Access, Accounting, Raw}
 use Rattle.rsl_script.specs.declared.event_line.Happening.TheVariants as happenings
 use Rattle.rsl_script.specs.declared.request.AccountingRequest.{AccountingRequest}
-use Rattle.rsl_script.specs.declared.request.Status.{Status}
-use Rattle.rsl_script.specs.declared.request.Status.TheVariants.{On, Off}
+use Rattle.rsl_script.specs.declared.request.AccountingRequest.TheVariants.{Session, Server}
 use Rattle.rsl_replay.specs.Access.{access_octets}
 use Rattle.rsl_replay.specs.Accounting.{accounting_octets}
 use Rattle.rsl_steps.specs.declared.step.Step.{Step}
@@ -30,12 +31,12 @@ abbrev pub secret_at : Configuration → (address : List ℕ) → List ℕ
 secret_at config address = secret_by config (client_number config address)
 
 -- whether an Access-Request from an address is signed: where its client's must be
-abbrev pub is_signed_by : Configuration → (client : Option ℕ) → Bool
-is_signed_by config None = false
-is_signed_by config (Some client) = must_sign config client
+abbrev pub signing_by : Configuration → (client : Option ℕ) → Signing
+signing_by config None = Plain
+signing_by config (Some client) = signing_if (must_sign config client)
 
-abbrev pub is_signed_at : Configuration → (address : List ℕ) → Bool
-is_signed_at config address = is_signed_by config (client_number config address)
+abbrev pub signing_at : Configuration → (address : List ℕ) → Signing
+signing_at config address = signing_by config (client_number config address)
 
 -- a datagram from port 1024 of an address
 abbrev pub datagram : (moment : ℕ) → Port → (address octets : List ℕ) → Step
@@ -56,30 +57,24 @@ sweeps config moment nas = for_each_shard config (λ shard. steps.Sweep shard mo
 abbrev pub nas_named : (client : ℕ) → (name : Option (List ℕ)) → Nas
 nas_named client name = record { client = client; name = nas_name_of name None }
 
--- whether a status says that the access server has restarted
-abbrev pub says_restart : Status → Bool
-says_restart On = true
-says_restart Off = true
-says_restart _ = false
-
 -- the sweeps before an Accounting-Request from an address: there are none where no client has it
 abbrev pub sweeps_by : Configuration → (moment : ℕ) → (name : Option (List ℕ)) → (client : Option ℕ)
     → List Step
 sweeps_by config moment name None = []
 sweeps_by config moment name (Some client) = sweeps config moment (nas_named client name)
 
+-- only a report on the access server itself has sweeps before it
 abbrev pub sweeps_before : Configuration → (moment : ℕ) → (address : List ℕ) → AccountingRequest
     → List Step
-sweeps_before config moment address request =
-    if says_restart request.status
-    then sweeps_by config moment request.nas (client_number config address)
-    else []
+sweeps_before config moment address (Session status nas name session bundle class) = []
+sweeps_before config moment address (Server status nas) =
+    sweeps_by config moment nas (client_number config address)
 
 -- what happens at a moment
 abbrev pub steps_at : Configuration → (boot moment : ℕ) → Happening → List Step
 steps_at config boot moment (Access address request) =
     datagram moment Auth address
-    (access_octets request (is_signed_at config address) (secret_at config address)) ∷ []
+    (access_octets request (signing_at config address) (secret_at config address)) ∷ []
 steps_at config boot moment (Accounting address request) =
     sweeps_before config moment address request
     ++ datagram moment Acct address (accounting_octets boot request (secret_at config address)) ∷ []
@@ -94,14 +89,14 @@ abbrev pub steps_of_lines : Configuration → (boot : ℕ) → List EventLine �
 steps_of_lines config boot lines = flat_map (steps_of_line config boot) lines
 
 -- how many steps a line has
-abbrev pub sweep_count : Configuration → Status → (client : Option ℕ) → ℕ
-sweep_count config status None = 0
-sweep_count config status (Some client) = if says_restart status then config.settings.shards else 0
+abbrev pub sweep_count : Configuration → AccountingRequest → (client : Option ℕ) → ℕ
+sweep_count config (Server status nas) (Some client) = config.settings.shards
+sweep_count config _ _ = 0
 
 abbrev pub step_count_of : Configuration → Happening → ℕ
 step_count_of config (Access address request) = 1
 step_count_of config (Accounting address request) =
-    sweep_count config request.status (client_number config address) + 1
+    sweep_count config request (client_number config address) + 1
 step_count_of config (Raw address port octets) = 1
 step_count_of config happenings.Tick = config.settings.shards
 

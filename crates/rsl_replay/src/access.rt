@@ -1,10 +1,10 @@
-ghost use Rattle.std.specs.Prelude.{◌≡◌, ◌≤◌, ◌+◌, ◌++◌, ◌∷◌, IfOk, IsTrue, length};
+ghost use Rattle.std.specs.Prelude.{◌≡◌, ◌≤◌, ◌+◌, ◌++◌, ◌∷◌, IfOk, length};
 ghost use Rattle.md5.specs.Md5.{md5};
 ghost use Rattle.rsl_auth.specs.Chap.{chap_response};
 ghost use Rattle.rsl_auth.specs.Password.{hidden};
 ghost use Rattle.rsl_wire.specs.Attributes.{attribute_octets, attribute_of, list_octets};
 ghost use Rattle.rsl_wire.specs.Packet.{packet_octets};
-ghost use Rattle.rsl_event.specs.Answer.{signed_if};
+ghost use Rattle.rsl_event.specs.Signature.{signed_by};
 ghost use Rattle.rsl_replay.specs.Access.{
   access_octets,
   password_kind,
@@ -12,11 +12,11 @@ ghost use Rattle.rsl_replay.specs.Access.{
   request_attributes,
 };
 
-use crate::accounting::push_text;
+use crate::accounting::{push_text, push_value};
 use md5::{Digest, Md5};
 use rsl_auth::{CHAP_PASSWORD_LEN, chap_response, hide};
+use rsl_event::Signing;
 use rsl_event::codes::{ACCESS_REQUEST, CHAP_PASSWORD, NAS_IDENTIFIER, USER_NAME, USER_PASSWORD};
-use rsl_event::{push_signature_if, signed_if};
 use rsl_script::{AccessRequest, Method};
 use rsl_wire::{Draft, NoMemory};
 use std::alloc::Global;
@@ -27,18 +27,18 @@ use std::alloc::Global;
 pub(crate) fn access_octets(
     alloc: Global,
     request: &AccessRequest,
-    is_signed: bool,
+    signing: Signing,
     secret: &[u8],
 ) -> Result<Vec<u8>, NoMemory>
     ensures { IfOk result (λ octets. octets.items ≡
-        access_octets request.now is_signed secret.now) }
+        access_octets request.now signing secret.now) }
 {
     let request_auth = authenticator(request);
     let value = password_value(alloc, request, &request_auth, secret)?;
     let mut draft = Draft::new(alloc, request.id)?;
-    push_signature_if(is_signed, &mut draft);
+    signing.push(&mut draft);
     push_request(&mut draft, request, value.as_slice());
-    Ok(finish(draft, is_signed, &request_auth, secret))
+    Ok(finish(draft, signing, &request_auth, secret))
 }
 
 /// The Request Authenticator.
@@ -119,23 +119,10 @@ fn password_kind(method: Method) -> u8
     }
 }
 
-/// Writes an attribute.
-fn push_value(draft: &mut Draft, kind: u8, value: &[u8])
-    requires room { length draft.old.attributes ≤ 2048 }
-    requires short { length value.now ≤ 253 }
-    ensures written { draft.new ≡ record draft.old {
-      attributes = draft.old.attributes ++ attribute_octets (attribute_of kind value.now);
-    } }
-    ensures length { length draft.new.attributes ≡
-        length draft.old.attributes + (2 + length value.now) }
-{
-    draft.push(kind, value).unwrap();
-}
-
 /// The octets of the request. If it is signed, its first attribute gets its value.
-fn finish(draft: Draft, is_signed: bool, authenticator: &[u8; 16], secret: &[u8]) -> Vec<u8>
-    requires { IsTrue is_signed → 18 ≤ length draft.attributes }
-    ensures { result.items ≡ signed_if is_signed
+fn finish(draft: Draft, signing: Signing, authenticator: &[u8; 16], secret: &[u8]) -> Vec<u8>
+    requires { signing ≡ Signing.Signed → 18 ≤ length draft.attributes }
+    ensures { result.items ≡ signed_by signing
         (packet_octets (record {
           code = ACCESS_REQUEST;
           id = draft.id;
@@ -145,5 +132,5 @@ fn finish(draft: Draft, is_signed: bool, authenticator: &[u8; 16], secret: &[u8]
         authenticator.now secret.now }
 {
     let octets = draft.finish(ACCESS_REQUEST, authenticator);
-    signed_if(is_signed, octets, authenticator, secret)
+    signing.sign(octets, authenticator, secret)
 }

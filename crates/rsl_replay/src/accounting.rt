@@ -1,22 +1,22 @@
 ghost use Rattle.std.specs.Prelude.{◌≡◌, ◌+◌, ◌≤◌, ◌++◌, [], length, IfOk};
 ghost use Rattle.rsl_auth.specs.Authenticator.{sealed};
-ghost use Rattle.rsl_wire.specs.Attributes.{attribute_octets, list_octets};
+ghost use Rattle.rsl_wire.specs.Attributes.{attribute_octets, attribute_of, list_octets};
 ghost use Rattle.rsl_event.specs.Answer.{number_attribute};
+ghost use Rattle.rsl_event.specs.Status.{status_number};
 ghost use Rattle.rsl_replay.specs.Attributes.{text_attribute};
 ghost use Rattle.rsl_replay.specs.Accounting.{
-  status_number,
   class_attributes,
   accounting_attributes,
   accounting_octets,
 };
 
 use rsl_auth::sealed;
-use rsl_event::class_octets;
 use rsl_event::codes::{
-    ACCOUNTING_OFF, ACCOUNTING_ON, ACCOUNTING_REQUEST, ACCT_MULTI_SESSION_ID, ACCT_SESSION_ID,
-    ACCT_STATUS_TYPE, CLASS, INTERIM_UPDATE, NAS_IDENTIFIER, START, STOP, USER_NAME,
+    ACCOUNTING_REQUEST, ACCT_MULTI_SESSION_ID, ACCT_SESSION_ID, ACCT_STATUS_TYPE, CLASS,
+    NAS_IDENTIFIER, USER_NAME,
 };
-use rsl_script::{AccountingRequest, AttributeText, Status};
+use rsl_event::{Status, class_octets};
+use rsl_script::{AccountingRequest, AttributeText};
 use rsl_wire::{Draft, NoMemory};
 use std::alloc::Global;
 
@@ -47,12 +47,27 @@ fn write_request(draft: &mut Draft, boot: u64, request: &AccountingRequest)
       attributes = list_octets (accounting_attributes boot request.now);
     } }
 {
-    push_status(draft, request.status);
-    push_text(draft, NAS_IDENTIFIER, &request.nas);
-    push_text(draft, USER_NAME, &request.name);
-    push_text(draft, ACCT_SESSION_ID, &request.session);
-    push_text(draft, ACCT_MULTI_SESSION_ID, &request.bundle);
-    push_class(draft, boot, request.class);
+    match request {
+        AccountingRequest::Session {
+            status,
+            nas,
+            name,
+            session,
+            bundle,
+            class,
+        } => {
+            push_status(draft, *status);
+            push_text(draft, NAS_IDENTIFIER, nas);
+            push_value(draft, USER_NAME, name.as_slice());
+            push_value(draft, ACCT_SESSION_ID, session.as_slice());
+            push_text(draft, ACCT_MULTI_SESSION_ID, bundle);
+            push_class(draft, boot, *class);
+        }
+        AccountingRequest::Server { status, nas } => {
+            push_status(draft, *status);
+            push_text(draft, NAS_IDENTIFIER, nas);
+        }
+    }
 }
 
 /// Writes the Acct-Status-Type.
@@ -65,21 +80,21 @@ fn push_status(draft: &mut Draft, status: Status)
     ensures length { length draft.new.attributes ≡ length draft.old.attributes + 6 }
 {
     draft
-        .push(ACCT_STATUS_TYPE, &status_number(status).to_be_bytes())
+        .push(ACCT_STATUS_TYPE, &status.number().to_be_bytes())
         .unwrap();
 }
 
-/// The number of a status (RFC 2866 section 5.1).
-fn status_number(status: Status) -> u32
-    ensures { result ≡ status_number status }
+/// Writes an attribute.
+pub(crate) fn push_value(draft: &mut Draft, kind: u8, value: &[u8])
+    requires room { length draft.old.attributes ≤ 2048 }
+    requires short { length value.now ≤ 253 }
+    ensures written { draft.new ≡ record draft.old {
+      attributes = draft.old.attributes ++ attribute_octets (attribute_of kind value.now);
+    } }
+    ensures length { length draft.new.attributes ≡
+        length draft.old.attributes + (2 + length value.now) }
 {
-    match status {
-        Status::Start => START,
-        Status::Stop => STOP,
-        Status::Interim => INTERIM_UPDATE,
-        Status::On => ACCOUNTING_ON,
-        Status::Off => ACCOUNTING_OFF,
-    }
+    draft.push(kind, value).unwrap();
 }
 
 /// Writes an attribute whose value is a text, if there is one.

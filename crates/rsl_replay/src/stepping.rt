@@ -6,8 +6,7 @@ ghost use Rattle.rsl_replay.specs.Accounting.{accounting_octets};
 ghost use Rattle.rsl_replay.specs.Stepping.{
   step_count_of,
   datagram,
-  says_restart,
-  is_signed_at,
+  signing_at,
   nas_named,
   secret_at,
   step_count,
@@ -22,8 +21,8 @@ ghost use Rattle.rsl_replay.specs.Stepping.{
 use crate::access::access_octets;
 use crate::accounting::accounting_octets;
 use rsl_accounts::Config;
-use rsl_event::{Nas, NasName, Port, Source};
-use rsl_script::{AccessRequest, AccountingRequest, AttributeText, EventLine, Happening, Status};
+use rsl_event::{Nas, NasName, Port, Signing, Source};
+use rsl_script::{AccessRequest, AccountingRequest, AttributeText, EventLine, Happening};
 use rsl_steps::Step;
 use rsl_wire::{NoMemory, Octets};
 use std::alloc::Global;
@@ -97,10 +96,10 @@ fn access_datagram(
 ) -> Result<Step, NoMemory>
     ensures { IfOk result (λ step. step ≡
         datagram moment Port.Auth address (access_octets
-        request.now (is_signed_at config.now address) (secret_at config.now address))) }
+        request.now (signing_at config.now address) (secret_at config.now address))) }
 {
-    let is_signed = is_signed_at(config, address);
-    let octets = access_octets(alloc, request, is_signed, secret_at(config, address))?;
+    let signing = signing_at(config, address);
+    let octets = access_octets(alloc, request, signing, secret_at(config, address))?;
     let octets = Octets::from_slice(alloc, &octets)?;
     Ok(datagram(moment, Port::Auth, address, octets))
 }
@@ -148,13 +147,13 @@ fn secret_at(config: &Config, address: [u8; 4]) -> &[u8]
     }
 }
 
-/// Whether an Access-Request from the address must be signed.
-fn is_signed_at(config: &Config, address: [u8; 4]) -> bool
-    ensures { result ≡ is_signed_at config.now address }
+/// The signing of an Access-Request from the address: it is signed where it must be.
+fn signing_at(config: &Config, address: [u8; 4]) -> Signing
+    ensures { result ≡ signing_at config.now address }
 {
     match config.client(address) {
-        Some(client) => config.client_at(client).signed,
-        None => false,
+        Some(client) => Signing::of(config.client_at(client)),
+        None => Signing::Plain,
     }
 }
 
@@ -171,23 +170,16 @@ fn push_sweeps_before(
     ensures { OnOk result (steps.new.items ≡
         steps.old.items ++ sweeps_before config.now moment address request.now) }
 {
-    if !says_restart(request.status) {
+    let AccountingRequest::Server { nas, .. } = request else {
         return Ok(());
-    }
+    };
     match config.client(address) {
         Some(client) => {
-            let nas = nas_named(alloc, client, &request.nas)?;
+            let nas = nas_named(alloc, client, nas)?;
             push_sweeps(alloc, config, moment, &nas, steps)
         }
         None => Ok(()),
     }
-}
-
-/// Whether the access server has restarted.
-fn says_restart(status: Status) -> bool
-    ensures { result ≡ says_restart status }
-{
-    matches!(status, Status::On | Status::Off)
 }
 
 /// The access server of a client that a line names, or that has no name.
@@ -243,20 +235,19 @@ fn step_count_of(config: &Config, happening: &Happening) -> usize
 {
     match happening {
         Happening::Access { .. } | Happening::Raw { .. } => 1,
-        Happening::Accounting { address, request } => {
-            sweep_count(config, request.status, *address) + 1
-        }
+        Happening::Accounting { address, request } => sweep_count(config, request, *address) + 1,
         Happening::Tick => config.shards() as usize,
     }
 }
 
-/// How many sweeps stand before an Accounting-Request of this status.
-fn sweep_count(config: &Config, status: Status, address: [u8; 4]) -> usize
-    ensures count { result ≡ sweep_count config.now status (client_number config.now address) }
+/// How many sweeps stand before an Accounting-Request.
+fn sweep_count(config: &Config, request: &AccountingRequest, address: [u8; 4]) -> usize
+    ensures count { result ≡
+        sweep_count config.now request.now (client_number config.now address) }
     ensures few { result ≤ 4 }
 {
-    match config.client(address) {
-        Some(_) if says_restart(status) => config.shards() as usize,
+    match (request, config.client(address)) {
+        (AccountingRequest::Server { .. }, Some(_)) => config.shards() as usize,
         _ => 0,
     }
 }

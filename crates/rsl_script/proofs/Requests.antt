@@ -3,7 +3,8 @@ use Rattle.std.proofs.Common.{◌≡◌, ℕ, ◌+◌, ◌<◌, ◌≤◌, List,
 use Rattle.std.proofs.lemmas.List.{drop_more, drop_all, take_rest}
 use Rattle.rsl_script.specs.declared.accounting.Ties.{Ties}
 use Rattle.rsl_script.specs.declared.request.Method.{Method}
-use Rattle.rsl_script.specs.declared.request.Status.{Status}
+use Rattle.rsl_event.specs.declared.status.Status.{Status}
+use Rattle.rsl_script.specs.declared.request.AccountingRequest.TheVariants.{Session, Server}
 use Rattle.rsl_script.specs.Access.{access_request}
 use Rattle.rsl_script.specs.Accounting.{ties_at, server_report, session_report}
 use Rattle.rsl_script.specs.Values.{read_id, read_name, read_nas, read_password}
@@ -53,7 +54,7 @@ access_request_made method text words nas name password id given_text given_nas 
 pub server_report_made :
     (status : Status) (nas : Option (List ℕ)) (words : List (List ℕ))
     → words ≡ []
-    → server_report status nas words ≡ Some (record { status = status; nas = nas; name = None; session = None; bundle = None; class = None })
+    → server_report status nas words ≡ Some (Server status nas)
 unfolding server_report
 server_report_made status nas words same_words = rw same_words refl
 
@@ -63,7 +64,7 @@ pub session_report_made :
     → read_name name ≡ Some given_name
     → read_name session ≡ Some given_session
     → ties_at status rest ≡ Some ties
-    → session_report status nas words ≡ Some (record { status = status; nas = nas; name = Some given_name; session = Some given_session; bundle = ties.bundle; class = ties.class })
+    → session_report status nas words ≡ Some (Session status nas given_name given_session ties.bundle ties.class)
 unfolding session_report
 session_report_made status nas words name session given_name given_session rest ties same_words same_name same_session same_ties =
     rw (same_words, same_name, same_session, same_ties) refl

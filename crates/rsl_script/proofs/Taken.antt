@@ -8,8 +8,8 @@ use Rattle.std.proofs.lemmas.Iterator.Consumers.{YieldsList-turn, YieldsList-end
 use Rattle.std.specs.Iterator.{Yields}
 use Rattle.std.specs.List.{filter_map, cons_option, enumerate_from, list_any}
 use Rattle.rsl_script.specs.declared.event_line.EventLine.{EventLine}
-use Rattle.rsl_script.specs.declared.line.Line.{Line}
-use Rattle.rsl_script.specs.declared.line.Line.TheVariants as lines
+use Rattle.rsl_script.specs.declared.line.ScriptLine.{ScriptLine}
+use Rattle.rsl_script.specs.declared.line.ScriptLine.TheVariants as lines
 use Rattle.rsl_script.specs.Line.{line_of}
 use Rattle.rsl_script.specs.Script.{Contents, contents_of, event_said, first_wrong, is_configuration, is_event, is_wrong, last_of, script_of}
 use Rattle.rsl_script.specs.Words.{text_lines}
@@ -34,14 +34,14 @@ last_of_more first [] None = refl
 last_of_more first [] (Some value) = refl
 last_of_more first (value ∷ values) more = last_of_more value values more
 
-contents_more : (said : List Line) (line : Line) → contents_of (said ++ line ∷ []) ≡ contents_with (contents_of said) line
+contents_more : (said : List ScriptLine) (line : ScriptLine) → contents_of (said ++ line ∷ []) ≡ contents_with (contents_of said) line
 unfolding contents_of
 contents_more said line =
     simp (filter_map_last, last_of_more)
 
 -- whether an event line stands among some lines
 
-begun_step : (said : Option Line) (rest : List Line) (begun : Bool) → begun ≡ nat_lt 0 (length (filter_map event_said rest)) → (is_event said || begun) ≡ nat_lt 0 (length (filter_map event_said (cons_option said rest)))
+begun_step : (said : Option ScriptLine) (rest : List ScriptLine) (begun : Bool) → begun ≡ nat_lt 0 (length (filter_map event_said rest)) → (is_event said || begun) ≡ nat_lt 0 (length (filter_map event_said (cons_option said rest)))
 begun_step None rest begun is = is
 begun_step (Some (lines.Event event)) rest begun is = sym (lt-ltb 0 (length (event ∷ filter_map event_said rest)) (omega arith))
 begun_step (Some lines.Silent) rest begun is = is
@@ -58,7 +58,7 @@ unfolding contents_of
 events_held front = refl
 
 -- whether a line after others is wrong, by what they hold
-wrong_by : (front : List (List ℕ)) (line : Line) → is_wrong (map line_of front) (Some line) ≡ (is_configuration line && nat_lt 0 (length (contents_of (filter_map line_of front)).events))
+wrong_by : (front : List (List ℕ)) (line : ScriptLine) → is_wrong (map line_of front) (Some line) ≡ (is_configuration line && nat_lt 0 (length (contents_of (filter_map line_of front)).events))
 wrong_by front line = ap (λ begun. is_configuration line && begun) (begun_is front ∙ ap (λ (events : List EventLine). nat_lt 0 (length events)) (sym (events_held front)))
 
 said_last : (front : List (List ℕ)) (line : List ℕ) → map line_of (front ++ line ∷ []) ≡ map line_of front ++ line_of line ∷ []
@@ -69,19 +69,19 @@ pub record IsTaken (front : List (List ℕ)) (line : List ℕ) (rest : List (Lis
   pub held : after ≡ contents_of (filter_map line_of (front ++ line ∷ []))
   pub passed : first_wrong (map line_of front) (line_of line ∷ map line_of rest) ≡ first_wrong (map line_of (front ++ line ∷ [])) (map line_of rest)
 
-passed_where_right : (before rest : List (Option Line)) (said : Option Line) → is_wrong before said ≡ false → first_wrong before (said ∷ rest) ≡ first_wrong (before ++ said ∷ []) rest
+passed_where_right : (before rest : List (Option ScriptLine)) (said : Option ScriptLine) → is_wrong before said ≡ false → first_wrong before (said ∷ rest) ≡ first_wrong (before ++ said ∷ []) rest
 unfolding first_wrong
 passed_where_right before rest said right = rw right
 
-named_where_wrong : (before rest : List (Option Line)) (said : Option Line) → is_wrong before said ≡ true → first_wrong before (said ∷ rest) ≡ Some (length before + 1)
+named_where_wrong : (before rest : List (Option ScriptLine)) (said : Option ScriptLine) → is_wrong before said ≡ true → first_wrong before (said ∷ rest) ≡ Some (length before + 1)
 unfolding first_wrong
 named_where_wrong before rest said wrong = rw wrong
 
-taken_held : (held after : Contents) (line : Line) (wrong : Bool) → (is_configuration line && nat_lt 0 (length held.events)) ≡ wrong → with_next_line held line ≡ Some after → (wrong ≡ false) × (contents_with held line ≡ after)
+taken_held : (held after : Contents) (line : ScriptLine) (wrong : Bool) → (is_configuration line && nat_lt 0 (length held.events)) ≡ wrong → with_next_line held line ≡ Some after → (wrong ≡ false) × (contents_with held line ≡ after)
 taken_held held after line true is took = cc
 taken_held held after line false is took = (refl, cc)
 
-pub taken_more : (front : List (List ℕ)) (line : List ℕ) (rest : List (List ℕ)) (after : Contents) (said : Option Line) → line_of line ≡ said → with_said (contents_of (filter_map line_of front)) said ≡ Some after → IsTaken front line rest after
+pub taken_more : (front : List (List ℕ)) (line : List ℕ) (rest : List (List ℕ)) (after : Contents) (said : Option ScriptLine) → line_of line ≡ said → with_said (contents_of (filter_map line_of front)) said ≡ Some after → IsTaken front line rest after
 unfolding with_said
 taken_more front line rest after None is took = cc
 taken_more front line rest after (Some said) is took =
@@ -93,16 +93,16 @@ taken_more front line rest after (Some said) is took =
       passed = rw is (passed_where_right (map line_of front) (map line_of rest) (Some said) (wrong_by front said ∙ right)) ∙ ap (λ before. first_wrong before (map line_of rest)) (sym (said_last front line));
     }
 
-refused : (held : Contents) (line : Line) (wrong : Bool) → (is_configuration line && nat_lt 0 (length held.events)) ≡ wrong → with_next_line held line ≡ None → wrong ≡ true
+refused : (held : Contents) (line : ScriptLine) (wrong : Bool) → (is_configuration line && nat_lt 0 (length held.events)) ≡ wrong → with_next_line held line ≡ None → wrong ≡ true
 refused held line true is none = refl
 refused held line false is none = cc
 
-pub wrong_named : (front : List (List ℕ)) (line : List ℕ) (rest : List (List ℕ)) (said : Option Line) → line_of line ≡ said → with_said (contents_of (filter_map line_of front)) said ≡ None → first_wrong (map line_of front) (line_of line ∷ map line_of rest) ≡ Some (length front + 1)
+pub wrong_named : (front : List (List ℕ)) (line : List ℕ) (rest : List (List ℕ)) (said : Option ScriptLine) → line_of line ≡ said → with_said (contents_of (filter_map line_of front)) said ≡ None → first_wrong (map line_of front) (line_of line ∷ map line_of rest) ≡ Some (length front + 1)
 unfolding with_said
 wrong_named front line rest said is none =
     rw is (named_where_wrong (map line_of front) (map line_of rest) said (by said none)) ∙ ap (λ len. Some (len + 1)) (length-map front line_of)
   where
-    by : (said : Option Line) → with_said (contents_of (filter_map line_of front)) said ≡ None → is_wrong (map line_of front) said ≡ true
+    by : (said : Option ScriptLine) → with_said (contents_of (filter_map line_of front)) said ≡ None → is_wrong (map line_of front) said ≡ true
     by None none = refl
     by (Some line) none = wrong_by front line ∙ refused (contents_of (filter_map line_of front)) line _ refl none
 
@@ -141,7 +141,7 @@ script_refused text k line held s below is none =
     ∙ ap (λ len. Some (len + 1)) (length-take-le k all (omega arith)))) in
     rw number
 
-none_behind : (before : List (Option Line)) → first_wrong before [] ≡ None
+none_behind : (before : List (Option ScriptLine)) → first_wrong before [] ≡ None
 unfolding first_wrong
 none_behind before = refl
 

@@ -6,9 +6,10 @@ use Rattle.rsl_accounts.specs.Address.{address_of}
 use Rattle.rsl_script.specs.declared.accounting.Ties.{Ties}
 use Rattle.rsl_script.specs.declared.event_line.Happening.{Happening}
 use Rattle.rsl_script.specs.declared.event_line.Happening.TheVariants.{Accounting}
+use Rattle.rsl_event.specs.declared.status.Status.{Status}
+use Rattle.rsl_event.specs.declared.status.Status.TheVariants.{Start, Stop, InterimUpdate, AccountingOn, AccountingOff}
 use Rattle.rsl_script.specs.declared.request.AccountingRequest.{AccountingRequest}
-use Rattle.rsl_script.specs.declared.request.Status.{Status}
-use Rattle.rsl_script.specs.declared.request.Status.TheVariants.{Start, Stop, Interim, On, Off}
+use Rattle.rsl_script.specs.declared.request.AccountingRequest.TheVariants.{Session, Server}
 use Rattle.rsl_script.specs.Reads.{◌>>=◌}
 use Rattle.rsl_script.specs.Values.{read_bundle, read_class, read_name, read_nas}
 
@@ -40,31 +41,22 @@ session_report status nas (name ∷ session ∷ rest) = do
   name ← read_name name
   session ← read_name session
   ties ← ties_at status rest
-  Some (record {
-    status = status;
-    nas = nas;
-    name = Some name;
-    session = Some session;
-    bundle = ties.bundle;
-    class = ties.class;
-  })
+  Some (Session status nas name session ties.bundle ties.class)
 session_report status nas _ = None
 
 -- the report on an access server, after which stands nothing
 unfoldable pub server_report : Status → (nas : Option (List ℕ)) → (words : List (List ℕ))
     → Option AccountingRequest
-server_report status nas [] =
-    Some (record
-    { status = status; nas = nas; name = None; session = None; bundle = None; class = None })
+server_report status nas [] = Some (Server status nas)
 server_report status nas _ = None
 
 unfoldable pub report_of : Status → (nas : Option (List ℕ)) → (words : List (List ℕ))
     → Option AccountingRequest
 report_of Start nas words = session_report Start nas words
-report_of Interim nas words = session_report Interim nas words
+report_of InterimUpdate nas words = session_report InterimUpdate nas words
 report_of Stop nas words = session_report Stop nas words
-report_of On nas words = server_report On nas words
-report_of Off nas words = server_report Off nas words
+report_of AccountingOn nas words = server_report AccountingOn nas words
+report_of AccountingOff nas words = server_report AccountingOff nas words
 
 -- what the words after the moment say
 unfoldable pub read_accounting : Status → (words : List (List ℕ)) → Option Happening

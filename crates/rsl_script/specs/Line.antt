@@ -1,10 +1,11 @@
 -- What a line of a script says.
 use Rattle.std.specs.Prelude.{ℕ, ◌==◌, Bool, true, false, List, [], ◌∷◌, length, codes, bytes_eq, if◌then◌else◌, Option, None, Some, option_map, unwrap_or}
 use Rattle.rsl_accounts.specs.Address.{address_of}
+use Rattle.rsl_accounts.specs.Settings.{rules_of_places}
 use Rattle.rsl_accounts.specs.declared.entry.Entry.{Entry}
-use Rattle.rsl_script.specs.declared.line.Line.{Line}
+use Rattle.rsl_script.specs.declared.line.ScriptLine.{ScriptLine}
 use Rattle.rsl_script.specs.declared.line.Options.{Options}
-use Rattle.rsl_script.specs.declared.line.Line.TheVariants as lines
+use Rattle.rsl_script.specs.declared.line.ScriptLine.TheVariants as lines
 use Rattle.rsl_script.specs.declared.verb.Verb.{Verb}
 use Rattle.rsl_script.specs.declared.verb.Verb.TheVariants.{Set, Client, Account, Event}
 use Rattle.rsl_script.specs.Event.{read_event}
@@ -14,7 +15,7 @@ use Rattle.rsl_script.specs.Verb.{setting_of, verb_of}
 use Rattle.rsl_script.specs.Words.{is_printed, is_silent, are_words, line_words}
 
 -- a setting: NAME VALUE
-unfoldable pub set_line : (words : List (List ℕ)) → Option Line
+unfoldable pub set_line : (words : List (List ℕ)) → Option ScriptLine
 set_line (name ∷ value ∷ []) = do
   setting ← setting_of name
   value ← read_number value
@@ -28,7 +29,7 @@ read_signed (word ∷ []) = if bytes_eq word (codes "signed") then Some true els
 read_signed _ = None
 
 -- a client: ADDRESS SECRET [signed]
-unfoldable pub client_line : (words : List (List ℕ)) → Option Line
+unfoldable pub client_line : (words : List (List ℕ)) → Option ScriptLine
 client_line (address ∷ secret ∷ rest) = do
   address ← address_of address
   signed ← read_signed rest
@@ -51,16 +52,7 @@ abbrev pub account_with : (name password : List ℕ) → (places : ℕ) → Opti
 account_with name password places options = record {
   name = name;
   password = password;
-  rules =
-      record {
-        places = places;
-        ports = unwrap_or options.ports 1;
-        reserve = 0;
-        live = 0;
-        grace = 0;
-        closed = 0;
-        keep = 0;
-      };
+  rules = rules_of_places places (unwrap_or options.ports 1);
   service_type = None;
   framed_protocol = None;
   session_timeout = None;
@@ -70,7 +62,7 @@ account_with name password places options = record {
 }
 
 -- an account: NAME PASSWORD PLACES, and what it may have
-unfoldable pub account_line : (words : List (List ℕ)) → Option Line
+unfoldable pub account_line : (words : List (List ℕ)) → Option ScriptLine
 account_line (name ∷ password ∷ places ∷ rest) = do
   places ← read_number places
   options ← read_options rest
@@ -78,21 +70,21 @@ account_line (name ∷ password ∷ places ∷ rest) = do
 account_line _ = None
 
 -- what the words after the first say
-unfoldable pub said_about : Verb → (words : List (List ℕ)) → Option Line
+unfoldable pub said_about : Verb → (words : List (List ℕ)) → Option ScriptLine
 said_about Set words = set_line words
 said_about Client words = client_line words
 said_about Account words = account_line words
-said_about (Event kind) words = option_map lines.Event (read_event kind words)
+said_about (Event verb) words = option_map lines.Event (read_event verb words)
 
 -- what the words of a line say
-unfoldable pub said_in : (words : List (List ℕ)) → Option Line
+unfoldable pub said_in : (words : List (List ℕ)) → Option ScriptLine
 said_in [] = None
 said_in (word ∷ rest) = do
   verb ← verb_of word
   said_about verb rest
 
 -- what a line says, or nothing where it is wrong
-unfoldable pub line_of : (octets : List ℕ) → Option Line
+unfoldable pub line_of : (octets : List ℕ) → Option ScriptLine
 line_of octets =
     if is_printed octets
     then if is_silent octets

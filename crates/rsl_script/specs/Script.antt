@@ -7,8 +7,8 @@ use Rattle.rsl_accounts.specs.declared.settings.Settings.{Settings}
 use Rattle.rsl_script.specs.declared.event_line.EventLine.{EventLine}
 use Rattle.rsl_script.specs.declared.fault.ScriptFault.{ScriptFault}
 use Rattle.rsl_script.specs.declared.fault.ScriptFault.TheVariants as faults
-use Rattle.rsl_script.specs.declared.line.Line.{Line}
-use Rattle.rsl_script.specs.declared.line.Line.TheVariants as lines
+use Rattle.rsl_script.specs.declared.line.ScriptLine.{ScriptLine}
+use Rattle.rsl_script.specs.declared.line.ScriptLine.TheVariants as lines
 use Rattle.rsl_script.specs.declared.script.Script.{Script}
 use Rattle.rsl_script.specs.declared.verb.Setting.{Setting}
 use Rattle.rsl_script.specs.declared.verb.Setting.TheVariants.{Shards, Reserve, Live, Grace, Closed, Keep}
@@ -31,15 +31,15 @@ contents script = record {
 }
 
 -- the part of a line that says this kind of thing
-abbrev pub client_said : Line → Option Client
+abbrev pub client_said : ScriptLine → Option Client
 client_said (lines.Client client) = Some client
 client_said _ = None
 
-abbrev pub account_said : Line → Option Entry
+abbrev pub account_said : ScriptLine → Option Entry
 account_said (lines.Account account) = Some account
 account_said _ = None
 
-abbrev pub event_said : Line → Option EventLine
+abbrev pub event_said : ScriptLine → Option EventLine
 event_said (lines.Event event) = Some event
 event_said _ = None
 
@@ -52,7 +52,7 @@ is_same Closed Closed = true
 is_same Keep Keep = true
 is_same _ _ = false
 
-abbrev pub value_said : Setting → Line → Option ℕ
+abbrev pub value_said : Setting → ScriptLine → Option ℕ
 value_said setting (lines.Set other value) = if is_same setting other then Some value else None
 value_said setting _ = None
 
@@ -62,11 +62,11 @@ last_of first [] = first
 last_of first (value ∷ rest) = last_of value rest
 
 -- the value of the last line that sets it, or else what it is without one
-abbrev pub setting_in : Setting → (otherwise : ℕ) → List Line → ℕ
+abbrev pub setting_in : Setting → (otherwise : ℕ) → List ScriptLine → ℕ
 setting_in setting otherwise said = last_of otherwise (filter_map (value_said setting) said)
 
 -- what lines say together: settings, and clients, accounts and events in the order of their lines
-unfoldable pub contents_of : List Line → Contents
+unfoldable pub contents_of : List ScriptLine → Contents
 contents_of said = record {
   settings = record {
     version = 2;
@@ -82,24 +82,24 @@ contents_of said = record {
   events = filter_map event_said said;
 }
 
-abbrev pub is_configuration : Line → Bool
+abbrev pub is_configuration : ScriptLine → Bool
 is_configuration (lines.Set setting value) = true
 is_configuration (lines.Client client) = true
 is_configuration (lines.Account account) = true
 is_configuration _ = false
 
-abbrev pub is_event : Option Line → Bool
+abbrev pub is_event : Option ScriptLine → Bool
 is_event (Some (lines.Event event)) = true
 is_event _ = false
 
 -- whether a line after these is wrong: it says nothing right, or is one of the configuration after
 -- an event line
-abbrev pub is_wrong : (before : List (Option Line)) → Option Line → Bool
+abbrev pub is_wrong : (before : List (Option ScriptLine)) → Option ScriptLine → Bool
 is_wrong before None = true
 is_wrong before (Some line) = is_configuration line && list_any is_event before
 
 -- the number of the first wrong line, of lines after these. Lines are numbered from 1
-unfoldable pub first_wrong : (before : List (Option Line)) → List (Option Line) → Option ℕ
+unfoldable pub first_wrong : (before : List (Option ScriptLine)) → List (Option ScriptLine) → Option ℕ
 first_wrong before [] = None
 first_wrong before (line ∷ rest) =
     if is_wrong before line

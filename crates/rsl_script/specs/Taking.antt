@@ -1,11 +1,11 @@
 -- What a script holds with one line more.
 use Rattle.std.specs.Prelude.{◌&&◌, nat_lt, if◌then◌else◌, ◌++◌, length, Option, None, Some, option_to_list, option_and_then, unwrap_or}
 use Rattle.rsl_accounts.specs.declared.settings.Settings.{Settings}
-use Rattle.rsl_script.specs.declared.line.Line.{Line}
+use Rattle.rsl_script.specs.declared.line.ScriptLine.{ScriptLine}
 use Rattle.rsl_script.specs.declared.verb.Setting.TheVariants.{Shards, Reserve, Live, Grace, Closed, Keep}
 use Rattle.rsl_script.specs.Script.{Contents, account_said, client_said, event_said, is_configuration, value_said}
 
-abbrev pub with_setting : Settings → Line → Settings
+abbrev pub with_setting : Settings → ScriptLine → Settings
 with_setting settings line = record {
   version = settings.version;
   shards = unwrap_or (value_said Shards line) settings.shards;
@@ -16,7 +16,7 @@ with_setting settings line = record {
   keep = unwrap_or (value_said Keep line) settings.keep;
 }
 
-abbrev pub contents_with : Contents → Line → Contents
+abbrev pub contents_with : Contents → ScriptLine → Contents
 contents_with so_far line = record {
   settings = with_setting so_far.settings line;
   clients = so_far.clients ++ option_to_list (client_said line);
@@ -25,12 +25,12 @@ contents_with so_far line = record {
 }
 
 -- a line of the configuration after an event line is not taken
-abbrev pub with_next_line : Contents → Line → Option Contents
+abbrev pub with_next_line : Contents → ScriptLine → Option Contents
 with_next_line so_far line =
     if is_configuration line && nat_lt 0 (length so_far.events)
     then None
     else Some (contents_with so_far line)
 
 -- nor is a line that says nothing right
-unfoldable pub with_said : Contents → Option Line → Option Contents
+unfoldable pub with_said : Contents → Option ScriptLine → Option Contents
 with_said so_far said = option_and_then (with_next_line so_far) said

@@ -2,12 +2,12 @@
 use Rattle.std.specs.Prelude.{ℕ, List, [], ◌∷◌, if◌then◌else◌, codes, bytes_eq, Option, None, Some}
 use Rattle.rsl_event.specs.declared.meaning.Port.TheVariants.{Auth, Acct}
 use Rattle.rsl_script.specs.declared.request.Method.TheVariants.{Pap, Chap}
-use Rattle.rsl_script.specs.declared.request.Status.TheVariants.{Start, Stop, Interim, On, Off}
+use Rattle.rsl_event.specs.declared.status.Status.TheVariants.{Start, Stop, InterimUpdate, AccountingOn, AccountingOff}
 use Rattle.rsl_script.specs.declared.verb.Setting.{Setting}
 use Rattle.rsl_script.specs.declared.verb.Setting.TheVariants as settings
 use Rattle.rsl_script.specs.declared.verb.Verb.{Verb}
 use Rattle.rsl_script.specs.declared.verb.Verb.TheVariants.{Set, Client, Account, Event}
-use Rattle.rsl_script.specs.declared.verb.Kind.TheVariants.{Access, Accounting, Raw, Tick}
+use Rattle.rsl_script.specs.declared.verb.EventVerb.TheVariants.{Access, Accounting, Raw, Tick}
 
 -- what the name stands for, in a list of names
 abbrev pub value_named : {T : Type 0} → (name : List ℕ) → List (List ℕ × T) → Option T
@@ -23,10 +23,10 @@ verbs =
     ∷ (codes "ask", Event (Access Pap))
     ∷ (codes "chap", Event (Access Chap))
     ∷ (codes "start", Event (Accounting Start))
-    ∷ (codes "interim", Event (Accounting Interim))
+    ∷ (codes "interim", Event (Accounting InterimUpdate))
     ∷ (codes "stop", Event (Accounting Stop))
-    ∷ (codes "on", Event (Accounting On))
-    ∷ (codes "off", Event (Accounting Off))
+    ∷ (codes "on", Event (Accounting AccountingOn))
+    ∷ (codes "off", Event (Accounting AccountingOff))
     ∷ (codes "raw-auth", Event (Raw Auth))
     ∷ (codes "raw-acct", Event (Raw Acct))
     ∷ (codes "tick", Event Tick)

@@ -15,9 +15,10 @@ ghost use Rattle.rsl_script.specs.Values.{read_bundle, read_class};
 use crate::event_line::Happening;
 use crate::fault::LineFault;
 use crate::limited::AttributeText;
-use crate::request::{AccountingRequest, Status};
+use crate::request::AccountingRequest;
 use crate::values::{read_bundle, read_class, read_nas};
 use rsl_accounts::address_of;
+use rsl_event::Status;
 use std::alloc::Global;
 
 /// What ties a session to its bundle and to its accept.
@@ -60,8 +61,10 @@ fn report_of(
     ensures { Reads (report_of status nas (map (λ word. word.now) words.now)) result }
 {
     match status {
-        Status::Start | Status::Interim | Status::Stop => session_report(alloc, status, nas, words),
-        Status::On | Status::Off => server_report(status, nas, words),
+        Status::Start | Status::InterimUpdate | Status::Stop => {
+            session_report(alloc, status, nas, words)
+        }
+        Status::AccountingOn | Status::AccountingOff => server_report(status, nas, words),
     }
 }
 
@@ -75,14 +78,7 @@ fn server_report(
     ensures { Reads (server_report status nas (map (λ word. word.now) words.now)) result }
 {
     match words {
-        [] => Ok(AccountingRequest {
-            status,
-            nas,
-            name: None,
-            session: None,
-            bundle: None,
-            class: None,
-        }),
+        [] => Ok(AccountingRequest::Server { status, nas }),
         _ => Err(LineFault::Wrong),
     }
 }
@@ -102,11 +98,11 @@ fn session_report(
             let name = AttributeText::read(alloc, name)?;
             let session = AttributeText::read(alloc, session)?;
             let ties = ties_at(alloc, status, rest)?;
-            Ok(AccountingRequest {
+            Ok(AccountingRequest::Session {
                 status,
                 nas,
-                name: Some(name),
-                session: Some(session),
+                name,
+                session,
                 bundle: ties.bundle,
                 class: ties.class,
             })

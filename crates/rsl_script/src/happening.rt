@@ -8,35 +8,39 @@ use crate::accounting::read_accounting;
 use crate::event_line::{EventLine, Happening};
 use crate::fault::LineFault;
 use crate::values::{read_number, read_octets};
-use crate::verb::Kind;
+use crate::verb::EventVerb;
 use rsl_accounts::address_of;
 use rsl_event::Port;
 use std::alloc::Global;
 
-/// What the words after the first word of a line say: `MOMENT`, and then those of its kind.
+/// What the words after the first word of a line say: `MOMENT`, and then those of its verb.
 #[tactic(auto, unfolding(crate::specs::Event::read_event))]
-pub(crate) fn read_event(alloc: Global, kind: Kind, words: &[&str]) -> Result<EventLine, LineFault>
-    ensures { Reads (read_event kind (map (λ word. word.now) words.now)) result }
+pub(crate) fn read_event(
+    alloc: Global,
+    verb: EventVerb,
+    words: &[&str],
+) -> Result<EventLine, LineFault>
+    ensures { Reads (read_event verb (map (λ word. word.now) words.now)) result }
 {
     match words {
         [] => Err(LineFault::Wrong),
         [moment, rest @ ..] => Ok(EventLine {
             moment: read_number(moment).ok_or(LineFault::Wrong)?,
-            happening: read_happening(alloc, kind, rest)?,
+            happening: read_happening(alloc, verb, rest)?,
         }),
     }
 }
 
 /// What the words after the moment of a line say.
 #[tactic(auto, unfolding(crate::specs::Event::read_happening))]
-fn read_happening(alloc: Global, kind: Kind, words: &[&str]) -> Result<Happening, LineFault>
-    ensures { Reads (read_happening kind (map (λ word. word.now) words.now)) result }
+fn read_happening(alloc: Global, verb: EventVerb, words: &[&str]) -> Result<Happening, LineFault>
+    ensures { Reads (read_happening verb (map (λ word. word.now) words.now)) result }
 {
-    match kind {
-        Kind::Access(method) => read_access(alloc, method, words),
-        Kind::Accounting(status) => read_accounting(alloc, status, words),
-        Kind::Raw(port) => read_raw(alloc, port, words),
-        Kind::Tick => read_tick(words),
+    match verb {
+        EventVerb::Access(method) => read_access(alloc, method, words),
+        EventVerb::Accounting(status) => read_accounting(alloc, status, words),
+        EventVerb::Raw(port) => read_raw(alloc, port, words),
+        EventVerb::Tick => read_tick(words),
     }
 }
 

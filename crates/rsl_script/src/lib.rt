@@ -26,6 +26,6 @@ mod words;
 pub use event_line::{EventLine, Happening};
 pub use fault::ScriptFault;
 pub use limited::{AttributeText, Password};
-pub use request::{AccessRequest, AccountingRequest, Method, Status};
+pub use request::{AccessRequest, AccountingRequest, Method};
 pub use script::Script;
 pub use values::read_number;

@@ -35,7 +35,7 @@ struct Options {
 
 /// What a line of a script says.
 #[derive(Drop)]
-pub(crate) enum Line {
+pub(crate) enum ScriptLine {
     /// Nothing: the line is empty, or a comment.
     Silent,
     /// A setting has this value.
@@ -48,15 +48,15 @@ pub(crate) enum Line {
     Event(EventLine),
 }
 
-impl Line {
+impl ScriptLine {
     /// Reads a line.
     #[tactic(auto, unfolding(crate::specs::Line::line_of))]
-    pub(crate) fn read(alloc: Global, octets: &[u8]) -> Result<Line, LineFault>
+    pub(crate) fn read(alloc: Global, octets: &[u8]) -> Result<ScriptLine, LineFault>
         ensures { Reads (line_of octets.now) result }
     {
         let line = text_of(octets).ok_or(LineFault::Wrong)?;
         if is_silent(line) {
-            return Ok(Line::Silent);
+            return Ok(ScriptLine::Silent);
         }
         let words = line_words(alloc, line)?;
         if are_words(words.as_slice()) {
@@ -69,7 +69,7 @@ impl Line {
 
 /// What the words of a line say.
 #[tactic(auto, unfolding(crate::specs::Line::said_in))]
-fn said_in(alloc: Global, words: &[&str]) -> Result<Line, LineFault>
+fn said_in(alloc: Global, words: &[&str]) -> Result<ScriptLine, LineFault>
     ensures { Reads (said_in (map (λ word. word.now) words.now)) result }
 {
     match words {
@@ -83,27 +83,27 @@ fn said_in(alloc: Global, words: &[&str]) -> Result<Line, LineFault>
 
 /// What the words after the first say.
 #[tactic(auto, unfolding(crate::specs::Line::said_about))]
-fn said_about(alloc: Global, verb: Verb, words: &[&str]) -> Result<Line, LineFault>
+fn said_about(alloc: Global, verb: Verb, words: &[&str]) -> Result<ScriptLine, LineFault>
     ensures { Reads (said_about verb (map (λ word. word.now) words.now)) result }
 {
     match verb {
         Verb::Set => set_line(words),
         Verb::Client => client_line(alloc, words),
         Verb::Account => account_line(alloc, words),
-        Verb::Event(kind) => Ok(Line::Event(read_event(alloc, kind, words)?)),
+        Verb::Event(verb) => Ok(ScriptLine::Event(read_event(alloc, verb, words)?)),
     }
 }
 
 /// A setting: `NAME VALUE`.
 #[tactic(auto, unfolding(crate::specs::Line::set_line))]
-fn set_line(words: &[&str]) -> Result<Line, LineFault>
+fn set_line(words: &[&str]) -> Result<ScriptLine, LineFault>
     ensures { Reads (set_line (map (λ word. word.now) words.now)) result }
 {
     match words {
         [name, value] => {
             let setting = setting_of(name).ok_or(LineFault::Wrong)?;
             let value = read_number(value).ok_or(LineFault::Wrong)?;
-            Ok(Line::Set(setting, value))
+            Ok(ScriptLine::Set(setting, value))
         }
         _ => Err(LineFault::Wrong),
     }
@@ -111,11 +111,11 @@ fn set_line(words: &[&str]) -> Result<Line, LineFault>
 
 /// A client: `ADDRESS SECRET [signed]`.
 #[tactic(auto, unfolding(crate::specs::Line::client_line))]
-fn client_line(alloc: Global, words: &[&str]) -> Result<Line, LineFault>
+fn client_line(alloc: Global, words: &[&str]) -> Result<ScriptLine, LineFault>
     ensures { Reads (client_line (map (λ word. word.now) words.now)) result }
 {
     match words {
-        [address, secret, rest @ ..] => Ok(Line::Client(Client {
+        [address, secret, rest @ ..] => Ok(ScriptLine::Client(Client {
             address: address_of(address.as_bytes()).ok_or(LineFault::Wrong)?,
             signed: read_signed(rest).ok_or(LineFault::Wrong)?,
             secret: Secret::from_str(alloc, secret)?,
@@ -138,14 +138,14 @@ fn read_signed(words: &[&str]) -> Option<bool>
 
 /// An account: `NAME PASSWORD PLACES [PORTS] [live=N] [grace=N]`.
 #[tactic(auto, unfolding(crate::specs::Line::account_line))]
-fn account_line(alloc: Global, words: &[&str]) -> Result<Line, LineFault>
+fn account_line(alloc: Global, words: &[&str]) -> Result<ScriptLine, LineFault>
     ensures { Reads (account_line (map (λ word. word.now) words.now)) result }
 {
     match words {
         [name, password, places, rest @ ..] => {
             let places = read_number(places).ok_or(LineFault::Wrong)?;
             let options = read_options(rest).ok_or(LineFault::Wrong)?;
-            Ok(Line::Account(account_with(alloc, name, password, places, options)?))
+            Ok(ScriptLine::Account(account_with(alloc, name, password, places, options)?))
         }
         _ => Err(LineFault::Wrong),
     }
@@ -179,15 +179,7 @@ fn account_with(
     Ok(Entry {
         name: Text::from_str(alloc, name)?,
         password: Secret::from_str(alloc, password)?,
-        rules: Rules {
-            places,
-            ports: options.ports.unwrap_or(1),
-            reserve: 0,
-            live: 0,
-            grace: 0,
-            closed: 0,
-            keep: 0,
-        },
+        rules: Rules::of_places(places, options.ports.unwrap_or(1)),
         service_type: None,
         framed_protocol: None,
         session_timeout: None,

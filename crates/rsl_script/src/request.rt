@@ -3,6 +3,7 @@ ghost use Rattle.rsl_script.specs.Access.{method_word};
 
 use crate::limited::{AttributeText, Password};
 use rsl_accounts::Secret;
+use rsl_event::Status;
 
 /// How a request shows that it knows the password.
 #[derive(Clone, Copy, Debug, PartialEq, Eq)]
@@ -44,35 +45,30 @@ pub struct AccessRequest {
     pub id: u8,
 }
 
-/// What an Accounting-Request reports (RFC 2866 section 5.1).
-#[derive(Clone, Copy, Debug, PartialEq, Eq)]
-pub enum Status {
-    /// A session starts: the line `start`, Acct-Status-Type 1.
-    Start,
-    /// A session has ended: the line `stop`, Acct-Status-Type 2.
-    Stop,
-    /// A session goes on: the line `interim`, Acct-Status-Type 3.
-    Interim,
-    /// The access server has started: the line `on`, Acct-Status-Type 7.
-    On,
-    /// The access server is about to stop: the line `off`, Acct-Status-Type 8.
-    Off,
-}
-
 /// The Accounting-Request of a line `start`, `interim`, `stop`, `on` or `off` (RFC 2866 section
 /// 4.1).
 #[derive(Debug, PartialEq, Eq, Drop)]
-pub struct AccountingRequest {
-    /// What it reports.
-    pub status: Status,
-    /// The NAS-Identifier, if there is one.
-    pub nas: Option<AttributeText>,
-    /// The User-Name, where the line has one.
-    pub name: Option<AttributeText>,
-    /// The Acct-Session-Id, where the line has one.
-    pub session: Option<AttributeText>,
-    /// The Acct-Multi-Session-Id, where the line has a word `multi=`.
-    pub bundle: Option<AttributeText>,
-    /// The number of the Class, where the line has a word `class=`.
-    pub class: Option<u64>,
+pub enum AccountingRequest {
+    /// It reports on a session: `start`, `interim` or `stop`.
+    Session {
+        /// Start, Interim-Update or Stop.
+        status: Status,
+        /// The NAS-Identifier, if there is one.
+        nas: Option<AttributeText>,
+        /// The User-Name.
+        name: AttributeText,
+        /// The Acct-Session-Id.
+        session: AttributeText,
+        /// The Acct-Multi-Session-Id, where the line has a word `multi=`.
+        bundle: Option<AttributeText>,
+        /// The number of the Class, where the line has a word `class=`.
+        class: Option<u64>,
+    },
+    /// It reports that the access server has restarted: `on` or `off`.
+    Server {
+        /// Accounting-On or Accounting-Off.
+        status: Status,
+        /// The NAS-Identifier, if there is one.
+        nas: Option<AttributeText>,
+    },
 }

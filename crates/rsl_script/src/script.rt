@@ -5,7 +5,7 @@ ghost use Rattle.rsl_script.specs.Taking.{with_next_line, with_said, contents_wi
 
 use crate::event_line::EventLine;
 use crate::fault::{LineFault, ScriptFault};
-use crate::line::Line;
+use crate::line::ScriptLine;
 use crate::verb::Setting;
 use rsl_accounts::{Client, Entry, Settings};
 use std::alloc::Global;
@@ -71,30 +71,30 @@ impl Script {
         ensures wrong { IsErrOf result LineFault.Wrong →
             with_said (contents self.old) (line_of line.now) ≡ None }
     {
-        self.take(Line::read(alloc, line)?)
+        self.take(ScriptLine::read(alloc, line)?)
     }
 
     /// Takes what a line says. A line of the configuration after an event line is wrong.
-    fn take(&mut self, line: Line) -> Result<(), LineFault>
+    fn take(&mut self, line: ScriptLine) -> Result<(), LineFault>
         ensures taken { OnOk result (with_next_line (contents self.old) line ≡
             Some (contents self.new)) }
         ensures wrong { IsErrOf result LineFault.Wrong →
             with_next_line (contents self.old) line ≡ None }
     {
         match line {
-            Line::Silent => {}
-            Line::Event(event) => self.events.push(event)?,
+            ScriptLine::Silent => {}
+            ScriptLine::Event(event) => self.events.push(event)?,
             _ if !self.events.is_empty() => return Err(LineFault::Wrong),
-            Line::Set(setting, value) => self.set(setting, value),
-            Line::Client(client) => self.clients.push(client)?,
-            Line::Account(account) => self.accounts.push(account)?,
+            ScriptLine::Set(setting, value) => self.set(setting, value),
+            ScriptLine::Client(client) => self.clients.push(client)?,
+            ScriptLine::Account(account) => self.accounts.push(account)?,
         }
         Ok(())
     }
 
     /// Gives a setting its value.
     fn set(&mut self, setting: Setting, value: u64)
-        ensures { contents self.new ≡ contents_with (contents self.old) (Line.Set setting value) }
+        ensures { contents self.new ≡ contents_with (contents self.old) (ScriptLine.Set setting value) }
     {
         match setting {
             Setting::Shards => self.settings.shards = value,

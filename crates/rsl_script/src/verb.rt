@@ -1,8 +1,8 @@
 ghost use Rattle.std.specs.Prelude.{◌≡◌};
 ghost use Rattle.rsl_script.specs.Verb.{verb_of, setting_of};
 
-use crate::request::{Method, Status};
-use rsl_event::Port;
+use crate::request::Method;
+use rsl_event::{Port, Status};
 
 /// What a line is about, by its first word.
 #[derive(Clone, Copy, Debug, PartialEq, Eq)]
@@ -14,12 +14,12 @@ pub(crate) enum Verb {
     /// An account.
     Account,
     /// Something that happens.
-    Event(Kind),
+    Event(EventVerb),
 }
 
-/// What kind of thing happens.
+/// What happens, by the first word of its line.
 #[derive(Clone, Copy, Debug, PartialEq, Eq)]
-pub(crate) enum Kind {
+pub(crate) enum EventVerb {
     /// An Access-Request comes.
     Access(Method),
     /// An Accounting-Request comes.
@@ -56,16 +56,16 @@ pub(crate) fn verb_of(word: &str) -> Option<Verb>
         "set" => Some(Verb::Set),
         "client" => Some(Verb::Client),
         "account" => Some(Verb::Account),
-        "ask" => Some(Verb::Event(Kind::Access(Method::Pap))),
-        "chap" => Some(Verb::Event(Kind::Access(Method::Chap))),
-        "start" => Some(Verb::Event(Kind::Accounting(Status::Start))),
-        "interim" => Some(Verb::Event(Kind::Accounting(Status::Interim))),
-        "stop" => Some(Verb::Event(Kind::Accounting(Status::Stop))),
-        "on" => Some(Verb::Event(Kind::Accounting(Status::On))),
-        "off" => Some(Verb::Event(Kind::Accounting(Status::Off))),
-        "raw-auth" => Some(Verb::Event(Kind::Raw(Port::Auth))),
-        "raw-acct" => Some(Verb::Event(Kind::Raw(Port::Acct))),
-        "tick" => Some(Verb::Event(Kind::Tick)),
+        "ask" => Some(Verb::Event(EventVerb::Access(Method::Pap))),
+        "chap" => Some(Verb::Event(EventVerb::Access(Method::Chap))),
+        "start" => Some(Verb::Event(EventVerb::Accounting(Status::Start))),
+        "interim" => Some(Verb::Event(EventVerb::Accounting(Status::InterimUpdate))),
+        "stop" => Some(Verb::Event(EventVerb::Accounting(Status::Stop))),
+        "on" => Some(Verb::Event(EventVerb::Accounting(Status::AccountingOn))),
+        "off" => Some(Verb::Event(EventVerb::Accounting(Status::AccountingOff))),
+        "raw-auth" => Some(Verb::Event(EventVerb::Raw(Port::Auth))),
+        "raw-acct" => Some(Verb::Event(EventVerb::Raw(Port::Acct))),
+        "tick" => Some(Verb::Event(EventVerb::Tick)),
         _ => None,
     }
 }

@@ -5,7 +5,7 @@ use Rattle.std.proofs.lemmas.List.{length-append, take_more, append-nil, map_pus
 use Rattle.std.proofs.lemmas.List.Concat.{flat_map-cons, flat_map-append}
 use Rattle.std.proofs.Math.Seq.{drop-cons}
 use Rattle.rsl_wire.specs.Attributes.{Attribute, attribute_of, attribute_octets, list_octets}
-use Rattle.rsl_wire.specs.Begun.{Begun}
+use Rattle.rsl_wire.specs.DraftSeen.{Begun}
 use Rattle.rsl_wire.specs.Building.{seen, FitsPacket}
 use Rattle.rsl_wire.specs.declared.attr.Attr.{Attr}
 

@@ -1,6 +1,6 @@
 pub mod Attributes
-pub mod Begun
 pub mod Building
-pub mod OctetsHeld
+pub mod DraftSeen
+pub mod OctetsSeen
 pub mod Packet
 pub mod Seen

@@ -59,6 +59,7 @@ impl<'a> Attrs<'a> {
       AreAttributes,
       IsBadAt,
       attribute_list,
+      attributes_in,
       is_kind,
       first_of,
       number_in,
@@ -94,6 +95,15 @@ impl<'a> Attrs<'a> {
             rest = after;
         }
         Ok(Attrs { rest: octets })
+    }
+
+    /// The attributes of octets that are known to be well formed, which are not read again.
+    pub(crate) fn in_formed_octets(octets: &'a [u8]) -> Attrs<'a>
+        requires { attribute_list octets.now ≡ Ok (attributes_in octets.now) }
+        ensures list { result ≡ attributes_in octets.now }
+        ensures found { AreAttributes octets.now result }
+    {
+        Attrs { rest: octets }
     }
 
     /// How many attributes are of this Type, of those that are left.

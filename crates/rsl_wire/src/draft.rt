@@ -39,7 +39,7 @@ pub struct Draft {
 
 impl Model for Draft {
     ghost use Rattle.std.specs.Prelude.{◌≤◌, slice_index, drop, vec_len, vec_capacity};
-    ghost use Rattle.rsl_wire.specs.Begun.{Begun, HasRoom};
+    ghost use Rattle.rsl_wire.specs.DraftSeen.{Begun, HasRoom};
 
     ghost Value = { Begun };
 

@@ -35,7 +35,7 @@ impl Drop for Octets {
 
 impl Model for Octets {
     ghost use Rattle.std.specs.Prelude.{List, ℕ};
-    ghost use Rattle.rsl_wire.specs.OctetsHeld.{octets_held};
+    ghost use Rattle.rsl_wire.specs.OctetsSeen.{octets_held};
 
     ghost Value = { List ℕ };
 

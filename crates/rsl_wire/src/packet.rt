@@ -68,7 +68,13 @@ pub struct Packet<'a> {
 
 impl<'a> Packet<'a> {
     ghost use Rattle.std.specs.Prelude.{◌≡◌, List, IfOk, IfErr, IsOkAnd, MatchResult, Ok, Err};
-    ghost use Rattle.rsl_wire.specs.Attributes.{Attribute, AreAttributes, IsBadAt, attribute_list};
+    ghost use Rattle.rsl_wire.specs.Attributes.{
+      Attribute,
+      AreAttributes,
+      IsBadAt,
+      attribute_list,
+      attributes_in,
+    };
     ghost use Rattle.rsl_wire.specs.Packet.{packet_octets, packet_of};
     ghost use Rattle.rsl_wire.specs.Seen.{fields_of};
 
@@ -96,6 +102,16 @@ impl<'a> Packet<'a> {
             (λ fault. attribute_list self.now.attrs.now ≡ Err fault.at) }
     {
         Attrs::in_octets(self.attrs)
+    }
+
+    /// The attributes of a packet in which they are known to be well formed, since they were read
+    /// before: `attributes` without reading them again.
+    pub fn well_formed_attributes(&self) -> Attrs<'a>
+        requires { attribute_list self.now.attrs.now ≡ Ok (attributes_in self.now.attrs.now) }
+        ensures list { result ≡ attributes_in self.now.attrs.now }
+        ensures found { AreAttributes self.now.attrs.now result }
+    {
+        Attrs::in_formed_octets(self.attrs)
     }
 
     /// The packet at the start of a datagram, as `read` gives it.

@@ -36,14 +36,26 @@ fn tell_access(found: &mut String, request: &AccessRequest) -> Result<(), Fail> 
     )
 }
 
-/// Tells the status, access server, name, session, bundle and class of an Accounting-Request.
+/// Tells the status and the access server of an Accounting-Request, and the name, session, bundle
+/// and class where it reports on a session.
 fn tell_accounting(found: &mut String, request: &AccountingRequest) -> Result<(), Fail> {
-    let (nas, name) = (option_text(&request.nas), option_text(&request.name));
-    let (session, bundle) = (option_text(&request.session), option_text(&request.bundle));
-    push_printed(
-        found,
-        &(request.status, nas, name, session, bundle, request.class),
-    )
+    match request {
+        AccountingRequest::Session {
+            status,
+            nas,
+            name,
+            session,
+            bundle,
+            class,
+        } => {
+            let (nas, bundle) = (option_text(nas), option_text(bundle));
+            let (name, session) = (text(name.as_slice()), text(session.as_slice()));
+            push_printed(found, &(*status, nas, name, session, bundle, *class))
+        }
+        AccountingRequest::Server { status, nas } => {
+            push_printed(found, &(*status, option_text(nas)))
+        }
+    }
 }
 
 /// An event line in words: its moment, where its datagram comes from, and what that says.
@@ -101,12 +113,12 @@ a CHAP ask | chap 18446744073709551615 10.0.0.1 - u pw 007 \
 a start | start 1 10.0.0.1 n u s multi=m class=9 \
     | 1 [10, 0, 0, 1] (Start, n, u, s, m, Some(9))
 a session like a bundle | interim 1 10.0.0.1 n u multi=s class=9 \
-    | 1 [10, 0, 0, 1] (Interim, n, u, multi=s, none, Some(9))
+    | 1 [10, 0, 0, 1] (InterimUpdate, n, u, multi=s, none, Some(9))
 a bundle like a class | interim 1 10.0.0.1 n u s multi=class=1 \
-    | 1 [10, 0, 0, 1] (Interim, n, u, s, class=1, None)
+    | 1 [10, 0, 0, 1] (InterimUpdate, n, u, s, class=1, None)
 a stop | stop 1 10.0.0.1 - u s | 1 [10, 0, 0, 1] (Stop, none, u, s, none, None)
-an on | on 1 10.0.0.1 n | 1 [10, 0, 0, 1] (On, n, none, none, none, None)
-an off | off 1 10.0.0.1 - | 1 [10, 0, 0, 1] (Off, none, none, none, none, None)
+an on | on 1 10.0.0.1 n | 1 [10, 0, 0, 1] (AccountingOn, n)
+an off | off 1 10.0.0.1 - | 1 [10, 0, 0, 1] (AccountingOff, none)
 octets for authentication | raw-auth 1 10.0.0.1 01fF | 1 ([10, 0, 0, 1], Auth, 01ff)
 octets for accounting | raw-acct 1 10.0.0.1 00 | 1 ([10, 0, 0, 1], Acct, 00)
 a tick | tick 3 | 3 tick

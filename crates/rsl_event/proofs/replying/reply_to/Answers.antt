@@ -2,20 +2,23 @@ use Rattle.std.proofs.Common.{List, [], ap, unwrap_or, ◌∙◌, ◌++◌}
 use Rattle.rsl_wire.specs.Attributes.{Attribute, list_octets}
 use Rattle.rsl_wire.specs.Seen.{fields_of}
 use Rattle.rsl_event.specs.Answer.{repeated_attributes}
-use Rattle.rsl_event.specs.Signature.{is_reply_signed}
-use Rattle.rsl_event.proofs.WritingLaws.{answer_is, repeated_short, with_attributes}
+use Rattle.rsl_event.specs.Signature.{reply_signing}
+use Rattle.rsl_event.proofs.WritingLaws.{answer_is, formed_unless_bare, repeated_short, with_attributes}
 use Rattle.rsl_event.proofs.replying.reply_to.Goals as goal
 
 pub returns : goal.returns
 returns c =
     let second = c.write_said.new.draft in
     answer_is c.args.config.now c.args.boot c.args.client (fields_of c.args.request.now) c.args.kind c.args.decision
-    c.said-word.result c.code_of.result c.is_reply_signed-is_signed.result c.args.draft c.push_signature_if.new.draft second c.write_repeated.new.draft
+    c.said-word.result c.code_of.result c.reply_signing-signing.result c.args.draft c.push.new.draft second c.write_repeated.new.draft
     c.finish-octets.result.items c.expose-secret.result.now _ c.client_at.result.now
-    c.requires.room c.push_signature_if.ensures.written c.write_said.ensures.written
+    c.requires.room c.push.ensures.written c.write_said.ensures.written
     (c.write_repeated.ensures.written ∙ ap (λ (x : List Attribute). with_attributes second (second.attributes ++ list_octets (repeated_attributes x c.args.kind))) c.attributes_of-attributes.ensures.list)
-    c.said-word.ensures (c.is_reply_signed-is_signed.ensures ∙ ap (λ (x : List Attribute). is_reply_signed c.said-word.result x) c.attributes_of-attributes.ensures.list) c.code_of.ensures
+    c.said-word.ensures (c.reply_signing-signing.ensures ∙ ap (λ (x : List Attribute). reply_signing c.said-word.result x) c.attributes_of-attributes.ensures.list) c.code_of.ensures
     c.client_at.ensures.client c.expose-secret.ensures.octets c.finish-octets.ensures.octets c.sealed.ensures
+
+pub attributes_of-attributes-requires : goal.attributes_of-attributes-requires
+attributes_of-attributes-requires c other = formed_unless_bare c.args.request.now.attrs.now c.args.kind c.requires.prepared.room other
 
 pub write_repeated-requires-clause-room : goal.write_repeated-requires-clause-room
 write_repeated-requires-clause-room c other =

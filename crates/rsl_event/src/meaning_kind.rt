@@ -1,7 +1,7 @@
 ghost use Rattle.std.specs.Prelude.{◌≡◌, ℕ, List};
 ghost use Rattle.rsl_accounts.specs.Configuration.{Configuration};
 ghost use Rattle.rsl_event.specs.Answer.{said_to};
-ghost use Rattle.rsl_event.specs.Kind.{kind_of};
+ghost use Rattle.rsl_event.specs.MeaningKind.{kind_of};
 ghost use Rattle.rsl_event.specs.Prepared.{HasAccount, HasAsker, HasRoomFor, HasRoomForReply};
 
 use crate::event::{Act, Decision};
@@ -11,7 +11,7 @@ use crate::words::Said;
 /// The kind of a meaning: all of it that its reply hangs on. So a reply can still be made where the
 /// act of the meaning was handed on.
 #[derive(Clone, Copy, Debug, PartialEq, Eq)]
-pub enum Kind {
+pub enum MeaningKind {
     /// A request whose attributes are malformed.
     Bare,
     /// A request that is rejected.
@@ -22,26 +22,26 @@ pub enum Kind {
     Account,
 }
 
-impl Kind {
+impl MeaningKind {
     /// What is answered to a meaning of this kind, in a word. The decision tells of an ask alone; an
     /// ask that is `Done` was not accepted.
     pub fn said(self, decision: Decision) -> Said
         ensures { result ≡ said_to self decision }
     {
         match self {
-            Kind::Bare | Kind::Reject => Said::Reject,
-            Kind::Ask(_) => match decision {
+            MeaningKind::Bare | MeaningKind::Reject => Said::Reject,
+            MeaningKind::Ask(_) => match decision {
                 Decision::Accept(number) => Said::Accept(number),
                 Decision::LimitReject | Decision::Done => Said::LimitReject,
             },
-            Kind::Account => Said::Account,
+            MeaningKind::Account => Said::Account,
         }
     }
 }
 
 impl Meaning {
     /// Its kind.
-    pub fn kind(&self) -> Kind
+    pub fn kind(&self) -> MeaningKind
         ensures kind { result ≡ kind_of self.now }
         ensures asker { (config : Configuration) → HasAccount config self.now →
             HasAsker config result }
@@ -49,13 +49,14 @@ impl Meaning {
             HasRoomFor attributes result }
     {
         match self {
-            Meaning::Bare => Kind::Bare,
-            Meaning::Reject => Kind::Reject,
+            Meaning::Bare => MeaningKind::Bare,
+            Meaning::Reject => MeaningKind::Reject,
             Meaning::Own {
                 account,
                 act: Act::Ask { .. },
-            } => Kind::Ask(*account),
-            Meaning::Own { .. } | Meaning::Restart { .. } | Meaning::Stray(_) => Kind::Account,
+            } => MeaningKind::Ask(*account),
+            Meaning::Own { .. } | Meaning::Restart { .. } | Meaning::Stray(_) =>
+                MeaningKind::Account,
         }
     }
 }

@@ -1,0 +1,78 @@
+ghost use Rattle.std.specs.Prelude.{◌≡◌, ◌≤◌, [], length, vec_len};
+ghost use Rattle.rsl_auth.specs.Signature.{signed};
+ghost use Rattle.rsl_wire.specs.Attributes.{list_octets};
+ghost use Rattle.rsl_event.specs.Draft.{with_more};
+ghost use Rattle.rsl_event.specs.Signature.{signature_attributes, signed_by, signing_if};
+
+use crate::codes::MESSAGE_AUTHENTICATOR;
+use crate::signature::FIRST_SIGNATURE_OFFSET;
+use rsl_accounts::Client;
+use rsl_auth::{SIGNATURE_LEN, sign};
+use rsl_wire::Draft;
+
+/// Whether a packet that is written has a Message-Authenticator (RFC 3579 section 3.2).
+#[derive(Clone, Copy, Debug, PartialEq, Eq)]
+pub enum Signing {
+    /// It has none.
+    Plain,
+    /// It has one, as its first attribute.
+    Signed,
+}
+
+impl Signing {
+    /// That of an Access-Request of a client: it is signed where the client has to sign.
+    pub fn of(client: &Client) -> Signing
+        ensures { result ≡ signing_if client.now.signed }
+    {
+        if client.signed {
+            Signing::Signed
+        } else {
+            Signing::Plain
+        }
+    }
+
+    /// Writes the Message-Authenticator of a signed packet as the first attribute of its draft,
+    /// with zeros for the value. It takes no memory.
+    pub fn push(self, draft: &mut Draft)
+        requires empty { draft.old.attributes ≡ [] }
+        ensures written { draft.new ≡
+            with_more draft.old (list_octets (signature_attributes self)) }
+        ensures short { length draft.new.attributes ≤ 18 }
+        ensures room { self ≡ Signing.Signed → 18 ≤ length draft.new.attributes }
+    {
+        if let Signing::Signed = self {
+            draft
+                .push(MESSAGE_AUTHENTICATOR, &[0; SIGNATURE_LEN])
+                .unwrap();
+        }
+    }
+
+    /// The octets of a packet, where that of a signed one gets the value of its
+    /// Message-Authenticator, with this Request Authenticator (RFC 3579 section 3.2): it is the
+    /// first attribute, so that the packet has at least 38 octets. It takes no memory.
+    pub fn sign(self, octets: Vec<u8>, request_auth: &[u8; 16], secret: &[u8]) -> Vec<u8>
+        requires { self ≡ Signing.Signed → 38 ≤ vec_len octets }
+        ensures signed { result.items ≡ signed_by self octets.items request_auth.now secret.now }
+        ensures len { vec_len result ≡ vec_len octets }
+    {
+        match self {
+            Signing::Plain => octets,
+            Signing::Signed => with_signature(octets, request_auth, secret),
+        }
+    }
+}
+
+/// The octets of a packet with the value of its Message-Authenticator, the first attribute.
+fn with_signature(mut octets: Vec<u8>, request_auth: &[u8; 16], secret: &[u8]) -> Vec<u8>
+    requires { 38 ≤ vec_len octets }
+    ensures signed { result.items ≡ signed octets.items 22 request_auth.now secret.now }
+    ensures len { vec_len result ≡ vec_len octets }
+{
+    sign(
+        octets.as_mut_slice(),
+        FIRST_SIGNATURE_OFFSET,
+        request_auth,
+        secret,
+    );
+    octets
+}
