@@ -17,8 +17,6 @@ ghost use Rattle.std.specs.Prelude.{
   None,
   length,
   map,
-  set,
-  slice_get,
 };
 ghost use Rattle.rsl_book.specs.RuledBook.{IsWithinLimit};
 ghost use Rattle.rsl_event.specs.Prepared.{IsOfOneAccount};

@@ -10,7 +10,7 @@ use Rattle.rsl_accounts.specs.declared.entry.Entry.{Entry as Account}
 use Rattle.rsl_book.specs.RuledBook.{RuledBook}
 use Rattle.rsl_event.specs.Answer.{answer, said}
 use Rattle.rsl_event.specs.Meaning.{Fails, meaning}
-use Rattle.rsl_event.specs.Prepared.{HasAccount, IsOfOneAccount}
+use Rattle.rsl_event.specs.Prepared.{HasAccount}
 use Rattle.rsl_event.specs.declared.event.Act.{Act}
 use Rattle.rsl_event.specs.declared.event.Act.TheVariants as acts
 use Rattle.rsl_event.specs.declared.event.Decision.{Decision}
@@ -38,7 +38,7 @@ use Rattle.rsl_wire.specs.Packet.{Fields, packet_of}
 use Rattle.rsl_wire.specs.declared.packet.WireFault.{WireFault}
 use Rattle.rsl_steps.specs.Books.{account_book, answer_by_book, answer_with_book, decision_by_book}
 use Rattle.rsl_steps.specs.Moves.{move_in, move_of, shard_moves}
-use Rattle.rsl_steps.specs.Own.{is_of_shard, own}
+use Rattle.rsl_steps.specs.Own.{own}
 use Rattle.rsl_steps.specs.Ran.{AreShards, HasMoved}
 use Rattle.rsl_steps.specs.Run.{octets_by}
 use Rattle.rsl_steps.specs.Taking.{AreReady, HaveShardsRoom, IsDecided, IsMovedAt, IsNotThere, IsQuietAt, IsStepTaken, Takes, answer_to_drop}
