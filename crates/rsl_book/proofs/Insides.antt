@@ -28,7 +28,7 @@ use Rattle.rsl_book.specs.RuledBook.{RuledBook, IsWithinLimit}
 use Rattle.rsl_book.specs.BookSeen.{IsSound, running, book_seen}
 use Rattle.rsl_links.specs.Seen.{link_seen, links_seen, server_at, bundle_with}
 use Rattle.rsl_links.specs.Counted.{AreCounted}
-use Rattle.rsl_links.specs.Named.{ArePlaced}
+use Rattle.rsl_links.specs.Named.{AreIndexed}
 use Rattle.rsl_links.proofs.Callers.{length-bundles, bundles-push}
 use Rattle.rsl_links.proofs.Callers.{placed_none}
 use Rattle.rsl_links.proofs.Callers.{own_bundle}
@@ -103,7 +103,7 @@ room_for_one servers links limit ports r capacity b counted more within same roo
     omega arith
 
 -- links are counted the same where they are seen the same
-pub counted_again : (old new : List Nas) (links : Links) → links_seen new links.list.items ≡ links_seen old links.list.items → (ArePlaced old links.list.items → ArePlaced new links.list.items) → AreCounted old links → AreCounted new links
+pub counted_again : (old new : List Nas) (links : Links) → links_seen new links.list.items ≡ links_seen old links.list.items → (AreIndexed old links.list.items → AreIndexed new links.list.items) → AreCounted old links → AreCounted new links
 counted_again old new links same stay counted =
     record { a_port = counted.a_port; places = counted.places ∙ ap (λ seen. places_of links.ports (bundles_in seen)) (sym same); placed = stay counted.placed }
 
@@ -230,5 +230,5 @@ counted_copy servers copied links copy same list ports places counted =
     record {
       a_port = let some = counted.a_port in omega arith;
       places = places ∙ counted.places ∙ sym (ap (λ n. places_of n (bundles_in (links_seen copied copy.list.items))) ports ∙ ap (λ one. places_of links.ports (bundles_in (links_seen one copy.list.items))) same ∙ ap (λ xs. places_of links.ports (bundles_in (links_seen servers xs))) list);
-      placed = subst (λ one. ArePlaced one copy.list.items) (sym same) (subst (λ xs. ArePlaced servers xs) (sym list) counted.placed);
+      placed = subst (λ one. AreIndexed one copy.list.items) (sym same) (subst (λ xs. AreIndexed servers xs) (sym list) counted.placed);
     }

@@ -2,7 +2,7 @@ ghost use Rattle.std.specs.Prelude.{◌≡◌, ◌+◌, ◌<◌, false, length};
 ghost use Rattle.rsl_links.specs.Seen.{server_at, links_seen};
 ghost use Rattle.rsl_book.specs.Seen.{asks_seen, stops_seen};
 ghost use Rattle.rsl_book.specs.Named.{is_named};
-ghost use Rattle.rsl_links.specs.Named.{ArePlaced, IsPlace};
+ghost use Rattle.rsl_links.specs.Named.{AreIndexed, IsIndex};
 
 use crate::kept::{DecidedAsk, EndedSession};
 use crate::ring::Ring;
@@ -54,8 +54,8 @@ pub(crate) fn index_for(
     requires { length links.now.items + asks.now.capacity + stops.now.capacity
         < length servers.old }
     ensures stands { server_at servers.new result ≡ nas }
-    ensures place { IsPlace servers.new result }
-    ensures placed { ArePlaced servers.old links.now.items → ArePlaced servers.new links.now.items }
+    ensures index { IsIndex servers.new result }
+    ensures placed { AreIndexed servers.old links.now.items → AreIndexed servers.new links.now.items }
     ensures links { links_seen servers.new links.now.items ≡
         links_seen servers.old links.now.items }
     ensures asks { asks_seen servers.new asks.now.items ≡ asks_seen servers.old asks.now.items }

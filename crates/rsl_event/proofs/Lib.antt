@@ -3,3 +3,4 @@ pub mod PreparedLaws
 pub mod SignatureLaws
 pub mod WritingLaws
 pub mod Callers
+pub mod ClientKeys

@@ -1,4 +1,5 @@
-ghost use Rattle.std.specs.Prelude.{◌≡◌, ◌<◌, ◌≤◌, [], length, replicate, unwrap_or, vec_capacity, vec_len, IfOk, IfSome, IsOk, Ok};
+ghost use Rattle.std.specs.Prelude.{◌≡◌, ◌<◌, ◌≤◌, [], List, ℕ, length, replicate, unwrap_or, vec_capacity, vec_len, IfOk, IfSome, IsOk, Ok};
+ghost use Rattle.rsl_auth.specs.Hmac.{IsKeyOf};
 ghost use Rattle.std.specs.List.{AllByRecursion};
 ghost use Rattle.rsl_wire.specs.Attributes.{IsAttribute, attribute_list, attributes_in, list_octets};
 ghost use Rattle.rsl_wire.specs.Packet.{packet_octets};
@@ -27,7 +28,7 @@ use crate::signing::Signing;
 use crate::words::Said;
 use crate::writing::{push_accept, push_limit_message, push_proxy_states};
 use rsl_accounts::Config;
-use rsl_auth::sealed;
+use rsl_auth::{HmacKey, sealed};
 use rsl_wire::{Attrs, Draft, NoMemory, Packet};
 use std::alloc::Global;
 
@@ -113,7 +114,8 @@ pub fn reply_to(
     write_repeated(&attributes, kind, &mut draft);
     let request_auth = &request.authenticator;
     let secret = config.client_at(client).secret.expose();
-    let octets = finish(draft, code_of(word), signing, request_auth, secret);
+    let key = config.hmac_key(client);
+    let octets = finish(draft, code_of(word), signing, request_auth, key);
     sealed(octets, request_auth, secret)
 }
 
@@ -155,21 +157,21 @@ fn finish(
     code: u8,
     signing: Signing,
     request_auth: &[u8; 16],
-    secret: &[u8],
+    key: &HmacKey,
 ) -> Vec<u8>
     requires { signing ≡ Signing.Signed → 18 ≤ length draft.attributes }
-    ensures octets { result.items ≡ signed_by signing
+    ensures octets { (secret : List ℕ) → IsKeyOf secret key.now → result.items ≡ signed_by signing
         (packet_octets (record {
           code = code;
           id = draft.id;
           authenticator = replicate 16 0;
           attributes = draft.attributes;
         }))
-        request_auth.now secret.now }
+        request_auth.now secret }
     ensures header { 20 ≤ vec_len result }
 {
     let octets = draft.finish(code, &[0; 16]);
-    signing.sign(octets, request_auth, secret)
+    signing.sign(octets, request_auth, key)
 }
 
 /// The Code of a reply.

@@ -1,4 +1,5 @@
-ghost use Rattle.std.specs.Prelude.{◌≡◌, ◌<◌, ◌≤◌, length};
+ghost use Rattle.std.specs.Prelude.{◌≡◌, ◌<◌, ◌≤◌, List, ℕ, length};
+ghost use Rattle.rsl_auth.specs.Hmac.{IsKeyOf};
 ghost use Rattle.rsl_wire.specs.Attributes.{AreAttributes, list_octets};
 ghost use Rattle.rsl_wire.specs.Seen.{fields_of};
 ghost use Rattle.rsl_event.specs.Signature.{
@@ -11,7 +12,7 @@ use crate::access_attributes::AccessAttributes;
 use crate::codes::MESSAGE_AUTHENTICATOR;
 use crate::meaning::Dropped;
 use rsl_accounts::Config;
-use rsl_auth::{SIGNATURE_LEN, signature_ok};
+use rsl_auth::{HmacKey, SIGNATURE_LEN};
 use rsl_wire::{ATTR_HEADER_LEN, Attrs, HEADER_LEN, Packet};
 
 /// Where the value of a Message-Authenticator that is a packet's first attribute stands: after the
@@ -30,29 +31,30 @@ pub(crate) fn signature_drop(
     ensures { result ≡
         signature_drop config.now client (fields_of packet.now) attributes.now.all }
 {
-    let client = config.client_at(client);
     if attributes.signatures.count > 0 {
-        if has_right_signature(packet, attributes, client.secret.expose()) {
+        if has_right_signature(packet, attributes, config.hmac_key(client)) {
             None
         } else {
             Some(Dropped::BadSignature)
         }
-    } else if client.signed {
+    } else if config.client_at(client).signed {
         Some(Dropped::Unsigned)
     } else {
         None
     }
 }
 
-/// Whether there is exactly one Message-Authenticator, of 16 octets, and it is that of the packet.
+/// Whether there is exactly one Message-Authenticator, of 16 octets, and it is that of the packet,
+/// by the key of the secret.
 #[tactic(auto, unfolding(crate::specs::Signature::has_right_signature))]
 fn has_right_signature(
     packet: &Packet<'_>,
     attributes: &AccessAttributes<'_>,
-    secret: &[u8],
+    key: &HmacKey,
 ) -> bool
     requires { AreAttributes packet.now.attrs.now attributes.now.all }
-    ensures { result ≡ has_right_signature (fields_of packet.now) attributes.now.all secret.now }
+    ensures { (secret : List ℕ) → IsKeyOf secret key.now →
+        result ≡ has_right_signature (fields_of packet.now) attributes.now.all secret }
 {
     if attributes.signatures.count != 1 {
         return false;
@@ -61,7 +63,7 @@ fn has_right_signature(
         return false;
     }
     let at = FIRST_SIGNATURE_OFFSET + octets_before_signature(&attributes.all);
-    signature_ok(packet.octets(), at, secret)
+    key.is_right(packet.octets(), at)
 }
 
 /// How many octets the attributes before the first Message-Authenticator have.

@@ -1,4 +1,5 @@
-ghost use Rattle.std.specs.Prelude.{◌≡◌, ◌≤◌, [], length, vec_len};
+ghost use Rattle.std.specs.Prelude.{◌≡◌, ◌≤◌, [], List, ℕ, length, vec_len};
+ghost use Rattle.rsl_auth.specs.Hmac.{IsKeyOf};
 ghost use Rattle.rsl_auth.specs.Signature.{signed};
 ghost use Rattle.rsl_wire.specs.Attributes.{list_octets};
 ghost use Rattle.rsl_event.specs.Draft.{with_more};
@@ -7,7 +8,7 @@ ghost use Rattle.rsl_event.specs.Signature.{signature_attributes, signed_by, sig
 use crate::codes::MESSAGE_AUTHENTICATOR;
 use crate::signature::FIRST_SIGNATURE_OFFSET;
 use rsl_accounts::Client;
-use rsl_auth::{SIGNATURE_LEN, sign};
+use rsl_auth::{HmacKey, SIGNATURE_LEN};
 use rsl_wire::Draft;
 
 /// Whether a packet that is written has a Message-Authenticator (RFC 3579 section 3.2).
@@ -49,30 +50,28 @@ impl Signing {
 
     /// The octets of a packet, where that of a signed one gets the value of its
     /// Message-Authenticator, with this Request Authenticator (RFC 3579 section 3.2): it is the
-    /// first attribute, so that the packet has at least 38 octets. It takes no memory.
-    pub fn sign(self, octets: Vec<u8>, request_auth: &[u8; 16], secret: &[u8]) -> Vec<u8>
+    /// first attribute, so that the packet has at least 38 octets. The key is that of the secret. It
+    /// takes no memory.
+    pub fn sign(self, octets: Vec<u8>, request_auth: &[u8; 16], key: &HmacKey) -> Vec<u8>
         requires { self ≡ Signing.Signed → 38 ≤ vec_len octets }
-        ensures signed { result.items ≡ signed_by self octets.items request_auth.now secret.now }
+        ensures signed { (secret : List ℕ) → IsKeyOf secret key.now →
+            result.items ≡ signed_by self octets.items request_auth.now secret }
         ensures len { vec_len result ≡ vec_len octets }
     {
         match self {
             Signing::Plain => octets,
-            Signing::Signed => with_signature(octets, request_auth, secret),
+            Signing::Signed => with_signature(octets, request_auth, key),
         }
     }
 }
 
 /// The octets of a packet with the value of its Message-Authenticator, the first attribute.
-fn with_signature(mut octets: Vec<u8>, request_auth: &[u8; 16], secret: &[u8]) -> Vec<u8>
+fn with_signature(mut octets: Vec<u8>, request_auth: &[u8; 16], key: &HmacKey) -> Vec<u8>
     requires { 38 ≤ vec_len octets }
-    ensures signed { result.items ≡ signed octets.items 22 request_auth.now secret.now }
+    ensures signed { (secret : List ℕ) → IsKeyOf secret key.now →
+        result.items ≡ signed octets.items 22 request_auth.now secret }
     ensures len { vec_len result ≡ vec_len octets }
 {
-    sign(
-        octets.as_mut_slice(),
-        FIRST_SIGNATURE_OFFSET,
-        request_auth,
-        secret,
-    );
+    key.sign(octets.as_mut_slice(), FIRST_SIGNATURE_OFFSET, request_auth);
     octets
 }

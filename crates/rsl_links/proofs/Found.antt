@@ -1,4 +1,4 @@
--- The first link that passes, by its place, and what a change of the link at a place is seen as.
+-- The first link that passes, by its position, and what a change of the link at a position is seen as.
 use Rattle.std.proofs.Common.{◌≡◌, ℕ, zero, suc, ◌<◌, List, [], ◌∷◌, ◌++◌, take, drop, set, get_or, length, map, Bool, true, false, refl, ap, sym, ◌∙◌, arith, add-one}
 use Rattle.std.specs.Prelude.{Option, Some, None, find, is_some, ◌&&◌, ◌==◌}
 use Rattle.std.specs.Option.{option_or}

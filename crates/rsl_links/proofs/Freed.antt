@@ -8,7 +8,7 @@ use Rattle.rsl_links.specs.declared.slots.Slot.{Slot}
 use Rattle.rsl_links.specs.declared.slots.Slots.{Slots}
 use Rattle.std.specs.Prelude.{vec_capacity}
 use Rattle.std.specs.VecDeque.{deque_capacity}
-use Rattle.rsl_links.specs.Slots.{ArePlaced, IsKept, IsLess, IsRising, link_in, links_in, no_slot, opened_in, opened_of}
+use Rattle.rsl_links.specs.Slots.{AreSequenced, IsKept, IsLess, IsRising, link_in, links_in, no_slot, opened_in, opened_of}
 use Rattle.rsl_links.proofs.Orders.{read_less}
 use Rattle.rsl_links.proofs.Slotted.{long_opened, read_opened, same_links, same_rising, same_there}
 
@@ -49,11 +49,11 @@ rising_less slots opened at r within =
 abbrev Moved : ℕ → ℕ → ℕ → ℕ → Type 0
 Moved long at k i = ((k < at) × (i ≡ k)) ⊎ (((at ≤ k) × ((k + 1 < long) × (i ≡ k + 1))) ⊎ ((k + 1 ≡ long) × (i ≡ at)))
 
-record Came (places : List ℕ) (at x k : ℕ) : Type 0 where
+record Came (sequence : List ℕ) (at x k : ℕ) : Type 0 where
   i : ℕ
-  inside : i < length places
-  is : x ≡ get_or places i 0
-  moved : Moved (length places) at k i
+  inside : i < length sequence
+  is : x ≡ get_or sequence i 0
+  moved : Moved (length sequence) at k i
 
 moved_apart : (long at j k one two : ℕ) → at < long → j < k → Moved long at j one → Moved long at k two → one ≢ two
 moved_apart long at j k one two within past a b =
@@ -83,72 +83,72 @@ moved_apart long at j k one two within past a b =
       ]
     ]
 
-module _ (slots : List Slot) (places : List ℕ) (count : ℕ) (p : ArePlaced slots places count) (at slot : ℕ) (within : at < count) (stands : slot ≡ get_or (take count places) at 0) where
-  inside_all : at < length places
+module _ (slots : List Slot) (sequence : List ℕ) (count : ℕ) (p : AreSequenced slots sequence count) (at slot : ℕ) (within : at < count) (stands : slot ≡ get_or (take count sequence) at 0) where
+  inside_all : at < length sequence
   inside_all = let few = p.few in omega (arith, within, few)
 
-  inside_opened : at < length (take count places)
-  inside_opened = let long = long_opened slots places count p in omega (arith, within, long)
+  inside_opened : at < length (take count sequence)
+  inside_opened = let long = long_opened slots sequence count p in omega (arith, within, long)
 
-  pub less_opened : take (count - 1) (remove places at ++ slot ∷ []) ≡ remove (take count places) at
+  pub less_opened : take (count - 1) (remove sequence at ++ slot ∷ []) ≡ remove (take count sequence) at
   less_opened =
-      let long = long_opened slots places count p in
-      let short = length-remove (take count places) at inside_opened in
-      let whole : remove places at ≡ remove (take count places) at ++ drop count places =
-      ap (λ (xs : List ℕ). remove xs at) (sym (take-append-drop count places)) ∙ remove-append_left (take count places) (drop count places) at inside_opened in
+      let long = long_opened slots sequence count p in
+      let short = length-remove (take count sequence) at inside_opened in
+      let whole : remove sequence at ≡ remove (take count sequence) at ++ drop count sequence =
+      ap (λ (xs : List ℕ). remove xs at) (sym (take-append-drop count sequence)) ∙ remove-append_left (take count sequence) (drop count sequence) at inside_opened in
       ap (λ (xs : List ℕ). take (count - 1) (xs ++ slot ∷ [])) whole
-      ∙ ap (take (count - 1)) (append_assoc (remove (take count places) at) (drop count places) (slot ∷ []))
-      ∙ take_at (remove (take count places) at) (drop count places ++ slot ∷ []) (count - 1) (omega (arith, long, short))
+      ∙ ap (take (count - 1)) (append_assoc (remove (take count sequence) at) (drop count sequence) (slot ∷ []))
+      ∙ take_at (remove (take count sequence) at) (drop count sequence ++ slot ∷ []) (count - 1) (omega (arith, long, short))
 
-  other_less : (k : ℕ) → k < length (remove (take count places) at) → get_or (remove (take count places) at) k 0 ≢ slot
+  other_less : (k : ℕ) → k < length (remove (take count sequence) at) → get_or (remove (take count sequence) at) k 0 ≢ slot
   other_less k inside same =
-      elim (read_less (take count places) at k inside_opened inside) [
+      elim (read_less (take count sequence) at k inside_opened inside) [
         | inl low ↦ (
-            let here = same_there slots (take count places) p.rising k at (let w = inside_opened in omega (arith, w, low.0)) inside_opened (sym low.1 ∙ same ∙ stands) in
+            let here = same_there slots (take count sequence) p.rising k at (let w = inside_opened in omega (arith, w, low.0)) inside_opened (sym low.1 ∙ same ∙ stands) in
             omega (arith, here, low.0)
             )
         | inr high ↦ (
-            let here = same_there slots (take count places) p.rising (k + 1) at high.1.0 inside_opened (sym high.1.1 ∙ same ∙ stands) in
+            let here = same_there slots (take count sequence) p.rising (k + 1) at high.1.0 inside_opened (sym high.1.1 ∙ same ∙ stands) in
             omega (arith, here, high.0)
             )
       ]
 
-  left_there : (y : Slot) (k : ℕ) → k < length (remove (take count places) at) → get_or (set slots slot y) (get_or (remove (take count places) at) k 0) no_slot ≡ get_or slots (get_or (remove (take count places) at) k 0) no_slot
-  left_there y k inside = get_or-set_other slots slot (get_or (remove (take count places) at) k 0) y no_slot (other_less k inside)
+  left_there : (y : Slot) (k : ℕ) → k < length (remove (take count sequence) at) → get_or (set slots slot y) (get_or (remove (take count sequence) at) k 0) no_slot ≡ get_or slots (get_or (remove (take count sequence) at) k 0) no_slot
+  left_there y k inside = get_or-set_other slots slot (get_or (remove (take count sequence) at) k 0) y no_slot (other_less k inside)
 
-  pub less_links : (y : Slot) → links_in (set slots slot y) (take (count - 1) (remove places at ++ slot ∷ [])) ≡ remove (links_in slots (take count places)) at
+  pub less_links : (y : Slot) → links_in (set slots slot y) (take (count - 1) (remove sequence at ++ slot ∷ [])) ≡ remove (links_in slots (take count sequence)) at
   less_links y =
       ap (links_in (set slots slot y)) less_opened
-      ∙ same_links slots (set slots slot y) (remove (take count places) at) (λ k inside. ap (λ (one : Slot). one.link) (left_there y k inside))
-      ∙ map_remove (link_in slots) (take count places) at
+      ∙ same_links slots (set slots slot y) (remove (take count sequence) at) (λ k inside. ap (λ (one : Slot). one.link) (left_there y k inside))
+      ∙ map_remove (link_in slots) (take count sequence) at
 
-  came : (k : ℕ) → k < length (remove places at ++ slot ∷ []) → Came places at (get_or (remove places at ++ slot ∷ []) k 0) k
+  came : (k : ℕ) → k < length (remove sequence at ++ slot ∷ []) → Came sequence at (get_or (remove sequence at ++ slot ∷ []) k 0) k
   came k inside =
-      let long = length-remove places at inside_all in
-      let more = length-append (remove places at) (slot ∷ []) in
-      elim (cases_lt k (length (remove places at))) [
+      let long = length-remove sequence at inside_all in
+      let more = length-append (remove sequence at) (slot ∷ []) in
+      elim (cases_lt k (length (remove sequence at))) [
         | inl low ↦ (
-            let left = get_or_append_left (remove places at) (slot ∷ []) 0 k low in
-            elim (read_less places at k inside_all low) [
+            let left = get_or_append_left (remove sequence at) (slot ∷ []) 0 k low in
+            elim (read_less sequence at k inside_all low) [
               | inl one ↦ record { i = k; inside = (let w = inside_all in omega (arith, w, one.0)); is = left ∙ one.1; moved = inl (one.0, refl) }
               | inr one ↦ record { i = k + 1; inside = one.1.0; is = left ∙ one.1.1; moved = inr (inl (one.0, (one.1.0, refl))) }
             ]
             )
         | inr high ↦ (
-            let last : length (remove places at) ≡ k = omega (arith, more, inside, high) in
+            let last : length (remove sequence at) ≡ k = omega (arith, more, inside, high) in
             record {
               i = at;
               inside = inside_all;
-              is = get_or_push (remove places at) slot 0 k last ∙ stands ∙ read_opened places count at within;
+              is = get_or_push (remove sequence at) slot 0 k last ∙ stands ∙ read_opened sequence count at within;
               moved = inr (inr (omega (arith, last, long), refl));
             }
             )
       ]
 
-  pub less_placed : (y : Slot) → ArePlaced (set slots slot y) (remove places at ++ slot ∷ []) (count - 1)
+  pub less_placed : (y : Slot) → AreSequenced (set slots slot y) (remove sequence at ++ slot ∷ []) (count - 1)
   less_placed y =
-      let long = length-remove places at inside_all in
-      let more = length-append (remove places at) (slot ∷ []) in
+      let long = length-remove sequence at inside_all in
+      let more = length-append (remove sequence at) (slot ∷ []) in
       let same = length-set slots slot y in
       record {
         few = (let few = p.few in omega (arith, long, more, few));
@@ -157,14 +157,14 @@ module _ (slots : List Slot) (places : List ℕ) (count : ℕ) (p : ArePlaced sl
         apart = λ j k past inside equal.
             let one = came j (omega (arith, past, inside)) in
             let two = came k inside in
-            let other = moved_apart (length places) at j k one.i two.i inside_all past one.moved two.moved in
+            let other = moved_apart (length sequence) at j k one.i two.i inside_all past one.moved two.moved in
             apart_there one.i two.i one.inside two.inside other (sym one.is ∙ equal ∙ two.is);
         rising = subst (IsRising (set slots slot y)) (sym less_opened)
-            (same_rising slots (set slots slot y) (remove (take count places) at) (rising_less slots (take count places) at p.rising inside_opened) (omega (arith, same))
+            (same_rising slots (set slots slot y) (remove (take count sequence) at) (rising_less slots (take count sequence) at p.rising inside_opened) (omega (arith, same))
             (λ k inside. ap (λ (one : Slot). one.opened) (left_there y k inside)));
       }
     where
-      apart_there : (a b : ℕ) → a < length places → b < length places → a ≢ b → get_or places a 0 ≢ get_or places b 0
+      apart_there : (a b : ℕ) → a < length sequence → b < length sequence → a ≢ b → get_or sequence a 0 ≢ get_or sequence b 0
       apart_there a b one two other same =
           elim (cases_lt a b) [
             | inl low ↦ p.apart a b low two same
@@ -172,20 +172,20 @@ module _ (slots : List Slot) (places : List ℕ) (count : ℕ) (p : ArePlaced sl
           ]
 
 -- the same of the fields of slots
-pub less : (old new : Slots) → IsKept old → (at slot : ℕ) → at < old.count → slot ≡ get_or (opened_of old) at 0 → (y : Slot) → new.slots.items ≡ set old.slots.items slot y → new.places.items ≡ remove old.places.items at ++ slot ∷ []
-    → new.count ≡ old.count - 1 → vec_capacity new.slots ≡ vec_capacity old.slots → deque_capacity new.places ≡ deque_capacity old.places → IsLess at old new
-less old new k at slot within stands y slots places count capacity room =
-    let long = length-remove old.places.items at (let few = k.placed.few in omega (arith, within, few)) in
-    let more = length-append (remove old.places.items at) (slot ∷ []) in
-    let all = ap length places in
+pub less : (old new : Slots) → IsKept old → (at slot : ℕ) → at < old.count → slot ≡ get_or (opened_of old) at 0 → (y : Slot) → new.slots.items ≡ set old.slots.items slot y → new.sequence.items ≡ remove old.sequence.items at ++ slot ∷ []
+    → new.count ≡ old.count - 1 → vec_capacity new.slots ≡ vec_capacity old.slots → deque_capacity new.sequence ≡ deque_capacity old.sequence → IsLess at old new
+less old new k at slot within stands y slots sequence count capacity room =
+    let long = length-remove old.sequence.items at (let few = k.placed.few in omega (arith, within, few)) in
+    let more = length-append (remove old.sequence.items at) (slot ∷ []) in
+    let all = ap length sequence in
     record {
       kept = record {
-        placed = rw (slots, places, count) (less_placed old.slots.items old.places.items old.count k.placed at slot within stands y);
+        placed = rw (slots, sequence, count) (less_placed old.slots.items old.sequence.items old.count k.placed at slot within stands y);
         fit = (let fit = k.fit in omega (arith, long, more, all, fit, capacity));
         room = (let enough = k.room in omega (arith, enough, capacity, room));
       };
-      opened = rw (places, count) (less_opened old.slots.items old.places.items old.count k.placed at slot within stands);
+      opened = rw (sequence, count) (less_opened old.slots.items old.sequence.items old.count k.placed at slot within stands);
       count = omega (arith, count, within);
-      links = rw (slots, places, count) (less_links old.slots.items old.places.items old.count k.placed at slot within stands y);
+      links = rw (slots, sequence, count) (less_links old.slots.items old.sequence.items old.count k.placed at slot within stands y);
       room = capacity;
     }

@@ -1,4 +1,4 @@
--- Links at first places of the table: what a link has of a session or a bundle is told by its place.
+-- Links at first places of the table: what a link has of a session or a bundle is told by its index.
 use Rattle.std.proofs.Common.{◌≡◌, ◌≢◌, ℕ, zero, suc, ◌+◌, ◌<◌, List, [], ◌∷◌, ◌++◌, take, drop, set, get_or, length, map, Bool, true, false, cond, refl, ap, sym, ◌∙◌, subst, inl, inr, arith}
 use Rattle.std.specs.Prelude.{Option, None, Some, IfNone, count_by, find, ◌==◌, ◌&&◌}
 use Rattle.std.specs.List.{All, list_any}
@@ -20,7 +20,7 @@ use Rattle.rsl_links.specs.declared.link.Hold.TheVariants.{Number, Session}
 use Rattle.rsl_links.specs.Changed.{taken_link, touched_link}
 use Rattle.rsl_links.specs.First.{IsFirst, change_at}
 use Rattle.rsl_links.specs.LinkList.{is_bundle_id, is_for, is_held, is_id, is_member, is_wanted_hold}
-use Rattle.rsl_links.specs.Named.{ArePlaced, IsPlace, named_by_links}
+use Rattle.rsl_links.specs.Named.{AreIndexed, IsIndex, named_by_links}
 use Rattle.rsl_links.specs.Order.{link_at, no_link}
 use Rattle.rsl_links.specs.Seen.{bundle_with, holder_at, link_seen, links_seen, server_at}
 use Rattle.rsl_links.proofs.Found.{length-change_at}
@@ -29,20 +29,20 @@ use Rattle.rsl_links.proofs.OfLinks.{link_here}
 use Rattle.rsl_links.proofs.Yielding.{any_none, any_nowhere}
 
 -- links that end, open or change
-pub placed_less : (servers : List Nas) (xs ys : List Link) (at : ℕ) → ys ≡ take at xs ++ drop (at + 1) xs → ArePlaced servers xs → ArePlaced servers ys
+pub placed_less : (servers : List Nas) (xs ys : List Link) (at : ℕ) → ys ≡ take at xs ++ drop (at + 1) xs → AreIndexed servers xs → AreIndexed servers ys
 placed_less servers xs ys at is placed x within =
-    let all = All-from_get_or (λ (link : Link). IsPlace servers link.nas) xs no_link placed in
-    let left = All-append (λ (link : Link). IsPlace servers link.nas) (take at xs) (drop (at + 1) xs) (All-take (λ (link : Link). IsPlace servers link.nas) at xs all) (All-drop (λ (link : Link). IsPlace servers link.nas) (at + 1) xs all) in
-    All-get_or (λ (link : Link). IsPlace servers link.nas) ys x no_link within (subst (λ (zs : List Link). All (λ (link : Link). IsPlace servers link.nas) zs) (sym is) left)
+    let all = All-from_get_or (λ (link : Link). IsIndex servers link.nas) xs no_link placed in
+    let left = All-append (λ (link : Link). IsIndex servers link.nas) (take at xs) (drop (at + 1) xs) (All-take (λ (link : Link). IsIndex servers link.nas) at xs all) (All-drop (λ (link : Link). IsIndex servers link.nas) (at + 1) xs all) in
+    All-get_or (λ (link : Link). IsIndex servers link.nas) ys x no_link within (subst (λ (zs : List Link). All (λ (link : Link). IsIndex servers link.nas) zs) (sym is) left)
 
-pub placed_more : (servers : List Nas) (xs ys : List Link) (link : Link) → ys ≡ xs ++ link ∷ [] → IsPlace servers link.nas → ArePlaced servers xs → ArePlaced servers ys
+pub placed_more : (servers : List Nas) (xs ys : List Link) (link : Link) → ys ≡ xs ++ link ∷ [] → IsIndex servers link.nas → AreIndexed servers xs → AreIndexed servers ys
 placed_more servers xs ys link is here placed x within =
-    let all = All-from_get_or (λ (one : Link). IsPlace servers one.nas) xs no_link placed in
-    let last = All-from_get_or (λ (one : Link). IsPlace servers one.nas) (link ∷ []) no_link single in
-    let more = All-append (λ (one : Link). IsPlace servers one.nas) xs (link ∷ []) all last in
-    All-get_or (λ (one : Link). IsPlace servers one.nas) ys x no_link within (subst (λ (zs : List Link). All (λ (one : Link). IsPlace servers one.nas) zs) (sym is) more)
+    let all = All-from_get_or (λ (one : Link). IsIndex servers one.nas) xs no_link placed in
+    let last = All-from_get_or (λ (one : Link). IsIndex servers one.nas) (link ∷ []) no_link single in
+    let more = All-append (λ (one : Link). IsIndex servers one.nas) xs (link ∷ []) all last in
+    All-get_or (λ (one : Link). IsIndex servers one.nas) ys x no_link within (subst (λ (zs : List Link). All (λ (one : Link). IsIndex servers one.nas) zs) (sym is) more)
   where
-    single : (i : ℕ) → i < length (link ∷ []) → IsPlace servers (get_or (link ∷ []) i no_link).nas
+    single : (i : ℕ) → i < length (link ∷ []) → IsIndex servers (get_or (link ∷ []) i no_link).nas
     single zero low = here
     single (suc i) low = absurd (omega (arith, low))
 
@@ -54,39 +54,39 @@ nas_kept f same (y ∷ ys) zero (suc x) = refl
 nas_kept f same (y ∷ ys) (suc at) zero = refl
 nas_kept f same (y ∷ ys) (suc at) (suc x) = nas_kept f same ys at x
 
-pub placed_changed : (servers : List Nas) (f : Link → Link) (xs ys : List Link) (at : ℕ) → ys ≡ change_at at f xs → ((x : Link) → (f x).nas ≡ x.nas) → ArePlaced servers xs → ArePlaced servers ys
+pub placed_changed : (servers : List Nas) (f : Link → Link) (xs ys : List Link) (at : ℕ) → ys ≡ change_at at f xs → ((x : Link) → (f x).nas ≡ x.nas) → AreIndexed servers xs → AreIndexed servers ys
 placed_changed servers f xs ys at is same placed x within =
     let long = ap length is in
     let kept = length-change_at f xs at in
-    subst (λ (n : ℕ). IsPlace servers n) (sym (ap (λ (zs : List Link). (link_at zs x).nas) is ∙ nas_kept f same xs at x)) (placed x (omega (arith, within, long, kept)))
+    subst (λ (n : ℕ). IsIndex servers n) (sym (ap (λ (zs : List Link). (link_at zs x).nas) is ∙ nas_kept f same xs at x)) (placed x (omega (arith, within, long, kept)))
 
-pub placed_touched : (servers : List Nas) (now : ℕ) (bundle : Option (List ℕ)) (xs ys : List Link) (at : ℕ) → ys ≡ change_at at (touched_link now bundle) xs → ArePlaced servers xs → ArePlaced servers ys
+pub placed_touched : (servers : List Nas) (now : ℕ) (bundle : Option (List ℕ)) (xs ys : List Link) (at : ℕ) → ys ≡ change_at at (touched_link now bundle) xs → AreIndexed servers xs → AreIndexed servers ys
 unfolding touched_link
 placed_touched servers now bundle xs ys at is placed = placed_changed servers (touched_link now bundle) xs ys at is (λ x. refl) placed
 
-pub placed_taken : (servers : List Nas) (now : ℕ) (id : List ℕ) (bundle : Option (List ℕ)) (xs ys : List Link) (at : ℕ) → ys ≡ change_at at (taken_link now id bundle) xs → ArePlaced servers xs → ArePlaced servers ys
+pub placed_taken : (servers : List Nas) (now : ℕ) (id : List ℕ) (bundle : Option (List ℕ)) (xs ys : List Link) (at : ℕ) → ys ≡ change_at at (taken_link now id bundle) xs → AreIndexed servers xs → AreIndexed servers ys
 unfolding taken_link
 placed_taken servers now id bundle xs ys at is placed = placed_changed servers (taken_link now id bundle) xs ys at is (λ x. refl) placed
 
-pub placed_none : (servers : List Nas) (xs : List Link) → xs ≡ [] → ArePlaced servers xs
+pub placed_none : (servers : List Nas) (xs : List Link) → xs ≡ [] → AreIndexed servers xs
 placed_none servers xs none x within = absurd (let long = ap length none in omega (arith, within, long))
 
 -- an access server that stands nowhere is put where no link is
-pub new_place : (servers : List Nas) (nas : Nas) (at : ℕ) → at < length servers → ((x : ℕ) → x < length servers → server_at servers x ≢ nas) → IsPlace (set servers at nas) at
-new_place servers nas at within nowhere =
+pub new_index : (servers : List Nas) (nas : Nas) (at : ℕ) → at < length servers → ((x : ℕ) → x < length servers → server_at servers x ≢ nas) → IsIndex (set servers at nas) at
+new_index servers nas at within nowhere =
     record {
       within = (let long = length-set servers at nas in omega (arith, within, long));
       first = λ x low same. nowhere x (omega (arith, within, low)) (sym (get_or-set_other servers at x nas _ (omega (arith, low))) ∙ same ∙ get_or-set_same servers at nas _ within);
     }
 
-pub kept_place : (servers : List Nas) (nas : Nas) (at place : ℕ) → at < length servers → ((x : ℕ) → x < length servers → server_at servers x ≢ nas) → place ≢ at → IsPlace servers place → IsPlace (set servers at nas) place
-kept_place servers nas at place within nowhere other is =
+pub kept_index : (servers : List Nas) (nas : Nas) (at index : ℕ) → at < length servers → ((x : ℕ) → x < length servers → server_at servers x ≢ nas) → index ≢ at → IsIndex servers index → IsIndex (set servers at nas) index
+kept_index servers nas at index within nowhere other is =
     let inside = is.within in
-    let here : server_at (set servers at nas) place ≡ server_at servers place = get_or-set_other servers at place nas _ other in
+    let here : server_at (set servers at nas) index ≡ server_at servers index = get_or-set_other servers at index nas _ other in
     record {
       within = (let long = length-set servers at nas in omega (arith, inside, long));
       first = λ x low same. elim (cases_eq x at) [
-        | inl there ↦ nowhere place inside (sym here ∙ sym same ∙ ap (server_at (set servers at nas)) there ∙ get_or-set_same servers at nas _ within)
+        | inl there ↦ nowhere index inside (sym here ∙ sym same ∙ ap (server_at (set servers at nas)) there ∙ get_or-set_same servers at nas _ within)
         | inr apart ↦ is.first x low (sym (get_or-set_other servers at x nas _ apart) ∙ same ∙ here)
       ];
     }
@@ -97,47 +97,47 @@ nowhere_among p (x ∷ xs) zero none within = (or_parts (p x) (list_any p xs) no
 nowhere_among p (x ∷ xs) (suc i) none within = nowhere_among p xs i (or_parts (p x) (list_any p xs) none).1 (omega (arith, within))
 
 pub placed_put : (servers : List Nas) (nas : Nas) (at : ℕ) (links : List Link) → at < length servers → ((x : ℕ) → x < length servers → server_at servers x ≢ nas) → named_by_links links at ≡ false
-    → ArePlaced servers links → ArePlaced (set servers at nas) links
+    → AreIndexed servers links → AreIndexed (set servers at nas) links
 unfolding named_by_links
 placed_put servers nas at links within nowhere free placed x inside =
-    kept_place servers nas at (link_at links x).nas within nowhere
+    kept_index servers nas at (link_at links x).nas within nowhere
     (λ same. false≢true (sym (nowhere_among (λ (link : Link). link.nas == at) links x free inside) ∙ eq-eqb (link_at links x).nas at same))
     (placed x inside)
 
--- links at one access server are at one place
-same_place : (servers : List Nas) (nas : Nas) (place at : ℕ) → IsPlace servers place → server_at servers place ≡ nas → IsPlace servers at → same_nas (server_at servers at) nas ≡ (at == place)
-same_place servers nas place at is stands other =
-    elim (cases_eq at place) [
+-- links at one access server are at one index
+same_index : (servers : List Nas) (nas : Nas) (index at : ℕ) → IsIndex servers index → server_at servers index ≡ nas → IsIndex servers at → same_nas (server_at servers at) nas ≡ (at == index)
+same_index servers nas index at is stands other =
+    elim (cases_eq at index) [
       | inl same ↦ (
           sym (ap (λ one. same_nas one nas) (sym (ap (server_at servers) same ∙ stands)))
-          ∙ sym (nas_is_same nas nas true ((λ e. refl), (λ e. refl))) ∙ sym (eq-eqb at place same)
+          ∙ sym (nas_is_same nas nas true ((λ e. refl), (λ e. refl))) ∙ sym (eq-eqb at index same)
           )
-      | inr apart ↦ by_cases (same_nas (server_at servers at) nas) refl apart ∙ sym (ne_eqb at place apart)
+      | inr apart ↦ by_cases (same_nas (server_at servers at) nas) refl apart ∙ sym (ne_eqb at index apart)
     ]
   where
-    by_cases : (b : Bool) → same_nas (server_at servers at) nas ≡ b → at ≢ place → same_nas (server_at servers at) nas ≡ false
+    by_cases : (b : Bool) → same_nas (server_at servers at) nas ≡ b → at ≢ index → same_nas (server_at servers at) nas ≡ false
     by_cases false e apart = e
     by_cases true e apart =
-        let alike : server_at servers at ≡ server_at servers place = same_nas-true (server_at servers at) nas e ∙ sym stands in
-        elim (cases_lt at place) [
+        let alike : server_at servers at ≡ server_at servers index = same_nas-true (server_at servers at) nas e ∙ sym stands in
+        elim (cases_lt at index) [
           | inl low ↦ absurd (is.first at low alike)
-          | inr high ↦ absurd (other.first place (omega (arith, high, apart)) (sym alike))
+          | inr high ↦ absurd (other.first index (omega (arith, high, apart)) (sym alike))
         ]
 
-pub held_seen : (servers : List Nas) (nas : Nas) (id : List ℕ) (place : ℕ) (link : Link) → IsPlace servers place → server_at servers place ≡ nas → IsPlace servers link.nas
-    → is_link_of (record { nas = nas; id = id }) (link_seen servers link) ≡ is_held place id link
+pub held_seen : (servers : List Nas) (nas : Nas) (id : List ℕ) (index : ℕ) (link : Link) → IsIndex servers index → server_at servers index ≡ nas → IsIndex servers link.nas
+    → is_link_of (record { nas = nas; id = id }) (link_seen servers link) ≡ is_held index id link
 unfolding is_link_of link_seen is_held same_session
-held_seen servers nas id place link is stands other = by_hold link.hold where
-  by_hold : (hold : Hold) → is_holder (record { nas = nas; id = id }) (holder_at (server_at servers link.nas) hold) ≡ (link.nas == place && is_id id hold)
-  by_hold (Number number) = sym (and-false (link.nas == place))
-  by_hold (Session own) = ap (λ b. b && same_octets own id) (same_place servers nas place link.nas is stands other)
+held_seen servers nas id index link is stands other = by_hold link.hold where
+  by_hold : (hold : Hold) → is_holder (record { nas = nas; id = id }) (holder_at (server_at servers link.nas) hold) ≡ (link.nas == index && is_id id hold)
+  by_hold (Number number) = sym (and-false (link.nas == index))
+  by_hold (Session own) = ap (λ b. b && same_octets own id) (same_index servers nas index link.nas is stands other)
 
-taken_seen : (servers : List Nas) (nas : Nas) (class : Option ℕ) (place : ℕ) (link : Link) → IsPlace servers place → server_at servers place ≡ nas → IsPlace servers link.nas
-    → can_be_taken nas class (link_seen servers link) ≡ is_for place class link
+taken_seen : (servers : List Nas) (nas : Nas) (class : Option ℕ) (index : ℕ) (link : Link) → IsIndex servers index → server_at servers index ≡ nas → IsIndex servers link.nas
+    → can_be_taken nas class (link_seen servers link) ≡ is_for index class link
 unfolding can_be_taken link_seen is_for
-taken_seen servers nas class place link is stands other =
-    ap (λ b. is_wanted class (holder_at (server_at servers link.nas) link.hold) && b) (same_place servers nas place link.nas is stands other)
-    ∙ ap (λ b. b && link.nas == place) (wanted class link.hold)
+taken_seen servers nas class index link is stands other =
+    ap (λ b. is_wanted class (holder_at (server_at servers link.nas) link.hold) && b) (same_index servers nas index link.nas is stands other)
+    ∙ ap (λ b. b && link.nas == index) (wanted class link.hold)
   where
     wanted : (class : Option ℕ) (hold : Hold) → is_wanted class (holder_at (server_at servers link.nas) hold) ≡ is_wanted_hold class hold
     wanted None (Number number) = refl
@@ -145,31 +145,31 @@ taken_seen servers nas class place link is stands other =
     wanted (Some number) (Number own) = refl
     wanted (Some number) (Session own) = refl
 
-member_seen : (servers : List Nas) (id : List ℕ) (place : ℕ) (link : Link) → IsPlace servers place → IsPlace servers link.nas
-    → is_bundle (record { nas = server_at servers place; id = id }) (link_seen servers link).bundle ≡ is_member place id link
+member_seen : (servers : List Nas) (id : List ℕ) (index : ℕ) (link : Link) → IsIndex servers index → IsIndex servers link.nas
+    → is_bundle (record { nas = server_at servers index; id = id }) (link_seen servers link).bundle ≡ is_member index id link
 unfolding link_seen is_member same_bundle
-member_seen servers id place link is other = by_bundle link.bundle where
-  by_bundle : (bundle : Option (List ℕ)) → is_bundle (record { nas = server_at servers place; id = id }) (bundle_with (server_at servers link.nas) bundle) ≡ (link.nas == place && is_bundle_id id bundle)
-  by_bundle None = sym (and-false (link.nas == place))
-  by_bundle (Some own) = ap (λ b. b && same_octets own id) (same_place servers (server_at servers place) place link.nas is refl other)
+member_seen servers id index link is other = by_bundle link.bundle where
+  by_bundle : (bundle : Option (List ℕ)) → is_bundle (record { nas = server_at servers index; id = id }) (bundle_with (server_at servers link.nas) bundle) ≡ (link.nas == index && is_bundle_id id bundle)
+  by_bundle None = sym (and-false (link.nas == index))
+  by_bundle (Some own) = ap (λ b. b && same_octets own id) (same_index servers (server_at servers index) index link.nas is refl other)
 
-pub members_seen : (servers : List Nas) (id : List ℕ) (place : ℕ) (links : List Link) → IsPlace servers place → ArePlaced servers links
-    → count_by (is_member place id) links ≡ count_by (is_bundle (record { nas = server_at servers place; id = id })) (bundles_in (links_seen servers links))
+pub members_seen : (servers : List Nas) (id : List ℕ) (index : ℕ) (links : List Link) → IsIndex servers index → AreIndexed servers links
+    → count_by (is_member index id) links ≡ count_by (is_bundle (record { nas = server_at servers index; id = id })) (bundles_in (links_seen servers links))
 unfolding bundles_in links_seen
-members_seen servers id place [] is placed = refl
-members_seen servers id place (link ∷ links) is placed =
-    let named : Bundle = record { nas = server_at servers place; id = id } in
-    sum_by-cons (λ one. cond (is_member place id one) 1 0) link links
-    ∙ ap (λ b. cond b 1 0 + count_by (is_member place id) links) (sym (member_seen servers id place link is (placed zero (omega arith))))
-    ∙ ap (λ n. cond (is_bundle named (link_seen servers link).bundle) 1 0 + n) (members_seen servers id place links is (λ x within. placed (suc x) (omega (arith, within))))
+members_seen servers id index [] is placed = refl
+members_seen servers id index (link ∷ links) is placed =
+    let named : Bundle = record { nas = server_at servers index; id = id } in
+    sum_by-cons (λ one. cond (is_member index id one) 1 0) link links
+    ∙ ap (λ b. cond b 1 0 + count_by (is_member index id) links) (sym (member_seen servers id index link is (placed zero (omega arith))))
+    ∙ ap (λ n. cond (is_bundle named (link_seen servers link).bundle) 1 0 + n) (members_seen servers id index links is (λ x within. placed (suc x) (omega (arith, within))))
     ∙ sym (sum_by-cons (λ b. cond (is_bundle named b) 1 0) (link_seen servers link).bundle (map (λ (one : BookLink). one.bundle) (map (link_seen servers) links)))
 
 -- those that share a bundle with the link at a position
-pub members_at : (servers : List Nas) (links : List Link) (at members : ℕ) (link : Link) (id octets : List ℕ) → at < length links → link ≡ get_or links at link → octets ≡ id → ArePlaced servers links
+pub members_at : (servers : List Nas) (links : List Link) (at members : ℕ) (link : Link) (id octets : List ℕ) → at < length links → link ≡ get_or links at link → octets ≡ id → AreIndexed servers links
     → members ≡ count_by (is_member link.nas octets) links → members ≡ count_by (is_bundle (record { nas = server_at servers link.nas; id = id })) (bundles_in (links_seen servers links))
 members_at servers links at members link id octets within is same placed counts =
     counts ∙ ap (λ (own : List ℕ). count_by (is_member link.nas own) links) same
-    ∙ members_seen servers id link.nas links (subst (λ (one : Link). IsPlace servers one.nas) (sym (link_here links at link within is)) (placed at within)) placed
+    ∙ members_seen servers id link.nas links (subst (λ (one : Link). IsIndex servers one.nas) (sym (link_here links at link within is)) (placed at within)) placed
 
 -- the first link of a session, as it is seen
 none_before : (q : Link → Bool) (xs : List Link) (at i : ℕ) → list_any q (take at xs) ≡ false → i < at → i < length xs → q (link_at xs i) ≡ false
@@ -203,13 +203,13 @@ module _ (servers : List Nas) (links : List Link) (p : BookLink → Bool) (q : L
       ap p (get_or-map (link_seen servers) links i no_link d inside) ∙ same i inside ∙ nowhere_among q links i none inside))
 
 -- where an access server stands nowhere, no link is at it
-other_server : (servers : List Nas) (nas : Nas) (link : Link) → IsPlace servers link.nas → ((x : ℕ) → x < length servers → server_at servers x ≢ nas) → same_nas (server_at servers link.nas) nas ≡ false
+other_server : (servers : List Nas) (nas : Nas) (link : Link) → IsIndex servers link.nas → ((x : ℕ) → x < length servers → server_at servers x ≢ nas) → same_nas (server_at servers link.nas) nas ≡ false
 other_server servers nas link is nowhere = by_cases (same_nas (server_at servers link.nas) nas) refl where
   by_cases : (b : Bool) → same_nas (server_at servers link.nas) nas ≡ b → same_nas (server_at servers link.nas) nas ≡ false
   by_cases false e = e
   by_cases true e = absurd (nowhere link.nas is.within (same_nas-true (server_at servers link.nas) nas e))
 
-not_held : (servers : List Nas) (nas : Nas) (id : List ℕ) (link : Link) → IsPlace servers link.nas → ((x : ℕ) → x < length servers → server_at servers x ≢ nas)
+not_held : (servers : List Nas) (nas : Nas) (id : List ℕ) (link : Link) → IsIndex servers link.nas → ((x : ℕ) → x < length servers → server_at servers x ≢ nas)
     → is_link_of (record { nas = nas; id = id }) (link_seen servers link) ≡ false
 unfolding is_link_of link_seen same_session
 not_held servers nas id link is nowhere = by_hold link.hold where
@@ -217,14 +217,14 @@ not_held servers nas id link is nowhere = by_hold link.hold where
   by_hold (Number number) = refl
   by_hold (Session own) = ap (λ b. b && same_octets own id) (other_server servers nas link is nowhere)
 
-not_taken : (servers : List Nas) (nas : Nas) (class : Option ℕ) (link : Link) → IsPlace servers link.nas → ((x : ℕ) → x < length servers → server_at servers x ≢ nas)
+not_taken : (servers : List Nas) (nas : Nas) (class : Option ℕ) (link : Link) → IsIndex servers link.nas → ((x : ℕ) → x < length servers → server_at servers x ≢ nas)
     → can_be_taken nas class (link_seen servers link) ≡ false
 unfolding can_be_taken link_seen
 not_taken servers nas class link is nowhere =
     ap (λ b. is_wanted class (holder_at (server_at servers link.nas) link.hold) && b) (other_server servers nas link is nowhere)
     ∙ and-false (is_wanted class (holder_at (server_at servers link.nas) link.hold))
 
-module _ (servers : List Nas) (nas : Nas) (links : List Link) (placed : ArePlaced servers links) where
+module _ (servers : List Nas) (nas : Nas) (links : List Link) (placed : AreIndexed servers links) where
   none_at_all : list_any (λ (link : Link). false) links ≡ false
   none_at_all = any_nowhere (λ (link : Link). false) links (λ i d within. refl)
 
@@ -236,24 +236,24 @@ module _ (servers : List Nas) (nas : Nas) (links : List Link) (placed : ArePlace
   taken_nowhere class nowhere =
       none_seen servers links (can_be_taken nas class) (λ link. false) (λ x within. not_taken servers nas class (link_at links x) (placed x within) nowhere) none_at_all
 
-  module _ (place : ℕ) (is : IsPlace servers place) (stands : server_at servers place ≡ nas) where
-    same_held : (id : List ℕ) (x : ℕ) → x < length links → is_link_of (record { nas = nas; id = id }) (link_seen servers (link_at links x)) ≡ is_held place id (link_at links x)
-    same_held id x within = held_seen servers nas id place (link_at links x) is stands (placed x within)
+  module _ (index : ℕ) (is : IsIndex servers index) (stands : server_at servers index ≡ nas) where
+    same_held : (id : List ℕ) (x : ℕ) → x < length links → is_link_of (record { nas = nas; id = id }) (link_seen servers (link_at links x)) ≡ is_held index id (link_at links x)
+    same_held id x within = held_seen servers nas id index (link_at links x) is stands (placed x within)
 
-    same_taken : (class : Option ℕ) (x : ℕ) → x < length links → can_be_taken nas class (link_seen servers (link_at links x)) ≡ is_for place class (link_at links x)
-    same_taken class x within = taken_seen servers nas class place (link_at links x) is stands (placed x within)
+    same_taken : (class : Option ℕ) (x : ℕ) → x < length links → can_be_taken nas class (link_seen servers (link_at links x)) ≡ is_for index class (link_at links x)
+    same_taken class x within = taken_seen servers nas class index (link_at links x) is stands (placed x within)
 
-    pub session_seen : (id : List ℕ) (at : ℕ) → IsFirst (is_held place id) links at → IsFirst (is_link_of (record { nas = nas; id = id })) (links_seen servers links) at
-    session_seen id at first = first_seen servers links (is_link_of (record { nas = nas; id = id })) (is_held place id) (same_held id) at first
+    pub session_seen : (id : List ℕ) (at : ℕ) → IsFirst (is_held index id) links at → IsFirst (is_link_of (record { nas = nas; id = id })) (links_seen servers links) at
+    session_seen id at first = first_seen servers links (is_link_of (record { nas = nas; id = id })) (is_held index id) (same_held id) at first
 
-    pub no_session_seen : (id : List ℕ) → list_any (is_held place id) links ≡ false → find (is_link_of (record { nas = nas; id = id })) (links_seen servers links) ≡ None
-    no_session_seen id none = none_seen servers links (is_link_of (record { nas = nas; id = id })) (is_held place id) (same_held id) none
+    pub no_session_seen : (id : List ℕ) → list_any (is_held index id) links ≡ false → find (is_link_of (record { nas = nas; id = id })) (links_seen servers links) ≡ None
+    no_session_seen id none = none_seen servers links (is_link_of (record { nas = nas; id = id })) (is_held index id) (same_held id) none
 
-    pub reservation_seen : (class : Option ℕ) (at : ℕ) → IsFirst (is_for place class) links at → IsFirst (can_be_taken nas class) (links_seen servers links) at
-    reservation_seen class at first = first_seen servers links (can_be_taken nas class) (is_for place class) (same_taken class) at first
+    pub reservation_seen : (class : Option ℕ) (at : ℕ) → IsFirst (is_for index class) links at → IsFirst (can_be_taken nas class) (links_seen servers links) at
+    reservation_seen class at first = first_seen servers links (can_be_taken nas class) (is_for index class) (same_taken class) at first
 
-    pub no_reservation_seen : (class : Option ℕ) → list_any (is_for place class) links ≡ false → find (can_be_taken nas class) (links_seen servers links) ≡ None
-    no_reservation_seen class none = none_seen servers links (can_be_taken nas class) (is_for place class) (same_taken class) none
+    pub no_reservation_seen : (class : Option ℕ) → list_any (is_for index class) links ≡ false → find (can_be_taken nas class) (links_seen servers links) ≡ None
+    no_reservation_seen class none = none_seen servers links (can_be_taken nas class) (is_for index class) (same_taken class) none
 
 pub none_then : {P Q : Type 0} (found : Option ℕ) → IfNone found P → (P → Q) → IfNone found Q
 none_then None none then = then none

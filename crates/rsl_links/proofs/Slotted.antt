@@ -9,14 +9,14 @@ use Rattle.rsl_links.specs.First.{change_at}
 use Rattle.rsl_links.specs.Order.{link_at, no_link}
 use Rattle.rsl_links.specs.declared.slots.Slots.{Slots}
 use Rattle.std.specs.Vec.{with_item}
-use Rattle.rsl_links.specs.Slots.{ArePlaced, IsChanged, IsKept, IsRising, link_in, links_in, links_of, no_slot, opened_in, opened_of}
+use Rattle.rsl_links.specs.Slots.{AreSequenced, IsChanged, IsKept, IsRising, link_in, links_in, links_of, no_slot, opened_in, opened_of}
 
--- what stands at a place among the first
-pub long_opened : (slots : List Slot) (places : List ℕ) (count : ℕ) → ArePlaced slots places count → length (take count places) ≡ count
-long_opened slots places count p = length-take-le count places p.few
+-- what stands at a position among the first
+pub long_opened : (slots : List Slot) (sequence : List ℕ) (count : ℕ) → AreSequenced slots sequence count → length (take count sequence) ≡ count
+long_opened slots sequence count p = length-take-le count sequence p.few
 
-pub read_opened : (places : List ℕ) (count k : ℕ) → k < count → get_or (take count places) k 0 ≡ get_or places k 0
-read_opened places count k low = get_or-take count places k 0 low
+pub read_opened : (sequence : List ℕ) (count k : ℕ) → k < count → get_or (take count sequence) k 0 ≡ get_or sequence k 0
+read_opened sequence count k low = get_or-take count sequence k 0 low
 
 pub link_there : (slots : List Slot) (opened : List ℕ) (at : ℕ) → at < length opened → link_at (links_in slots opened) at ≡ link_in slots (get_or opened at 0)
 link_there slots opened at within = get_or-map (link_in slots) opened at 0 no_link within
@@ -100,9 +100,9 @@ module _ (slots : List Slot) (opened : List ℕ) (r : IsRising slots opened) (at
         | inr other ↦ ap (λ (one : Slot). one.opened) (others_kept k within other)
       ])
 
--- the places are as they were, of as many slots
-pub same_placed : (slots others : List Slot) (places : List ℕ) (count : ℕ) → ArePlaced slots places count → length others ≡ length slots → IsRising others (take count places) → ArePlaced others places count
-same_placed slots others places count p long rising =
+-- the sequence are as they were, of as many slots
+pub same_placed : (slots others : List Slot) (sequence : List ℕ) (count : ℕ) → AreSequenced slots sequence count → length others ≡ length slots → IsRising others (take count sequence) → AreSequenced others sequence count
+same_placed slots others sequence count p long rising =
     record {
       few = p.few;
       all = (let all = p.all in omega (arith, all, long));
@@ -112,7 +112,7 @@ same_placed slots others places count p long rising =
     }
 
 pub long_links : (slots : Slots) → IsKept slots → length (links_of slots) ≡ slots.count
-long_links slots k = length-map (opened_of slots) (link_in slots.slots.items) ∙ long_opened slots.slots.items slots.places.items slots.count k.placed
+long_links slots k = length-map (opened_of slots) (link_in slots.slots.items) ∙ long_opened slots.slots.items slots.sequence.items slots.count k.placed
 
 -- no more links than there is room for
 pub few_links : (slots : Slots) → IsKept slots → slots.count ≤ vec_capacity slots.slots
@@ -122,12 +122,12 @@ few_links slots k = let few = k.placed.few in let fit = k.fit in omega (arith, f
 pub changed : (slots : Slots) → IsKept slots → (f : Link → Link) (at slot : ℕ) → at < slots.count → slot ≡ get_or (opened_of slots) at 0 → (x : Slot) (y : Link) → x ≡ get_or slots.slots.items slot x → y ≡ f x.link
     → IsChanged at f slots (record slots { slots = with_item slots.slots slot (record x { link = y }) })
 changed slots k f at slot within stands x y is changes =
-    let long = long_opened slots.slots.items slots.places.items slots.count k.placed in
+    let long = long_opened slots.slots.items slots.sequence.items slots.count k.placed in
     let inside : at < length (opened_of slots) = omega (arith, within, long) in
     let after : Slot = record x { link = y } in
     record {
       kept = record {
-        placed = same_placed slots.slots.items (set slots.slots.items slot after) slots.places.items slots.count k.placed (length-set slots.slots.items slot after)
+        placed = same_placed slots.slots.items (set slots.slots.items slot after) slots.sequence.items slots.count k.placed (length-set slots.slots.items slot after)
             (changed_rising slots.slots.items (opened_of slots) k.placed.rising at slot inside stands x after is refl);
         fit = k.fit;
         room = k.room;

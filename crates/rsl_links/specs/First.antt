@@ -1,5 +1,5 @@
--- The first element of a list that passes a test, by its place; and a change of the element at a
--- place.
+-- The first element of a list that passes a test, by its index; and a change of the element at an
+-- index.
 use Rattle.std.specs.Prelude.{◌≡◌, ℕ, zero, suc, ◌<◌, List, [], ◌∷◌, Bool, true, false, length, take, get_or}
 use Rattle.std.specs.List.{list_any}
 

@@ -1,4 +1,4 @@
--- Which places of the table of access servers links name.
+-- Which rows of the table of access servers links name.
 use Rattle.std.specs.Prelude.{◌≢◌, ℕ, ◌<◌, List, ◌==◌, Bool, length}
 use Rattle.std.specs.List.{list_any}
 use Rattle.rsl_event.specs.declared.nas.Nas.{Nas}
@@ -9,12 +9,12 @@ use Rattle.rsl_links.specs.Seen.{server_at}
 unfoldable pub named_by_links : List Link → ℕ → Bool
 named_by_links links at = list_any (λ (link : Link). link.nas == at) links
 
--- a place of the table: the first with the access server that stands there
-pub record IsPlace (servers : List Nas) (at : ℕ) : Type 0 where
+-- an index of the table: the first with the access server that stands there
+pub record IsIndex (servers : List Nas) (at : ℕ) : Type 0 where
   pub within : at < length servers
   pub first : (x : ℕ) → x < at → server_at servers x ≢ server_at servers at
 
--- links are at such places, so that links at one access server are at one place
-abbrev pub ArePlaced : List Nas → List Link → Type 0
-ArePlaced servers links =
-    (x : ℕ) → x < length links → IsPlace servers (link_at links x).nas
+-- links are at such indexes, so that links at one access server are at one index
+abbrev pub AreIndexed : List Nas → List Link → Type 0
+AreIndexed servers links =
+    (x : ℕ) → x < length links → IsIndex servers (link_at links x).nas

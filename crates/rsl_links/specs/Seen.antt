@@ -1,4 +1,4 @@
--- What a book's links stand for: each names its access server by a place in a table.
+-- What a book's links stand for: each names its access server by its index in a table.
 use Rattle.std.specs.Prelude.{ℕ, List, map, get_or, Option}
 use Rattle.std.specs.Option.{option_map}
 use Rattle.rsl_event.specs.declared.nas.Nas.{Nas}
@@ -12,7 +12,7 @@ use Rattle.rsl_links.specs.declared.link.Hold.TheVariants.{Number, Session}
 abbrev pub unnamed : Nas
 unnamed = record { client = 0; name = Unnamed }
 
--- the access server at a place of the table, and past its end one without a name
+-- the access server at an index of the table, and past its end one without a name
 abbrev pub server_at : List Nas → ℕ → Nas
 server_at servers at = get_or servers at unnamed
 

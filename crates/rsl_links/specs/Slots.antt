@@ -1,4 +1,4 @@
--- Where a book keeps its links: each in a slot, where it stays until it ends. The places are all the slots, first those of
+-- Where a book keeps its links: each in a slot, where it stays until it ends. The sequence has all slots, first those of
 -- the links, in the order in which these opened, and then those that are free.
 use Rattle.std.specs.Prelude.{◌≡◌, ◌≢◌, ℕ, ◌+◌, ◌<◌, ◌≤◌, List, [], ◌∷◌, ◌++◌, get_or, length, map, take, vec_capacity}
 use Rattle.std.specs.List.{remove}
@@ -22,7 +22,7 @@ opened_in slots at = (get_or slots at no_slot).opened
 
 -- the slots of the links, in the order in which these opened, and the links
 abbrev pub opened_of : Slots → List ℕ
-opened_of slots = take slots.count slots.places.items
+opened_of slots = take slots.count slots.sequence.items
 
 abbrev pub links_in : List Slot → List ℕ → List Link
 links_in slots opened = map (link_in slots) opened
@@ -36,18 +36,18 @@ pub record IsRising (slots : List Slot) (opened : List ℕ) : Type 0 where
   pub rises : (j k : ℕ) → j < k → k < length opened → opened_in slots (get_or opened j 0) < opened_in slots (get_or opened k 0)
   pub below : (k : ℕ) → k < length opened → opened_in slots (get_or opened k 0) < 18446744073709551615
 
--- each slot stands in one place
-pub record ArePlaced (slots : List Slot) (places : List ℕ) (count : ℕ) : Type 0 where
-  pub few : count ≤ length places
-  pub all : length places ≡ length slots
-  pub within : (k : ℕ) → k < length places → get_or places k 0 < length slots
-  pub apart : (j k : ℕ) → j < k → k < length places → get_or places j 0 ≢ get_or places k 0
-  pub rising : IsRising slots (take count places)
+-- each slot stands in the sequence once
+pub record AreSequenced (slots : List Slot) (sequence : List ℕ) (count : ℕ) : Type 0 where
+  pub few : count ≤ length sequence
+  pub all : length sequence ≡ length slots
+  pub within : (k : ℕ) → k < length sequence → get_or sequence k 0 < length slots
+  pub apart : (j k : ℕ) → j < k → k < length sequence → get_or sequence j 0 ≢ get_or sequence k 0
+  pub rising : IsRising slots (take count sequence)
 
 pub record IsKept (slots : Slots) : Type 0 where
-  pub placed : ArePlaced slots.slots.items slots.places.items slots.count
-  pub fit : length slots.places.items ≤ vec_capacity slots.slots
-  pub room : vec_capacity slots.slots ≤ deque_capacity slots.places
+  pub placed : AreSequenced slots.slots.items slots.sequence.items slots.count
+  pub fit : length slots.sequence.items ≤ vec_capacity slots.slots
+  pub room : vec_capacity slots.slots ≤ deque_capacity slots.sequence
 
 -- the links are as they were, and there is as much room
 pub record AreSame (old new : Slots) : Type 0 where

@@ -19,6 +19,6 @@ take_here now id bundle link =
     take_for (record { nas = server_of link.nas link.holder; id = id }) now
     (bundle_with (server_of link.nas link.holder) bundle) link
 
--- the links but the one at a place
+-- the links but the one at a position
 unfoldable pub without_at : {A : Type 0} → ℕ → List A → List A
 without_at at xs = take at xs ++ drop (at + 1) xs

@@ -12,7 +12,7 @@ ghost use Rattle.rsl_links.specs.Seen.{server_at, links_seen, bundle_with};
 ghost use Rattle.rsl_links.specs.First.{IsFirst, change_at};
 ghost use Rattle.rsl_links.specs.Changed.{taken_link, touched_link};
 ghost use Rattle.rsl_links.specs.Counted.{AreCounted};
-ghost use Rattle.rsl_links.specs.Named.{IsPlace};
+ghost use Rattle.rsl_links.specs.Named.{IsIndex};
 
 use crate::link::Link;
 use crate::list::LinkList;
@@ -66,7 +66,7 @@ impl Links {
     /// Whether one more link, at an access server of the table and with this bundle, takes a place
     /// more.
     pub fn adds_a_place(&self, servers: &Servers, nas: usize, bundle: &Option<Octets>) -> bool
-        requires place { IsPlace servers.now nas }
+        requires index { IsIndex servers.now nas }
         requires counted { AreCounted servers.now self.now }
         ensures { places_of self.now.ports (bundles_in
             (links_seen servers.now self.now.list.items)
@@ -134,7 +134,7 @@ impl Links {
     pub fn open(&mut self, servers: &Servers, link: Link)
         requires room { length self.old.list.items < self.old.list.room }
         requires counted { AreCounted servers.now self.old }
-        requires place { IsPlace servers.now link.nas }
+        requires index { IsIndex servers.now link.nas }
         requires few { self.old.places ≤ 64 }
         ensures counted { AreCounted servers.now self.new }
         ensures links { self.new.list.items ≡ self.old.list.items ++ link ∷ [] }
@@ -249,7 +249,7 @@ impl Links {
     {
         match servers.find(nas) {
             None => None,
-            Some(place) => self.list.session(place, id.as_slice()),
+            Some(index) => self.list.session(index, id.as_slice()),
         }
     }
 
@@ -263,7 +263,7 @@ impl Links {
     {
         match servers.find(nas) {
             None => None,
-            Some(place) => self.list.reservation(place, class),
+            Some(index) => self.list.reservation(index, class),
         }
     }
 

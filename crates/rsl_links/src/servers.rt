@@ -1,6 +1,6 @@
 ghost use Rattle.std.specs.Prelude.{◌≡◌, ◌≢◌, ℕ, ◌<◌, IfOk, IfNone, IfSome, length, set};
 ghost use Rattle.rsl_links.specs.Fingerprints.{fingerprint_of, fingerprint_with};
-ghost use Rattle.rsl_links.specs.Named.{IsPlace};
+ghost use Rattle.rsl_links.specs.Named.{IsIndex};
 ghost use Rattle.rsl_links.specs.Seen.{server_at, unnamed};
 ghost use Rattle.rsl_session.specs.Same.{same_nas};
 
@@ -68,7 +68,7 @@ fn nobody() -> Nas
 }
 
 impl Servers {
-    /// A table with this many free places.
+    /// A table with this many free rows.
     pub fn new(alloc: Global, room: usize) -> Result<Servers, NoMemory>
         ensures { IfOk result (λ servers. length servers ≡ room) }
     {
@@ -102,14 +102,14 @@ impl Servers {
         })
     }
 
-    /// How many places there are.
+    /// How many rows there are.
     pub fn len(&self) -> usize
         ensures { result ≡ length self.now }
     {
         self.table.len()
     }
 
-    /// The access server at a place.
+    /// The access server at an index.
     pub fn at(&self, at: usize) -> &Nas
         ensures { result.now ≡ server_at self.now at }
     {
@@ -120,24 +120,24 @@ impl Servers {
         }
     }
 
-    /// Whether an access server is the one at a place.
+    /// Whether an access server is the one at an index.
     pub fn is_at(&self, at: usize, nas: &Nas) -> bool
         ensures { result ≡ same_nas (server_at self.now at) nas.now }
     {
         self.at(at).is_same(nas)
     }
 
-    /// Whether the one at a place is this access server: the same test, the other way round.
+    /// Whether the one at an index is this access server: the same test, the other way round.
     pub fn is_as(&self, nas: &Nas, at: usize) -> bool
         ensures { result ≡ same_nas nas.now (server_at self.now at) }
     {
         nas.is_same(self.at(at))
     }
 
-    /// The first place where an access server stands, if it does.
+    /// The first index of an access server, if it is in the table.
     pub fn find(&self, nas: &Nas) -> Option<usize>
         ensures found { IfSome result (λ at. server_at self.now at ≡ nas.now) }
-        ensures place { IfSome result (λ at. IsPlace self.now at) }
+        ensures index { IfSome result (λ at. IsIndex self.now at) }
         ensures missed { IfNone result ((at : ℕ) → at < length self.now →
             server_at self.now at ≢ nas.now) }
     {
@@ -150,7 +150,7 @@ impl Servers {
         None
     }
 
-    /// Puts an access server at a place.
+    /// Puts an access server at an index.
     pub fn put(&mut self, at: usize, nas: Nas)
         requires { at < length self.old }
         ensures { self.new ≡ set self.old at nas }

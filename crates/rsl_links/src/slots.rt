@@ -37,15 +37,15 @@ impl Slot {
 
 /// The links of a book, each in a slot, where it stays until it ends.
 ///
-/// A link that opens or ends moves words of `places`, and no link. To find the position of a slot's
-/// link, only those are looked at at which `places` is halved.
+/// A link that opens or ends moves words of `sequence`, and no link. To find the position of a slot's
+/// link, only those are looked at at which `sequence` is halved.
 #[derive(Drop)]
 pub(crate) struct Slots {
     /// The slots, in no order.
     pub slots: Vec<Slot>,
     /// All slots: first those of the links, in the order in which these opened, and then those that
     /// are free.
-    pub places: VecDeque<usize>,
+    pub sequence: VecDeque<usize>,
     /// How many links there are.
     pub count: usize,
 }
@@ -59,7 +59,7 @@ impl Slots {
     {
         Ok(Slots {
             slots: Vec::with_capacity(alloc, room)?,
-            places: VecDeque::with_capacity(alloc, room)?,
+            sequence: VecDeque::with_capacity(alloc, room)?,
             count: 0,
         })
     }
@@ -71,7 +71,7 @@ impl Slots {
         ensures slot { result ≡ get_or (opened_of self.now) at 0 }
         ensures within { result < length self.now.slots.items }
     {
-        self.places[at]
+        self.sequence[at]
     }
 
     /// The link at a position.
@@ -127,12 +127,12 @@ impl Slots {
         requires kept { IsKept self.old }
         requires few { self.old.count < vec_capacity self.old.slots }
         ensures same { AreSame self.old self.new }
-        ensures places { self.new.places ≡ self.old.places }
+        ensures sequence { self.new.sequence ≡ self.old.sequence }
         ensures numbers { (k : ℕ) → k < self.new.count →
             opened_in self.new.slots.items (get_or (opened_of self.new) k 0) ≡ k }
     {
         for at in 0..self.count {
-            let slot = self.places[at];
+            let slot = self.sequence[at];
             self.slots[slot].opened = at as u64;
         }
     }
@@ -143,7 +143,7 @@ impl Slots {
         requires kept { IsKept self.old }
         requires few { self.old.count < vec_capacity self.old.slots }
         ensures same { AreSame self.old self.new }
-        ensures places { self.new.places ≡ self.old.places }
+        ensures sequence { self.new.sequence ≡ self.old.sequence }
         ensures later { (k : ℕ) → k < self.new.count →
             opened_in self.new.slots.items (get_or (opened_of self.new) k 0) < result }
         ensures below { result < 18446744073709551615 }
@@ -162,16 +162,16 @@ impl Slots {
     /// Makes a slot more, which is free.
     fn grow(&mut self)
         requires kept { IsKept self.old }
-        requires room { length self.old.places.items < vec_capacity self.old.slots }
+        requires room { length self.old.sequence.items < vec_capacity self.old.slots }
         ensures same { AreSame self.old self.new }
-        ensures more { length self.new.places.items ≡ length self.old.places.items + 1 }
+        ensures more { length self.new.sequence.items ≡ length self.old.sequence.items + 1 }
         ensures numbers { (k : ℕ) → k < self.new.count →
             opened_in self.new.slots.items (get_or (opened_of self.new) k 0) ≡
             opened_in self.old.slots.items (get_or (opened_of self.old) k 0) }
     {
         let slot = self.slots.len();
         self.slots.push_reserved(Slot::free());
-        self.places.push_back_reserved(slot);
+        self.sequence.push_back_reserved(slot);
     }
 
     /// Adds a link after the others.
@@ -181,10 +181,10 @@ impl Slots {
         ensures { IsMore link self.old self.new }
     {
         let opened = self.next_number();
-        if self.count == self.places.len() {
+        if self.count == self.sequence.len() {
             self.grow();
         }
-        let slot = self.places[self.count];
+        let slot = self.sequence[self.count];
         self.slots[slot] = Slot { opened, link };
         self.count += 1;
     }
@@ -196,8 +196,8 @@ impl Slots {
         ensures { IsLess at self.old self.new }
     {
         let slot = self.slot(at);
-        let _ = self.places.remove(at);
-        self.places.push_back_reserved(slot);
+        let _ = self.sequence.remove(at);
+        self.sequence.push_back_reserved(slot);
         self.count -= 1;
         self.slots[slot] = Slot::free();
     }

@@ -18,5 +18,5 @@ returns-in-Some c =
     (more_bundled c.args.self.now.ports c.members.result (cond c.takes_a_place.result 1 0) named
     (bundles_in (links_seen c.args.servers.now c.args.self.now.list.items)) c.requires.counted.a_port
     (c.members.ensures ∙ ap (λ (octets : List ℕ). count_by (is_member c.args.nas octets) c.args.self.now.list.items) c.as_slice.ensures
-    ∙ members_seen c.args.servers.now c.in-Some.id c.args.nas c.args.self.now.list.items c.requires.place c.requires.counted.placed)
+    ∙ members_seen c.args.servers.now c.in-Some.id c.args.nas c.args.self.now.list.items c.requires.index c.requires.counted.placed)
     c.takes_a_place.ensures)

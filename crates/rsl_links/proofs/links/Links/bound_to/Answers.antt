@@ -12,11 +12,11 @@ returns-in-None-clause-missed c = session_nowhere c.args.servers.now c.args.nas.
 pub returns-in-Some-clause-found : goal.returns-in-Some-clause-found
 returns-in-Some-clause-found c =
     IfSome_then c.session.result c.session.ensures.found
-    (λ at first. session_seen c.args.servers.now c.args.nas.now c.args.self.now.list.items c.requires.placed c.in-Some.place c.in-Some.ensures.place c.in-Some.ensures.found c.args.id.now at
-    (subst (λ (octets : List ℕ). IsFirst (is_held c.in-Some.place octets) c.args.self.now.list.items at) c.as_slice.ensures first))
+    (λ at first. session_seen c.args.servers.now c.args.nas.now c.args.self.now.list.items c.requires.placed c.in-Some.index c.in-Some.ensures.index c.in-Some.ensures.found c.args.id.now at
+    (subst (λ (octets : List ℕ). IsFirst (is_held c.in-Some.index octets) c.args.self.now.list.items at) c.as_slice.ensures first))
 
 pub returns-in-Some-clause-missed : goal.returns-in-Some-clause-missed
 returns-in-Some-clause-missed c =
     none_then c.session.result c.session.ensures.missed
-    (λ none. no_session_seen c.args.servers.now c.args.nas.now c.args.self.now.list.items c.requires.placed c.in-Some.place c.in-Some.ensures.place c.in-Some.ensures.found c.args.id.now
-    (subst (λ (octets : List ℕ). list_any (is_held c.in-Some.place octets) c.args.self.now.list.items ≡ false) c.as_slice.ensures none))
+    (λ none. no_session_seen c.args.servers.now c.args.nas.now c.args.self.now.list.items c.requires.placed c.in-Some.index c.in-Some.ensures.index c.in-Some.ensures.found c.args.id.now
+    (subst (λ (octets : List ℕ). list_any (is_held c.in-Some.index octets) c.args.self.now.list.items ≡ false) c.as_slice.ensures none))

@@ -1,15 +1,15 @@
 use Rattle.std.proofs.Common.{ℕ, ap, sym, subst}
 use Rattle.std.specs.Prelude.{is_none}
 use Rattle.rsl_links.specs.declared.link.Link.{Link}
-use Rattle.rsl_links.specs.Named.{IsPlace}
+use Rattle.rsl_links.specs.Named.{IsIndex}
 use Rattle.rsl_links.proofs.OfLinks.{link_here}
 use Rattle.rsl_links.proofs.Touching.{joins_bundled, joins_alone}
 use Rattle.rsl_links.proofs.links.Links.joins_a_place.Goals as goal
 
-pub adds_a_place-requires-clause-place : goal.adds_a_place-requires-clause-place
-adds_a_place-requires-clause-place c =
+pub adds_a_place-requires-clause-index : goal.adds_a_place-requires-clause-index
+adds_a_place-requires-clause-index c =
     let here = link_here c.args.self.now.list.items c.args.at c.index-link.result.now c.requires.within c.index-link.ensures in
-    subst (λ (one : Link). IsPlace c.args.servers.now one.nas) (sym here) (c.requires.counted.placed c.args.at c.requires.within)
+    subst (λ (one : Link). IsIndex c.args.servers.now one.nas) (sym here) (c.requires.counted.placed c.args.at c.requires.within)
 
 pub returns-in-None : goal.returns-in-None
 returns-in-None c =

@@ -8,9 +8,9 @@ returns-in-None-clause-missed c = taken_nowhere c.args.servers.now c.args.nas.no
 pub returns-in-Some-clause-found : goal.returns-in-Some-clause-found
 returns-in-Some-clause-found c =
     IfSome_then c.reservation.result c.reservation.ensures.found
-    (λ at first. reservation_seen c.args.servers.now c.args.nas.now c.args.self.now.list.items c.requires.placed c.in-Some.place c.in-Some.ensures.place c.in-Some.ensures.found c.args.class at first)
+    (λ at first. reservation_seen c.args.servers.now c.args.nas.now c.args.self.now.list.items c.requires.placed c.in-Some.index c.in-Some.ensures.index c.in-Some.ensures.found c.args.class at first)
 
 pub returns-in-Some-clause-missed : goal.returns-in-Some-clause-missed
 returns-in-Some-clause-missed c =
     none_then c.reservation.result c.reservation.ensures.missed
-    (λ none. no_reservation_seen c.args.servers.now c.args.nas.now c.args.self.now.list.items c.requires.placed c.in-Some.place c.in-Some.ensures.place c.in-Some.ensures.found c.args.class none)
+    (λ none. no_reservation_seen c.args.servers.now c.args.nas.now c.args.self.now.list.items c.requires.placed c.in-Some.index c.in-Some.ensures.index c.in-Some.ensures.found c.args.class none)

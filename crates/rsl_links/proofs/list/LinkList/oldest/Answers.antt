@@ -28,7 +28,7 @@ returns-clause-found c =
     let one = some_there (deque_len bound) c.is_empty.result c.is_empty.ensures c.if-is_empty.false in
     let some : 0 < length bound.items = omega (arith, long, one) in
     let same = long_ranked order.kind (links_of slots) (opened_of slots) (length (links_of slots)) bound.items ranked in
-    let few = long_opened slots.slots.items slots.places.items slots.count c.self.invariant.kept.placed in
+    let few = long_opened slots.slots.items slots.sequence.items slots.count c.self.invariant.kept.placed in
     let low = c.position.ensures.within in
     subst (λ (at : ℕ). IsOldest c.args.self.now.items at)
     (sym (ranked_found order.kind slots.slots.items (opened_of slots) c.self.invariant.kept.placed.rising (length (links_of slots)) bound.items ranked 0 c.index.result.now c.position.result some c.index.ensures (omega (arith, few, low)) c.position.ensures.stands))

@@ -16,14 +16,14 @@ count_before_link-rank-requires-clause-order c =
 pub insert_reserved-requires-clause-room : goal.insert_reserved-requires-clause-room
 insert_reserved-requires-clause-room c =
     let slots = c.args.slots.now in
-    let most = long_opened slots.slots.items slots.places.items slots.count c.requires.kept.placed in
+    let most = long_opened slots.slots.items slots.sequence.items slots.count c.requires.kept.placed in
     let few = few_ranked c.args.self.now.kind slots.slots.items (opened_of slots) c.requires.kept.placed.rising c.args.self.now.slots.items c.args.at (omega (arith, most, c.requires.within)) c.requires.order in
     omega (arith, few, most, c.requires.room)
 
 pub returns-then-holds-clause-order : goal.returns-then-holds-clause-order
 returns-then-holds-clause-order c =
     let slots = c.args.slots.now in
-    let most = long_opened slots.slots.items slots.places.items slots.count c.requires.kept.placed in
+    let most = long_opened slots.slots.items slots.sequence.items slots.count c.requires.kept.placed in
     subst (λ (order : List ℕ). AreRankedOf c.args.self.now.kind c.args.slots.now order)
     (sym (c.insert_reserved.ensures.items ∙ ap (insert c.args.self.now.slots.items c.count_before_link-rank.result) c.slot-slot.ensures.slot))
     (ranked_entered c.args.self.now.kind slots.slots.items (opened_of slots) c.requires.kept.placed.rising c.args.self.now.slots.items c.args.at (omega (arith, most, c.requires.within)) c.requires.order

@@ -42,7 +42,7 @@ returns-then-lapses-clause-found c =
     let long : deque_len c.args.self.now.slots ≡ length order = search rules in
     let one = some_there (deque_len c.args.self.now.slots) c.is_empty.result c.is_empty.ensures c.if-is_empty.false in
     let some : 0 < length order = omega (arith, long, one) in
-    let few = long_opened slots.slots.items slots.places.items slots.count c.requires.kept.placed in
+    let few = long_opened slots.slots.items slots.sequence.items slots.count c.requires.kept.placed in
     let low = c.position.ensures.within in
     let here = ranked_found c.args.self.now.kind slots.slots.items (opened_of slots) c.requires.kept.placed.rising (length (links_of slots)) order c.requires.order 0 c.index-first.result.now c.position.result some c.index-first.ensures
     (omega (arith, few, low)) c.position.ensures.stands in

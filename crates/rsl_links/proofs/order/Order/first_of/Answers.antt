@@ -59,7 +59,7 @@ returns-then-goes_by-clause-found c =
     let other = c.if-rank-len.false in
     let within : c.count_before-rank.result < length order = omega (arith, most, other, long) in
     let same = long_ranked c.args.self.now.kind (links_of slots) (opened_of slots) (length (links_of slots)) order c.requires.order in
-    let few = long_opened slots.slots.items slots.places.items slots.count c.requires.kept.placed in
+    let few = long_opened slots.slots.items slots.sequence.items slots.count c.requires.kept.placed in
     let low = c.position.ensures.within in
     let link = ranked_link c.args.self.now.kind slots.slots.items (opened_of slots) rising (length (links_of slots)) order c.requires.order
     c.count_before-rank.result c.index-slot.result.now c.index.result.now within c.index-slot.ensures c.index.ensures in

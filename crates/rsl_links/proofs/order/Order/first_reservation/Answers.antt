@@ -89,7 +89,7 @@ returns-then-opened-lt18446744073709551615-clause-found c =
     let all : c.loop-rank.rank ≡ length order = omega (arith, long, past, most) in
     let so_far : IsEarliest (is_for c.args.nas c.args.class) slots.slots.items order (length order) c.loop-rank.first c.loop-rank.opened =
     subst (λ (n : ℕ). IsEarliest (is_for c.args.nas c.args.class) slots.slots.items order n c.loop-rank.first c.loop-rank.opened) all c.loop-rank.invariant in
-    let few = long_opened slots.slots.items slots.places.items slots.count c.requires.kept.placed in
+    let few = long_opened slots.slots.items slots.sequence.items slots.count c.requires.kept.placed in
     let low = c.position.ensures.within in
     earliest_first slots.slots.items opened rising order ranked c.args.nas c.args.class c.loop-rank.first c.loop-rank.opened so_far c.if-opened-lt18446744073709551615.true
     c.position.result (omega (arith, few, low)) c.position.ensures.stands

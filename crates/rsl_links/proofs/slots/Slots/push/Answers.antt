@@ -8,7 +8,7 @@ pub returns : goal.returns
 returns c =
     let numbered : Slots = c.next_number-opened.new.self in
     let first = c.next_number-opened.ensures.same in
-    let long : c.len.result ≡ length numbered.places.items = search rules in
+    let long : c.len.result ≡ length numbered.sequence.items = search rules in
     let second : HasRoom numbered c.if-self-len.self =
     elim c.if-self-len.branch [
       | then-self-len w ↦ subst (HasRoom numbered) (sym w.self-is) (roomy_grown numbered w.grow.new.self first.kept w.grow.ensures.same w.grow.ensures.more w.grow.ensures.numbers)

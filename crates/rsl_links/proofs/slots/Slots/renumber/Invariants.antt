@@ -6,10 +6,10 @@ use Rattle.rsl_links.proofs.slots.Slots.renumber.Given as goal
 abbrev pub invariant-loop-at : goal.invariant-loop-at
 invariant-loop-at l =
     record {
-      places : l.self.places ≡ l.initial.self.places;
+      sequence : l.self.sequence ≡ l.initial.self.sequence;
       count : l.self.count ≡ l.initial.self.count;
       long : length l.self.slots.items ≡ length l.initial.self.slots.items;
       links : (x : ℕ) → link_in l.self.slots.items x ≡ link_in l.initial.self.slots.items x;
-      numbers : (k : ℕ) → k < l.at → opened_in l.self.slots.items (get_or l.initial.self.places.items k 0) ≡ k;
+      numbers : (k : ℕ) → k < l.at → opened_in l.self.slots.items (get_or l.initial.self.sequence.items k 0) ≡ k;
       room : vec_capacity l.self.slots ≡ vec_capacity l.initial.self.slots;
     }
