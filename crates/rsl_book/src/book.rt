@@ -27,7 +27,7 @@ use crate::same::has_same_links;
 use crate::table::index_for;
 use rsl_accounts::Rules;
 use rsl_event::{Act, Decision, Event, Key, Nas};
-use rsl_links::{Hold, Link, Links, Servers, one_if};
+use rsl_links::{Hold, Link, Links, Servers};
 use rsl_session::{KEPT_ASKS, KEPT_STOPS};
 use rsl_wire::{NoMemory, Octets};
 use std::alloc::Global;
@@ -546,7 +546,7 @@ impl Book {
             &self.stops,
             nas,
         );
-        let more = one_if(self.links.adds_a_place(&self.servers, nas, &bundle));
+        let more = u64::from(self.links.adds_a_place(&self.servers, nas, &bundle));
         if self.links.places + more <= self.rules.places {
             self.links.open(
                 &self.servers,

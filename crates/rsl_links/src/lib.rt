@@ -14,6 +14,6 @@ mod servers;
 mod slots;
 
 pub use link::{Hold, Link};
-pub use links::{Links, one_if};
+pub use links::Links;
 pub use list::LinkList;
 pub use servers::Servers;

@@ -4,7 +4,7 @@ ghost use Rattle.rsl_session.specs.Same.{same_nas};
 ghost use Rattle.rsl_session.specs.Book.{is_stale_at};
 ghost use Rattle.rsl_session.specs.BookLinks.{lapses_at};
 ghost use Rattle.rsl_links.specs.Seen.{link_seen};
-ghost use Rattle.rsl_links.specs.Changed.{bound_link, joined_link, renewed_link};
+ghost use Rattle.rsl_links.specs.Changed.{bound_link, joined_link};
 ghost use Rattle.rsl_links.specs.LinkList.{is_for};
 
 use crate::servers::Servers;
@@ -115,14 +115,6 @@ impl Link {
             (Hold::Number(_), None) => self.nas == nas,
             (Hold::Session(_), _) => false,
         }
-    }
-
-    /// Touches it at this clock.
-    #[tactic(auto, unfolding(crate::specs::Changed::renewed_link))]
-    pub(crate) fn renew(&mut self, now: u64)
-        ensures { self.new ≡ renewed_link now self.old }
-    {
-        self.touched = now;
     }
 
     /// Puts it into the bundle of an alive, if it is in none.

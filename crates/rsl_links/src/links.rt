@@ -41,13 +41,6 @@ fn takes_a_place(ports: u64, others: usize) -> bool
     others as u64 % ports == 0
 }
 
-/// One place where the answer is yes, and none otherwise.
-pub fn one_if(yes: bool) -> u64
-    ensures { result ≡ (if yes then 1 else 0) }
-{
-    if yes { 1 } else { 0 }
-}
-
 impl Links {
     /// No links, with room for so many.
     pub fn new(alloc: Global, ports: u64, room: usize) -> Result<Links, NoMemory>

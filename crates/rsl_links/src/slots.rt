@@ -209,7 +209,7 @@ impl Slots {
         ensures { IsChanged at (renewed_link now) self.old self.new }
     {
         let slot = self.slot(at);
-        self.slots[slot].link.renew(now);
+        self.slots[slot].link.touched = now;
     }
 
     /// Puts a link into the bundle of an alive, if it is in none.
