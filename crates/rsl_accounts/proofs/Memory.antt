@@ -6,7 +6,6 @@ use Rattle.rsl_accounts.specs.declared.entry.Entry.{Entry}
 use Rattle.rsl_accounts.specs.declared.fault.ConfigFault.{ConfigFault}
 use Rattle.rsl_accounts.specs.declared.fault.ConfigFault.TheVariants.{NoMemory}
 use Rattle.rsl_accounts.specs.declared.field.Field.{Field}
-use Rattle.rsl_accounts.specs.declared.field.Field.TheVariants as field
 use Rattle.rsl_accounts.specs.declared.settings.Settings.{Settings}
 use Rattle.rsl_accounts.specs.Version.{knows_own_times}
 use Rattle.rsl_accounts.specs.Walk.{fault_unless, number_fault, text_fault, count_fault, option_fault, walk_over, settings_checks, count_checks, client_checks, common_checks, own_times_checks, own_checks, account_checks, first_fault}

@@ -10,7 +10,7 @@ use Rattle.rsl_accounts.specs.declared.entry.Entry.{Entry}
 use Rattle.rsl_accounts.specs.declared.fault.ConfigFault.{ConfigFault}
 use Rattle.rsl_accounts.specs.declared.field.Field.TheVariants as field
 use Rattle.rsl_accounts.specs.declared.settings.Settings.{Settings}
-use Rattle.rsl_accounts.specs.File.{each, and_then}
+use Rattle.rsl_accounts.specs.File.{each}
 use Rattle.rsl_accounts.specs.Walk.{settings_checks, count_checks, count_fault, client_checks, account_checks, walk_over, first_fault}
 use Rattle.rsl_accounts.proofs.Faults.{first_fault-append}
 use Rattle.rsl_accounts.proofs.Within.{passed-append}

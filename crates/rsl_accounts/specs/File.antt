@@ -1,5 +1,5 @@
 -- The configuration of an account file: the value of each field or its fault, and the parts that they make.
-use Rattle.std.specs.Prelude.{ℕ, pos, Bool, false, nat_lt, ◌&&◌, if◌then◌else◌, List, [], ◌∷◌, length, Option, None, Some, option_map, unwrap_or, ok_or, Result, Ok, Err, is_some}
+use Rattle.std.specs.Prelude.{ℕ, pos, Bool, false, ◌&&◌, if◌then◌else◌, List, [], ◌∷◌, length, Option, None, Some, option_map, unwrap_or, ok_or, Result, Ok, Err, is_some}
 use Rattle.std.specs.List.{list_all}
 use Rattle.std.specs.Result.{result_map_both}
 use Rattle.std.specs.Str.{is_utf8}
@@ -11,7 +11,6 @@ use Rattle.rsl_accounts.specs.declared.fault.ConfigFault.{ConfigFault}
 use Rattle.rsl_accounts.specs.declared.fault.ConfigFault.TheVariants.{NotToml, Missing, BadValue}
 use Rattle.rsl_accounts.specs.declared.field.Field.{Field}
 use Rattle.rsl_accounts.specs.declared.field.Field.TheVariants as field
-use Rattle.rsl_accounts.specs.declared.rules.Rules.{Rules}
 use Rattle.rsl_accounts.specs.declared.settings.Settings.{Settings}
 use Rattle.rsl_accounts.specs.Address.{address_of}
 use Rattle.rsl_accounts.specs.Configuration.{Configuration, configuration_of}

@@ -1,4 +1,4 @@
-use Rattle.std.proofs.Common.{◌≡◌, ◌+◌, None, Ok, map, take, length}
+use Rattle.std.proofs.Common.{◌≡◌, None, Ok, map, take, length}
 use Rattle.std.specs.List.{flat_map}
 use Rattle.toml.specs.View.{view}
 use Rattle.rsl_accounts.specs.File.{each, client_in}
