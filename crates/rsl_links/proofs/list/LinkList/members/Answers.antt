@@ -1,4 +1,4 @@
-use Rattle.std.proofs.Common.{ℕ, ◌∷◌, length, ap, ◌∙◌, subst}
+use Rattle.std.proofs.Common.{◌∷◌, length, ap, ◌∙◌, subst}
 use Rattle.std.specs.Prelude.{count_by}
 use Rattle.rsl_links.specs.declared.order.OrderKind.{OrderKind}
 use Rattle.rsl_links.specs.LinkList.{RoomyList, is_member}

@@ -1,4 +1,4 @@
-use Rattle.std.proofs.Common.{◌≡◌, List, Bool, false, ap, ◌∙◌, subst}
+use Rattle.std.proofs.Common.{◌≡◌, List, false, ap, ◌∙◌, subst}
 use Rattle.std.specs.List.{list_any}
 use Rattle.std.proofs.lemmas.Option.{IfSome_then}
 use Rattle.rsl_links.specs.declared.link.Link.{Link}
