@@ -14,7 +14,7 @@ ghost use Rattle.rsl_replay.specs.Access.{
 
 use crate::accounting::{push_text, push_value};
 use md5::{Digest, Md5};
-use rsl_auth::{CHAP_PASSWORD_LEN, chap_response, hide};
+use rsl_auth::{CHAP_PASSWORD_LEN, HmacKey, chap_response, hide};
 use rsl_event::Signing;
 use rsl_event::codes::{ACCESS_REQUEST, CHAP_PASSWORD, NAS_IDENTIFIER, USER_NAME, USER_PASSWORD};
 use rsl_script::{AccessRequest, Method};
@@ -132,5 +132,6 @@ fn finish(draft: Draft, signing: Signing, authenticator: &[u8; 16], secret: &[u8
         authenticator.now secret.now }
 {
     let octets = draft.finish(ACCESS_REQUEST, authenticator);
-    signing.sign(octets, authenticator, secret)
+    let key = HmacKey::new(secret);
+    signing.sign(octets, authenticator, &key)
 }
