@@ -19,7 +19,7 @@ use Rattle.rsl_session.proofs.Callers.{length-le-places}
 use Rattle.rsl_book.specs.declared.book.Book.TheInside.{Inside}
 use Rattle.rsl_links.specs.declared.links.Links.{Links}
 use Rattle.rsl_links.specs.declared.link.Link.{Link}
-use Rattle.rsl_links.specs.declared.link.Hold.TheVariants.{Number, Session as InSession}
+use Rattle.rsl_links.specs.declared.link.Holder.TheVariants.{Reserved as LinkReserved, Bound as LinkBound}
 use Rattle.rsl_book.specs.declared.kept.Kept.{Kept}
 use Rattle.rsl_book.specs.declared.kept.DecidedAsk.{DecidedAsk}
 use Rattle.rsl_book.specs.declared.kept.EndedSession.{EndedSession}
@@ -151,13 +151,13 @@ opened_within servers old new link limit r counted after is ports more within =
     omega arith
 
 pub reserved_seen : (servers : List Nas) (nas number touched : ℕ) (at : Nas) → server_at servers nas ≡ at
-    → (let link : Link = record { nas = nas; hold = Number number; bundle = None; touched = touched } in
+    → (let link : Link = record { nas = nas; holder = LinkReserved number; bundle = None; touched = touched } in
     let seen : BookLink = record { nas = at; holder = Reserved number; bundle = None; touched = touched } in link_seen servers link ≡ seen)
 unfolding link_seen
 reserved_seen servers nas number touched at stands = rw stands refl
 
 pub bound_seen : (servers : List Nas) (nas touched : ℕ) (id : List ℕ) (bundle : Option (List ℕ)) (at : Nas) → server_at servers nas ≡ at
-    → (let link : Link = record { nas = nas; hold = InSession id; bundle = bundle; touched = touched } in
+    → (let link : Link = record { nas = nas; holder = LinkBound id; bundle = bundle; touched = touched } in
     let seen : BookLink = record { nas = at; holder = Bound (record { nas = at; id = id }); bundle = bundle_with at bundle; touched = touched } in link_seen servers link ≡ seen)
 unfolding link_seen
 bound_seen servers nas touched id bundle at stands = rw stands refl

@@ -27,7 +27,7 @@ use crate::same::has_same_links;
 use crate::table::index_for;
 use rsl_accounts::Rules;
 use rsl_event::{Act, Decision, Event, Key, Nas};
-use rsl_links::{Hold, Link, Links, Servers};
+use rsl_links::{Holder, Link, Links, Servers};
 use rsl_session::{KEPT_ASKS, KEPT_STOPS};
 use rsl_wire::{NoMemory, Octets};
 use std::alloc::Global;
@@ -346,7 +346,7 @@ impl Book {
             &self.servers,
             Link {
                 nas,
-                hold: Hold::Number(number),
+                holder: Holder::Reserved(number),
                 bundle: None,
                 touched: self.clock,
             },
@@ -552,7 +552,7 @@ impl Book {
                 &self.servers,
                 Link {
                     nas,
-                    hold: Hold::Session(id),
+                    holder: Holder::Bound(id),
                     bundle,
                     touched: self.clock,
                 },

@@ -1,6 +1,6 @@
 pub mod OccurrenceLaws
 pub mod PreparedLaws
 pub mod SignatureLaws
-pub mod WritingLaws
+pub mod ReplyAttributeLaws
 pub mod Callers
 pub mod ClientKeys

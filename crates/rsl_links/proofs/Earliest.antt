@@ -5,12 +5,12 @@ use Rattle.std.specs.List.{list_any}
 use Rattle.std.proofs.lemmas.Bool.{and_parts, cases_eq, false≢true}
 use Rattle.std.proofs.lemmas.List.{length-map}
 use Rattle.rsl_links.specs.declared.link.Link.{Link}
-use Rattle.rsl_links.specs.declared.link.Hold.{Hold}
-use Rattle.rsl_links.specs.declared.link.Hold.TheVariants.{Number, Session}
+use Rattle.rsl_links.specs.declared.link.Holder.{Holder as LinkHolder}
+use Rattle.rsl_links.specs.declared.link.Holder.TheVariants.{Reserved as LinkReserved, Bound as LinkBound}
 use Rattle.rsl_links.specs.declared.order.OrderKind.TheVariants.{Reserved}
 use Rattle.rsl_links.specs.declared.slots.Slot.{Slot}
 use Rattle.rsl_links.specs.First.{IsFirst}
-use Rattle.rsl_links.specs.LinkList.{is_for, is_wanted_hold}
+use Rattle.rsl_links.specs.LinkList.{is_for, is_wanted_holder}
 use Rattle.rsl_links.specs.Order.{Stands, holds_number, link_at}
 use Rattle.rsl_links.specs.Ranked.{IsRankedIn}
 use Rattle.rsl_links.specs.Slots.{IsRising, link_in, links_in, opened_in}
@@ -61,12 +61,12 @@ not_earlier passes slots order count first opened slot is later so_far =
       found = λ below. let there = so_far.found below in record { rank = there.rank; low = (let low = there.low in omega (arith, low)); is = there.is; number = there.number; passed = there.passed };
     }
 
-is_reserved : (nas : ℕ) (class : Option ℕ) (link : Link) → is_for nas class link ≡ true → holds_number link.hold ≡ true
+is_reserved : (nas : ℕ) (class : Option ℕ) (link : Link) → is_for nas class link ≡ true → holds_number link.holder ≡ true
 unfolding is_for
-is_reserved nas class link wanted = by_hold class link.hold (and_parts (is_wanted_hold class link.hold) (link.nas == nas) wanted).0 where
-  by_hold : (class : Option ℕ) (hold : Hold) → is_wanted_hold class hold ≡ true → holds_number hold ≡ true
-  by_hold class (Number number) is = refl
-  by_hold class (Session id) is = absurd (false≢true is)
+is_reserved nas class link wanted = by_holder class link.holder (and_parts (is_wanted_holder class link.holder) (link.nas == nas) wanted).0 where
+  by_holder : (class : Option ℕ) (holder : LinkHolder) → is_wanted_holder class holder ≡ true → holds_number holder ≡ true
+  by_holder class (LinkReserved number) is = refl
+  by_holder class (LinkBound id) is = absurd (false≢true is)
 
 module _ (slots : List Slot) (opened : List ℕ) (r : IsRising slots opened) (order : List ℕ) (ranked : IsRankedIn Reserved (links_in slots opened) opened (length (links_in slots opened)) order) (nas : ℕ) (class : Option ℕ) (first number : ℕ)
     (so_far : IsEarliest (is_for nas class) slots order (length order) first number) where

@@ -11,8 +11,8 @@ use Rattle.rsl_session.specs.Book.{BookLink, Holder, Reserved, Bound}
 use Rattle.rsl_session.specs.BookLinks.{change_first, without_first, is_holder, is_link_of, is_wanted, can_be_taken, touch, take_for}
 use Rattle.rsl_session.proofs.Callers.{same_nas-true, same_session-true}
 use Rattle.rsl_links.specs.declared.link.Link.{Link}
-use Rattle.rsl_links.specs.declared.link.Hold.{Hold}
-use Rattle.rsl_links.specs.declared.link.Hold.TheVariants.{Number, Session as InSession}
+use Rattle.rsl_links.specs.declared.link.Holder.{Holder as LinkHolder}
+use Rattle.rsl_links.specs.declared.link.Holder.TheVariants.{Reserved as LinkReserved, Bound as LinkBound}
 use Rattle.rsl_links.specs.First.{IsFirst, change_at}
 use Rattle.rsl_links.specs.Seen.{server_at, holder_at, bundle_with, link_seen, links_seen}
 use Rattle.rsl_links.specs.Changed.{bound_link, joined_link, renewed_link, taken_link, touched_link}
@@ -114,9 +114,9 @@ seen_changed servers f g [] at same = refl
 seen_changed servers f g (x ∷ xs) zero same = ap (λ y. y ∷ map (link_seen servers) xs) (same x)
 seen_changed servers f g (x ∷ xs) (suc at) same = ap (λ ys. link_seen servers x ∷ ys) (seen_changed servers f g xs at same)
 
-nas_kept : (nas : Nas) (hold : Hold) → server_of nas (holder_at nas hold) ≡ nas
-nas_kept nas (Number number) = refl
-nas_kept nas (InSession id) = refl
+nas_kept : (nas : Nas) (holder : LinkHolder) → server_of nas (holder_at nas holder) ≡ nas
+nas_kept nas (LinkReserved number) = refl
+nas_kept nas (LinkBound id) = refl
 
 bundle_or : (nas : Nas) (old new : Option (List ℕ)) → bundle_with nas (option_or old new) ≡ option_or (bundle_with nas old) (bundle_with nas new)
 bundle_or nas None new = refl
@@ -125,12 +125,12 @@ bundle_or nas (Some id) new = refl
 pub seen_touched : (servers : List Nas) (now : ℕ) (bundle : Option (List ℕ)) (link : Link) → link_seen servers (touched_link now bundle link) ≡ touch_here now bundle (link_seen servers link)
 unfolding link_seen touched_link touch_here touch
 seen_touched servers now bundle link =
-    rw (nas_kept (server_at servers link.nas) link.hold, bundle_or (server_at servers link.nas) link.bundle bundle) refl
+    rw (nas_kept (server_at servers link.nas) link.holder, bundle_or (server_at servers link.nas) link.bundle bundle) refl
 
 pub seen_taken : (servers : List Nas) (now : ℕ) (id : List ℕ) (bundle : Option (List ℕ)) (link : Link) → link_seen servers (taken_link now id bundle link) ≡ take_here now id bundle (link_seen servers link)
 unfolding link_seen taken_link take_here take_for
 seen_taken servers now id bundle link =
-    rw (nas_kept (server_at servers link.nas) link.hold, bundle_or (server_at servers link.nas) link.bundle bundle) refl
+    rw (nas_kept (server_at servers link.nas) link.holder, bundle_or (server_at servers link.nas) link.bundle bundle) refl
 
 -- the link that an alive finds is at its access server
 holder_nas : (nas : Nas) (session : Session) (holder : Holder) → is_holder session holder ≡ true → server_of nas holder ≡ session.nas

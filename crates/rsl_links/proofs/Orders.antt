@@ -80,7 +80,7 @@ read_more order at k x within inside =
     ]
 
 module _ {listed : ℕ → Type 0} {entry : ℕ → Key} (order : List ℕ) (o : IsOrder listed entry order) where
-  -- two places hold different numbers
+  -- two places holder different numbers
   pub apart : (j k : ℕ) → j < k → k < length order → get_or order j 0 ≢ get_or order k 0
   apart j k past within same =
       false≢true (sym (not_self (entry (get_or order k 0))) ∙ subst (λ n. is_before (entry n) (entry (get_or order k 0)) ≡ true) same (o.rises j k past within))

@@ -15,11 +15,11 @@ use Rattle.rsl_session.specs.Book.{BookLink, bundles_in}
 use Rattle.rsl_session.specs.BookLinks.{can_be_taken, is_holder, is_link_of, is_wanted}
 use Rattle.rsl_session.proofs.Callers.{nas_is_same, same_nas-true}
 use Rattle.rsl_links.specs.declared.link.Link.{Link}
-use Rattle.rsl_links.specs.declared.link.Hold.{Hold}
-use Rattle.rsl_links.specs.declared.link.Hold.TheVariants.{Number, Session}
+use Rattle.rsl_links.specs.declared.link.Holder.{Holder as LinkHolder}
+use Rattle.rsl_links.specs.declared.link.Holder.TheVariants.{Reserved as LinkReserved, Bound as LinkBound}
 use Rattle.rsl_links.specs.Changed.{taken_link, touched_link}
 use Rattle.rsl_links.specs.First.{IsFirst, change_at}
-use Rattle.rsl_links.specs.LinkList.{is_bundle_id, is_for, is_held, is_id, is_member, is_wanted_hold}
+use Rattle.rsl_links.specs.LinkList.{is_bundle_id, is_for, is_held, is_id, is_member, is_wanted_holder}
 use Rattle.rsl_links.specs.Named.{AreIndexed, IsIndex, named_by_links}
 use Rattle.rsl_links.specs.Order.{link_at, no_link}
 use Rattle.rsl_links.specs.Seen.{bundle_with, holder_at, link_seen, links_seen, server_at}
@@ -127,23 +127,23 @@ same_index servers nas index at is stands other =
 pub held_seen : (servers : List Nas) (nas : Nas) (id : List ℕ) (index : ℕ) (link : Link) → IsIndex servers index → server_at servers index ≡ nas → IsIndex servers link.nas
     → is_link_of (record { nas = nas; id = id }) (link_seen servers link) ≡ is_held index id link
 unfolding is_link_of link_seen is_held same_session
-held_seen servers nas id index link is stands other = by_hold link.hold where
-  by_hold : (hold : Hold) → is_holder (record { nas = nas; id = id }) (holder_at (server_at servers link.nas) hold) ≡ (link.nas == index && is_id id hold)
-  by_hold (Number number) = sym (and-false (link.nas == index))
-  by_hold (Session own) = ap (λ b. b && same_octets own id) (same_index servers nas index link.nas is stands other)
+held_seen servers nas id index link is stands other = by_holder link.holder where
+  by_holder : (holder : LinkHolder) → is_holder (record { nas = nas; id = id }) (holder_at (server_at servers link.nas) holder) ≡ (link.nas == index && is_id id holder)
+  by_holder (LinkReserved number) = sym (and-false (link.nas == index))
+  by_holder (LinkBound own) = ap (λ b. b && same_octets own id) (same_index servers nas index link.nas is stands other)
 
 taken_seen : (servers : List Nas) (nas : Nas) (class : Option ℕ) (index : ℕ) (link : Link) → IsIndex servers index → server_at servers index ≡ nas → IsIndex servers link.nas
     → can_be_taken nas class (link_seen servers link) ≡ is_for index class link
 unfolding can_be_taken link_seen is_for
 taken_seen servers nas class index link is stands other =
-    ap (λ b. is_wanted class (holder_at (server_at servers link.nas) link.hold) && b) (same_index servers nas index link.nas is stands other)
-    ∙ ap (λ b. b && link.nas == index) (wanted class link.hold)
+    ap (λ b. is_wanted class (holder_at (server_at servers link.nas) link.holder) && b) (same_index servers nas index link.nas is stands other)
+    ∙ ap (λ b. b && link.nas == index) (wanted class link.holder)
   where
-    wanted : (class : Option ℕ) (hold : Hold) → is_wanted class (holder_at (server_at servers link.nas) hold) ≡ is_wanted_hold class hold
-    wanted None (Number number) = refl
-    wanted None (Session own) = refl
-    wanted (Some number) (Number own) = refl
-    wanted (Some number) (Session own) = refl
+    wanted : (class : Option ℕ) (holder : LinkHolder) → is_wanted class (holder_at (server_at servers link.nas) holder) ≡ is_wanted_holder class holder
+    wanted None (LinkReserved number) = refl
+    wanted None (LinkBound own) = refl
+    wanted (Some number) (LinkReserved own) = refl
+    wanted (Some number) (LinkBound own) = refl
 
 member_seen : (servers : List Nas) (id : List ℕ) (index : ℕ) (link : Link) → IsIndex servers index → IsIndex servers link.nas
     → is_bundle (record { nas = server_at servers index; id = id }) (link_seen servers link).bundle ≡ is_member index id link
@@ -212,17 +212,17 @@ other_server servers nas link is nowhere = by_cases (same_nas (server_at servers
 not_held : (servers : List Nas) (nas : Nas) (id : List ℕ) (link : Link) → IsIndex servers link.nas → ((x : ℕ) → x < length servers → server_at servers x ≢ nas)
     → is_link_of (record { nas = nas; id = id }) (link_seen servers link) ≡ false
 unfolding is_link_of link_seen same_session
-not_held servers nas id link is nowhere = by_hold link.hold where
-  by_hold : (hold : Hold) → is_holder (record { nas = nas; id = id }) (holder_at (server_at servers link.nas) hold) ≡ false
-  by_hold (Number number) = refl
-  by_hold (Session own) = ap (λ b. b && same_octets own id) (other_server servers nas link is nowhere)
+not_held servers nas id link is nowhere = by_holder link.holder where
+  by_holder : (holder : LinkHolder) → is_holder (record { nas = nas; id = id }) (holder_at (server_at servers link.nas) holder) ≡ false
+  by_holder (LinkReserved number) = refl
+  by_holder (LinkBound own) = ap (λ b. b && same_octets own id) (other_server servers nas link is nowhere)
 
 not_taken : (servers : List Nas) (nas : Nas) (class : Option ℕ) (link : Link) → IsIndex servers link.nas → ((x : ℕ) → x < length servers → server_at servers x ≢ nas)
     → can_be_taken nas class (link_seen servers link) ≡ false
 unfolding can_be_taken link_seen
 not_taken servers nas class link is nowhere =
-    ap (λ b. is_wanted class (holder_at (server_at servers link.nas) link.hold) && b) (other_server servers nas link is nowhere)
-    ∙ and-false (is_wanted class (holder_at (server_at servers link.nas) link.hold))
+    ap (λ b. is_wanted class (holder_at (server_at servers link.nas) link.holder) && b) (other_server servers nas link is nowhere)
+    ∙ and-false (is_wanted class (holder_at (server_at servers link.nas) link.holder))
 
 module _ (servers : List Nas) (nas : Nas) (links : List Link) (placed : AreIndexed servers links) where
   none_at_all : list_any (λ (link : Link). false) links ≡ false

@@ -9,12 +9,12 @@ use Rattle.rsl_session.specs.Same.{same_octets}
 use Rattle.std.proofs.lemmas.List.{get_or_default}
 use Rattle.std.proofs.lemmas.Slice.Eq.{bytes_eq-Decides}
 use Rattle.rsl_links.specs.declared.link.Link.{Link}
-use Rattle.rsl_links.specs.declared.link.Hold.{Hold}
-use Rattle.rsl_links.specs.declared.link.Hold.TheVariants.{Number, Session}
+use Rattle.rsl_links.specs.declared.link.Holder.{Holder as LinkHolder}
+use Rattle.rsl_links.specs.declared.link.Holder.TheVariants.{Reserved as LinkReserved, Bound as LinkBound}
 use Rattle.rsl_links.specs.declared.order.OrderKind.{OrderKind}
 use Rattle.rsl_links.specs.declared.order.OrderKind.TheVariants.{Bound, Sessions, Bundles}
 use Rattle.rsl_links.specs.First.{IsFirst}
-use Rattle.rsl_links.specs.LinkList.{is_bound_at, is_bound_until, is_bundle_id, is_for, is_held, is_id, is_member, is_wanted_hold}
+use Rattle.rsl_links.specs.LinkList.{is_bound_at, is_bound_until, is_bundle_id, is_for, is_held, is_id, is_member, is_wanted_holder}
 use Rattle.rsl_links.specs.Named.{named_by_links}
 use Rattle.rsl_links.specs.Order.{Key, IsOrderOf, IsSplit, key_at, goes_by, id_of, id_of_bundle, is_before, is_of, holds_session, is_in_bundle, order_key, order_number, order_octets, link_at, no_link}
 use Rattle.rsl_links.proofs.Before.{alike_or_before, first_of_key, heads, later_target, lower_before, lower_first, lower_head, touched_order}
@@ -130,10 +130,10 @@ module _ (kind : OrderKind) (links : List Link) (order : List ℕ) (o : IsOrderO
 -- what a session goes by
 pub held_is : (nas : ℕ) (id : List ℕ) (link : Link) → goes_by Sessions nas id link ≡ is_held nas id link
 unfolding goes_by is_held
-held_is nas id link = by_hold link.hold where
-  by_hold : (hold : Hold) → (holds_session hold && link.nas == nas && same_octets (id_of hold) id) ≡ (link.nas == nas && is_id id hold)
-  by_hold (Number number) = sym (and-false (link.nas == nas))
-  by_hold (Session own) = refl
+held_is nas id link = by_holder link.holder where
+  by_holder : (holder : LinkHolder) → (holds_session holder && link.nas == nas && same_octets (id_of holder) id) ≡ (link.nas == nas && is_id id holder)
+  by_holder (LinkReserved number) = sym (and-false (link.nas == nas))
+  by_holder (LinkBound own) = refl
 
 -- tests that say the same of each link
 any_as : (p q : Link → Bool) → ((link : Link) → p link ≡ q link) → (links : List Link) → list_any p links ≡ list_any q links
@@ -174,7 +174,7 @@ counted_until clock links order end o split =
     let all = counted_of Bound (is_bound_until clock) links order 0 end o (λ link is. rw is refl) (omega arith) split.within
     (λ k low within. absurd (omega (arith, low)))
     (λ k from low within. and_from _ _ (o.each k within).of_kind (le-leb (link_at links (get_or order k 0)).touched clock (until k (split.before k low))))
-    (λ k high within. rw (lt-leb (link_at links (get_or order k 0)).touched clock (past k within (split.after k high within))) (and-false (holds_session (link_at links (get_or order k 0)).hold))) in
+    (λ k high within. rw (lt-leb (link_at links (get_or order k 0)).touched clock (past k within (split.after k high within))) (and-false (holds_session (link_at links (get_or order k 0)).holder))) in
     omega (arith, all)
   where
     until : (k : ℕ) → is_before (key_at Bound links (get_or order k 0)) (clock ∷ [], length links) ≡ true → (link_at links (get_or order k 0)).touched ≤ clock
@@ -238,11 +238,11 @@ module _ (links : List Link) (order : List ℕ) (o : IsOrderOf Sessions links or
   named_there : (x : ℕ) → x < length links → is_bound_at nas (link_at links x) ≡ true → (rank < length order) × ((link_at links (get_or order rank 0)).nas ≡ nas)
   unfolding is_bound_at
   named_there x within named =
-      let parts = and_parts (holds_session (link_at links x).hold) ((link_at links x).nas == nas) named in
+      let parts = and_parts (holds_session (link_at links x).holder) ((link_at links x).nas == nas) named in
       let is = eqb-true (link_at links x).nas nas parts.1 in
       let s = o.all x (record { within = within; other = omega (arith, within); of_kind = parts.0 }) in
       let w = s.within in
-      let octets = id_of (link_at links x).hold in
+      let octets = id_of (link_at links x).holder in
       let own : key_at Sessions links (get_or order s.at 0) ≡ (nas ∷ octets, x) = ap (key_at Sessions links) s.is ∙ ap (λ (n : ℕ). (n ∷ octets, x)) is in
       elim (cases_lt s.at rank) [
         | inl low ↦ absurd (false≢true (not_below nas octets x (subst (λ (e : Key). is_before e (nas ∷ [], 0) ≡ true) own (split.before s.at low))))
@@ -253,8 +253,8 @@ module _ (links : List Link) (order : List ℕ) (o : IsOrderOf Sessions links or
               let front = link_at links (get_or order rank 0) in
               let rise : is_before (key_at Sessions links (get_or order rank 0)) (nas ∷ octets, x) ≡ true =
               subst (λ (e : Key). is_before (key_at Sessions links (get_or order rank 0)) e ≡ true) own (o.rises rank s.at (omega (arith, high, other)) w) in
-              elim (heads front.nas nas (id_of front.hold) octets (get_or order rank 0) x rise) [
-                | inl low ↦ absurd (false≢true (sym (split.after rank (omega arith) inside) ∙ lower_head front.nas nas (id_of front.hold) [] (get_or order rank 0) 0 low))
+              elim (heads front.nas nas (id_of front.holder) octets (get_or order rank 0) x rise) [
+                | inl low ↦ absurd (false≢true (sym (split.after rank (omega arith) inside) ∙ lower_head front.nas nas (id_of front.holder) [] (get_or order rank 0) 0 low))
                 | inr same ↦ (inside, same.0)
               ]
               )
@@ -293,7 +293,7 @@ module _ (links : List Link) (order : List ℕ) (o : IsOrderOf Sessions links or
 pub named_parts : (nas : ℕ) (links : List Link) → (list_any (is_bound_at nas) links || list_any (is_for nas None) links) ≡ named_by_links links nas
 unfolding named_by_links is_bound_at is_for
 named_parts nas [] = refl
-named_parts nas (link ∷ links) = by_hold link.hold (link.nas == nas) (named_parts nas links) where
+named_parts nas (link ∷ links) = by_holder link.holder (link.nas == nas) (named_parts nas links) where
   turned : (a b c d : Bool) → (b || c) ≡ d → ((a || b) || c) ≡ (a || d)
   turned true b c d is = refl
   turned false b c d is = is
@@ -303,11 +303,11 @@ named_parts nas (link ∷ links) = by_hold link.hold (link.nas == nas) (named_pa
   crossed true false c d is = refl
   crossed false b c d is = is
 
-  by_hold : (hold : Hold) (a : Bool) → (list_any (λ (one : Link). holds_session one.hold && one.nas == nas) links || list_any (λ (one : Link). is_wanted_hold None one.hold && one.nas == nas) links) ≡ list_any (λ (one : Link). one.nas == nas) links
-      → (((holds_session hold && a) || list_any (λ (one : Link). holds_session one.hold && one.nas == nas) links) || ((is_wanted_hold None hold && a) || list_any (λ (one : Link). is_wanted_hold None one.hold && one.nas == nas) links))
+  by_holder : (holder : LinkHolder) (a : Bool) → (list_any (λ (one : Link). holds_session one.holder && one.nas == nas) links || list_any (λ (one : Link). is_wanted_holder None one.holder && one.nas == nas) links) ≡ list_any (λ (one : Link). one.nas == nas) links
+      → (((holds_session holder && a) || list_any (λ (one : Link). holds_session one.holder && one.nas == nas) links) || ((is_wanted_holder None holder && a) || list_any (λ (one : Link). is_wanted_holder None one.holder && one.nas == nas) links))
       ≡ (a || list_any (λ (one : Link). one.nas == nas) links)
-  by_hold (Number number) a is = crossed a _ _ _ is
-  by_hold (Session id) a is = turned a _ _ _ is
+  by_holder (LinkReserved number) a is = crossed a _ _ _ is
+  by_holder (LinkBound id) a is = turned a _ _ _ is
 
 first_any : (p : Link → Bool) (xs : List Link) (at : ℕ) → at < length xs → ((d : Link) → p (get_or xs at d) ≡ true) → list_any p xs ≡ true
 first_any p [] at within passed = absurd (omega (arith, within))

@@ -6,8 +6,8 @@ use Rattle.rsl_accounts.specs.declared.rules.Rules.{Rules}
 use Rattle.rsl_event.specs.declared.nas.Nas.{Nas}
 use Rattle.rsl_session.specs.BookLinks.{lapses_at, time_of}
 use Rattle.rsl_links.specs.declared.link.Link.{Link}
-use Rattle.rsl_links.specs.declared.link.Hold.{Hold}
-use Rattle.rsl_links.specs.declared.link.Hold.TheVariants.{Number, Session}
+use Rattle.rsl_links.specs.declared.link.Holder.{Holder as LinkHolder}
+use Rattle.rsl_links.specs.declared.link.Holder.TheVariants.{Reserved as LinkReserved, Bound as LinkBound}
 use Rattle.rsl_links.specs.declared.order.OrderKind.{OrderKind}
 use Rattle.rsl_links.specs.declared.order.OrderKind.TheVariants.{Reserved, Bound, Sessions, Bundles}
 use Rattle.rsl_links.specs.Order.{key_at, is_before, is_by_touch, holds_number, is_of, holds_session, link_at, IsOrderOf}
@@ -15,19 +15,19 @@ use Rattle.rsl_links.specs.LinkList.{IsOldest}
 use Rattle.rsl_links.specs.Seen.{holder_at, link_seen, server_at}
 use Rattle.rsl_links.proofs.Before.{touched_order}
 
-numbers_alike : (rules : Rules) (n m : Nas) (a b : Hold) → holds_number a ≡ true → holds_number b ≡ true → time_of rules (holder_at n a) ≡ time_of rules (holder_at m b)
-numbers_alike rules n m (Number a) (Number b) one two = refl
-numbers_alike rules n m (Number a) (Session b) one two = absurd (false≢true two)
-numbers_alike rules n m (Session a) b one two = absurd (false≢true one)
+numbers_alike : (rules : Rules) (n m : Nas) (a b : LinkHolder) → holds_number a ≡ true → holds_number b ≡ true → time_of rules (holder_at n a) ≡ time_of rules (holder_at m b)
+numbers_alike rules n m (LinkReserved a) (LinkReserved b) one two = refl
+numbers_alike rules n m (LinkReserved a) (LinkBound b) one two = absurd (false≢true two)
+numbers_alike rules n m (LinkBound a) b one two = absurd (false≢true one)
 
-sessions_alike : (rules : Rules) (n m : Nas) (a b : Hold) → holds_session a ≡ true → holds_session b ≡ true → time_of rules (holder_at n a) ≡ time_of rules (holder_at m b)
-sessions_alike rules n m (Session a) (Session b) one two = refl
-sessions_alike rules n m (Session a) (Number b) one two = absurd (false≢true two)
-sessions_alike rules n m (Number a) b one two = absurd (false≢true one)
+sessions_alike : (rules : Rules) (n m : Nas) (a b : LinkHolder) → holds_session a ≡ true → holds_session b ≡ true → time_of rules (holder_at n a) ≡ time_of rules (holder_at m b)
+sessions_alike rules n m (LinkBound a) (LinkBound b) one two = refl
+sessions_alike rules n m (LinkBound a) (LinkReserved b) one two = absurd (false≢true two)
+sessions_alike rules n m (LinkReserved a) b one two = absurd (false≢true one)
 
-time_kept : (rules : Rules) (kind : OrderKind) → is_by_touch kind ≡ true → (n m : Nas) (f x : Link) → is_of kind f ≡ true → is_of kind x ≡ true → time_of rules (holder_at n f.hold) ≡ time_of rules (holder_at m x.hold)
-time_kept rules Reserved is n m f x one two = numbers_alike rules n m f.hold x.hold one two
-time_kept rules Bound is n m f x one two = sessions_alike rules n m f.hold x.hold one two
+time_kept : (rules : Rules) (kind : OrderKind) → is_by_touch kind ≡ true → (n m : Nas) (f x : Link) → is_of kind f ≡ true → is_of kind x ≡ true → time_of rules (holder_at n f.holder) ≡ time_of rules (holder_at m x.holder)
+time_kept rules Reserved is n m f x one two = numbers_alike rules n m f.holder x.holder one two
+time_kept rules Bound is n m f x one two = sessions_alike rules n m f.holder x.holder one two
 time_kept rules Sessions is n m f x one two = absurd (false≢true is)
 time_kept rules Bundles is n m f x one two = absurd (false≢true is)
 
@@ -114,16 +114,16 @@ pub none_there : (n : ℕ) (r : Bool) → r ≡ (n == 0) → r ≡ true → n �
 none_there n r is all = eqb-true n 0 (sym is ∙ all)
 
 -- no link lapses where none of those that are reserved does, and none of those that are bound
-each_hold : (hold : Hold) → (holds_number hold ≡ true) ⊎ (holds_session hold ≡ true)
-each_hold (Number number) = inl refl
-each_hold (Session id) = inr refl
+each_holder : (holder : LinkHolder) → (holds_number holder ≡ true) ⊎ (holds_session holder ≡ true)
+each_holder (LinkReserved number) = inl refl
+each_holder (LinkBound id) = inr refl
 
 pub none_lapses_of_both : (servers : List Nas) (rules : Rules) (now : ℕ) (links : List Link) (one two : OrderKind) → one ≡ Reserved → two ≡ Bound
     → ((at : ℕ) → at < length links → is_of one (link_at links at) ≡ true → lapses_at rules now (link_seen servers (link_at links at)) ≡ false)
     → ((at : ℕ) → at < length links → is_of two (link_at links at) ≡ true → lapses_at rules now (link_seen servers (link_at links at)) ≡ false)
     → (at : ℕ) → at < length links → lapses_at rules now (link_seen servers (link_at links at)) ≡ false
 none_lapses_of_both servers rules now links one two reserved bound none_reserved none_bound at within =
-    elim (each_hold (link_at links at).hold) [
+    elim (each_holder (link_at links at).holder) [
       | inl is ↦ none_reserved at within (ap (λ (kind : OrderKind). is_of kind (link_at links at)) reserved ∙ is)
       | inr is ↦ none_bound at within (ap (λ (kind : OrderKind). is_of kind (link_at links at)) bound ∙ is)
     ]

@@ -8,8 +8,8 @@ use Rattle.rsl_accounts.specs.declared.rules.Rules.{Rules}
 use Rattle.rsl_event.specs.declared.nas.Nas.{Nas}
 use Rattle.rsl_session.specs.Book.{BookLink, is_bound, is_live_at, is_reservation, is_stale_at}
 use Rattle.rsl_links.specs.declared.link.Link.{Link}
-use Rattle.rsl_links.specs.declared.link.Hold.{Hold}
-use Rattle.rsl_links.specs.declared.link.Hold.TheVariants.{Number, Session}
+use Rattle.rsl_links.specs.declared.link.Holder.{Holder as LinkHolder}
+use Rattle.rsl_links.specs.declared.link.Holder.TheVariants.{Reserved as LinkReserved, Bound as LinkBound}
 use Rattle.rsl_links.specs.declared.order.OrderKind.TheVariants.{Reserved, Bound}
 use Rattle.rsl_links.specs.LinkList.{is_bound_until}
 use Rattle.rsl_links.specs.Order.{holds_number, holds_session, is_of}
@@ -41,17 +41,17 @@ count_none p none (link ∷ links) =
 
 pub reserved_tally : (links : List Link) (count : ℕ) → count ≡ count_by (is_of Reserved) links → (servers : List Nas) → count ≡ count_by (λ (link : BookLink). is_reservation link.holder) (links_seen servers links)
 unfolding link_seen
-reserved_tally links count counted servers = counted ∙ sym (count_seen servers (λ (link : BookLink). is_reservation link.holder) (is_of Reserved) (λ link. by_hold (server_at servers link.nas) link.hold) links) where
-  by_hold : (nas : Nas) (hold : Hold) → is_reservation (holder_at nas hold) ≡ holds_number hold
-  by_hold nas (Number number) = refl
-  by_hold nas (Session id) = refl
+reserved_tally links count counted servers = counted ∙ sym (count_seen servers (λ (link : BookLink). is_reservation link.holder) (is_of Reserved) (λ link. by_holder (server_at servers link.nas) link.holder) links) where
+  by_holder : (nas : Nas) (holder : LinkHolder) → is_reservation (holder_at nas holder) ≡ holds_number holder
+  by_holder nas (LinkReserved number) = refl
+  by_holder nas (LinkBound id) = refl
 
 bound_tally : (servers : List Nas) (links : List Link) → count_by (λ (link : BookLink). is_bound link.holder) (links_seen servers links) ≡ count_by (is_of Bound) links
 unfolding link_seen
-bound_tally servers links = count_seen servers (λ (link : BookLink). is_bound link.holder) (is_of Bound) (λ link. by_hold (server_at servers link.nas) link.hold) links where
-  by_hold : (nas : Nas) (hold : Hold) → is_bound (holder_at nas hold) ≡ holds_session hold
-  by_hold nas (Number number) = refl
-  by_hold nas (Session id) = refl
+bound_tally servers links = count_seen servers (λ (link : BookLink). is_bound link.holder) (is_of Bound) (λ link. by_holder (server_at servers link.nas) link.holder) links where
+  by_holder : (nas : Nas) (holder : LinkHolder) → is_bound (holder_at nas holder) ≡ holds_session holder
+  by_holder nas (LinkReserved number) = refl
+  by_holder nas (LinkBound id) = refl
 
 -- a bound link is live or stale
 live_and_stale : (rules : Rules) (now : ℕ) (servers : List Nas) (links : List Link)
@@ -86,14 +86,14 @@ pub stale_tally : (rules : Rules) (now : ℕ) (links : List Link) (count : ℕ) 
     → (servers : List Nas) → count ≡ count_by (is_stale_at rules now) (links_seen servers links)
 unfolding is_stale_at is_bound_until link_seen
 stale_tally rules now links count fit past counted servers =
-    counted ∙ sym (count_seen servers (is_stale_at rules now) (is_bound_until (now - rules.live)) (λ link. by_hold (server_at servers link.nas) link.touched link.hold) links)
+    counted ∙ sym (count_seen servers (is_stale_at rules now) (is_bound_until (now - rules.live)) (λ link. by_holder (server_at servers link.nas) link.touched link.holder) links)
   where
     some : 1 ≤ rules.live
     some = fit.live.some
 
-    by_hold : (nas : Nas) (touched : ℕ) (hold : Hold) → (is_bound (holder_at nas hold) && nat_le rules.live (now - touched)) ≡ (holds_session hold && nat_le touched (now - rules.live))
-    by_hold nas touched (Number number) = refl
-    by_hold nas touched (Session id) = elim (cases_lt (now - touched) rules.live) [
+    by_holder : (nas : Nas) (touched : ℕ) (holder : LinkHolder) → (is_bound (holder_at nas holder) && nat_le rules.live (now - touched)) ≡ (holds_session holder && nat_le touched (now - rules.live))
+    by_holder nas touched (LinkReserved number) = refl
+    by_holder nas touched (LinkBound id) = elim (cases_lt (now - touched) rules.live) [
       | inl low ↦ lt-leb rules.live (now - touched) low ∙ sym (lt-leb touched (now - rules.live) (omega (arith, low, some, past)))
       | inr high ↦ le-leb rules.live (now - touched) high ∙ sym (le-leb touched (now - rules.live) (omega (arith, high, some, past)))
     ]

@@ -10,8 +10,8 @@ use Rattle.rsl_event.specs.declared.nas.Nas.{Nas}
 use Rattle.rsl_session.specs.Book.{BookLink, is_bound, is_stale_at}
 use Rattle.rsl_session.specs.BookLinks.{can_yield, lapses_at}
 use Rattle.rsl_links.specs.declared.link.Link.{Link}
-use Rattle.rsl_links.specs.declared.link.Hold.{Hold}
-use Rattle.rsl_links.specs.declared.link.Hold.TheVariants.{Number, Session}
+use Rattle.rsl_links.specs.declared.link.Holder.{Holder as LinkHolder}
+use Rattle.rsl_links.specs.declared.link.Holder.TheVariants.{Reserved as LinkReserved, Bound as LinkBound}
 use Rattle.rsl_links.specs.declared.links.Links.{Links}
 use Rattle.rsl_links.specs.Counted.{AreCounted}
 use Rattle.rsl_links.specs.First.{IsFirst}
@@ -123,22 +123,22 @@ lapse_end servers rules now links none =
     (λ i d within. ap (λ (link : BookLink). not (lapses_at rules now link)) (read_seen servers links i d (omega (arith, within, long))) ∙ ap not (none i (omega (arith, within, long))))
 
 -- stale links are bound
-stale_parts : (servers : List Nas) (rules : Rules) (now : ℕ) (link : Link) → is_stale_at rules now (link_seen servers link) ≡ true → (holds_session link.hold ≡ true) × (nat_le rules.live (now - link.touched) ≡ true)
+stale_parts : (servers : List Nas) (rules : Rules) (now : ℕ) (link : Link) → is_stale_at rules now (link_seen servers link) ≡ true → (holds_session link.holder ≡ true) × (nat_le rules.live (now - link.touched) ≡ true)
 unfolding is_stale_at link_seen
 stale_parts servers rules now link stale =
-    let parts = and_parts (is_bound (holder_at (server_at servers link.nas) link.hold)) (nat_le rules.live (now - link.touched)) stale in
-    (by_hold (server_at servers link.nas) link.hold parts.0, parts.1)
+    let parts = and_parts (is_bound (holder_at (server_at servers link.nas) link.holder)) (nat_le rules.live (now - link.touched)) stale in
+    (by_holder (server_at servers link.nas) link.holder parts.0, parts.1)
   where
-    by_hold : (nas : Nas) (hold : Hold) → is_bound (holder_at nas hold) ≡ true → holds_session hold ≡ true
-    by_hold nas (Number number) is = is
-    by_hold nas (Session id) is = refl
+    by_holder : (nas : Nas) (holder : LinkHolder) → is_bound (holder_at nas holder) ≡ true → holds_session holder ≡ true
+    by_holder nas (LinkReserved number) is = is
+    by_holder nas (LinkBound id) is = refl
 
-stale_from : (servers : List Nas) (rules : Rules) (now : ℕ) (link : Link) → holds_session link.hold ≡ true → nat_le rules.live (now - link.touched) ≡ true → is_stale_at rules now (link_seen servers link) ≡ true
+stale_from : (servers : List Nas) (rules : Rules) (now : ℕ) (link : Link) → holds_session link.holder ≡ true → nat_le rules.live (now - link.touched) ≡ true → is_stale_at rules now (link_seen servers link) ≡ true
 unfolding is_stale_at link_seen
-stale_from servers rules now link bound old = and_from _ _ (by_hold (server_at servers link.nas) link.hold bound) old where
-  by_hold : (nas : Nas) (hold : Hold) → holds_session hold ≡ true → is_bound (holder_at nas hold) ≡ true
-  by_hold nas (Number number) is = is
-  by_hold nas (Session id) is = refl
+stale_from servers rules now link bound old = and_from _ _ (by_holder (server_at servers link.nas) link.holder bound) old where
+  by_holder : (nas : Nas) (holder : LinkHolder) → holds_session holder ≡ true → is_bound (holder_at nas holder) ≡ true
+  by_holder nas (LinkReserved number) is = is
+  by_holder nas (LinkBound id) is = refl
 
 touched_seen : (servers : List Nas) (link : Link) → (link_seen servers link).touched ≡ link.touched
 unfolding link_seen
@@ -171,7 +171,7 @@ yields_first servers rules now links at oldest stale =
           (λ i d low within. earlier i (omega (arith, within, long)) low (get_or (links_seen servers links) i d) (read_seen servers links i d (omega (arith, within, long))));
     }
   where
-    least : (i : ℕ) → i < length links → holds_session (link_at links i).hold ≡ true → nat_le (link_seen servers (link_at links at)).touched (link_seen servers (link_at links i)).touched ≡ true
+    least : (i : ℕ) → i < length links → holds_session (link_at links i).holder ≡ true → nat_le (link_seen servers (link_at links at)).touched (link_seen servers (link_at links i)).touched ≡ true
     least i inside bound = le-leb _ _ (oldest.oldest i inside bound)
 
     earlier : (i : ℕ) → i < length links → i < at → (one : BookLink) → one ≡ link_seen servers (link_at links i) → can_yield rules now (links_seen servers links) one ≡ false
@@ -202,7 +202,7 @@ none_yields servers rules now links none =
     let no : is_stale_at rules now (get_or (links_seen servers links) i d) ≡ false = ap (is_stale_at rules now) (read_seen servers links i d inside) ∙ none i inside in
     rw no refl))
 
-pub none_bound : (servers : List Nas) (rules : Rules) (now : ℕ) (links : List Link) → ((i : ℕ) → i < length links → holds_session (link_at links i).hold ≡ false)
+pub none_bound : (servers : List Nas) (rules : Rules) (now : ℕ) (links : List Link) → ((i : ℕ) → i < length links → holds_session (link_at links i).holder ≡ false)
     → find (can_yield rules now (links_seen servers links)) (links_seen servers links) ≡ None
 none_bound servers rules now links none = none_yields servers rules now links (λ i within. not_stale i within (is_stale_at rules now (link_seen servers (link_at links i))) refl) where
   not_stale : (i : ℕ) → i < length links → (b : Bool) → is_stale_at rules now (link_seen servers (link_at links i)) ≡ b → is_stale_at rules now (link_seen servers (link_at links i)) ≡ false

@@ -2,7 +2,7 @@
 use Rattle.std.specs.Prelude.{ℕ, List, Option}
 use Rattle.std.specs.Option.{option_or}
 use Rattle.rsl_links.specs.declared.link.Link.{Link}
-use Rattle.rsl_links.specs.declared.link.Hold.TheVariants.{Session}
+use Rattle.rsl_links.specs.declared.link.Holder.TheVariants.{Bound as LinkBound}
 
 unfoldable pub touched_link : ℕ → Option (List ℕ) → Link → Link
 touched_link now bundle link = record link { bundle = option_or link.bundle bundle; touched = now }
@@ -10,7 +10,7 @@ touched_link now bundle link = record link { bundle = option_or link.bundle bund
 -- and how it changes the link that its session takes
 unfoldable pub taken_link : ℕ → List ℕ → Option (List ℕ) → Link → Link
 taken_link now id bundle link =
-    record link { hold = Session id; bundle = option_or link.bundle bundle; touched = now }
+    record link { holder = LinkBound id; bundle = option_or link.bundle bundle; touched = now }
 
 -- the bundle that it then has, if it had none; the clock; and the session and the clock
 unfoldable pub joined_link : Option (List ℕ) → Link → Link
@@ -20,4 +20,4 @@ unfoldable pub renewed_link : ℕ → Link → Link
 renewed_link now link = record link { touched = now }
 
 unfoldable pub bound_link : ℕ → List ℕ → Link → Link
-bound_link now id link = record link { hold = Session id; touched = now }
+bound_link now id link = record link { holder = LinkBound id; touched = now }

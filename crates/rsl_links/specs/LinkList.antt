@@ -5,8 +5,8 @@
 use Rattle.std.specs.Prelude.{◌≡◌, ℕ, ◌<◌, ◌≤◌, ◌==◌, ◌&&◌, nat_le, List, [], Bool, true, false, Option, None, Some, vec_capacity, length}
 use Rattle.std.specs.VecDeque.{deque_capacity}
 use Rattle.rsl_session.specs.Same.{same_octets}
-use Rattle.rsl_links.specs.declared.link.Hold.{Hold}
-use Rattle.rsl_links.specs.declared.link.Hold.TheVariants.{Number, Session}
+use Rattle.rsl_links.specs.declared.link.Holder.{Holder as LinkHolder}
+use Rattle.rsl_links.specs.declared.link.Holder.TheVariants.{Reserved as LinkReserved, Bound as LinkBound}
 use Rattle.rsl_links.specs.declared.link.Link.{Link}
 use Rattle.rsl_links.specs.declared.list.LinkList.TheInside.{Inside}
 use Rattle.rsl_links.specs.declared.list.Orders.{Orders}
@@ -62,22 +62,22 @@ pub record IsRanked (list : Inside) : Type 0 where
 -- whether a link at the access server of an index is bound, is bound to the session of this id, is
 -- reserved by a number that a class names, or is in the bundle of this id
 unfoldable pub is_bound_at : ℕ → Link → Bool
-is_bound_at nas link = holds_session link.hold && link.nas == nas
+is_bound_at nas link = holds_session link.holder && link.nas == nas
 
-abbrev pub is_id : List ℕ → Hold → Bool
-is_id id (Number number) = false
-is_id id (Session own) = same_octets own id
+abbrev pub is_id : List ℕ → LinkHolder → Bool
+is_id id (LinkReserved number) = false
+is_id id (LinkBound own) = same_octets own id
 
 unfoldable pub is_held : ℕ → List ℕ → Link → Bool
-is_held nas id link = link.nas == nas && is_id id link.hold
+is_held nas id link = link.nas == nas && is_id id link.holder
 
-abbrev pub is_wanted_hold : Option ℕ → Hold → Bool
-is_wanted_hold class (Session id) = false
-is_wanted_hold None (Number number) = true
-is_wanted_hold (Some wanted) (Number number) = number == wanted
+abbrev pub is_wanted_holder : Option ℕ → LinkHolder → Bool
+is_wanted_holder class (LinkBound id) = false
+is_wanted_holder None (LinkReserved number) = true
+is_wanted_holder (Some wanted) (LinkReserved number) = number == wanted
 
 unfoldable pub is_for : ℕ → Option ℕ → Link → Bool
-is_for nas class link = is_wanted_hold class link.hold && link.nas == nas
+is_for nas class link = is_wanted_holder class link.holder && link.nas == nas
 
 abbrev pub is_bundle_id : List ℕ → Option (List ℕ) → Bool
 is_bundle_id id None = false
@@ -88,13 +88,13 @@ is_member nas id link = link.nas == nas && is_bundle_id id link.bundle
 
 -- whether a link is bound, and was touched at this clock or before
 unfoldable pub is_bound_until : ℕ → Link → Bool
-is_bound_until clock link = holds_session link.hold && nat_le link.touched clock
+is_bound_until clock link = holds_session link.holder && nat_le link.touched clock
 
 -- the bound link that was touched longest ago, and of these the first
 pub record IsOldest (links : List Link) (at : ℕ) : Type 0 where
   pub within : at < length links
-  pub bound : holds_session (link_at links at).hold ≡ true
-  pub oldest : (x : ℕ) → x < length links → holds_session (link_at links x).hold ≡ true
+  pub bound : holds_session (link_at links at).holder ≡ true
+  pub oldest : (x : ℕ) → x < length links → holds_session (link_at links x).holder ≡ true
       → (link_at links at).touched ≤ (link_at links x).touched
-  pub first : (x : ℕ) → x < at → holds_session (link_at links x).hold ≡ true
+  pub first : (x : ℕ) → x < at → holds_session (link_at links x).holder ≡ true
       → (link_at links at).touched < (link_at links x).touched

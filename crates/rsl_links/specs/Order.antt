@@ -7,8 +7,8 @@ use Rattle.std.specs.declared.cmp.Ordering.{Ordering}
 use Rattle.std.specs.Cmp.Lexicographic.{slice_cmp}
 use Rattle.rsl_session.specs.Same.{same_octets}
 use Rattle.rsl_links.specs.declared.link.Link.{Link}
-use Rattle.rsl_links.specs.declared.link.Hold.{Hold}
-use Rattle.rsl_links.specs.declared.link.Hold.TheVariants.{Number, Session}
+use Rattle.rsl_links.specs.declared.link.Holder.{Holder as LinkHolder}
+use Rattle.rsl_links.specs.declared.link.Holder.TheVariants.{Reserved as LinkReserved, Bound as LinkBound}
 use Rattle.rsl_links.specs.declared.order.OrderKind.{OrderKind}
 use Rattle.rsl_links.specs.declared.order.OrderKind.TheVariants.{Reserved, Bound, Sessions, Bundles}
 
@@ -44,22 +44,22 @@ pub record IsOrder (listed : ℕ → Type 0) (entry : ℕ → Key) (order : List
 
 -- the link at a position, and past the end one that is never looked at
 abbrev pub no_link : Link
-no_link = record { nas = 0; touched = 0; hold = Number 0; bundle = None }
+no_link = record { nas = 0; touched = 0; holder = LinkReserved 0; bundle = None }
 
 abbrev pub link_at : List Link → ℕ → Link
 link_at links at = get_or links at no_link
 
-abbrev pub holds_session : Hold → Bool
-holds_session (Number number) = false
-holds_session (Session id) = true
+abbrev pub holds_session : LinkHolder → Bool
+holds_session (LinkReserved number) = false
+holds_session (LinkBound id) = true
 
-abbrev pub holds_number : Hold → Bool
-holds_number (Number number) = true
-holds_number (Session id) = false
+abbrev pub holds_number : LinkHolder → Bool
+holds_number (LinkReserved number) = true
+holds_number (LinkBound id) = false
 
-abbrev pub id_of : Hold → List ℕ
-id_of (Number number) = []
-id_of (Session id) = id
+abbrev pub id_of : LinkHolder → List ℕ
+id_of (LinkReserved number) = []
+id_of (LinkBound id) = id
 
 abbrev pub is_in_bundle : Option (List ℕ) → Bool
 is_in_bundle None = false
@@ -71,9 +71,9 @@ id_of_bundle (Some id) = id
 
 -- the links of a kind, and what their order goes by: a number, and octets
 abbrev pub is_of : OrderKind → Link → Bool
-is_of Reserved link = holds_number link.hold
-is_of Bound link = holds_session link.hold
-is_of Sessions link = holds_session link.hold
+is_of Reserved link = holds_number link.holder
+is_of Bound link = holds_session link.holder
+is_of Sessions link = holds_session link.holder
 is_of Bundles link = is_in_bundle link.bundle
 
 abbrev pub order_number : OrderKind → Link → ℕ
@@ -85,7 +85,7 @@ order_number Bundles link = link.nas
 abbrev pub order_octets : OrderKind → Link → List ℕ
 order_octets Reserved link = []
 order_octets Bound link = []
-order_octets Sessions link = id_of link.hold
+order_octets Sessions link = id_of link.holder
 order_octets Bundles link = id_of_bundle link.bundle
 
 abbrev pub order_key : OrderKind → Link → List ℕ

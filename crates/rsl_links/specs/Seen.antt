@@ -6,8 +6,8 @@ use Rattle.rsl_event.specs.declared.nas.NasName.TheVariants.{Unnamed}
 use Rattle.rsl_session.specs.declared.bundle.Bundle.{Bundle}
 use Rattle.rsl_session.specs.Book.{BookLink, Holder, Reserved, Bound}
 use Rattle.rsl_links.specs.declared.link.Link.{Link}
-use Rattle.rsl_links.specs.declared.link.Hold.{Hold}
-use Rattle.rsl_links.specs.declared.link.Hold.TheVariants.{Number, Session}
+use Rattle.rsl_links.specs.declared.link.Holder.{Holder as LinkHolder}
+use Rattle.rsl_links.specs.declared.link.Holder.TheVariants.{Reserved as LinkReserved, Bound as LinkBound}
 
 abbrev pub unnamed : Nas
 unnamed = record { client = 0; name = Unnamed }
@@ -17,9 +17,9 @@ abbrev pub server_at : List Nas → ℕ → Nas
 server_at servers at = get_or servers at unnamed
 
 -- what has a link at an access server
-abbrev pub holder_at : Nas → Hold → Holder
-holder_at nas (Number number) = Reserved number
-holder_at nas (Session id) = Bound (record { nas = nas; id = id })
+abbrev pub holder_at : Nas → LinkHolder → Holder
+holder_at nas (LinkReserved number) = Reserved number
+holder_at nas (LinkBound id) = Bound (record { nas = nas; id = id })
 
 -- the bundle of this id at an access server
 abbrev pub bundle_with : Nas → Option (List ℕ) → Option Bundle
@@ -29,7 +29,7 @@ unfoldable pub link_seen : List Nas → Link → BookLink
 link_seen servers link =
     record {
       nas = server_at servers link.nas;
-      holder = holder_at (server_at servers link.nas) link.hold;
+      holder = holder_at (server_at servers link.nas) link.holder;
       bundle = bundle_with (server_at servers link.nas) link.bundle;
       touched = link.touched;
     }

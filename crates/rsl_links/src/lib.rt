@@ -13,7 +13,7 @@ mod order;
 mod servers;
 mod slots;
 
-pub use link::{Hold, Link};
+pub use link::{Holder, Link};
 pub use links::Links;
 pub use list::LinkList;
 pub use servers::Servers;

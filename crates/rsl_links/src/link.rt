@@ -15,21 +15,21 @@ use std::alloc::Global;
 
 /// What has a link.
 #[derive(PartialEq, Eq, Drop)]
-pub enum Hold {
+pub enum Holder {
     /// The accept number that reserves it.
-    Number(u64),
+    Reserved(u64),
     /// The session that it is bound to, by its Acct-Session-Id.
-    Session(Octets),
+    Bound(Octets),
 }
 
-impl Hold {
+impl Holder {
     /// An equal one. It fails only where memory is refused.
-    pub fn try_copy(&self, alloc: Global) -> Result<Hold, NoMemory>
+    pub fn try_copy(&self, alloc: Global) -> Result<Holder, NoMemory>
         ensures { IfOk result (λ copy. copy ≡ self.now) }
     {
         Ok(match self {
-            Hold::Number(number) => Hold::Number(*number),
-            Hold::Session(id) => Hold::Session(id.try_copy(alloc)?),
+            Holder::Reserved(number) => Holder::Reserved(*number),
+            Holder::Bound(id) => Holder::Bound(id.try_copy(alloc)?),
         })
     }
 }
@@ -42,7 +42,7 @@ pub struct Link {
     /// The clock at its last touch.
     pub touched: u64,
     /// What has it.
-    pub hold: Hold,
+    pub holder: Holder,
     /// Its bundle, by its Acct-Multi-Session-Id, if it is in one.
     pub bundle: Option<Octets>,
 }
@@ -54,7 +54,7 @@ impl Link {
     {
         Ok(Link {
             nas: self.nas,
-            hold: self.hold.try_copy(alloc)?,
+            holder: self.holder.try_copy(alloc)?,
             bundle: Octets::try_copy_option(alloc, &self.bundle)?,
             touched: self.touched,
         })
@@ -67,7 +67,7 @@ impl Link {
             link_seen others.now other.now) }
     {
         servers.at(self.nas).is_same(others.at(other.nas))
-            && self.hold == other.hold
+            && self.holder == other.holder
             && self.bundle == other.bundle
             && self.touched == other.touched
     }
@@ -78,9 +78,9 @@ impl Link {
         requires { RulesFit rules.now }
         ensures { result ≡ lapses_at rules.now now (link_seen servers.now self.now) }
     {
-        let stands = match &self.hold {
-            Hold::Number(_) => rules.reserve,
-            Hold::Session(_) => rules.live + rules.grace,
+        let stands = match &self.holder {
+            Holder::Reserved(_) => rules.reserve,
+            Holder::Bound(_) => rules.live + rules.grace,
         };
         stands <= now.saturating_sub(self.touched)
     }
@@ -90,9 +90,9 @@ impl Link {
     pub fn is_stale(&self, servers: &Servers, rules: &Rules, now: u64) -> bool
         ensures { result ≡ is_stale_at rules.now now (link_seen servers.now self.now) }
     {
-        match &self.hold {
-            Hold::Number(_) => false,
-            Hold::Session(_) => rules.live <= now.saturating_sub(self.touched),
+        match &self.holder {
+            Holder::Reserved(_) => false,
+            Holder::Bound(_) => rules.live <= now.saturating_sub(self.touched),
         }
     }
 
@@ -110,10 +110,10 @@ impl Link {
     pub fn is_for(&self, nas: usize, class: Option<u64>) -> bool
         ensures { result ≡ is_for nas class self.now }
     {
-        match (&self.hold, class) {
-            (Hold::Number(number), Some(wanted)) => *number == wanted && self.nas == nas,
-            (Hold::Number(_), None) => self.nas == nas,
-            (Hold::Session(_), _) => false,
+        match (&self.holder, class) {
+            (Holder::Reserved(number), Some(wanted)) => *number == wanted && self.nas == nas,
+            (Holder::Reserved(_), None) => self.nas == nas,
+            (Holder::Bound(_), _) => false,
         }
     }
 
@@ -132,7 +132,7 @@ impl Link {
     pub(crate) fn bind(&mut self, now: u64, id: Octets)
         ensures { self.new ≡ bound_link now id self.old }
     {
-        self.hold = Hold::Session(id);
+        self.holder = Holder::Bound(id);
         self.touched = now;
     }
 }

@@ -287,7 +287,7 @@ impl LinkList {
     pub fn oldest(&self) -> Option<usize>
         ensures found { IfSome result (λ at. IsOldest self.now.items at) }
         ensures missed { IfNone result ((at : ℕ) → at < length self.now.items →
-            holds_session (link_at self.now.items at).hold ≡ false) }
+            holds_session (link_at self.now.items at).holder ≡ false) }
     {
         let order = &self.orders.bound;
         if order.slots.is_empty() {

@@ -15,7 +15,7 @@ ghost use Rattle.rsl_links.specs.Ranked.{IsRankedBut, IsRankedOf, IsSearchable, 
 ghost use Rattle.rsl_links.specs.Seen.{link_seen};
 ghost use Rattle.rsl_links.specs.Slots.{IsKept, links_of, opened_of};
 
-use crate::link::{Hold, Link};
+use crate::link::{Holder, Link};
 use crate::servers::Servers;
 use crate::slots::{Slot, Slots};
 use rsl_accounts::Rules;
@@ -45,8 +45,8 @@ impl OrderKind {
         ensures { result ≡ is_of self link.now }
     {
         match self {
-            OrderKind::Reserved => matches!(&link.hold, Hold::Number(_)),
-            OrderKind::Bound | OrderKind::Sessions => matches!(&link.hold, Hold::Session(_)),
+            OrderKind::Reserved => matches!(&link.holder, Holder::Reserved(_)),
+            OrderKind::Bound | OrderKind::Sessions => matches!(&link.holder, Holder::Bound(_)),
             OrderKind::Bundles => link.bundle.is_some(),
         }
     }
@@ -65,8 +65,8 @@ impl OrderKind {
     fn octets(self, link: &Link) -> &[u8]
         ensures { result.now ≡ order_octets self link.now }
     {
-        match (self, &link.hold, &link.bundle) {
-            (OrderKind::Sessions, Hold::Session(id), _) => id.as_slice(),
+        match (self, &link.holder, &link.bundle) {
+            (OrderKind::Sessions, Holder::Bound(id), _) => id.as_slice(),
             (OrderKind::Bundles, _, Some(id)) => id.as_slice(),
             _ => &[],
         }

@@ -6,7 +6,7 @@ ghost use Rattle.rsl_links.specs.Order.{Stands, link_at};
 ghost use Rattle.rsl_links.specs.Slots.{AreSame, IsChanged, IsKept, IsLess, IsMore, links_of, no_slot};
 ghost use Rattle.rsl_links.specs.Slots.{opened_in, opened_of};
 
-use crate::link::{Hold, Link};
+use crate::link::{Holder, Link};
 use rsl_wire::{NoMemory, Octets};
 use std::alloc::Global;
 use std::collections::VecDeque;
@@ -28,7 +28,7 @@ impl Slot {
         let link = Link {
             nas: 0,
             touched: 0,
-            hold: Hold::Number(0),
+            holder: Holder::Reserved(0),
             bundle: None,
         };
         Slot { opened: 0, link }

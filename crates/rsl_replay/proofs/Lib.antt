@@ -1,8 +1,8 @@
 pub mod AccountingLaws
 pub mod Consumed
 pub mod AccessLaws
-pub mod PrintingLaws
+pub mod LineLaws
 pub mod ReportLaws
 pub mod StepCounts
-pub mod SteppingLaws
+pub mod StepLaws
 pub mod Written

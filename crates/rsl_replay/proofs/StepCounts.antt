@@ -14,7 +14,7 @@ use Rattle.rsl_script.specs.declared.event_line.Happening.TheVariants as happeni
 use Rattle.rsl_script.specs.declared.request.AccountingRequest.{AccountingRequest}
 use Rattle.rsl_script.specs.declared.request.AccountingRequest.TheVariants.{Session, Server}
 use Rattle.rsl_replay.specs.Accounting.{accounting_octets}
-use Rattle.rsl_replay.specs.Stepping.{nas_named, sweeps_by, sweeps_before, secret_at, datagram, steps_at, steps_of_line, steps_of_lines, sweep_count, step_count_of, step_count}
+use Rattle.rsl_replay.specs.Steps.{nas_named, sweeps_by, sweeps_before, secret_at, datagram, steps_at, steps_of_line, steps_of_lines, sweep_count, step_count_of, step_count}
 use Rattle.rsl_steps.specs.declared.step.Step.{Step}
 use Rattle.rsl_steps.specs.declared.step.Step.TheVariants as steps
 

@@ -2,8 +2,8 @@ pub mod Access
 pub mod Accounting
 pub mod Attributes
 pub mod Fault
-pub mod Printing
+pub mod Lines
 pub mod Replay
 pub mod Report
 pub mod Shards
-pub mod Stepping
+pub mod Steps

@@ -4,10 +4,10 @@ use Rattle.rsl_accounts.specs.Configuration.{Configuration, configuration_of}
 use Rattle.rsl_accounts.specs.declared.fault.ConfigFault.{ConfigFault}
 use Rattle.rsl_script.specs.Script.{Contents, script_of}
 use Rattle.rsl_script.specs.declared.fault.ScriptFault.TheVariants.{Line as wrong_line}
-use Rattle.rsl_replay.specs.Printing.{printed_lines}
+use Rattle.rsl_replay.specs.Lines.{printed_lines}
 use Rattle.rsl_replay.specs.Report.{report_after}
 use Rattle.rsl_steps.specs.Run.{AreAnswers, steps_taken}
-use Rattle.rsl_replay.specs.Stepping.{steps_of_lines}
+use Rattle.rsl_replay.specs.Steps.{steps_of_lines}
 use Rattle.rsl_replay.specs.declared.fault.ReplayFault.{ReplayFault}
 use Rattle.rsl_replay.specs.declared.fault.ReplayFault.TheVariants.{Line, TooLong, Config, InputOutput, NoMemory}
 use Rattle.rsl_steps.specs.declared.step.Answer.{Answer}

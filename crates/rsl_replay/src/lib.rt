@@ -4,21 +4,21 @@
 //! `replay` reads a script, has `run` of `rsl_steps` answer its steps, and writes a line for each
 //! event line, and then a report of what each account holds (`specs/Replay.antt`); the script's
 //! grammar is that of `rsl_script`. The packets and steps of event lines stand in
-//! `specs/Access.antt`, `specs/Accounting.antt` and `specs/Stepping.antt`, what is printed in
-//! `specs/Printing.antt` and `specs/Report.antt`.
+//! `specs/Access.antt`, `specs/Accounting.antt` and `specs/Steps.antt`, what is printed in
+//! `specs/Lines.antt` and `specs/Report.antt`.
 #![tactic(auto)]
 
 mod access;
 mod accounting;
 mod fault;
 mod input;
-mod printing;
-mod replaying;
-mod reporting;
-mod stepping;
+mod lines;
+mod output;
+mod rows;
+mod steps;
 mod word;
 
 pub use fault::ReplayFault;
-pub use printing::lines_of;
-pub use replaying::replay;
-pub use stepping::steps_of;
+pub use lines::lines_of;
+pub use output::replay;
+pub use steps::steps_of;

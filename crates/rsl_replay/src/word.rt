@@ -17,7 +17,7 @@ pub(crate) enum Word {
 
 impl fmt::Display for Word {
     ghost use Rattle.std.specs.Prelude.{Some};
-    ghost use Rattle.rsl_replay.specs.Printing.{word_text};
+    ghost use Rattle.rsl_replay.specs.Lines.{word_text};
 
     ghost output = { λ word. Some (word_text word) };
 

@@ -1,4 +1,4 @@
 pub mod AttributeLaws
-pub mod BuildingLaws
+pub mod NewPacketLaws
 pub mod PacketLaws
 pub mod ReadLaws

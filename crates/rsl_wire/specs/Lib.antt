@@ -1,5 +1,5 @@
 pub mod Attributes
-pub mod Building
+pub mod NewPacket
 pub mod DraftSeen
 pub mod OctetsSeen
 pub mod Packet

@@ -19,20 +19,20 @@
 
 mod attr;
 mod attributes;
-mod building;
+mod datagram;
 mod draft;
 mod fault;
 pub mod laws;
+mod new_packet;
 mod octets;
 mod packet;
-mod reading;
 mod short;
 
 pub use attr::{ATTR_HEADER_LEN, Attr, MAX_VALUE_LEN};
 pub use attributes::{Attrs, BadAttribute};
-pub use building::{BuildFault, build};
+pub use datagram::read;
 pub use draft::{Draft, TooLong};
 pub use fault::NoMemory;
+pub use new_packet::{BuildFault, build};
 pub use octets::Octets;
 pub use packet::{AUTHENTICATOR_START, HEADER_LEN, MAX_LEN, Packet, WireFault};
-pub use reading::read;

@@ -1,6 +1,6 @@
 use Rattle.std.proofs.Common.{◌≡◌, ◌∙◌, sym, ap, List, ℕ, length}
 use Rattle.rsl_auth.specs.Signature.{signed}
-use Rattle.rsl_event.proofs.WritingLaws.{put_back}
+use Rattle.rsl_event.proofs.ReplyAttributeLaws.{put_back}
 use Rattle.rsl_event.proofs.signing.with_signature.Goals as goal
 
 pub returns-clause-signed : goal.returns-clause-signed

@@ -10,7 +10,7 @@ use Rattle.rsl_book.specs.BookSeen.{running}
 use Rattle.rsl_links.specs.Seen.{links_seen}
 use Rattle.rsl_book.specs.Seen.{asks_seen}
 use Rattle.rsl_session.specs.BookStep.{accept_beside, keep_ask}
-use Rattle.rsl_links.specs.declared.link.Hold.TheVariants.{Number}
+use Rattle.rsl_links.specs.declared.link.Holder.TheVariants.{Reserved as LinkReserved}
 use Rattle.rsl_links.proofs.Callers.{more_alone}
 use Rattle.rsl_book.proofs.Insides.{same_book, held_places, room_in_table, room_for_one, counted_again, opened_within, opened_seen, reserved_seen, pushed_ask}
 use Rattle.rsl_book.proofs.book.Book.accept.Goals as goal
@@ -44,7 +44,7 @@ invariant_of-self c =
       fit = sound.fit;
       ports = c.open.ensures.ports ∙ sound.ports;
       counted = c.open.ensures.counted;
-      limit = opened_within place.new.servers inside.links c.open.new.self (record { nas = place.result; hold = Number inside.accepts; bundle = None; touched = inside.clock }) inside.rules.places 1
+      limit = opened_within place.new.servers inside.links c.open.new.self (record { nas = place.result; holder = LinkReserved inside.accepts; bundle = None; touched = inside.clock }) inside.rules.places 1
           (counted_again inside.servers place.new.servers inside.links links place.ensures.placed sound.counted) c.open.ensures.counted c.open.ensures.links c.open.ensures.ports
           (more_alone inside.links.ports (bundles_in (links_seen place.new.servers inside.links.list.items)) sound.counted.a_port) (omega arith);
       room = let room = sound.room in let same = c.open.ensures.room in omega arith;
@@ -63,7 +63,7 @@ returns-clause-step c =
     rw (← c.self.view_is)
     (ap (λ (book : Book). (book, Accept inside.accepts))
     (same_book inside.clock (inside.accepts + 1) inside.over
-    (opened_seen inside.servers place.new.servers (record { nas = place.result; hold = Number inside.accepts; bundle = None; touched = inside.clock }) inside.links.list.items c.open.new.self.list.items _
+    (opened_seen inside.servers place.new.servers (record { nas = place.result; holder = LinkReserved inside.accepts; bundle = None; touched = inside.clock }) inside.links.list.items c.open.new.self.list.items _
     c.open.ensures.links links (reserved_seen place.new.servers place.result inside.accepts inside.clock c.args.nas place.ensures.stands))
     (ap (λ (ring : Buffer (Kept DecidedAsk)). asks_seen place.new.servers ring.items) c.push.ensures
     ∙ pushed_ask inside.servers place.new.servers (record { subject = record { key = c.args.key; decision = Accept inside.accepts }; at = inside.clock; swept = false; nas = place.result }) inside.asks.items c.args.nas 8 inside.asks.capacity

@@ -3,7 +3,7 @@ use Rattle.rsl_session.specs.Book.{Book}
 use Rattle.rsl_book.specs.RuledBook.{RuledBook}
 use Rattle.rsl_book.specs.BookSeen.{running}
 use Rattle.rsl_links.specs.Seen.{links_seen, bundle_with, server_at}
-use Rattle.rsl_links.specs.declared.link.Hold.TheVariants.{Session}
+use Rattle.rsl_links.specs.declared.link.Holder.TheVariants.{Bound as LinkBound}
 use Rattle.rsl_book.proofs.Insides.{same_value, room_in_table, room_for_one, counted_again, opened_within, opened_seen, bound_seen, open_sum, open_yes, open_not, over_value}
 use Rattle.rsl_links.proofs.Callers.{one_of}
 use Rattle.rsl_book.proofs.book.Book.open_link.Goals as goal
@@ -36,7 +36,7 @@ invariant_of-self c =
       fit = sound.fit;
       ports = c.open.ensures.ports ∙ sound.ports;
       counted = c.open.ensures.counted;
-      limit = opened_within place.new.servers inside.links c.open.new.self (record { nas = place.result; hold = Session c.args.id; bundle = c.args.bundle; touched = inside.clock }) inside.rules.places (cond c.adds_a_place.result 1 0)
+      limit = opened_within place.new.servers inside.links c.open.new.self (record { nas = place.result; holder = LinkBound c.args.id; bundle = c.args.bundle; touched = inside.clock }) inside.rules.places (cond c.adds_a_place.result 1 0)
           (counted_again inside.servers place.new.servers inside.links links place.ensures.placed sound.counted) c.open.ensures.counted c.open.ensures.links c.open.ensures.ports
           c.adds_a_place.ensures (let same = one_of c.adds_a_place.result c.from-more.result c.from-more.ensures in omega arith);
       room = let room = sound.room in let same = c.open.ensures.room in omega arith;
@@ -57,7 +57,7 @@ returns-then-self-more c =
     let same = one_of c.adds_a_place.result c.from-more.result c.from-more.ensures in
     rw (← c.self.view_is)
     (same_value inside.rules inside.clock inside.accepts inside.over
-    (opened_seen inside.servers place.new.servers (record { nas = place.result; hold = Session c.args.id; bundle = c.args.bundle; touched = inside.clock }) inside.links.list.items c.open.new.self.list.items _
+    (opened_seen inside.servers place.new.servers (record { nas = place.result; holder = LinkBound c.args.id; bundle = c.args.bundle; touched = inside.clock }) inside.links.list.items c.open.new.self.list.items _
     c.open.ensures.links links (bound_seen place.new.servers place.result inside.clock c.args.id c.args.bundle c.args.nas place.ensures.stands))
     place.ensures.asks place.ensures.stops
     ∙ ap (λ (book : Book). let made : RuledBook = record { rules = inside.rules; book = book } in made)

@@ -1,5 +1,5 @@
 use Rattle.std.proofs.Common.{arith}
-use Rattle.rsl_wire.proofs.BuildingLaws.{pushed_is}
+use Rattle.rsl_wire.proofs.NewPacketLaws.{pushed_is}
 use Rattle.rsl_wire.proofs.draft.Draft.push.Goals as goal
 
 pub returns-clause-ok : goal.returns-clause-ok

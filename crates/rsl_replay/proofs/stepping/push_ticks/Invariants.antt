@@ -1,7 +1,0 @@
-use Rattle.std.proofs.Common.{◌≡◌, ◌++◌, map}
-use Rattle.std.specs.List.{range_with_len}
-use Rattle.rsl_steps.specs.declared.step.Step.TheVariants as steps
-use Rattle.rsl_replay.proofs.stepping.push_ticks.Given as goal
-
-abbrev pub invariant-loop-shard : goal.invariant-loop-shard
-invariant-loop-shard l = l.steps.items ≡ l.fn.steps.items ++ map (λ shard. steps.Tick shard l.moment) (range_with_len 0 l.shard)

@@ -1,0 +1,111 @@
+ghost use Rattle.std.specs.Prelude.{
+  ◌≡◌,
+  ◌≢◌,
+  ◌<◌,
+  ◌≤◌,
+  ℕ,
+  All,
+  List,
+  IfErr,
+  IfOk,
+  IfSome,
+  OnOk,
+  length,
+};
+ghost use Rattle.std.specs.Io.KnownBytes.{Appends, Keeps};
+ghost use Rattle.rsl_replay.specs.Replay.{IsFaultOf, IsReplayed, most_octets};
+ghost use Rattle.rsl_replay.specs.Report.{output_octets};
+
+use crate::fault::ReplayFault;
+use crate::input::read_text;
+use crate::lines::lines_of;
+use crate::rows::rows_of;
+use crate::steps::steps_of;
+use rsl_accounts::Config;
+use rsl_report::write_table;
+use rsl_script::Script;
+use rsl_shard::Row;
+use rsl_steps::run;
+use std::alloc::Global;
+use std::io::{Read, Write};
+
+/// The boot number of a server that replays a script.
+const BOOT: u64 = 1;
+
+/// What a replay prints: its lines, and the rows of its report.
+#[derive(Drop)]
+struct Output {
+    config: Config,
+    lines: String,
+    rows: Vec<Row>,
+}
+
+/// Reads a script, gives its event lines to the server one after the other, and writes one line for
+/// each; then a report of what each account holds.
+///
+/// The faults come in this order, and nothing is written before the last: `InputOutput` where a
+/// read fails or 2,097,152 reads have come to no end, and `TooLong` where the script has over
+/// 1,048,576 octets, whichever comes first; `Line` of the first wrong line; `Config` where the
+/// configuration lines are refused; `InputOutput` where a write fails, after which nothing is said
+/// of how much was written. `NoMemory` comes where memory is refused, before the checks that
+/// follow, and for the report's rows before anything is written; a step whose memory is refused is
+/// answered in its own line.
+#[tactic(auto, using(crate::proofs::Written::read_fault))]
+pub fn replay<R: Read, W: Write>(
+    alloc: Global,
+    reader: &mut R,
+    writer: &mut W,
+) -> Result<(), ReplayFault>
+    // What is written is what the server answers to the script that was read and what its accounts
+    // hold then, and nothing else.
+    ensures replayed { OnOk result (IfSome (R.remaining reader.old) (λ text.
+        (written : List ℕ) × IsReplayed text written ×
+        Appends (W.contents writer.old) (W.contents writer.new) written)) }
+    // A fault of the script is there, and is the first.
+    ensures fault { IfErr result (λ fault. IfSome (R.remaining reader.old) (λ text.
+        IsFaultOf text fault)) }
+    // After every other fault than `InputOutput` nothing was written.
+    ensures silent { IfErr result (λ fault.
+        fault ≢ ReplayFault.InputOutput → Keeps (W.contents writer.old) (W.contents writer.new)) }
+{
+    let text = read_text(alloc, reader)?;
+    let output = replay_text(alloc, text.as_slice())?;
+    write_output(writer, &output)
+}
+
+/// What is printed for the octets of a script.
+fn replay_text(alloc: Global, text: &[u8]) -> Result<Output, ReplayFault>
+    requires { length text.now ≤ most_octets }
+    ensures replayed { IfOk result (λ output. IsReplayed text.now (output_octets output)) }
+    ensures rows { IfOk result (λ output.
+        All (λ row. row.account < length output.config.accounts) output.rows.items) }
+    ensures fault { IfErr result (λ fault.
+        (fault ≢ ReplayFault.InputOutput) × IsFaultOf text.now fault) }
+{
+    let script = Script::read(alloc, text)?;
+    let config = Config::make(alloc, script.settings, script.clients, script.accounts)?;
+    let lines = script.events.as_slice();
+    let steps = steps_of(alloc, &config, BOOT, lines)?;
+    let ran = run(alloc, &config, BOOT, steps.as_slice())?;
+    let lines = lines_of(alloc, &config, lines, ran.answers.as_slice())?;
+    let rows = rows_of(alloc, &config, ran.shards.as_slice())?;
+    Ok(Output {
+        config,
+        lines,
+        rows,
+    })
+}
+
+/// Writes the lines and the report, and has the writer pass them on.
+fn write_output<W: Write>(writer: &mut W, output: &Output) -> Result<(), ReplayFault>
+    requires { All (λ row. row.account < length output.now.config.accounts)
+        output.now.rows.items }
+    ensures written { OnOk result
+        (Appends (W.contents writer.old) (W.contents writer.new) (output_octets output.now)) }
+    ensures fault { IfErr result (λ fault. fault ≡ ReplayFault.InputOutput) }
+{
+    writer.write_all(output.lines.as_bytes())?;
+    write_table(&output.config, output.rows.as_slice(), writer)?;
+    writer.flush()?;
+    Ok(())
+}
