@@ -30,7 +30,7 @@ use Rattle.rsl_links.specs.Seen.{link_seen, links_seen, server_at, bundle_with}
 use Rattle.rsl_links.specs.Counted.{AreCounted}
 use Rattle.rsl_links.specs.Named.{AreIndexed}
 use Rattle.rsl_links.proofs.Callers.{length-bundles, bundles-push}
-use Rattle.rsl_links.proofs.Callers.{placed_none}
+use Rattle.rsl_links.proofs.Callers.{indexed_none}
 use Rattle.rsl_links.proofs.Callers.{own_bundle}
 
 -- two values that agree in all but the lists, and in these
@@ -105,7 +105,7 @@ room_for_one servers links limit ports r capacity b counted more within same roo
 -- links are counted the same where they are seen the same
 pub counted_again : (old new : List Nas) (links : Links) → links_seen new links.list.items ≡ links_seen old links.list.items → (AreIndexed old links.list.items → AreIndexed new links.list.items) → AreCounted old links → AreCounted new links
 counted_again old new links same stay counted =
-    record { a_port = counted.a_port; places = counted.places ∙ ap (λ seen. places_of links.ports (bundles_in seen)) (sym same); placed = stay counted.placed }
+    record { a_port = counted.a_port; places = counted.places ∙ ap (λ seen. places_of links.ports (bundles_in seen)) (sym same); indexed = stay counted.indexed }
 
 -- the clock moves, and links lapse
 pub come_seen : (book : Inside) (clock : ℕ) (links : List Link) (moment : ℕ) → clock ≡ max book.clock moment
@@ -165,7 +165,7 @@ bound_seen servers nas touched id bundle at stands = rw stands refl
 -- no links take no place
 pub counted_none : (servers : List Nas) (links : Links) → links.list.items ≡ [] → links.places ≡ 0 → 1 ≤ links.ports → AreCounted servers links
 unfolding bundles_in links_seen places_of each_bundle
-counted_none servers links none zero_places a_port = record { a_port = a_port; places = zero_places ∙ rw none refl; placed = placed_none servers links.list.items none }
+counted_none servers links none zero_places a_port = record { a_port = a_port; places = zero_places ∙ rw none refl; indexed = indexed_none servers links.list.items none }
 
 pub none_seen : (servers : List Nas) (links : List Link) → links ≡ [] → links_seen servers links ≡ []
 unfolding links_seen
@@ -230,5 +230,5 @@ counted_copy servers copied links copy same list ports places counted =
     record {
       a_port = let some = counted.a_port in omega arith;
       places = places ∙ counted.places ∙ sym (ap (λ n. places_of n (bundles_in (links_seen copied copy.list.items))) ports ∙ ap (λ one. places_of links.ports (bundles_in (links_seen one copy.list.items))) same ∙ ap (λ xs. places_of links.ports (bundles_in (links_seen servers xs))) list);
-      placed = subst (λ one. AreIndexed one copy.list.items) (sym same) (subst (λ xs. AreIndexed servers xs) (sym list) counted.placed);
+      indexed = subst (λ one. AreIndexed one copy.list.items) (sym same) (subst (λ xs. AreIndexed servers xs) (sym list) counted.indexed);
     }

@@ -1,4 +1,4 @@
--- Places of the table that nothing names: there is one, since there are fewer names than places, and what is
+-- Indexes of the table that nothing names: there is one, since there are fewer names than rows, and what is
 -- put there changes nothing that is seen.
 use Rattle.std.proofs.Common.{◌≡◌, ℕ, zero, suc, ◌+◌, ◌<◌, ◌≤◌, List, [], ◌∷◌, ◌++◌, set, length, map, Bool, true, false, cond, ◌||◌, refl, ap, sym, ◌∙◌, inl, inr, arith, length-append}
 use Rattle.std.specs.Prelude.{◌==◌}
@@ -108,7 +108,7 @@ free_past links asks stops n all named = by_cases (is_named links asks stops n) 
   by_cases true e = absurd (let few = few_named links asks stops (n + 1) (named_more (is_named links asks stops) n named e) in omega (arith, few, all))
   by_cases false e = e
 
--- what stands at a place that is not named is not seen
+-- what stands at an index that is not named is not seen
 same_nas_at : (servers : List Nas) (nas : Nas) (at name : ℕ) → (name == at) ≡ false → server_at (set servers at nas) name ≡ server_at servers name
 same_nas_at servers nas at name other = get_or-set_other servers at name nas _ (λ (e : name ≡ at). false≢true (sym other ∙ eq-eqb name at e))
 

@@ -1,4 +1,4 @@
-//! Whether two books hold the same: each names its access servers by places in a table of its own.
+//! Whether two books hold the same: each names its access servers by indexes of its own table.
 
 ghost use Rattle.std.specs.Prelude.{◌≡◌, ◌↔◌, IsTrue};
 ghost use Rattle.rsl_links.specs.Seen.{links_seen};

@@ -5,6 +5,6 @@ pub use Rattle.rsl_links.proofs.Found.{seen_changed, seen_taken, seen_touched}
 pub use Rattle.rsl_links.proofs.Lists.{any_end, any_no, any_steps, any_yes, find_end, find_no, find_steps, find_yes, push_steps}
 pub use Rattle.rsl_links.proofs.OneByOne.{ring_more, ring_not, same_steps}
 pub use Rattle.rsl_links.proofs.Opened.{bundles-push, length-bundles, more_alone}
-pub use Rattle.rsl_links.proofs.Placed.{new_index, placed_none, placed_put}
+pub use Rattle.rsl_links.proofs.Indexed.{new_index, indexed_none, indexed_put}
 pub use Rattle.rsl_links.proofs.Stepping.{alive_renews, bind_takes, freed_place, fresh_fits, fresh_full, fresh_in_place, in_place_no, in_place_yes, seen_without}
 pub use Rattle.rsl_links.proofs.Touching.{one_of, own_bundle}

@@ -22,7 +22,7 @@ pub told_apart : (servers : List Nas) (fingerprints : List ℕ) (nas : Nas) (at 
 told_apart servers fingerprints nas at fingerprint own are within is own_is other same =
     other (is ∙ ap (λ xs. get_or xs at fingerprint) are ∙ get_or-map fingerprint_of servers at unnamed fingerprint within ∙ ap fingerprint_of same ∙ sym own_is)
 
--- an access server more, or in the place of another
+-- an access server more, or one put at an index
 pub fingerprints_more : (servers : List Nas) (fingerprints : List ℕ) (nas : Nas) (fingerprint : ℕ) → fingerprints ≡ fingerprints_of servers → fingerprint ≡ fingerprint_of nas → fingerprints ++ fingerprint ∷ [] ≡ fingerprints_of (servers ++ nas ∷ [])
 fingerprints_more servers fingerprints nas fingerprint are is =
     ap (λ xs. xs ++ fingerprint ∷ []) are ∙ ap (λ m. fingerprints_of servers ++ m ∷ []) is ∙ sym (map-append fingerprint_of servers (nas ∷ []))

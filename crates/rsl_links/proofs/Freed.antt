@@ -45,7 +45,7 @@ rising_less slots opened at r within =
     by_reads : (j k a b : ℕ) → a ≡ get_or opened j 0 → b ≡ get_or opened k 0 → opened_in slots (get_or opened j 0) < opened_in slots (get_or opened k 0) → opened_in slots a < opened_in slots b
     by_reads j k a b one two h = rw (one, two) h
 
--- the place of a link goes to the end, past those that are free
+-- the slot of a link goes to the end of the sequence, past those that are free
 abbrev Moved : ℕ → ℕ → ℕ → ℕ → Type 0
 Moved long at k i = ((k < at) × (i ≡ k)) ⊎ (((at ≤ k) × ((k + 1 < long) × (i ≡ k + 1))) ⊎ ((k + 1 ≡ long) × (i ≡ at)))
 
@@ -145,8 +145,8 @@ module _ (slots : List Slot) (sequence : List ℕ) (count : ℕ) (p : AreSequenc
             )
       ]
 
-  pub less_placed : (y : Slot) → AreSequenced (set slots slot y) (remove sequence at ++ slot ∷ []) (count - 1)
-  less_placed y =
+  pub less_sequenced : (y : Slot) → AreSequenced (set slots slot y) (remove sequence at ++ slot ∷ []) (count - 1)
+  less_sequenced y =
       let long = length-remove sequence at inside_all in
       let more = length-append (remove sequence at) (slot ∷ []) in
       let same = length-set slots slot y in
@@ -175,17 +175,17 @@ module _ (slots : List Slot) (sequence : List ℕ) (count : ℕ) (p : AreSequenc
 pub less : (old new : Slots) → IsKept old → (at slot : ℕ) → at < old.count → slot ≡ get_or (opened_of old) at 0 → (y : Slot) → new.slots.items ≡ set old.slots.items slot y → new.sequence.items ≡ remove old.sequence.items at ++ slot ∷ []
     → new.count ≡ old.count - 1 → vec_capacity new.slots ≡ vec_capacity old.slots → deque_capacity new.sequence ≡ deque_capacity old.sequence → IsLess at old new
 less old new k at slot within stands y slots sequence count capacity room =
-    let long = length-remove old.sequence.items at (let few = k.placed.few in omega (arith, within, few)) in
+    let long = length-remove old.sequence.items at (let few = k.sequenced.few in omega (arith, within, few)) in
     let more = length-append (remove old.sequence.items at) (slot ∷ []) in
     let all = ap length sequence in
     record {
       kept = record {
-        placed = rw (slots, sequence, count) (less_placed old.slots.items old.sequence.items old.count k.placed at slot within stands y);
+        sequenced = rw (slots, sequence, count) (less_sequenced old.slots.items old.sequence.items old.count k.sequenced at slot within stands y);
         fit = (let fit = k.fit in omega (arith, long, more, all, fit, capacity));
         room = (let enough = k.room in omega (arith, enough, capacity, room));
       };
-      opened = rw (sequence, count) (less_opened old.slots.items old.sequence.items old.count k.placed at slot within stands);
+      opened = rw (sequence, count) (less_opened old.slots.items old.sequence.items old.count k.sequenced at slot within stands);
       count = omega (arith, count, within);
-      links = rw (slots, sequence, count) (less_links old.slots.items old.sequence.items old.count k.placed at slot within stands y);
+      links = rw (slots, sequence, count) (less_links old.slots.items old.sequence.items old.count k.sequenced at slot within stands y);
       room = capacity;
     }

@@ -32,8 +32,8 @@ module _ (slots : List Slot) (sequence : List ℕ) (count : ℕ) (p : AreSequenc
         | inr high ↦ inr (omega (arith, more, inside, high), get_or_push sequence slot 0 k (omega (arith, more, inside, high)))
       ]
 
-  pub grown_placed : AreSequenced (slots ++ y ∷ []) (sequence ++ slot ∷ []) count
-  grown_placed =
+  pub grown_sequenced : AreSequenced (slots ++ y ∷ []) (sequence ++ slot ∷ []) count
+  grown_sequenced =
       let more = length-append sequence (slot ∷ []) in
       let long = length-append slots (y ∷ []) in
       record {
@@ -125,8 +125,8 @@ module _ (slots : List Slot) (sequence : List ℕ) (count : ℕ) (p : AreSequenc
       ∙ ap (λ (ls : List Link). ls ++ link_in (set slots slot y) slot ∷ []) (same_links slots (set slots slot y) (take count sequence) (λ k within. ap (λ (one : Slot). one.link) (kept_there k within)))
       ∙ ap (λ (one : Slot). links_in slots (take count sequence) ++ one.link ∷ []) new_there
 
-  pub more_placed : ((k : ℕ) → k < count → opened_in slots (get_or (take count sequence) k 0) < y.opened) → y.opened < 18446744073709551615 → AreSequenced (set slots slot y) sequence (count + 1)
-  more_placed later below =
+  pub more_sequenced : ((k : ℕ) → k < count → opened_in slots (get_or (take count sequence) k 0) < y.opened) → y.opened < 18446744073709551615 → AreSequenced (set slots slot y) sequence (count + 1)
+  more_sequenced later below =
       let long = length-set slots slot y in
       let own : opened_in (set slots slot y) slot ≡ y.opened = ap (λ (one : Slot). one.opened) new_there in
       record {
@@ -152,13 +152,13 @@ grown old new k slot last y slots sequence count capacity room free =
     let all = ap length sequence in
     record {
       kept = record {
-        placed = rw (slots, sequence, count) (grown_placed old.slots.items old.sequence.items old.count k.placed slot last y);
+        sequenced = rw (slots, sequence, count) (grown_sequenced old.slots.items old.sequence.items old.count k.sequenced slot last y);
         fit = omega (arith, more, all, free, capacity);
         room = (let enough = k.room in omega (arith, enough, capacity, room));
       };
-      opened = rw (sequence, count) (grown_opened old.slots.items old.sequence.items old.count k.placed slot last y);
+      opened = rw (sequence, count) (grown_opened old.slots.items old.sequence.items old.count k.sequenced slot last y);
       count = count;
-      links = rw (slots, sequence, count) (grown_links old.slots.items old.sequence.items old.count k.placed slot last y);
+      links = rw (slots, sequence, count) (grown_links old.slots.items old.sequence.items old.count k.sequenced slot last y);
       room = capacity;
     }
 
@@ -171,13 +171,13 @@ pub record HasRoom (old new : Slots) : Type 0 where
 pub roomy_grown : (old new : Slots) → IsKept old → AreSame old new → length new.sequence.items ≡ length old.sequence.items + 1
     → ((k : ℕ) → k < new.count → opened_in new.slots.items (get_or (opened_of new) k 0) ≡ opened_in old.slots.items (get_or (opened_of old) k 0)) → HasRoom old new
 roomy_grown old new k same more numbers =
-    record { same = same; free = (let few = k.placed.few in let count = same.count in omega (arith, few, more, count)); numbers = numbers }
+    record { same = same; free = (let few = k.sequenced.few in let count = same.count in omega (arith, few, more, count)); numbers = numbers }
 
 pub roomy_same : (old : Slots) → IsKept old → (long : ℕ) → long ≡ length old.sequence.items → (old.count ≡ long → ⊥) → HasRoom old old
 roomy_same old k long is other =
     record {
       same = record { kept = k; opened = refl; count = refl; links = refl; room = refl };
-      free = (let few = k.placed.few in omega (arith, few, is, other));
+      free = (let few = k.sequenced.few in omega (arith, few, is, other));
       numbers = λ k low. refl;
     }
 
@@ -188,14 +188,14 @@ more old mid new first second slot stands y later below =
     let count = second.same.count in
     record {
       kept = record {
-        placed = more_placed new.slots.items new.sequence.items new.count kept.placed second.free slot stands y
+        sequenced = more_sequenced new.slots.items new.sequence.items new.count kept.sequenced second.free slot stands y
             (λ k low. let one = second.numbers k low in let two = later k (omega (arith, low, count)) in omega (arith, one, two)) below;
         fit = kept.fit;
         room = kept.room;
       };
       slot = slot;
-      opened = more_opened new.slots.items new.sequence.items new.count kept.placed second.free slot stands y ∙ ap (λ (xs : List ℕ). xs ++ slot ∷ []) (second.same.opened ∙ first.opened);
+      opened = more_opened new.slots.items new.sequence.items new.count kept.sequenced second.free slot stands y ∙ ap (λ (xs : List ℕ). xs ++ slot ∷ []) (second.same.opened ∙ first.opened);
       count = ap (λ n. n + 1) (second.same.count ∙ first.count);
-      links = more_links new.slots.items new.sequence.items new.count kept.placed second.free slot stands y ∙ ap (λ (ls : List Link). ls ++ y.link ∷ []) (second.same.links ∙ first.links);
+      links = more_links new.slots.items new.sequence.items new.count kept.sequenced second.free slot stands y ∙ ap (λ (ls : List Link). ls ++ y.link ∷ []) (second.same.links ∙ first.links);
       room = second.same.room ∙ first.room;
     }

@@ -18,7 +18,7 @@ pub mod Yielding
 pub mod Counting
 pub mod Sought
 pub mod Earliest
-pub mod Placed
+pub mod Indexed
 pub mod Tallied
 mod Fingerprints
 pub mod Callers

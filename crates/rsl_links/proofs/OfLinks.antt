@@ -14,9 +14,9 @@ use Rattle.rsl_links.proofs.Orders.{apart, removed, inserted, same_order, mapped
 pub link_here : (links : List Link) (at : ℕ) (link : Link) → at < length links → link ≡ get_or links at link → link ≡ link_at links at
 link_here links at link within is = is ∙ get_or_default links at link no_link within
 
--- what an order lists at a place
-pub listed_here : (order : List ℕ) (k place : ℕ) → k < length order → place ≡ get_or order k place → place ≡ get_or order k 0
-listed_here order k place inside is = is ∙ get_or_default order k place 0 inside
+-- what an order lists at a rank
+pub listed_here : (order : List ℕ) (k slot : ℕ) → k < length order → slot ≡ get_or order k slot → slot ≡ get_or order k 0
+listed_here order k slot inside is = is ∙ get_or_default order k slot 0 inside
 
 pub few_others : (kind : OrderKind) (links : List Link) (at : ℕ) (order : List ℕ) → at < length links → IsOrderBut kind links at order → length order < length links
 few_others kind links at order within o =
@@ -33,10 +33,10 @@ few_others kind links at order within o =
     distinct (suc j) (suc k) past inside = apart order o j k (omega (arith, past)) (omega (arith, inside))
 
 -- a link is taken out, or did not stand there
-pub withdrawn : (kind : OrderKind) (links : List Link) (order : List ℕ) (at place : ℕ) → IsOrderOf kind links order → place < length order → get_or order place 0 ≡ at
-    → IsOrderBut kind links at (remove order place)
-withdrawn kind links order at place o within is =
-    removed order o (IsListed kind links at) place at within is
+pub withdrawn : (kind : OrderKind) (links : List Link) (order : List ℕ) (at rank : ℕ) → IsOrderOf kind links order → rank < length order → get_or order rank 0 ≡ at
+    → IsOrderBut kind links at (remove order rank)
+withdrawn kind links order at rank o within is =
+    removed order o (IsListed kind links at) rank at within is
     (λ y l other. record { within = l.within; other = other; of_kind = l.of_kind })
     (λ y l. record { within = l.within; other = (let w = l.within in omega (arith, w)); of_kind = l.of_kind })
     (λ y l. l.other)
@@ -49,10 +49,10 @@ not_there kind links order at o other_kind =
     (λ x l. refl)
 
 -- a link is put in, or is of another kind
-pub entered : (kind : OrderKind) (links : List Link) (order : List ℕ) (at place : ℕ) → at < length links → IsOrderBut kind links at order → is_of kind (link_at links at) ≡ true
-    → IsSplit (key_at kind links) order (key_at kind links at) place → IsOrderOf kind links (insert order place at)
-entered kind links order at place within o here split =
-    inserted order o (IsListed kind links (length links)) place at split
+pub entered : (kind : OrderKind) (links : List Link) (order : List ℕ) (at rank : ℕ) → at < length links → IsOrderBut kind links at order → is_of kind (link_at links at) ≡ true
+    → IsSplit (key_at kind links) order (key_at kind links at) rank → IsOrderOf kind links (insert order rank at)
+entered kind links order at rank within o here split =
+    inserted order o (IsListed kind links (length links)) rank at split
     (record { within = within; other = omega (arith, within); of_kind = here })
     (λ y l. record { within = l.within; other = (let w = l.within in omega (arith, w)); of_kind = l.of_kind })
     (λ y l not_before. after y l not_before)

@@ -35,7 +35,7 @@ module _ {A B C : Type 0} where
   pub same_length : (f : A → C) (g : B → C) (xs : List A) (ys : List B) → map f xs ≡ map g ys → length xs ≡ length ys
   same_length f g xs ys same = sym (length-map xs f) ∙ ap length same ∙ length-map ys g
 
-  -- the same of two rings, whose elements are told apart at their place
+  -- the same of two rings, whose elements are compared index by index
   pub ring_more : (f : A → C) (g : B → C) (xs : List A) (ys : List B) (i : ℕ) (r : Bool) → i < length xs → i < length ys
       → ((x : A) (y : B) → (r ≡ true) ↔ (f (get_or xs i x) ≡ g (get_or ys i y))) → r ≡ true
       → take i (map f xs) ≡ take i (map g ys) → take (i + 1) (map f xs) ≡ take (i + 1) (map g ys)

@@ -33,16 +33,16 @@ high_part kind slots order o target middle high k from within =
     by_cases false e past = e
 
 -- a number put before the others, after they were turned to the left and before they are turned back
-pub turned_in : (xs turned more after : List ℕ) (place at long : ℕ) → turned ≡ drop place xs ++ take place xs → more ≡ at ∷ turned
-    → after ≡ drop (long - place) more ++ take (long - place) more → long ≡ length xs + 1 → place ≤ length xs → after ≡ insert xs place at
-turned_in xs turned more after place at long left put right one within =
-    let rest = length-drop place xs in
-    let head : length (at ∷ drop place xs) ≡ long - place = omega (arith, rest, one, within) in
-    let all : more ≡ (at ∷ drop place xs) ++ take place xs = put ∙ ap (λ ys. at ∷ ys) left in
+pub turned_in : (xs turned more after : List ℕ) (rank at long : ℕ) → turned ≡ drop rank xs ++ take rank xs → more ≡ at ∷ turned
+    → after ≡ drop (long - rank) more ++ take (long - rank) more → long ≡ length xs + 1 → rank ≤ length xs → after ≡ insert xs rank at
+turned_in xs turned more after rank at long left put right one within =
+    let rest = length-drop rank xs in
+    let head : length (at ∷ drop rank xs) ≡ long - rank = omega (arith, rest, one, within) in
+    let all : more ≡ (at ∷ drop rank xs) ++ take rank xs = put ∙ ap (λ ys. at ∷ ys) left in
     right
-    ∙ ap (λ ys. drop (long - place) ys ++ take (long - place) ys) all
-    ∙ ap (λ ys. ys ++ take (long - place) ((at ∷ drop place xs) ++ take place xs)) (drop_at (at ∷ drop place xs) (take place xs) (long - place) head)
-    ∙ ap (λ ys. take place xs ++ ys) (take_at (at ∷ drop place xs) (take place xs) (long - place) head)
+    ∙ ap (λ ys. drop (long - rank) ys ++ take (long - rank) ys) all
+    ∙ ap (λ ys. ys ++ take (long - rank) ((at ∷ drop rank xs) ++ take rank xs)) (drop_at (at ∷ drop rank xs) (take rank xs) (long - rank) head)
+    ∙ ap (λ ys. take rank xs ++ ys) (take_at (at ∷ drop rank xs) (take rank xs) (long - rank) head)
 
 -- where the last stands before an entry, all do
 pub split_at_end : (kind : OrderKind) (slots : List Slot) (order : List ℕ) → IsSearchable kind slots order → (target : Key) (end : ℕ) → end ≡ length order → 0 < end
@@ -80,7 +80,7 @@ read_more order at k x within inside =
     ]
 
 module _ {listed : ℕ → Type 0} {entry : ℕ → Key} (order : List ℕ) (o : IsOrder listed entry order) where
-  -- two places holder different numbers
+  -- two ranks hold different numbers
   pub apart : (j k : ℕ) → j < k → k < length order → get_or order j 0 ≢ get_or order k 0
   apart j k past within same =
       false≢true (sym (not_self (entry (get_or order k 0))) ∙ subst (λ n. is_before (entry n) (entry (get_or order k 0)) ≡ true) same (o.rises j k past within))
@@ -98,7 +98,7 @@ module _ {listed : ℕ → Type 0} {entry : ℕ → Key} (order : List ℕ) (o :
         ]
       ]
 
-  -- without the number at a place
+  -- without the number at a rank
   stands_less : (at x : ℕ) → at < length order → x ≢ get_or order at 0 → Stands order x → Stands (remove order at) x
   stands_less at x within other s =
       let long = length-remove order at within in

@@ -22,14 +22,14 @@ use Rattle.rsl_links.proofs.Slotted.{link_there, lower_there, same_map, same_the
 pub entry_here : (kind : OrderKind) (slots : List Slot) (at : ℕ) (slot : Slot) → at < length slots → slot ≡ get_or slots at slot → (order_key kind slot.link, slot.opened) ≡ slot_key kind slots at
 entry_here kind slots at slot within is = ap (λ (one : Slot). (order_key kind one.link, one.opened)) (is ∙ get_or_default slots at slot no_slot within)
 
-pub listed_within : (kind : OrderKind) (slots : List Slot) (order : List ℕ) → IsSearchable kind slots order → (k place : ℕ) → k < length order → place ≡ get_or order k place → place < length slots
-listed_within kind slots order o k place inside is = subst (λ n. n < length slots) (sym (listed_here order k place inside is)) (o.within k inside)
+pub listed_within : (kind : OrderKind) (slots : List Slot) (order : List ℕ) → IsSearchable kind slots order → (k at : ℕ) → k < length order → at ≡ get_or order k at → at < length slots
+listed_within kind slots order o k at inside is = subst (λ n. n < length slots) (sym (listed_here order k at inside is)) (o.within k inside)
 
-pub listed_entry : (kind : OrderKind) (slots : List Slot) (order : List ℕ) → IsSearchable kind slots order → (k place : ℕ) (slot : Slot) → k < length order → place ≡ get_or order k place → slot ≡ get_or slots place slot
+pub listed_entry : (kind : OrderKind) (slots : List Slot) (order : List ℕ) → IsSearchable kind slots order → (k at : ℕ) (slot : Slot) → k < length order → at ≡ get_or order k at → slot ≡ get_or slots at slot
     → (order_key kind slot.link, slot.opened) ≡ slot_key kind slots (get_or order k 0)
-listed_entry kind slots order o k place slot inside is here =
-    entry_here kind slots place slot (listed_within kind slots order o k place inside is) here
-    ∙ ap (slot_key kind slots) (listed_here order k place inside is)
+listed_entry kind slots order o k at slot inside is here =
+    entry_here kind slots at slot (listed_within kind slots order o k at inside is) here
+    ∙ ap (slot_key kind slots) (listed_here order k at inside is)
 
 -- numbers that compare as others do
 alike : (s t : List ℕ) (a b c d : ℕ) → (a < b → c < d) → (c < d → a < b) → is_before (s, a) (t, b) ≡ is_before (s, c) (t, d)
@@ -96,10 +96,10 @@ module _ (kind : OrderKind) (slots : List Slot) (opened : List ℕ) (r : IsRisin
             (ranked.in_order.rises j k past (omega (arith, long, within)))));
       }
 
-  split_seen : (t : List ℕ) (number at place : ℕ) → ((p : ℕ) → p < length opened → opened_in slots (get_or opened p 0) < number → p < at)
+  split_seen : (t : List ℕ) (number at rank : ℕ) → ((p : ℕ) → p < length opened → opened_in slots (get_or opened p 0) < number → p < at)
       → ((p : ℕ) → p < length opened → p < at → opened_in slots (get_or opened p 0) < number)
-      → IsSplit (slot_key kind slots) order (t, number) place → IsSplit (key_at kind (links_in slots opened)) ranked.positions (t, at) place
-  split_seen t number at place into from split =
+      → IsSplit (slot_key kind slots) order (t, number) rank → IsSplit (key_at kind (links_in slots opened)) ranked.positions (t, at) rank
+  split_seen t number at rank into from split =
       let long = long_ranked kind (links_in slots opened) opened but order ranked in
       record {
         within = (let most = split.within in omega (arith, long, most));
@@ -112,21 +112,21 @@ module _ (kind : OrderKind) (slots : List Slot) (opened : List ℕ) (r : IsRisin
           ap (λ (e : Key). is_before e (t, number)) (key_there k within)
           ∙ alike _ t (opened_in slots (get_or opened (get_or ranked.positions k 0) 0)) number (get_or ranked.positions k 0) at (into (get_or ranked.positions k 0) (inside k within)) (from (get_or ranked.positions k 0) (inside k within))
 
-  pub split_first : (t : List ℕ) (place : ℕ) → IsSplit (slot_key kind slots) order (t, 0) place → IsSplit (key_at kind (links_in slots opened)) ranked.positions (t, 0) place
-  split_first t place split = split_seen t 0 0 place (λ p within low. absurd (omega (arith, low))) (λ p within low. absurd (omega (arith, low))) split
+  pub split_first : (t : List ℕ) (rank : ℕ) → IsSplit (slot_key kind slots) order (t, 0) rank → IsSplit (key_at kind (links_in slots opened)) ranked.positions (t, 0) rank
+  split_first t rank split = split_seen t 0 0 rank (λ p within low. absurd (omega (arith, low))) (λ p within low. absurd (omega (arith, low))) split
 
-  pub split_last : (t : List ℕ) (place : ℕ) → IsSplit (slot_key kind slots) order (t, 18446744073709551615) place → IsSplit (key_at kind (links_in slots opened)) ranked.positions (t, length (links_in slots opened)) place
-  split_last t place split = split_seen t 18446744073709551615 (length (links_in slots opened)) place (λ p within low. let long = long_links in omega (arith, long, within)) (λ p within low. r.below p within) split
+  pub split_last : (t : List ℕ) (rank : ℕ) → IsSplit (slot_key kind slots) order (t, 18446744073709551615) rank → IsSplit (key_at kind (links_in slots opened)) ranked.positions (t, length (links_in slots opened)) rank
+  split_last t rank split = split_seen t 18446744073709551615 (length (links_in slots opened)) rank (λ p within low. let long = long_links in omega (arith, long, within)) (λ p within low. r.below p within) split
 
-  pub split_own : (at place : ℕ) → at < length opened → IsSplit (slot_key kind slots) order (slot_key kind slots (get_or opened at 0)) place
-      → IsSplit (key_at kind (links_in slots opened)) ranked.positions (key_at kind (links_in slots opened) at) place
-  split_own at place within split =
+  pub split_own : (at rank : ℕ) → at < length opened → IsSplit (slot_key kind slots) order (slot_key kind slots (get_or opened at 0)) rank
+      → IsSplit (key_at kind (links_in slots opened)) ranked.positions (key_at kind (links_in slots opened) at) rank
+  split_own at rank within split =
       let t = order_key kind (link_at (links_in slots opened) at) in
-      split_seen t (opened_in slots (get_or opened at 0)) at place
+      split_seen t (opened_in slots (get_or opened at 0)) at rank
       (λ p low less. lower_there slots opened r p at low within less) (λ p low less. r.rises p at less within)
-      (subst (λ (e : Key). IsSplit (slot_key kind slots) order e place) (ap (λ (one : Link). (order_key kind one, opened_in slots (get_or opened at 0))) (sym (link_there slots opened at within))) split)
+      (subst (λ (e : Key). IsSplit (slot_key kind slots) order e rank) (ap (λ (one : Link). (order_key kind one, opened_in slots (get_or opened at 0))) (sym (link_there slots opened at within))) split)
 
-  -- what stands at a place of it
+  -- what stands at a rank of it
   pub ranked_stands : (k slot : ℕ) → k < length order → slot ≡ get_or order k slot → Stands opened slot
   ranked_stands k slot within is =
       record {
@@ -151,38 +151,38 @@ module _ (kind : OrderKind) (slots : List Slot) (opened : List ℕ) (r : IsRisin
   inside_links : at < length (links_in slots opened)
   inside_links = let long = length-map opened (link_in slots) in omega (arith, long, within)
 
-  pub there : IsRankedIn kind (links_in slots opened) opened (length (links_in slots opened)) order → is_of kind (link_at (links_in slots opened) at) ≡ true → (place : ℕ)
-      → IsSplit (slot_key kind slots) order (slot_key kind slots (get_or opened at 0)) place → (place < length order) × (get_or order place 0 ≡ get_or opened at 0)
-  there ranked here place split =
+  pub there : IsRankedIn kind (links_in slots opened) opened (length (links_in slots opened)) order → is_of kind (link_at (links_in slots opened) at) ≡ true → (rank : ℕ)
+      → IsSplit (slot_key kind slots) order (slot_key kind slots (get_or opened at 0)) rank → (rank < length order) × (get_or order rank 0 ≡ get_or opened at 0)
+  there ranked here rank split =
       let links = links_in slots opened in
-      let own = split_own kind slots opened r (length links) order ranked at place within split in
-      let found = stands_at ranked.positions ranked.in_order at place own (ranked.in_order.all at (record { within = inside_links; other = (let w = inside_links in omega (arith, w)); of_kind = here })) in
+      let own = split_own kind slots opened r (length links) order ranked at rank within split in
+      let found = stands_at ranked.positions ranked.in_order at rank own (ranked.in_order.all at (record { within = inside_links; other = (let w = inside_links in omega (arith, w)); of_kind = here })) in
       let long = long_ranked kind links opened (length links) order ranked in
-      let low : place < length order = (let w = found.0 in omega (arith, w, long)) in
-      (low, read_ranked kind links opened (length links) order ranked place low ∙ ap (slot_of opened) found.1)
+      let low : rank < length order = (let w = found.0 in omega (arith, w, long)) in
+      (low, read_ranked kind links opened (length links) order ranked rank low ∙ ap (slot_of opened) found.1)
 
-  pub ranked_withdrawn : IsRankedIn kind (links_in slots opened) opened (length (links_in slots opened)) order → (place : ℕ) → place < length order → get_or order place 0 ≡ get_or opened at 0
-      → IsRankedIn kind (links_in slots opened) opened at (remove order place)
-  ranked_withdrawn ranked place low stands =
+  pub ranked_withdrawn : IsRankedIn kind (links_in slots opened) opened (length (links_in slots opened)) order → (rank : ℕ) → rank < length order → get_or order rank 0 ≡ get_or opened at 0
+      → IsRankedIn kind (links_in slots opened) opened at (remove order rank)
+  ranked_withdrawn ranked rank low stands =
       let links = links_in slots opened in
-      let here = same_there slots opened r (get_or ranked.positions place 0) at (inside kind slots opened r (length links) order ranked place low) within
-      (sym (read_ranked kind links opened (length links) order ranked place low) ∙ stands) in
+      let here = same_there slots opened r (get_or ranked.positions rank 0) at (inside kind slots opened r (length links) order ranked rank low) within
+      (sym (read_ranked kind links opened (length links) order ranked rank low) ∙ stands) in
       let long = long_ranked kind links opened (length links) order ranked in
       record {
-        positions = remove ranked.positions place;
-        is = ap (λ (xs : List ℕ). remove xs place) ranked.is ∙ sym (map_remove (λ (p : ℕ). get_or opened p 0) ranked.positions place);
-        in_order = withdrawn kind links ranked.positions at place ranked.in_order (omega (arith, low, long)) here;
+        positions = remove ranked.positions rank;
+        is = ap (λ (xs : List ℕ). remove xs rank) ranked.is ∙ sym (map_remove (λ (p : ℕ). get_or opened p 0) ranked.positions rank);
+        in_order = withdrawn kind links ranked.positions at rank ranked.in_order (omega (arith, low, long)) here;
       }
 
-  pub ranked_entered : IsRankedIn kind (links_in slots opened) opened at order → is_of kind (link_at (links_in slots opened) at) ≡ true → (place : ℕ)
-      → IsSplit (slot_key kind slots) order (slot_key kind slots (get_or opened at 0)) place
-      → IsRankedIn kind (links_in slots opened) opened (length (links_in slots opened)) (insert order place (get_or opened at 0))
-  ranked_entered ranked here place split =
+  pub ranked_entered : IsRankedIn kind (links_in slots opened) opened at order → is_of kind (link_at (links_in slots opened) at) ≡ true → (rank : ℕ)
+      → IsSplit (slot_key kind slots) order (slot_key kind slots (get_or opened at 0)) rank
+      → IsRankedIn kind (links_in slots opened) opened (length (links_in slots opened)) (insert order rank (get_or opened at 0))
+  ranked_entered ranked here rank split =
       let links = links_in slots opened in
       record {
-        positions = insert ranked.positions place at;
-        is = ap (λ (xs : List ℕ). insert xs place (get_or opened at 0)) ranked.is ∙ sym (map_insert (λ (p : ℕ). get_or opened p 0) ranked.positions place at);
-        in_order = entered kind links ranked.positions at place inside_links ranked.in_order here (split_own kind slots opened r at order ranked at place within split);
+        positions = insert ranked.positions rank at;
+        is = ap (λ (xs : List ℕ). insert xs rank (get_or opened at 0)) ranked.is ∙ sym (map_insert (λ (p : ℕ). get_or opened p 0) ranked.positions rank at);
+        in_order = entered kind links ranked.positions at rank inside_links ranked.in_order here (split_own kind slots opened r at order ranked at rank within split);
       }
 
   pub few_ranked : IsRankedIn kind (links_in slots opened) opened at order → length order < length opened

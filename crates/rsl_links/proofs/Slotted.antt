@@ -101,8 +101,8 @@ module _ (slots : List Slot) (opened : List ℕ) (r : IsRising slots opened) (at
       ])
 
 -- the sequence are as they were, of as many slots
-pub same_placed : (slots others : List Slot) (sequence : List ℕ) (count : ℕ) → AreSequenced slots sequence count → length others ≡ length slots → IsRising others (take count sequence) → AreSequenced others sequence count
-same_placed slots others sequence count p long rising =
+pub same_sequenced : (slots others : List Slot) (sequence : List ℕ) (count : ℕ) → AreSequenced slots sequence count → length others ≡ length slots → IsRising others (take count sequence) → AreSequenced others sequence count
+same_sequenced slots others sequence count p long rising =
     record {
       few = p.few;
       all = (let all = p.all in omega (arith, all, long));
@@ -112,28 +112,28 @@ same_placed slots others sequence count p long rising =
     }
 
 pub long_links : (slots : Slots) → IsKept slots → length (links_of slots) ≡ slots.count
-long_links slots k = length-map (opened_of slots) (link_in slots.slots.items) ∙ long_opened slots.slots.items slots.sequence.items slots.count k.placed
+long_links slots k = length-map (opened_of slots) (link_in slots.slots.items) ∙ long_opened slots.slots.items slots.sequence.items slots.count k.sequenced
 
 -- no more links than there is room for
 pub few_links : (slots : Slots) → IsKept slots → slots.count ≤ vec_capacity slots.slots
-few_links slots k = let few = k.placed.few in let fit = k.fit in omega (arith, few, fit)
+few_links slots k = let few = k.sequenced.few in let fit = k.fit in omega (arith, few, fit)
 
 -- the same of the fields of slots
 pub changed : (slots : Slots) → IsKept slots → (f : Link → Link) (at slot : ℕ) → at < slots.count → slot ≡ get_or (opened_of slots) at 0 → (x : Slot) (y : Link) → x ≡ get_or slots.slots.items slot x → y ≡ f x.link
     → IsChanged at f slots (record slots { slots = with_item slots.slots slot (record x { link = y }) })
 changed slots k f at slot within stands x y is changes =
-    let long = long_opened slots.slots.items slots.sequence.items slots.count k.placed in
+    let long = long_opened slots.slots.items slots.sequence.items slots.count k.sequenced in
     let inside : at < length (opened_of slots) = omega (arith, within, long) in
     let after : Slot = record x { link = y } in
     record {
       kept = record {
-        placed = same_placed slots.slots.items (set slots.slots.items slot after) slots.sequence.items slots.count k.placed (length-set slots.slots.items slot after)
-            (changed_rising slots.slots.items (opened_of slots) k.placed.rising at slot inside stands x after is refl);
+        sequenced = same_sequenced slots.slots.items (set slots.slots.items slot after) slots.sequence.items slots.count k.sequenced (length-set slots.slots.items slot after)
+            (changed_rising slots.slots.items (opened_of slots) k.sequenced.rising at slot inside stands x after is refl);
         fit = k.fit;
         room = k.room;
       };
       opened = refl;
       count = refl;
-      links = changed_links slots.slots.items (opened_of slots) k.placed.rising at slot inside stands x after is f changes;
+      links = changed_links slots.slots.items (opened_of slots) k.sequenced.rising at slot inside stands x after is f changes;
       room = refl;
     }

@@ -77,51 +77,51 @@ no_member nas id link none = by_bundle link.bundle none where
 pub read_link : (links : List Link) (at : ℕ) (d : Link) → at < length links → get_or links at d ≡ link_at links at
 read_link links at d within = get_or_default links at d no_link within
 
-module _ (kind : OrderKind) (links : List Link) (order : List ℕ) (o : IsOrderOf kind links order) (number : ℕ) (octets : List ℕ) (place : ℕ) (split : IsSplit (key_at kind links) order (number ∷ octets, 0) place) where
+module _ (kind : OrderKind) (links : List Link) (order : List ℕ) (o : IsOrderOf kind links order) (number : ℕ) (octets : List ℕ) (rank : ℕ) (split : IsSplit (key_at kind links) order (number ∷ octets, 0) rank) where
   -- where a link goes by these, the first of them stands at the split
   sought_there : (x : ℕ) → x < length links → goes_by kind number octets (link_at links x) ≡ true
-      → (place < length order) × ((goes_by kind number octets (link_at links (get_or order place 0)) ≡ true) × (get_or order place 0 ≤ x))
+      → (rank < length order) × ((goes_by kind number octets (link_at links (get_or order rank 0)) ≡ true) × (get_or order rank 0 ≤ x))
   sought_there x within sought =
       let key = key_of kind number octets (link_at links x) sought in
       let s = o.all x (record { within = within; other = omega (arith, within); of_kind = key.0 }) in
       let w = s.within in
       let own : key_at kind links (get_or order s.at 0) ≡ (number ∷ octets, x) = ap (key_at kind links) s.is ∙ ap (λ (k : List ℕ). (k, x)) key.1 in
-      elim (cases_lt s.at place) [
+      elim (cases_lt s.at rank) [
         | inl low ↦ absurd (false≢true (sym (first_of_key (number ∷ octets) x) ∙ subst (λ (e : Key). is_before e (number ∷ octets, 0) ≡ true) own (split.before s.at low)))
-        | inr high ↦ elim (cases_eq s.at place) [
+        | inr high ↦ elim (cases_eq s.at rank) [
           | inl same ↦ (
-              let is : get_or order place 0 ≡ x = sym (ap (λ n. get_or order n 0) same) ∙ s.is in
+              let is : get_or order rank 0 ≡ x = sym (ap (λ n. get_or order n 0) same) ∙ s.is in
               (omega (arith, w, same), (ap (λ n. goes_by kind number octets (link_at links n)) is ∙ sought, omega (arith, is)))
               )
           | inr other ↦ (
-              let inside : place < length order = omega (arith, w, high, other) in
-              let rise : is_before (key_at kind links (get_or order place 0)) (number ∷ octets, x) ≡ true =
-              subst (λ (e : Key). is_before (key_at kind links (get_or order place 0)) e ≡ true) own (o.rises place s.at (omega (arith, high, other)) w) in
-              elim (alike_or_before (order_key kind (link_at links (get_or order place 0))) (number ∷ octets) (get_or order place 0) x rise) [
+              let inside : rank < length order = omega (arith, w, high, other) in
+              let rise : is_before (key_at kind links (get_or order rank 0)) (number ∷ octets, x) ≡ true =
+              subst (λ (e : Key). is_before (key_at kind links (get_or order rank 0)) e ≡ true) own (o.rises rank s.at (omega (arith, high, other)) w) in
+              elim (alike_or_before (order_key kind (link_at links (get_or order rank 0))) (number ∷ octets) (get_or order rank 0) x rise) [
                 | inl same ↦ (
-                    let less = lower_first (number ∷ octets) (get_or order place 0) x (subst (λ (k : List ℕ). is_before (k, get_or order place 0) (number ∷ octets, x) ≡ true) same rise) in
-                    (inside, (of_key kind number octets (link_at links (get_or order place 0)) (o.each place inside).of_kind same, omega (arith, less)))
+                    let less = lower_first (number ∷ octets) (get_or order rank 0) x (subst (λ (k : List ℕ). is_before (k, get_or order rank 0) (number ∷ octets, x) ≡ true) same rise) in
+                    (inside, (of_key kind number octets (link_at links (get_or order rank 0)) (o.each rank inside).of_kind same, omega (arith, less)))
                     )
-                | inr before ↦ absurd (false≢true (sym (split.after place (omega arith) inside) ∙ before))
+                | inr before ↦ absurd (false≢true (sym (split.after rank (omega arith) inside) ∙ before))
               ]
               )
         ]
       ]
 
-  pub first_sought : place < length order → goes_by kind number octets (link_at links (get_or order place 0)) ≡ true → IsFirst (goes_by kind number octets) links (get_or order place 0)
+  pub first_sought : rank < length order → goes_by kind number octets (link_at links (get_or order rank 0)) ≡ true → IsFirst (goes_by kind number octets) links (get_or order rank 0)
   first_sought inside sought =
-      let front = (o.each place inside).within in
+      let front = (o.each rank inside).within in
       record {
         within = front;
-        passed = λ d. ap (goes_by kind number octets) (read_link links (get_or order place 0) d front) ∙ sought;
-        before = any_none (goes_by kind number octets) links (get_or order place 0) (λ i d low within. ap (goes_by kind number octets) (read_link links i d within) ∙ not_sought i low within (goes_by kind number octets (link_at links i)) refl);
+        passed = λ d. ap (goes_by kind number octets) (read_link links (get_or order rank 0) d front) ∙ sought;
+        before = any_none (goes_by kind number octets) links (get_or order rank 0) (λ i d low within. ap (goes_by kind number octets) (read_link links i d within) ∙ not_sought i low within (goes_by kind number octets (link_at links i)) refl);
       }
     where
-      not_sought : (i : ℕ) → i < get_or order place 0 → i < length links → (b : Bool) → goes_by kind number octets (link_at links i) ≡ b → goes_by kind number octets (link_at links i) ≡ false
+      not_sought : (i : ℕ) → i < get_or order rank 0 → i < length links → (b : Bool) → goes_by kind number octets (link_at links i) ≡ b → goes_by kind number octets (link_at links i) ≡ false
       not_sought i low within false e = e
       not_sought i low within true e = absurd (let first = (sought_there i within e).1.1 in omega (arith, low, first))
 
-  pub none_sought : (place < length order → goes_by kind number octets (link_at links (get_or order place 0)) ≡ false) → list_any (goes_by kind number octets) links ≡ false
+  pub none_sought : (rank < length order → goes_by kind number octets (link_at links (get_or order rank 0)) ≡ false) → list_any (goes_by kind number octets) links ≡ false
   none_sought none = any_nowhere (goes_by kind number octets) links (λ i d within. ap (goes_by kind number octets) (read_link links i d within) ∙ not_sought i within (goes_by kind number octets (link_at links i)) refl) where
     not_sought : (i : ℕ) → i < length links → (b : Bool) → goes_by kind number octets (link_at links i) ≡ b → goes_by kind number octets (link_at links i) ≡ false
     not_sought i within false e = e

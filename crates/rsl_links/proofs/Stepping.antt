@@ -35,7 +35,7 @@ seen_without servers xs at =
     ∙ ap (λ ys. ys ++ map (link_seen servers) (drop (at + 1) xs)) (sym (take-map (link_seen servers) at xs))
     ∙ ap (λ ys. take at (map (link_seen servers) xs) ++ ys) (sym (drop-map (link_seen servers) (at + 1) xs))
 
--- an ask in the place of a link
+-- an ask for which a link may yield
 pub in_place_yes : (rules : Rules) (book : Book) (at : ℕ) (key : Key) (nas : Nas) (made : Book × Decision)
     → IsFirst (can_yield rules book.clock book.links) book.links at → places_in rules book ≡ places_of rules.ports (bundles_in (without_at at book.links)) + 1
     → places_in rules book ≤ rules.places → made ≡ accept_beside (without_at at book.links) (record book { links = without_at at book.links }) key nas

@@ -11,4 +11,4 @@ pub record AreCounted (servers : List Nas) (links : Links) : Type 0 where
   pub a_port : 1 ≤ links.ports
   pub places : links.places ≡ places_of links.ports
       (bundles_in (links_seen servers links.list.items))
-  pub placed : AreIndexed servers links.list.items
+  pub indexed : AreIndexed servers links.list.items

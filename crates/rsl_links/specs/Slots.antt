@@ -45,7 +45,7 @@ pub record AreSequenced (slots : List Slot) (sequence : List ℕ) (count : ℕ) 
   pub rising : IsRising slots (take count sequence)
 
 pub record IsKept (slots : Slots) : Type 0 where
-  pub placed : AreSequenced slots.slots.items slots.sequence.items slots.count
+  pub sequenced : AreSequenced slots.slots.items slots.sequence.items slots.count
   pub fit : length slots.sequence.items ≤ vec_capacity slots.slots
   pub room : vec_capacity slots.slots ≤ deque_capacity slots.sequence
 

@@ -2,8 +2,8 @@
 //!
 //! A link is found as the definitions find it: the one of a session, the first that an alive may
 //! take, those of a bundle, the one that lapses and the one that was touched longest ago. Orders of
-//! the links lead there, so that no other is looked at. What a link stands for is told by
-//! `specs/Seen.antt`, and what is found by `specs/LinkList.antt` and `specs/First.antt`.
+//! the links lead there, so that no other is looked at. `specs/Seen.antt` says what a link stands
+//! for, `specs/LinkList.antt` and `specs/First.antt` what is found.
 #![tactic(auto)]
 
 mod link;

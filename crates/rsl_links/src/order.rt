@@ -223,7 +223,7 @@ impl Order {
         if self.slots.is_empty() {
             return None;
         }
-        // The position is wanted only where the link lapses, which its slot alone tells.
+        // Its slot alone shows whether the link lapses, and only then is its position wanted.
         let first = self.slots[0];
         if slots.slots[first].link.lapses(servers, rules, now) {
             Some(slots.position(first))

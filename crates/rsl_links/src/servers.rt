@@ -134,13 +134,29 @@ impl Servers {
         nas.is_same(self.at(at))
     }
 
-    /// The first index of an access server, if it is in the table.
+    /// Index 0, if this access server stands there.
+    fn first(&self, nas: &Nas) -> Option<usize>
+        ensures found { IfSome result (λ at. server_at self.now at ≡ nas.now) }
+        ensures index { IfSome result (λ at. IsIndex self.now at) }
+    {
+        if !self.table.is_empty() && self.at(0).is_same(nas) {
+            Some(0)
+        } else {
+            None
+        }
+    }
+
+    /// The first index of an access server, if it is in the table. Most accounts log in at one
+    /// access server, so index 0 is tried before any fingerprint is made.
     pub fn find(&self, nas: &Nas) -> Option<usize>
         ensures found { IfSome result (λ at. server_at self.now at ≡ nas.now) }
         ensures index { IfSome result (λ at. IsIndex self.now at) }
         ensures missed { IfNone result ((at : ℕ) → at < length self.now →
             server_at self.now at ≢ nas.now) }
     {
+        if let Some(first) = self.first(nas) {
+            return Some(first);
+        }
         let fingerprint = fingerprint_of(nas);
         for at in 0..self.table.len() {
             if self.fingerprints[at] == fingerprint && self.at(at).is_same(nas) {

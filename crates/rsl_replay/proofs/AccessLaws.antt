@@ -2,7 +2,7 @@
 use Rattle.std.proofs.Common.{◌≡◌, ℕ, List, [], ◌++◌, sym, ap, ◌∙◌, append_assoc}
 use Rattle.std.proofs.lemmas.List.Concat.{flat_map-append}
 use Rattle.md5.specs.Md5.{md5}
-use Rattle.rsl_wire.specs.Attributes.{Attribute, attribute_octets, attribute_of, list_octets}
+use Rattle.rsl_wire.specs.Attributes.{attribute_octets, attribute_of, list_octets}
 use Rattle.rsl_wire.specs.DraftSeen.{Begun}
 use Rattle.rsl_wire.specs.Packet.{packet_octets}
 use Rattle.rsl_event.specs.Signature.{signature_attributes, signed_by}

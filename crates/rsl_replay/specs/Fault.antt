@@ -12,7 +12,7 @@ abbrev pub fault_of_script : ScriptFault → ReplayFault
 fault_of_script (script_line number) = Line number
 fault_of_script script_no_memory = NoMemory
 
--- want of memory is named as such, and every other fault is the configuration's
+-- that memory was refused is named as such, and every other fault is the configuration's
 abbrev pub fault_of_config : ConfigFault → ReplayFault
 fault_of_config config_no_memory = NoMemory
 fault_of_config fault = Config fault

@@ -21,7 +21,7 @@ abbrev pub replay_boot : ℕ
 replay_boot = 1
 
 -- The text is a right script of a right configuration, and not too long; each step of its event
--- lines has its answer. What is written tells for each event line what it was answered, and then
+-- lines has its answer. What is written says for each event line what it was answered, and then
 -- for each account what it holds after the steps that were taken: a refused one is as if it had
 -- not come.
 pub record IsReplayed (text written : List ℕ) : Type 0 where

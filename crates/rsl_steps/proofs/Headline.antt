@@ -1,13 +1,10 @@
 -- What books answered, and the shards after it, by looking back.
-use Rattle.std.proofs.Common.{◌≡◌, ℕ, ◌%◌, ◌<◌, ◌≤◌, List, [], ◌∷◌, length, take, Option, Some, None, refl, ap, subst, ◌∙◌, arith}
-use Rattle.std.specs.Prelude.{slice_get}
+use Rattle.std.proofs.Common.{ℕ, ◌%◌, ◌<◌, ◌≤◌, List, [], ◌∷◌, length, take, Option, refl, ap, subst, ◌∙◌, arith}
 use Rattle.std.proofs.lemmas.List.{take_all}
 use Rattle.std.proofs.lemmas.Nat.{mod_below}
 use Rattle.rsl_accounts.specs.Configuration.{Configuration}
-use Rattle.rsl_accounts.specs.Limits.{IsConfiguration, RulesFit}
-use Rattle.rsl_accounts.specs.declared.entry.Entry.{Entry}
+use Rattle.rsl_accounts.specs.Limits.{RulesFit}
 use Rattle.rsl_accounts.specs.declared.rules.Rules.{Rules}
-use Rattle.rsl_book.specs.RuledBook.{RuledBook}
 use Rattle.rsl_event.specs.declared.event.Event.{Event}
 use Rattle.rsl_session.specs.Book.{new_book, places_in}
 use Rattle.rsl_session.specs.BookLaws.{BooksAreThoseOfThePast, BooksHoldThePlacesOfTheRule, BooksStayWithinTheLimit}
@@ -16,7 +13,7 @@ use Rattle.rsl_shard.specs.Seen.{ShardSeen}
 use Rattle.rsl_steps.specs.Books.{AreAnswersByBooks, account_book}
 use Rattle.rsl_steps.specs.Laws.{BooksAnswerAsLookingBack, ShardsObeyTheRule}
 use Rattle.rsl_steps.specs.Own.{own}
-use Rattle.rsl_steps.specs.Ran.{AreShards, HasBookOf, IsBookOf, book_in_shard}
+use Rattle.rsl_steps.specs.Ran.{IsBookOf, book_in_shard}
 use Rattle.rsl_steps.specs.Run.{AreAnswers}
 use Rattle.rsl_steps.specs.declared.step.Answer.{Answer}
 use Rattle.rsl_steps.specs.declared.step.Answer.TheVariants as answers

@@ -1,27 +1,21 @@
 -- The lines of a journal whose books began new, over the books that they step.
-use Rattle.std.proofs.Common.{◌≡◌, ℕ, ◌%◌, ◌/◌, ◌<◌, List, Option, Some, None, refl, ap, sym, ◌∙◌, arith}
+use Rattle.std.proofs.Common.{◌≡◌, ℕ, ◌%◌, ◌/◌, ◌<◌, List, Option, Some, refl, ap, sym, ◌∙◌, arith}
 use Rattle.std.specs.Prelude.{slice_get, take}
 use Rattle.std.specs.Option.{option_map, option_map_or}
 use Rattle.rsl_accounts.specs.Configuration.{Configuration}
 use Rattle.rsl_accounts.specs.declared.entry.Entry.{Entry as Account}
-use Rattle.rsl_accounts.specs.declared.rules.Rules.{Rules}
 use Rattle.rsl_book.specs.RuledBook.{RuledBook}
-use Rattle.rsl_event.specs.declared.event.Decision.{Decision}
 use Rattle.rsl_event.specs.declared.event.Decision.TheVariants.{Done}
 use Rattle.rsl_event.specs.declared.event.Event.{Event}
-use Rattle.rsl_session.specs.Book.{Book, new_book, places_in}
+use Rattle.rsl_session.specs.Book.{new_book}
 use Rattle.rsl_session.specs.BookLaws.{BooksAreThoseOfThePast, BooksHoldThePlacesOfTheRule, DecisionLaw}
-use Rattle.rsl_session.specs.BookOf.{book_of}
 use Rattle.rsl_session.specs.BookStep.{book_after, step}
-use Rattle.rsl_session.specs.Rule.{past_of, places_after}
 use Rattle.rsl_shard.proofs.Callers.{account_is, book_at_index, new_book_at}
 use Rattle.rsl_shard.specs.Moves.{own_in}
 use Rattle.rsl_shard.specs.Restep.{book_at, book_of_entry, decision_by, new_books, restep}
 use Rattle.rsl_shard.specs.Setup.{setup_of}
 use Rattle.rsl_shard.specs.declared.line.Line.{Line}
-use Rattle.rsl_shard.specs.declared.moved.Move.TheVariants as moves
 use Rattle.rsl_steps.specs.Laws.{JournalsObeyTheRule}
-use Rattle.rsl_steps.specs.Run.{decision_after}
 use Rattle.rsl_steps.proofs.BookAnswers.{book_decides}
 use Rattle.rsl_steps.proofs.Restepped.{after, restepped}
 

@@ -1,13 +1,11 @@
 -- One step more after some steps: an account's own events, and the moves of a shard.
-use Rattle.std.proofs.Common.{◌≡◌, ℕ, zero, suc, ◌+◌, ◌<◌, ◌≤◌, List, [], ◌∷◌, ◌++◌, length, set, Option, Some, None, refl, sym, ap, ◌∙◌, inl, inr, ◌⊎◌, arith}
+use Rattle.std.proofs.Common.{◌≡◌, ℕ, zero, suc, ◌+◌, ◌<◌, ◌≤◌, List, [], ◌∷◌, ◌++◌, length, set, Option, Some, None, refl, ap, ◌∙◌, inl, inr, ◌⊎◌, arith}
 use Rattle.std.specs.Prelude.{reverse, filter_map, slice_get}
 use Rattle.std.specs.Option.{option_to_list}
 use Rattle.std.specs.List.{cons_option}
 use Rattle.std.proofs.lemmas.List.{length-append, reverse-append}
 use Rattle.std.proofs.lemmas.List.Elements.{filter_map-append}
 use Rattle.rsl_accounts.specs.Configuration.{Configuration}
-use Rattle.rsl_event.specs.declared.event.Event.{Event}
-use Rattle.rsl_shard.specs.declared.moved.Move.{Move}
 use Rattle.rsl_steps.specs.Moves.{move_of, shard_moves}
 use Rattle.rsl_steps.specs.Own.{event_of, own, own_events}
 use Rattle.rsl_steps.specs.declared.step.Step.{Step}

@@ -1,16 +1,13 @@
 -- The book of an account after the lines of a journal is stepped by the account's own events among them.
-use Rattle.std.proofs.Common.{◌≡◌, ℕ, ◌+◌, ◌==◌, Bool, true, false, cond, List, [], ◌∷◌, Option, Some, None, refl, sym, ap, ◌∙◌}
+use Rattle.std.proofs.Common.{◌≡◌, ℕ, List, [], ◌∷◌, Option, Some, None, refl, ap, ◌∙◌}
 use Rattle.std.specs.List.{cons_option}
 use Rattle.std.specs.Option.{option_map}
-use Rattle.std.proofs.lemmas.Bool.{eqb-true}
-use Rattle.rsl_accounts.specs.declared.rules.Rules.{Rules}
 use Rattle.rsl_book.specs.RuledBook.{RuledBook}
 use Rattle.rsl_event.specs.declared.event.Event.{Event}
-use Rattle.rsl_session.specs.Book.{Book}
-use Rattle.rsl_session.specs.BookStep.{book_after, step}
+use Rattle.rsl_session.specs.BookStep.{book_after}
 use Rattle.rsl_shard.proofs.Callers.{moved_book}
 use Rattle.rsl_shard.specs.Moves.{event_to, own_in}
-use Rattle.rsl_shard.specs.Restep.{book_at, book_from, books_after, moved_from, restep, step_by}
+use Rattle.rsl_shard.specs.Restep.{book_at, books_after, restep, step_by}
 use Rattle.rsl_shard.specs.Setup.{Setup}
 use Rattle.rsl_shard.specs.declared.line.Line.{Line}
 use Rattle.rsl_shard.specs.declared.moved.Move.{Move}

@@ -12,7 +12,6 @@ use Rattle.rsl_event.specs.Answer.{answer, said}
 use Rattle.rsl_event.specs.Meaning.{Fails, meaning}
 use Rattle.rsl_event.specs.Prepared.{HasAccount}
 use Rattle.rsl_event.specs.declared.event.Act.{Act}
-use Rattle.rsl_event.specs.declared.event.Act.TheVariants as acts
 use Rattle.rsl_event.specs.declared.event.Decision.{Decision}
 use Rattle.rsl_event.specs.declared.event.Decision.TheVariants.{Done}
 use Rattle.rsl_event.specs.declared.event.Event.{Event}
@@ -25,7 +24,7 @@ use Rattle.rsl_event.specs.declared.meaning.Port.{Port}
 use Rattle.rsl_event.specs.declared.nas.Nas.{Nas}
 use Rattle.rsl_event.specs.declared.meaning.Note.{Note}
 use Rattle.rsl_event.specs.declared.words.Said.{Said}
-use Rattle.rsl_session.specs.Book.{Book, new_book}
+use Rattle.rsl_session.specs.Book.{new_book}
 use Rattle.rsl_session.specs.BookStep.{book_after, step}
 use Rattle.rsl_shard.specs.Moves.{IsTaken, own_in}
 use Rattle.rsl_shard.specs.Restep.{book_at, decision_by, restep}
@@ -36,12 +35,12 @@ use Rattle.rsl_shard.specs.declared.moved.Move.{Move}
 use Rattle.rsl_shard.specs.declared.moved.Move.TheVariants as moves
 use Rattle.rsl_wire.specs.Packet.{Fields, packet_of}
 use Rattle.rsl_wire.specs.declared.packet.WireFault.{WireFault}
-use Rattle.rsl_steps.specs.Books.{account_book, answer_by_book, answer_with_book, decision_by_book}
+use Rattle.rsl_steps.specs.Books.{account_book, answer_with_book, decision_by_book}
 use Rattle.rsl_steps.specs.Moves.{move_in, move_of, shard_moves}
 use Rattle.rsl_steps.specs.Own.{own}
 use Rattle.rsl_steps.specs.Ran.{AreShards, HasMoved}
 use Rattle.rsl_steps.specs.Run.{octets_by}
-use Rattle.rsl_steps.specs.Taking.{AreReady, HaveShardsRoom, IsDecided, IsMovedAt, IsNotThere, IsQuietAt, IsStepTaken, Takes, answer_to_drop}
+use Rattle.rsl_steps.specs.Taking.{AreReady, IsDecided, IsMovedAt, IsNotThere, IsQuietAt, IsStepTaken, Takes, answer_to_drop}
 use Rattle.rsl_steps.specs.declared.step.Answer.{Answer}
 use Rattle.rsl_steps.specs.declared.step.Answer.TheVariants as answers
 use Rattle.rsl_steps.specs.declared.step.Step.{Step}

@@ -76,7 +76,7 @@ Takes config boot before step answers.Refused old new = new ≡ old
 Takes config boot before step answer old new =
     IsStepTaken config boot before step answer new
 
--- want of memory is given as refused
+-- a datagram for which memory was refused is a step that was refused
 abbrev pub answer_to_drop : Dropped → Answer
 answer_to_drop drops.NoMemory = answers.Refused
 answer_to_drop dropped = answers.Dropped dropped

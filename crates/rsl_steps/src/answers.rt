@@ -170,7 +170,7 @@ fn move_if_there(alloc: Global, shards: &mut [Shard], shard: u32, moved: Move) -
     }
 }
 
-/// What a datagram without a meaning is answered. Want of memory is given as refused.
+/// What a datagram without a meaning is answered: that memory was refused, as a refused step.
 fn answer_to_drop(dropped: Dropped) -> Answer
     ensures { result ≡ answer_to_drop dropped }
 {

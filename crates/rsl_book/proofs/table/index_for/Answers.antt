@@ -3,7 +3,7 @@ use Rattle.rsl_links.specs.Seen.{links_seen}
 use Rattle.rsl_book.specs.Seen.{asks_seen, stops_seen}
 use Rattle.rsl_book.proofs.Naming.{links_put, asks_put, stops_put, not_named}
 use Rattle.rsl_links.specs.Named.{AreIndexed, IsIndex}
-use Rattle.rsl_links.proofs.Callers.{new_index, placed_put}
+use Rattle.rsl_links.proofs.Callers.{new_index, indexed_put}
 use Rattle.rsl_book.proofs.table.index_for.Goals as goal
 
 pub returns-in-None-clause-links : goal.returns-in-None-clause-links
@@ -35,5 +35,5 @@ returns-in-None-clause-placed c =
     let long = c.len.ensures in
     let within : c.free_index-index.result < length c.args.servers.now = omega (arith, low, long) in
     λ placed. subst (λ servers. AreIndexed servers c.args.links.now.items) (sym c.put.ensures)
-    (placed_put c.args.servers.now c.args.nas c.free_index-index.result c.args.links.now.items within c.in-None.ensures.missed
+    (indexed_put c.args.servers.now c.args.nas c.free_index-index.result c.args.links.now.items within c.in-None.ensures.missed
     (not_named c.args.links.now.items c.args.asks.now.items c.args.stops.now.items c.free_index-index.result c.free_index-index.ensures.free).0 placed)

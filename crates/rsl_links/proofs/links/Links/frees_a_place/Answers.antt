@@ -5,7 +5,7 @@ use Rattle.rsl_session.specs.Book.{bundles_in}
 use Rattle.rsl_links.specs.declared.link.Link.{Link}
 use Rattle.rsl_links.specs.Seen.{links_seen, link_seen, server_at}
 use Rattle.rsl_links.proofs.Opened.{less_alone, less_bundled, bundles-append, bundles-split, bundle_none, bundle_some, members_some}
-use Rattle.rsl_links.proofs.Placed.{members_at}
+use Rattle.rsl_links.proofs.Indexed.{members_at}
 use Rattle.rsl_links.proofs.links.Links.frees_a_place.Goals as goal
 
 pub overflow_sub-members : goal.overflow_sub-members
@@ -14,7 +14,7 @@ overflow_sub-members c =
     let links = c.args.self.now.list.items in
     let link : Link = c.index-link.result.now in
     let named : Bundle = record { nas = server_at servers link.nas; id = c.in-Some.id } in
-    let counted = members_at servers links c.args.at c.members.result link c.in-Some.id c.as_slice.result.now c.requires.within c.index-link.ensures c.as_slice.ensures c.requires.counted.placed c.members.ensures in
+    let counted = members_at servers links c.args.at c.members.result link c.in-Some.id c.as_slice.result.now c.requires.within c.index-link.ensures c.as_slice.ensures c.requires.counted.indexed c.members.ensures in
     members_some c.members.result (link_seen servers link).bundle named (bundles_in (links_seen servers (take c.args.at links)))
     (bundles_in (links_seen servers (drop (c.args.at + 1) links))) (bundles_in (links_seen servers links))
     (bundles-split servers links c.args.at link c.requires.within c.index-link.ensures)
@@ -37,7 +37,7 @@ returns-in-Some c =
     let links = c.args.self.now.list.items in
     let link : Link = c.index-link.result.now in
     let named : Bundle = record { nas = server_at servers link.nas; id = c.in-Some.id } in
-    let counted = members_at servers links c.args.at c.members.result link c.in-Some.id c.as_slice.result.now c.requires.within c.index-link.ensures c.as_slice.ensures c.requires.counted.placed c.members.ensures in
+    let counted = members_at servers links c.args.at c.members.result link c.in-Some.id c.as_slice.result.now c.requires.within c.index-link.ensures c.as_slice.ensures c.requires.counted.indexed c.members.ensures in
     less_bundled c.args.self.now.ports c.members.result (cond c.takes_a_place.result 1 0) (link_seen servers link).bundle named
     (bundles_in (links_seen servers (take c.args.at links))) (bundles_in (links_seen servers (drop (c.args.at + 1) links))) (bundles_in (links_seen servers links))
     c.requires.counted.a_port (bundles-split servers links c.args.at link c.requires.within c.index-link.ensures)

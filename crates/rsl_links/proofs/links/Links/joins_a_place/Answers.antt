@@ -9,7 +9,7 @@ use Rattle.rsl_links.proofs.links.Links.joins_a_place.Goals as goal
 pub adds_a_place-requires-clause-index : goal.adds_a_place-requires-clause-index
 adds_a_place-requires-clause-index c =
     let here = link_here c.args.self.now.list.items c.args.at c.index-link.result.now c.requires.within c.index-link.ensures in
-    subst (λ (one : Link). IsIndex c.args.servers.now one.nas) (sym here) (c.requires.counted.placed c.args.at c.requires.within)
+    subst (λ (one : Link). IsIndex c.args.servers.now one.nas) (sym here) (c.requires.counted.indexed c.args.at c.requires.within)
 
 pub returns-in-None : goal.returns-in-None
 returns-in-None c =

@@ -1,5 +1,5 @@
 use Rattle.std.proofs.Common.{◌+◌, ap, cond}
-use Rattle.rsl_links.proofs.Placed.{placed_more}
+use Rattle.rsl_links.proofs.Indexed.{indexed_more}
 use Rattle.rsl_links.proofs.Touching.{counted_open, one_of}
 use Rattle.rsl_links.proofs.links.Links.open.Goals as goal
 
@@ -9,5 +9,5 @@ returns-clause-counted c =
       a_port = c.requires.counted.a_port;
       places = counted_open c.args.servers.now c.args.self.now.ports c.args.self.now.places _ (cond c.adds_a_place.result 1 0) c.args.link c.args.self.now.list.items
           c.push.new.self.items c.push.ensures.items c.requires.counted.places c.adds_a_place.ensures (ap (λ n. c.args.self.now.places + n) (one_of c.adds_a_place.result c.from.result c.from.ensures));
-      placed = placed_more c.args.servers.now c.args.self.now.list.items c.push.new.self.items c.args.link c.push.ensures.items c.requires.index c.requires.counted.placed;
+      indexed = indexed_more c.args.servers.now c.args.self.now.list.items c.push.new.self.items c.args.link c.push.ensures.items c.requires.index c.requires.counted.indexed;
     }

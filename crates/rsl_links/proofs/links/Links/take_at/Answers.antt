@@ -6,7 +6,7 @@ use Rattle.rsl_links.specs.Changed.{bound_link}
 use Rattle.rsl_links.specs.Seen.{links_seen}
 use Rattle.rsl_links.proofs.Found.{length-change_at, taken_after}
 use Rattle.rsl_links.proofs.Opened.{bundles_taken}
-use Rattle.rsl_links.proofs.Placed.{placed_taken}
+use Rattle.rsl_links.proofs.Indexed.{indexed_taken}
 use Rattle.rsl_links.proofs.Touching.{joined_less, joined_within, one_of}
 use Rattle.rsl_links.proofs.links.Links.take_at.Goals as goal
 
@@ -31,7 +31,7 @@ returns-clause-counted c =
           ∙ joined_less c.joins_a_place.result c.args.self.now.places _ _ c.requires.counted.places (c.joins_a_place.ensures c.args.now)
           ∙ ap (places_of c.args.self.now.ports) (sym (ap (λ (links : List Link). bundles_in (links_seen c.args.servers.now links)) items
           ∙ bundles_taken c.args.servers.now c.args.now c.args.id c.args.bundle c.args.self.now.list.items c.args.at));
-      placed = placed_taken c.args.servers.now c.args.now c.args.id c.args.bundle c.args.self.now.list.items c.join.new.self.items c.args.at items c.requires.counted.placed;
+      indexed = indexed_taken c.args.servers.now c.args.now c.args.id c.args.bundle c.args.self.now.list.items c.join.new.self.items c.args.at items c.requires.counted.indexed;
     }
 
 pub returns-clause-links : goal.returns-clause-links

@@ -5,7 +5,7 @@ use Rattle.rsl_links.specs.declared.link.Link.{Link}
 use Rattle.rsl_links.specs.Changed.{joined_link}
 use Rattle.rsl_links.specs.Seen.{links_seen}
 use Rattle.rsl_links.proofs.Found.{length-change_at, touched_after}
-use Rattle.rsl_links.proofs.Placed.{placed_touched}
+use Rattle.rsl_links.proofs.Indexed.{indexed_touched}
 use Rattle.rsl_links.proofs.Touching.{joined_less, joined_within, one_of}
 use Rattle.rsl_links.proofs.links.Links.touch_at.Goals as goal
 
@@ -29,7 +29,7 @@ returns-clause-counted c =
       places = ap (λ n. c.args.self.now.places - n) (one_of c.joins_a_place.result c.from.result c.from.ensures)
           ∙ joined_less c.joins_a_place.result c.args.self.now.places _ _ c.requires.counted.places (c.joins_a_place.ensures c.args.now)
           ∙ ap (λ (links : List Link). places_of c.args.self.now.ports (bundles_in (links_seen c.args.servers.now links))) (sym items);
-      placed = placed_touched c.args.servers.now c.args.now c.args.bundle c.args.self.now.list.items c.renew.new.self.items c.args.at items c.requires.counted.placed;
+      indexed = indexed_touched c.args.servers.now c.args.now c.args.bundle c.args.self.now.list.items c.renew.new.self.items c.args.at items c.requires.counted.indexed;
     }
 
 pub returns-clause-links : goal.returns-clause-links

@@ -12,7 +12,7 @@ pub count_before-requires : goal.count_before-requires
 count_before-requires c =
     let slots = c.self.inside.slots in
     let order = c.self.inside.orders.bound in
-    searchable order.kind slots.slots.items (opened_of slots) c.self.invariant.kept.placed.rising (length (links_of slots)) order.slots.items c.self.invariant.orders.bound
+    searchable order.kind slots.slots.items (opened_of slots) c.self.invariant.kept.sequenced.rising (length (links_of slots)) order.slots.items c.self.invariant.orders.bound
 
 pub returns : goal.returns
 returns c =
@@ -23,5 +23,5 @@ returns c =
     counted_until c.args.clock (links_of slots) ranked.positions c.count_before.result
     (subst (λ (kind : OrderKind). IsOrderOf kind (links_of slots) ranked.positions) is ranked.in_order)
     (subst (λ (kind : OrderKind). IsSplit (key_at kind (links_of slots)) ranked.positions (c.args.clock ∷ [], length (links_of slots)) c.count_before.result) is
-    (split_last order.kind slots.slots.items (opened_of slots) c.self.invariant.kept.placed.rising (length (links_of slots)) order.slots.items ranked (c.args.clock ∷ []) c.count_before.result c.count_before.ensures))
+    (split_last order.kind slots.slots.items (opened_of slots) c.self.invariant.kept.sequenced.rising (length (links_of slots)) order.slots.items ranked (c.args.clock ∷ []) c.count_before.result c.count_before.ensures))
     ∙ ap (λ (value : RoomyList). count_by (is_bound_until c.args.clock) value.items) c.self.view_is

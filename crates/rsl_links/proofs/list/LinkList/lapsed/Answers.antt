@@ -6,7 +6,7 @@ use Rattle.rsl_links.specs.LinkList.{RoomyList}
 use Rattle.rsl_links.specs.Order.{is_by_touch, link_at}
 use Rattle.rsl_links.specs.Seen.{link_seen}
 use Rattle.rsl_links.specs.Slots.{links_of}
-use Rattle.rsl_links.proofs.Placed.{none_then}
+use Rattle.rsl_links.proofs.Indexed.{none_then}
 use Rattle.rsl_links.proofs.Standing.{none_lapses_of_both, not_none, where_none}
 use Rattle.rsl_links.proofs.list.LinkList.lapsed.Goals as goal
 

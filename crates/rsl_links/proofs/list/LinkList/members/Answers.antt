@@ -12,13 +12,13 @@ pub count_before-first-requires : goal.count_before-first-requires
 count_before-first-requires c =
     let slots = c.self.inside.slots in
     let order = c.self.inside.orders.bundles in
-    searchable order.kind slots.slots.items (opened_of slots) c.self.invariant.kept.placed.rising (length (links_of slots)) order.slots.items c.self.invariant.orders.bundles
+    searchable order.kind slots.slots.items (opened_of slots) c.self.invariant.kept.sequenced.rising (length (links_of slots)) order.slots.items c.self.invariant.orders.bundles
 
 pub count_before-end-requires : goal.count_before-end-requires
 count_before-end-requires c =
     let slots = c.self.inside.slots in
     let order = c.self.inside.orders.bundles in
-    searchable order.kind slots.slots.items (opened_of slots) c.self.invariant.kept.placed.rising (length (links_of slots)) order.slots.items c.self.invariant.orders.bundles
+    searchable order.kind slots.slots.items (opened_of slots) c.self.invariant.kept.sequenced.rising (length (links_of slots)) order.slots.items c.self.invariant.orders.bundles
 
 pub overflow_sub-result : goal.overflow_sub-result
 overflow_sub-result c =
@@ -26,7 +26,7 @@ overflow_sub-result c =
     let order = c.self.inside.orders.bundles in
     let ranked = c.self.invariant.orders.bundles in
     let is = c.self.invariant.kinds.bundles in
-    let rising = c.self.invariant.kept.placed.rising in
+    let rising = c.self.invariant.kept.sequenced.rising in
     in_turn (links_of slots) ranked.positions (subst (λ (kind : OrderKind). IsOrderOf kind (links_of slots) ranked.positions) is ranked.in_order) c.args.nas c.args.id.now c.count_before-first.result c.count_before-end.result
     (subst (λ (kind : OrderKind). IsSplit (key_at kind (links_of slots)) ranked.positions (c.args.nas ∷ c.args.id.now, 0) c.count_before-first.result) is
     (split_first order.kind slots.slots.items (opened_of slots) rising (length (links_of slots)) order.slots.items ranked (c.args.nas ∷ c.args.id.now) c.count_before-first.result c.count_before-first.ensures))
@@ -39,7 +39,7 @@ returns c =
     let order = c.self.inside.orders.bundles in
     let ranked = c.self.invariant.orders.bundles in
     let is = c.self.invariant.kinds.bundles in
-    let rising = c.self.invariant.kept.placed.rising in
+    let rising = c.self.invariant.kept.sequenced.rising in
     members_between (links_of slots) ranked.positions (subst (λ (kind : OrderKind). IsOrderOf kind (links_of slots) ranked.positions) is ranked.in_order) c.args.nas c.args.id.now c.count_before-first.result c.count_before-end.result
     (subst (λ (kind : OrderKind). IsSplit (key_at kind (links_of slots)) ranked.positions (c.args.nas ∷ c.args.id.now, 0) c.count_before-first.result) is
     (split_first order.kind slots.slots.items (opened_of slots) rising (length (links_of slots)) order.slots.items ranked (c.args.nas ∷ c.args.id.now) c.count_before-first.result c.count_before-first.ensures))

@@ -4,7 +4,7 @@ use Rattle.std.proofs.lemmas.Option.{IfSome_then}
 use Rattle.rsl_links.specs.declared.link.Link.{Link}
 use Rattle.rsl_links.specs.First.{IsFirst}
 use Rattle.rsl_links.specs.LinkList.{RoomyList, is_for}
-use Rattle.rsl_links.proofs.Placed.{none_then}
+use Rattle.rsl_links.proofs.Indexed.{none_then}
 use Rattle.rsl_links.proofs.list.LinkList.reservation.Goals as goal
 
 pub returns-clause-found : goal.returns-clause-found

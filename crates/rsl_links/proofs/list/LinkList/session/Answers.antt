@@ -7,7 +7,7 @@ use Rattle.rsl_links.specs.First.{IsFirst}
 use Rattle.rsl_links.specs.LinkList.{RoomyList, is_held}
 use Rattle.rsl_links.specs.Order.{goes_by}
 use Rattle.rsl_links.specs.Slots.{links_of}
-use Rattle.rsl_links.proofs.Placed.{none_then}
+use Rattle.rsl_links.proofs.Indexed.{none_then}
 use Rattle.rsl_links.proofs.Sought.{first_as, held_is, none_as}
 use Rattle.rsl_links.proofs.list.LinkList.session.Goals as goal
 

@@ -16,7 +16,7 @@ pub count_before-rank-requires : goal.count_before-rank-requires
 count_before-rank-requires c =
     let slots = c.self.inside.slots in
     let order = c.self.inside.orders.sessions in
-    searchable order.kind slots.slots.items (opened_of slots) c.self.invariant.kept.placed.rising (length (links_of slots)) order.slots.items c.self.invariant.orders.sessions
+    searchable order.kind slots.slots.items (opened_of slots) c.self.invariant.kept.sequenced.rising (length (links_of slots)) order.slots.items c.self.invariant.orders.sessions
 
 pub returns-then-rank-len : goal.returns-then-rank-len
 returns-then-rank-len c =
@@ -29,7 +29,7 @@ returns-then-rank-len c =
     let same = long_ranked order.kind (links_of slots) (opened_of slots) (length (links_of slots)) order.slots.items ranked in
     sym (names_none (links_of slots) ranked.positions (subst (λ (kind : OrderKind). IsOrderOf kind (links_of slots) ranked.positions) is ranked.in_order) c.args.nas c.count_before-rank.result
     (subst (λ (kind : OrderKind). IsSplit (key_at kind (links_of slots)) ranked.positions (c.args.nas ∷ [], 0) c.count_before-rank.result) is
-    (split_first order.kind slots.slots.items (opened_of slots) c.self.invariant.kept.placed.rising (length (links_of slots)) order.slots.items ranked (c.args.nas ∷ []) c.count_before-rank.result c.count_before-rank.ensures))
+    (split_first order.kind slots.slots.items (opened_of slots) c.self.invariant.kept.sequenced.rising (length (links_of slots)) order.slots.items ranked (c.args.nas ∷ []) c.count_before-rank.result c.count_before-rank.ensures))
     (λ within. absurd (omega (arith, within, last, long, same))))
     ∙ ap (λ (value : RoomyList). list_any (is_bound_at c.args.nas) value.items) c.self.view_is
 
@@ -42,7 +42,7 @@ index-requires-2 c =
     let most = c.count_before-rank.ensures.within in
     let other = c.if-rank-len.false in
     let low = listed_within order.kind slots.slots.items order.slots.items
-    (searchable order.kind slots.slots.items (opened_of slots) c.self.invariant.kept.placed.rising (length (links_of slots)) order.slots.items c.self.invariant.orders.sessions)
+    (searchable order.kind slots.slots.items (opened_of slots) c.self.invariant.kept.sequenced.rising (length (links_of slots)) order.slots.items c.self.invariant.orders.sessions)
     c.count_before-rank.result c.index.result.now (omega (arith, most, other, long)) c.index.ensures in
     omega (arith, all, low)
 
@@ -52,7 +52,7 @@ returns c =
     let order = c.self.inside.orders.sessions in
     let ranked = c.self.invariant.orders.sessions in
     let is = c.self.invariant.kinds.sessions in
-    let rising = c.self.invariant.kept.placed.rising in
+    let rising = c.self.invariant.kept.sequenced.rising in
     let long : deque_len order.slots ≡ length order.slots.items = search rules in
     let most = c.count_before-rank.ensures.within in
     let other = c.if-rank-len.false in

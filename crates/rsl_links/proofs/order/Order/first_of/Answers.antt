@@ -12,7 +12,7 @@ use Rattle.rsl_links.proofs.order.Order.first_of.Goals as goal
 pub count_before-rank-requires : goal.count_before-rank-requires
 count_before-rank-requires c =
     let slots = c.args.slots.now in
-    searchable c.args.self.now.kind slots.slots.items (opened_of slots) c.requires.kept.placed.rising (length (links_of slots)) c.args.self.now.slots.items c.requires.order
+    searchable c.args.self.now.kind slots.slots.items (opened_of slots) c.requires.kept.sequenced.rising (length (links_of slots)) c.args.self.now.slots.items c.requires.order
 
 pub index-requires : goal.index-requires
 index-requires c =
@@ -23,7 +23,7 @@ index-requires c =
     let most = c.count_before-rank.ensures.within in
     let other = c.if-rank-len.false in
     let low = listed_within c.args.self.now.kind slots.slots.items order
-    (searchable c.args.self.now.kind slots.slots.items (opened_of slots) c.requires.kept.placed.rising (length (links_of slots)) order c.requires.order)
+    (searchable c.args.self.now.kind slots.slots.items (opened_of slots) c.requires.kept.sequenced.rising (length (links_of slots)) order c.requires.order)
     c.count_before-rank.result c.index-slot.result.now (omega (arith, most, other, long)) c.index-slot.ensures in
     omega (arith, all, low)
 
@@ -34,7 +34,7 @@ position-requires-clause-stands c =
     let long : deque_len c.args.self.now.slots ≡ length order = search rules in
     let most = c.count_before-rank.ensures.within in
     let other = c.if-rank-len.false in
-    ranked_stands c.args.self.now.kind slots.slots.items (opened_of slots) c.requires.kept.placed.rising (length (links_of slots)) order c.requires.order
+    ranked_stands c.args.self.now.kind slots.slots.items (opened_of slots) c.requires.kept.sequenced.rising (length (links_of slots)) order c.requires.order
     c.count_before-rank.result c.index-slot.result.now (omega (arith, most, other, long)) c.index-slot.ensures
 
 pub returns-then-rank-len-clause-missed : goal.returns-then-rank-len-clause-missed
@@ -45,7 +45,7 @@ returns-then-rank-len-clause-missed c =
     let last = c.if-rank-len.true in
     let same = long_ranked c.args.self.now.kind (links_of slots) (opened_of slots) (length (links_of slots)) order c.requires.order in
     none_sought c.args.self.now.kind (links_of slots) c.requires.order.positions c.requires.order.in_order c.args.number c.args.octets.now c.count_before-rank.result
-    (split_first c.args.self.now.kind slots.slots.items (opened_of slots) c.requires.kept.placed.rising (length (links_of slots)) order c.requires.order
+    (split_first c.args.self.now.kind slots.slots.items (opened_of slots) c.requires.kept.sequenced.rising (length (links_of slots)) order c.requires.order
     (c.args.number ∷ c.args.octets.now) c.count_before-rank.result c.count_before-rank.ensures)
     (λ within. absurd (omega (arith, within, last, long, same)))
 
@@ -53,13 +53,13 @@ pub returns-then-goes_by-clause-found : goal.returns-then-goes_by-clause-found
 returns-then-goes_by-clause-found c =
     let slots = c.args.slots.now in
     let order = c.args.self.now.slots.items in
-    let rising = c.requires.kept.placed.rising in
+    let rising = c.requires.kept.sequenced.rising in
     let long : deque_len c.args.self.now.slots ≡ length order = search rules in
     let most = c.count_before-rank.ensures.within in
     let other = c.if-rank-len.false in
     let within : c.count_before-rank.result < length order = omega (arith, most, other, long) in
     let same = long_ranked c.args.self.now.kind (links_of slots) (opened_of slots) (length (links_of slots)) order c.requires.order in
-    let few = long_opened slots.slots.items slots.sequence.items slots.count c.requires.kept.placed in
+    let few = long_opened slots.slots.items slots.sequence.items slots.count c.requires.kept.sequenced in
     let low = c.position.ensures.within in
     let link = ranked_link c.args.self.now.kind slots.slots.items (opened_of slots) rising (length (links_of slots)) order c.requires.order
     c.count_before-rank.result c.index-slot.result.now c.index.result.now within c.index-slot.ensures c.index.ensures in
@@ -76,7 +76,7 @@ pub returns-else-goes_by-clause-missed : goal.returns-else-goes_by-clause-missed
 returns-else-goes_by-clause-missed c =
     let slots = c.args.slots.now in
     let order = c.args.self.now.slots.items in
-    let rising = c.requires.kept.placed.rising in
+    let rising = c.requires.kept.sequenced.rising in
     let same = long_ranked c.args.self.now.kind (links_of slots) (opened_of slots) (length (links_of slots)) order c.requires.order in
     none_sought c.args.self.now.kind (links_of slots) c.requires.order.positions c.requires.order.in_order c.args.number c.args.octets.now c.count_before-rank.result
     (split_first c.args.self.now.kind slots.slots.items (opened_of slots) rising (length (links_of slots)) order c.requires.order

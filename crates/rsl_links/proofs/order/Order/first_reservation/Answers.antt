@@ -26,7 +26,7 @@ index-one-requires c =
     let many : vec_len slots.slots ≡ length slots.slots.items = search rules in
     let less = c.loop-rank-test.true in
     let low = listed_within c.args.self.now.kind slots.slots.items order
-    (searchable c.args.self.now.kind slots.slots.items (opened_of slots) c.requires.kept.placed.rising (length (links_of slots)) order c.requires.order)
+    (searchable c.args.self.now.kind slots.slots.items (opened_of slots) c.requires.kept.sequenced.rising (length (links_of slots)) order c.requires.order)
     c.loop-rank.rank c.index-slot.result.now (omega (arith, long, less)) c.index-slot.ensures in
     omega (arith, many, low)
 
@@ -42,7 +42,7 @@ loop-rank-preserved c =
     let within : rank < length order = omega (arith, long, less) in
     let stands : slot ≡ get_or order rank 0 = listed_here order rank slot within c.index-slot.ensures in
     let low : slot < length slots =
-    listed_within c.args.self.now.kind slots order (searchable c.args.self.now.kind slots (opened_of all) c.requires.kept.placed.rising (length (links_of all)) order c.requires.order) rank slot within c.index-slot.ensures in
+    listed_within c.args.self.now.kind slots order (searchable c.args.self.now.kind slots (opened_of all) c.requires.kept.sequenced.rising (length (links_of all)) order c.requires.order) rank slot within c.index-slot.ensures in
     let one : c.index-one.result.now ≡ get_or slots slot no_slot = c.index-one.ensures ∙ get_or_default slots slot c.index-one.result.now no_slot low in
     let same : c.index-one.result.now.opened ≡ opened_in slots slot = ap (λ (s : Slot). s.opened) one in
     elim c.if-one-opened.branch [
@@ -64,7 +64,7 @@ position-requires-clause-stands c =
     let slots = c.args.slots.now in
     let order = c.args.self.now.slots.items in
     let opened = opened_of slots in
-    let rising = c.requires.kept.placed.rising in
+    let rising = c.requires.kept.sequenced.rising in
     let ranked : IsRankedIn Reserved (links_of slots) opened (length (links_of slots)) order =
     subst (λ (kind : OrderKind). IsRankedIn kind (links_of slots) opened (length (links_of slots)) order) c.requires.kind c.requires.order in
     let long : c.len-rank-end.result ≡ length order = search rules in
@@ -80,7 +80,7 @@ returns-then-opened-lt18446744073709551615-clause-found c =
     let slots = c.args.slots.now in
     let order = c.args.self.now.slots.items in
     let opened = opened_of slots in
-    let rising = c.requires.kept.placed.rising in
+    let rising = c.requires.kept.sequenced.rising in
     let ranked : IsRankedIn Reserved (links_of slots) opened (length (links_of slots)) order =
     subst (λ (kind : OrderKind). IsRankedIn kind (links_of slots) opened (length (links_of slots)) order) c.requires.kind c.requires.order in
     let long : c.len-rank-end.result ≡ length order = search rules in
@@ -89,7 +89,7 @@ returns-then-opened-lt18446744073709551615-clause-found c =
     let all : c.loop-rank.rank ≡ length order = omega (arith, long, past, most) in
     let so_far : IsEarliest (is_for c.args.nas c.args.class) slots.slots.items order (length order) c.loop-rank.first c.loop-rank.opened =
     subst (λ (n : ℕ). IsEarliest (is_for c.args.nas c.args.class) slots.slots.items order n c.loop-rank.first c.loop-rank.opened) all c.loop-rank.invariant in
-    let few = long_opened slots.slots.items slots.sequence.items slots.count c.requires.kept.placed in
+    let few = long_opened slots.slots.items slots.sequence.items slots.count c.requires.kept.sequenced in
     let low = c.position.ensures.within in
     earliest_first slots.slots.items opened rising order ranked c.args.nas c.args.class c.loop-rank.first c.loop-rank.opened so_far c.if-opened-lt18446744073709551615.true
     c.position.result (omega (arith, few, low)) c.position.ensures.stands
@@ -99,7 +99,7 @@ returns-else-opened-lt18446744073709551615-clause-missed c =
     let slots = c.args.slots.now in
     let order = c.args.self.now.slots.items in
     let opened = opened_of slots in
-    let rising = c.requires.kept.placed.rising in
+    let rising = c.requires.kept.sequenced.rising in
     let ranked : IsRankedIn Reserved (links_of slots) opened (length (links_of slots)) order =
     subst (λ (kind : OrderKind). IsRankedIn kind (links_of slots) opened (length (links_of slots)) order) c.requires.kind c.requires.order in
     let long : c.len-rank-end.result ≡ length order = search rules in

@@ -23,9 +23,9 @@ returns-then-holds-clause-order c =
     let long : deque_len c.args.self.now.slots ≡ length c.args.self.now.slots.items = search rules in
     let inside = c.rank_of-rank.ensures.within in
     let removed = some_is c.remove.result _ _ (c.remove.ensures.succeeds 0 (omega (arith, long, inside))) c.remove.ensures.items in
-    let most = long_opened slots.slots.items slots.sequence.items slots.count c.requires.kept.placed in
+    let most = long_opened slots.slots.items slots.sequence.items slots.count c.requires.kept.sequenced in
     subst (λ (order : List ℕ). AreRankedBut c.args.self.now.kind c.args.slots.now c.args.at order) (sym removed)
-    (ranked_withdrawn c.args.self.now.kind slots.slots.items (opened_of slots) c.requires.kept.placed.rising c.args.self.now.slots.items c.args.at (omega (arith, most, c.requires.within)) c.requires.order
+    (ranked_withdrawn c.args.self.now.kind slots.slots.items (opened_of slots) c.requires.kept.sequenced.rising c.args.self.now.slots.items c.args.at (omega (arith, most, c.requires.within)) c.requires.order
     c.rank_of-rank.result c.rank_of-rank.ensures.within c.rank_of-rank.ensures.stands)
 
 pub returns-else-holds-clause-order : goal.returns-else-holds-clause-order

@@ -11,7 +11,7 @@ some_is taken x P is then = subst (λ (one : Option ℕ). OnSome one P) is then
 pub returns : goal.returns
 returns c =
     let long : deque_len c.args.self.now.sequence ≡ length c.args.self.now.sequence.items = search rules in
-    let few = c.requires.kept.placed.few in
+    let few = c.requires.kept.sequenced.few in
     let gone = some_is c.remove.result _ _ (c.remove.ensures.succeeds 0 (omega (arith, long, few, c.requires.within))) c.remove.ensures.items in
     less c.args.self.now _ c.requires.kept c.args.at c.slot-slot.result c.requires.within c.slot-slot.ensures.slot c.free.result
     refl (◌∙◌ {A = List ℕ} c.push_back_reserved.ensures.items (ap (λ (xs : List ℕ). xs ++ c.slot-slot.result ∷ []) gone)) refl refl (c.push_back_reserved.ensures.capacity ∙ c.remove.ensures.capacity)

@@ -1,4 +1,4 @@
--- Links at first places of the table: what a link has of a session or a bundle is told by its index.
+-- Links at first indexes of the table: whether a link is of a session or in a bundle shows in its index.
 use Rattle.std.proofs.Common.{◌≡◌, ◌≢◌, ℕ, zero, suc, ◌+◌, ◌<◌, List, [], ◌∷◌, ◌++◌, take, drop, set, get_or, length, map, Bool, true, false, cond, refl, ap, sym, ◌∙◌, subst, inl, inr, arith}
 use Rattle.std.specs.Prelude.{Option, None, Some, IfNone, count_by, find, ◌==◌, ◌&&◌}
 use Rattle.std.specs.List.{All, list_any}
@@ -29,15 +29,15 @@ use Rattle.rsl_links.proofs.OfLinks.{link_here}
 use Rattle.rsl_links.proofs.Yielding.{any_none, any_nowhere}
 
 -- links that end, open or change
-pub placed_less : (servers : List Nas) (xs ys : List Link) (at : ℕ) → ys ≡ take at xs ++ drop (at + 1) xs → AreIndexed servers xs → AreIndexed servers ys
-placed_less servers xs ys at is placed x within =
-    let all = All-from_get_or (λ (link : Link). IsIndex servers link.nas) xs no_link placed in
+pub indexed_less : (servers : List Nas) (xs ys : List Link) (at : ℕ) → ys ≡ take at xs ++ drop (at + 1) xs → AreIndexed servers xs → AreIndexed servers ys
+indexed_less servers xs ys at is indexed x within =
+    let all = All-from_get_or (λ (link : Link). IsIndex servers link.nas) xs no_link indexed in
     let left = All-append (λ (link : Link). IsIndex servers link.nas) (take at xs) (drop (at + 1) xs) (All-take (λ (link : Link). IsIndex servers link.nas) at xs all) (All-drop (λ (link : Link). IsIndex servers link.nas) (at + 1) xs all) in
     All-get_or (λ (link : Link). IsIndex servers link.nas) ys x no_link within (subst (λ (zs : List Link). All (λ (link : Link). IsIndex servers link.nas) zs) (sym is) left)
 
-pub placed_more : (servers : List Nas) (xs ys : List Link) (link : Link) → ys ≡ xs ++ link ∷ [] → IsIndex servers link.nas → AreIndexed servers xs → AreIndexed servers ys
-placed_more servers xs ys link is here placed x within =
-    let all = All-from_get_or (λ (one : Link). IsIndex servers one.nas) xs no_link placed in
+pub indexed_more : (servers : List Nas) (xs ys : List Link) (link : Link) → ys ≡ xs ++ link ∷ [] → IsIndex servers link.nas → AreIndexed servers xs → AreIndexed servers ys
+indexed_more servers xs ys link is here indexed x within =
+    let all = All-from_get_or (λ (one : Link). IsIndex servers one.nas) xs no_link indexed in
     let last = All-from_get_or (λ (one : Link). IsIndex servers one.nas) (link ∷ []) no_link single in
     let more = All-append (λ (one : Link). IsIndex servers one.nas) xs (link ∷ []) all last in
     All-get_or (λ (one : Link). IsIndex servers one.nas) ys x no_link within (subst (λ (zs : List Link). All (λ (one : Link). IsIndex servers one.nas) zs) (sym is) more)
@@ -54,22 +54,22 @@ nas_kept f same (y ∷ ys) zero (suc x) = refl
 nas_kept f same (y ∷ ys) (suc at) zero = refl
 nas_kept f same (y ∷ ys) (suc at) (suc x) = nas_kept f same ys at x
 
-pub placed_changed : (servers : List Nas) (f : Link → Link) (xs ys : List Link) (at : ℕ) → ys ≡ change_at at f xs → ((x : Link) → (f x).nas ≡ x.nas) → AreIndexed servers xs → AreIndexed servers ys
-placed_changed servers f xs ys at is same placed x within =
+pub indexed_changed : (servers : List Nas) (f : Link → Link) (xs ys : List Link) (at : ℕ) → ys ≡ change_at at f xs → ((x : Link) → (f x).nas ≡ x.nas) → AreIndexed servers xs → AreIndexed servers ys
+indexed_changed servers f xs ys at is same indexed x within =
     let long = ap length is in
     let kept = length-change_at f xs at in
-    subst (λ (n : ℕ). IsIndex servers n) (sym (ap (λ (zs : List Link). (link_at zs x).nas) is ∙ nas_kept f same xs at x)) (placed x (omega (arith, within, long, kept)))
+    subst (λ (n : ℕ). IsIndex servers n) (sym (ap (λ (zs : List Link). (link_at zs x).nas) is ∙ nas_kept f same xs at x)) (indexed x (omega (arith, within, long, kept)))
 
-pub placed_touched : (servers : List Nas) (now : ℕ) (bundle : Option (List ℕ)) (xs ys : List Link) (at : ℕ) → ys ≡ change_at at (touched_link now bundle) xs → AreIndexed servers xs → AreIndexed servers ys
+pub indexed_touched : (servers : List Nas) (now : ℕ) (bundle : Option (List ℕ)) (xs ys : List Link) (at : ℕ) → ys ≡ change_at at (touched_link now bundle) xs → AreIndexed servers xs → AreIndexed servers ys
 unfolding touched_link
-placed_touched servers now bundle xs ys at is placed = placed_changed servers (touched_link now bundle) xs ys at is (λ x. refl) placed
+indexed_touched servers now bundle xs ys at is indexed = indexed_changed servers (touched_link now bundle) xs ys at is (λ x. refl) indexed
 
-pub placed_taken : (servers : List Nas) (now : ℕ) (id : List ℕ) (bundle : Option (List ℕ)) (xs ys : List Link) (at : ℕ) → ys ≡ change_at at (taken_link now id bundle) xs → AreIndexed servers xs → AreIndexed servers ys
+pub indexed_taken : (servers : List Nas) (now : ℕ) (id : List ℕ) (bundle : Option (List ℕ)) (xs ys : List Link) (at : ℕ) → ys ≡ change_at at (taken_link now id bundle) xs → AreIndexed servers xs → AreIndexed servers ys
 unfolding taken_link
-placed_taken servers now id bundle xs ys at is placed = placed_changed servers (taken_link now id bundle) xs ys at is (λ x. refl) placed
+indexed_taken servers now id bundle xs ys at is indexed = indexed_changed servers (taken_link now id bundle) xs ys at is (λ x. refl) indexed
 
-pub placed_none : (servers : List Nas) (xs : List Link) → xs ≡ [] → AreIndexed servers xs
-placed_none servers xs none x within = absurd (let long = ap length none in omega (arith, within, long))
+pub indexed_none : (servers : List Nas) (xs : List Link) → xs ≡ [] → AreIndexed servers xs
+indexed_none servers xs none x within = absurd (let long = ap length none in omega (arith, within, long))
 
 -- an access server that stands nowhere is put where no link is
 pub new_index : (servers : List Nas) (nas : Nas) (at : ℕ) → at < length servers → ((x : ℕ) → x < length servers → server_at servers x ≢ nas) → IsIndex (set servers at nas) at
@@ -96,13 +96,13 @@ nowhere_among p [] i none within = absurd (omega (arith, within))
 nowhere_among p (x ∷ xs) zero none within = (or_parts (p x) (list_any p xs) none).0
 nowhere_among p (x ∷ xs) (suc i) none within = nowhere_among p xs i (or_parts (p x) (list_any p xs) none).1 (omega (arith, within))
 
-pub placed_put : (servers : List Nas) (nas : Nas) (at : ℕ) (links : List Link) → at < length servers → ((x : ℕ) → x < length servers → server_at servers x ≢ nas) → named_by_links links at ≡ false
+pub indexed_put : (servers : List Nas) (nas : Nas) (at : ℕ) (links : List Link) → at < length servers → ((x : ℕ) → x < length servers → server_at servers x ≢ nas) → named_by_links links at ≡ false
     → AreIndexed servers links → AreIndexed (set servers at nas) links
 unfolding named_by_links
-placed_put servers nas at links within nowhere free placed x inside =
+indexed_put servers nas at links within nowhere free indexed x inside =
     kept_index servers nas at (link_at links x).nas within nowhere
     (λ same. false≢true (sym (nowhere_among (λ (link : Link). link.nas == at) links x free inside) ∙ eq-eqb (link_at links x).nas at same))
-    (placed x inside)
+    (indexed x inside)
 
 -- links at one access server are at one index
 same_index : (servers : List Nas) (nas : Nas) (index at : ℕ) → IsIndex servers index → server_at servers index ≡ nas → IsIndex servers at → same_nas (server_at servers at) nas ≡ (at == index)
@@ -156,20 +156,20 @@ member_seen servers id index link is other = by_bundle link.bundle where
 pub members_seen : (servers : List Nas) (id : List ℕ) (index : ℕ) (links : List Link) → IsIndex servers index → AreIndexed servers links
     → count_by (is_member index id) links ≡ count_by (is_bundle (record { nas = server_at servers index; id = id })) (bundles_in (links_seen servers links))
 unfolding bundles_in links_seen
-members_seen servers id index [] is placed = refl
-members_seen servers id index (link ∷ links) is placed =
+members_seen servers id index [] is indexed = refl
+members_seen servers id index (link ∷ links) is indexed =
     let named : Bundle = record { nas = server_at servers index; id = id } in
     sum_by-cons (λ one. cond (is_member index id one) 1 0) link links
-    ∙ ap (λ b. cond b 1 0 + count_by (is_member index id) links) (sym (member_seen servers id index link is (placed zero (omega arith))))
-    ∙ ap (λ n. cond (is_bundle named (link_seen servers link).bundle) 1 0 + n) (members_seen servers id index links is (λ x within. placed (suc x) (omega (arith, within))))
+    ∙ ap (λ b. cond b 1 0 + count_by (is_member index id) links) (sym (member_seen servers id index link is (indexed zero (omega arith))))
+    ∙ ap (λ n. cond (is_bundle named (link_seen servers link).bundle) 1 0 + n) (members_seen servers id index links is (λ x within. indexed (suc x) (omega (arith, within))))
     ∙ sym (sum_by-cons (λ b. cond (is_bundle named b) 1 0) (link_seen servers link).bundle (map (λ (one : BookLink). one.bundle) (map (link_seen servers) links)))
 
 -- those that share a bundle with the link at a position
 pub members_at : (servers : List Nas) (links : List Link) (at members : ℕ) (link : Link) (id octets : List ℕ) → at < length links → link ≡ get_or links at link → octets ≡ id → AreIndexed servers links
     → members ≡ count_by (is_member link.nas octets) links → members ≡ count_by (is_bundle (record { nas = server_at servers link.nas; id = id })) (bundles_in (links_seen servers links))
-members_at servers links at members link id octets within is same placed counts =
+members_at servers links at members link id octets within is same indexed counts =
     counts ∙ ap (λ (own : List ℕ). count_by (is_member link.nas own) links) same
-    ∙ members_seen servers id link.nas links (subst (λ (one : Link). IsIndex servers one.nas) (sym (link_here links at link within is)) (placed at within)) placed
+    ∙ members_seen servers id link.nas links (subst (λ (one : Link). IsIndex servers one.nas) (sym (link_here links at link within is)) (indexed at within)) indexed
 
 -- the first link of a session, as it is seen
 none_before : (q : Link → Bool) (xs : List Link) (at i : ℕ) → list_any q (take at xs) ≡ false → i < at → i < length xs → q (link_at xs i) ≡ false
@@ -224,24 +224,24 @@ not_taken servers nas class link is nowhere =
     ap (λ b. is_wanted class (holder_at (server_at servers link.nas) link.holder) && b) (other_server servers nas link is nowhere)
     ∙ and-false (is_wanted class (holder_at (server_at servers link.nas) link.holder))
 
-module _ (servers : List Nas) (nas : Nas) (links : List Link) (placed : AreIndexed servers links) where
+module _ (servers : List Nas) (nas : Nas) (links : List Link) (indexed : AreIndexed servers links) where
   none_at_all : list_any (λ (link : Link). false) links ≡ false
   none_at_all = any_nowhere (λ (link : Link). false) links (λ i d within. refl)
 
   pub session_nowhere : (id : List ℕ) → ((x : ℕ) → x < length servers → server_at servers x ≢ nas) → find (is_link_of (record { nas = nas; id = id })) (links_seen servers links) ≡ None
   session_nowhere id nowhere =
-      none_seen servers links (is_link_of (record { nas = nas; id = id })) (λ link. false) (λ x within. not_held servers nas id (link_at links x) (placed x within) nowhere) none_at_all
+      none_seen servers links (is_link_of (record { nas = nas; id = id })) (λ link. false) (λ x within. not_held servers nas id (link_at links x) (indexed x within) nowhere) none_at_all
 
   pub taken_nowhere : (class : Option ℕ) → ((x : ℕ) → x < length servers → server_at servers x ≢ nas) → find (can_be_taken nas class) (links_seen servers links) ≡ None
   taken_nowhere class nowhere =
-      none_seen servers links (can_be_taken nas class) (λ link. false) (λ x within. not_taken servers nas class (link_at links x) (placed x within) nowhere) none_at_all
+      none_seen servers links (can_be_taken nas class) (λ link. false) (λ x within. not_taken servers nas class (link_at links x) (indexed x within) nowhere) none_at_all
 
   module _ (index : ℕ) (is : IsIndex servers index) (stands : server_at servers index ≡ nas) where
     same_held : (id : List ℕ) (x : ℕ) → x < length links → is_link_of (record { nas = nas; id = id }) (link_seen servers (link_at links x)) ≡ is_held index id (link_at links x)
-    same_held id x within = held_seen servers nas id index (link_at links x) is stands (placed x within)
+    same_held id x within = held_seen servers nas id index (link_at links x) is stands (indexed x within)
 
     same_taken : (class : Option ℕ) (x : ℕ) → x < length links → can_be_taken nas class (link_seen servers (link_at links x)) ≡ is_for index class (link_at links x)
-    same_taken class x within = taken_seen servers nas class index (link_at links x) is stands (placed x within)
+    same_taken class x within = taken_seen servers nas class index (link_at links x) is stands (indexed x within)
 
     pub session_seen : (id : List ℕ) (at : ℕ) → IsFirst (is_held index id) links at → IsFirst (is_link_of (record { nas = nas; id = id })) (links_seen servers links) at
     session_seen id at first = first_seen servers links (is_link_of (record { nas = nas; id = id })) (is_held index id) (same_held id) at first
