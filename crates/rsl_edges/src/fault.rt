@@ -6,6 +6,7 @@ ghost use Rattle.rsl_edges.specs.declared.fault.ServeFault.TheVariants.{
 
 use rsl_accounts::ConfigFault;
 use rsl_receive::ReceiveFault;
+use rsl_report::{ExitStatus, WriteFault};
 use rsl_service::{CloseFault, PassFault};
 use rsl_wire::NoMemory;
 use std::alloc::{AllocError, AllocFailed};
@@ -40,13 +41,15 @@ impl ServeFault {
     ghost use Rattle.rsl_edges.specs.Fault.{status_of};
 
     /// The status with which the process ends.
-    pub fn status(self) -> u8
+    pub fn status(self) -> ExitStatus
         ensures { result ≡ status_of self }
     {
         match self {
-            ServeFault::Usage | ServeFault::Unreadable | ServeFault::Config(_) => 1,
-            ServeFault::InputOutput => 2,
-            ServeFault::NoMemory => 3,
+            ServeFault::Usage | ServeFault::Unreadable | ServeFault::Config(_) => {
+                ExitStatus::WrongInput
+            }
+            ServeFault::InputOutput => ExitStatus::InputOutput,
+            ServeFault::NoMemory => ExitStatus::NoMemory,
         }
     }
 }
@@ -92,6 +95,14 @@ impl From<io::Error> for ServeFault {
     ghost from_gives = { λ _ fault. fault ≡ InputOutput };
 
     fn from(_failed: io::Error) -> ServeFault {
+        ServeFault::InputOutput
+    }
+}
+
+impl From<WriteFault> for ServeFault {
+    ghost from_gives = { λ _ fault. fault ≡ InputOutput };
+
+    fn from(_failed: WriteFault) -> ServeFault {
         ServeFault::InputOutput
     }
 }
