@@ -1,6 +1,6 @@
 -- Why a server has not started, or has not ended well.
-use Rattle.rsl_accounts.specs.declared.fault.ConfigFault.{ConfigFault}
-use Rattle.rsl_accounts.specs.declared.fault.ConfigFault.TheVariants.{NoMemory as config_no_memory}
+use Rattle.rsl_accounts.specs.declared.file_fault.FileFault.{FileFault}
+use Rattle.rsl_accounts.specs.declared.file_fault.FileFault.TheVariants.{Unreadable as file_unreadable, TooLong as file_too_long, Config as file_config, NoMemory as file_no_memory}
 use Rattle.rsl_receive.specs.declared.fault.ReceiveFault.{ReceiveFault}
 use Rattle.rsl_receive.specs.declared.fault.ReceiveFault.TheVariants.{NoMemory as receive_no_memory}
 use Rattle.rsl_report.specs.declared.exit_status.ExitStatus.{ExitStatus}
@@ -12,13 +12,15 @@ use Rattle.rsl_settle.specs.declared.close_fault.CloseFault.TheVariants.{NoMemor
 use Rattle.rsl_edges.specs.declared.fault.ServeFault.{ServeFault}
 use Rattle.rsl_edges.specs.declared.fault.ServeFault.TheVariants.{Usage, Unreadable, Config, InputOutput, NoMemory}
 
--- want of memory is named as such, and every other fault is the account file's
-abbrev pub fault_of_config : ConfigFault → ServeFault
-fault_of_config config_no_memory = NoMemory
-fault_of_config fault = Config fault
+-- a file that is too long is given as one that can't be read
+abbrev pub fault_of_file : FileFault → ServeFault
+fault_of_file file_unreadable = Unreadable
+fault_of_file file_too_long = Unreadable
+fault_of_file (file_config fault) = Config fault
+fault_of_file file_no_memory = NoMemory
 
--- so it is of a pass, a receiver and the closing of a service; what else ends these is input or
--- output
+-- of a pass, a receiver and the closing of a service, refused memory is named as such; what else
+-- ends these is input or output
 abbrev pub fault_of_pass : PassFault → ServeFault
 fault_of_pass pass_no_memory = NoMemory
 fault_of_pass fault = InputOutput

@@ -4,7 +4,7 @@ ghost use Rattle.rsl_edges.specs.declared.fault.ServeFault.TheVariants.{
   NoMemory as no_memory,
 };
 
-use rsl_accounts::ConfigFault;
+use rsl_accounts::{ConfigFault, FileFault};
 use rsl_receive::ReceiveFault;
 use rsl_report::{ExitStatus, WriteFault};
 use rsl_service::{CloseFault, PassFault};
@@ -54,15 +54,16 @@ impl ServeFault {
     }
 }
 
-impl From<ConfigFault> for ServeFault {
-    ghost use Rattle.rsl_edges.specs.Fault.{fault_of_config};
+impl From<FileFault> for ServeFault {
+    ghost use Rattle.rsl_edges.specs.Fault.{fault_of_file};
 
-    ghost from_gives = { λ fault made. made ≡ fault_of_config fault };
+    ghost from_gives = { λ fault made. made ≡ fault_of_file fault };
 
-    fn from(fault: ConfigFault) -> ServeFault {
+    fn from(fault: FileFault) -> ServeFault {
         match fault {
-            ConfigFault::NoMemory => ServeFault::NoMemory,
-            _ => ServeFault::Config(fault),
+            FileFault::Unreadable | FileFault::TooLong => ServeFault::Unreadable,
+            FileFault::Config(fault) => ServeFault::Config(fault),
+            FileFault::NoMemory => ServeFault::NoMemory,
         }
     }
 }

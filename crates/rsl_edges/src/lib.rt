@@ -9,13 +9,11 @@
 #![tactic(auto)]
 
 mod fault;
-mod file;
 mod output;
 mod plan;
 mod port;
 
 pub use fault::ServeFault;
-pub use file::config_of_file;
 pub use output::counts_of;
 pub use plan::Plan;
 pub use port::UdpPort;

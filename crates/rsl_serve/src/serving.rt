@@ -6,7 +6,8 @@ ghost use Rattle.rsl_serve.specs.Served.{IsServed};
 
 use crate::running::{Sockets, run};
 use crate::worker::Span;
-use rsl_edges::{Plan, ServeFault, UdpPort, config_of_file};
+use rsl_accounts::Config;
+use rsl_edges::{Plan, ServeFault, UdpPort};
 use rsl_report::Output;
 use rsl_service::Blanks;
 use std::alloc::Global;
@@ -58,7 +59,7 @@ where
         Err(error) if error.kind() == ErrorKind::OutOfMemory => return Err(ServeFault::NoMemory),
         Err(_) => return Err(ServeFault::Usage),
     };
-    let config = config_of_file(rt, alloc, file.as_str())?;
+    let config = Config::read_file(rt, alloc, file.as_str())?;
     let sockets = Sockets {
         auth: UdpPort::bind(rt, plan.address, plan.auth)?,
         acct: UdpPort::bind(rt, plan.address, plan.acct)?,
