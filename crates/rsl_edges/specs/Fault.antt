@@ -7,8 +7,8 @@ use Rattle.rsl_report.specs.declared.exit_status.ExitStatus.{ExitStatus}
 use Rattle.rsl_report.specs.declared.exit_status.ExitStatus.TheVariants.{WrongInput, InputOutput as input_output_status, NoMemory as no_memory_status}
 use Rattle.rsl_service.specs.declared.fault.PassFault.{PassFault}
 use Rattle.rsl_service.specs.declared.fault.PassFault.TheVariants.{NoMemory as pass_no_memory}
-use Rattle.rsl_settle.specs.declared.close_fault.CloseFault.{CloseFault}
-use Rattle.rsl_settle.specs.declared.close_fault.CloseFault.TheVariants.{NoMemory as close_no_memory}
+use Rattle.rsl_record.specs.declared.close_fault.CloseFault.{CloseFault}
+use Rattle.rsl_record.specs.declared.close_fault.CloseFault.TheVariants.{NoMemory as close_no_memory}
 use Rattle.rsl_edges.specs.declared.fault.ServeFault.{ServeFault}
 use Rattle.rsl_edges.specs.declared.fault.ServeFault.TheVariants.{Usage, Unreadable, Config, InputOutput, NoMemory}
 
