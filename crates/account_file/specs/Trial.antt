@@ -1,29 +1,31 @@
 -- What is said of an account file, and the exit status that it gives.
-use Rattle.std.specs.Prelude.{ℕ, List, ◌++◌, length, codes, Result, Ok, Err}
+use Rattle.std.specs.Prelude.{◌≡◌, ℕ, List, ◌++◌, length, codes, Result, Ok, Err}
 use Rattle.std.specs.Fmt.{decimal}
 use Rattle.rsl_accounts.specs.Configuration.{Configuration}
-use Rattle.rsl_accounts.specs.File.{configuration_of_text}
-use Rattle.rsl_accounts.specs.declared.fault.ConfigFault.{ConfigFault}
+use Rattle.rsl_accounts.specs.FileRead.{IsFileRead}
+use Rattle.rsl_accounts.specs.declared.file_fault.FileFault.{FileFault}
+use Rattle.rsl_accounts.specs.declared.file_fault.FileFault.TheVariants.{NoMemory}
+use Rattle.rsl_report.specs.declared.exit_status.ExitStatus.{ExitStatus}
+use Rattle.rsl_report.specs.declared.exit_status.ExitStatus.TheVariants.{WrongInput, NoMemory as no_memory_status}
 use Rattle.account_file.specs.declared.trial.Counts.{Counts}
-use Rattle.account_file.specs.declared.trial.Problem.{Problem}
-use Rattle.account_file.specs.declared.trial.Problem.TheVariants.{NoMemory}
 
 -- what is in a configuration
-abbrev pub counts_in : Result Configuration ConfigFault → Result Counts ConfigFault
-counts_in (Ok config) =
-    Ok (record { clients = length config.clients; accounts = length config.accounts })
-counts_in (Err fault) = Err fault
+abbrev pub counts_in : Configuration → Counts
+counts_in config =
+    record { clients = length config.clients; accounts = length config.accounts }
 
 -- what is said of a file that is right
 abbrev pub counts_text : Counts → List ℕ
 counts_text counts =
     codes "clients " ++ decimal counts.clients ++ codes " accounts " ++ decimal counts.accounts
 
--- what is in the text of an account file, or what is wrong with it
-unfoldable pub counts_of_text : (text : List ℕ) → Result Counts ConfigFault
-counts_of_text text = counts_in (configuration_of_text text)
+-- what is found of the octets of a file: what is in their configuration, or the fault of reading it
+abbrev pub IsTrial : (text : List ℕ) → Result Counts FileFault → Type 0
+IsTrial text (Ok counts) =
+    (config : Configuration) × IsFileRead text (Ok config) × (counts ≡ counts_in config)
+IsTrial text (Err fault) = IsFileRead text (Err fault)
 
--- the status where a file has the problem: 3 for want of memory, else 1
-abbrev pub status_of_problem : Problem → ℕ
-status_of_problem NoMemory = 3
-status_of_problem problem = 1
+-- the status of a process that found the fault: it is the file's, unless memory was refused
+abbrev pub status_of : FileFault → ExitStatus
+status_of NoMemory = no_memory_status
+status_of fault = WrongInput

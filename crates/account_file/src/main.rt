@@ -3,36 +3,38 @@
 //! Without a FILE it reads standard input alone, and says on standard error what is wrong.
 //!
 //! It tries a file before a server is started with it; `bench/accounts` times with it how reading
-//! grows. What is right and what is wrong is the business of `Config::read`.
+//! grows. What is right and what is wrong is the business of `Config::read_file`.
 #![tactic(auto)]
 
 mod trial;
 
+use rsl_accounts::FileFault;
+use rsl_report::ExitStatus;
 use std::alloc::Global;
 use std::env::Args;
 use std::io::ErrorKind;
 use std::process::ExitCode;
 use std::{env, io};
-use trial::{NO_OUTPUT, Problem, trial, trial_of_file};
+use trial::{status, trial, trial_of_file};
 
 fn main(rt: HostRuntime) -> ExitCode {
     let mut words = match env::args(&rt) {
         Ok(words) => words,
         Err(error) if error.kind() == ErrorKind::OutOfMemory => {
-            return refused(&rt, Problem::NoMemory);
+            return refused(&rt, FileFault::NoMemory);
         }
-        Err(_) => return refused(&rt, Problem::Unreadable),
+        Err(_) => return refused(&rt, FileFault::Unreadable),
     };
     let _ = words.next();
     match trials(&rt, words) {
-        Ok(Some(status)) => ExitCode::from(status),
+        Ok(Some(number)) => ExitCode::from(number),
         Ok(None) => stdin_tried(&rt),
-        Err(_) => ExitCode::from(NO_OUTPUT),
+        Err(_) => ExitCode::from(ExitStatus::InputOutput.number()),
     }
 }
 
-/// Tries each file and says what it found, in a line. The status is the greatest of theirs; there
-/// is none where there is no file.
+/// Tries each file and says what it found, in a line. The number is the greatest of their exit
+/// statuses; there is none where there is no file.
 fn trials(rt: &HostRuntime, files: Args<Global>) -> io::Result<Option<u8>> {
     let mut greatest = None;
     for file in files {
@@ -41,17 +43,17 @@ fn trials(rt: &HostRuntime, files: Args<Global>) -> io::Result<Option<u8>> {
         } else {
             trial_of_file(rt, rt.alloc(), file.as_str())
         };
-        let status = match tried {
+        let number = match tried {
             Ok(counts) => {
                 println!(rt; "{file}: {counts}")?;
-                0
+                ExitStatus::Done.number()
             }
-            Err(problem) => {
-                println!(rt; "{file}: {problem}")?;
-                problem.status()
+            Err(fault) => {
+                println!(rt; "{file}: {fault}")?;
+                status(fault).number()
             }
         };
-        greatest = Some(greatest.unwrap_or(0).max(status));
+        greatest = Some(greatest.unwrap_or(0).max(number));
     }
     Ok(greatest)
 }
@@ -62,14 +64,14 @@ fn stdin_tried(rt: &HostRuntime) -> ExitCode {
     match trial(rt.alloc(), rt.stdin()) {
         Ok(counts) => match println!(rt; "{counts}") {
             Ok(()) => ExitCode::SUCCESS,
-            Err(_) => ExitCode::from(NO_OUTPUT),
+            Err(_) => ExitCode::from(ExitStatus::InputOutput.number()),
         },
-        Err(problem) => refused(rt, problem),
+        Err(fault) => refused(rt, fault),
     }
 }
 
 /// Says on standard error what is wrong, and gives its status.
-fn refused(rt: &HostRuntime, problem: Problem) -> ExitCode {
-    let _ = eprintln!(rt; "{problem}");
-    ExitCode::from(problem.status())
+fn refused(rt: &HostRuntime, fault: FileFault) -> ExitCode {
+    let _ = eprintln!(rt; "{fault}");
+    ExitCode::from(status(fault).number())
 }

@@ -58,7 +58,7 @@ fn main(rt: HostRuntime) -> ExitCode {
         Ok(()) => ExitCode::SUCCESS,
         Err(stop) => {
             let _ = eprintln!(rt; "{stop}");
-            ExitCode::from(stop.status())
+            ExitCode::from(stop.status().number())
         }
     }
 }

@@ -1,5 +1,6 @@
 use rsl_accounts::ConfigFault;
 use rsl_receive::ReceiveFault;
+use rsl_report::ExitStatus;
 use rsl_script::ScriptFault;
 use rsl_wire::NoMemory;
 use std::alloc::{AllocError, AllocFailed};
@@ -28,11 +29,11 @@ pub(crate) enum Stop {
 
 impl Stop {
     /// The status with which the process ends.
-    pub(crate) fn status(self) -> u8 {
+    pub(crate) fn status(self) -> ExitStatus {
         match self {
-            Stop::Usage | Stop::Script(_) | Stop::Config(_) => 1,
-            Stop::InputOutput => 2,
-            Stop::NoMemory => 3,
+            Stop::Usage | Stop::Script(_) | Stop::Config(_) => ExitStatus::WrongInput,
+            Stop::InputOutput => ExitStatus::InputOutput,
+            Stop::NoMemory => ExitStatus::NoMemory,
         }
     }
 }

@@ -27,12 +27,12 @@ mod work;
 
 use events::Size;
 use record::record_of;
-use rsl_accounts::{Config, MAX_FILE_LEN};
+use rsl_accounts::Config;
 use rsl_report::audit;
 use rsl_wire::NoMemory;
 use std::alloc::Global;
 use std::env::Args;
-use std::io::{ErrorKind, Read};
+use std::io::ErrorKind;
 use std::process::ExitCode;
 use std::{env, io};
 
@@ -116,9 +116,7 @@ fn number_of(words: &mut Args<Global>) -> io::Result<u64> {
 
 /// The configuration that standard input has.
 fn config_of(rt: &HostRuntime) -> io::Result<Config> {
-    let mut text = Vec::new(rt.alloc());
-    rt.stdin().take(MAX_FILE_LEN).read_to_end(&mut text)?;
-    match Config::read(rt.alloc(), text.as_slice()) {
+    match Config::read_from(rt.alloc(), rt.stdin()) {
         Ok(config) => Ok(config),
         Err(_) => Err(io::Error::other("a bad account file")),
     }

@@ -5,6 +5,7 @@ pub mod Made
 pub mod Within
 pub mod Addresses
 pub mod Values
+pub mod FileReads
 pub mod Files
 pub mod Parts
 pub mod Memory

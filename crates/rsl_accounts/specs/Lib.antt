@@ -9,3 +9,4 @@ pub mod Keys
 pub mod TextSeen
 pub mod ConfigSeen
 pub mod File
+pub mod FileRead

@@ -22,12 +22,6 @@ use crate::table::{address, number, own_time, short_number, signed, text};
 use std::alloc::Global;
 use toml::Value;
 
-/// The most octets of an account file, for who reads one from outside.
-pub const MAX_FILE_LEN: u64 = 16_777_216;
-
-// The number that the definitions of the programs have.
-const _: () = prove!(MAX_FILE_LEN == 16777216);
-
 /// The table that the text is.
 pub(crate) fn parse(alloc: Global, text: &[u8]) -> Result<Value, ConfigFault>
     ensures ok { IfOk result (λ file. file_of text.now ≡ Some (view file)) }

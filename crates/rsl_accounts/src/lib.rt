@@ -4,7 +4,8 @@
 //! A `Config` is read from an account file by `Config::read`, or made from its parts by
 //! `Config::make`. Each answers exactly what its definition says, `configuration_of_text` of
 //! `specs/File.antt` and `configuration_of` of `specs/Configuration.antt`, or that memory was
-//! refused. Every `Config` is within the limits of `specs/Limits.antt`. The order of the checks
+//! refused. `Config::read_file` reads one from a file
+//! (`specs/FileRead.antt`). Every `Config` is within the limits of `specs/Limits.antt`. The order of the checks
 //! stands in `specs/Walk.antt` and, for a file, in `specs/File.antt`, and the values that a field may
 //! have in `specs/Field.antt`.
 #![tactic(auto)]
@@ -16,6 +17,8 @@ mod entry;
 mod fault;
 mod field;
 mod file;
+mod file_fault;
+mod file_reader;
 mod rules;
 mod secret;
 mod settings;
@@ -30,7 +33,7 @@ pub use config::Config;
 pub use entry::Entry;
 pub use fault::ConfigFault;
 pub use field::Field;
-pub use file::MAX_FILE_LEN;
+pub use file_fault::FileFault;
 pub use rules::Rules;
 pub use secret::Secret;
 pub use settings::Settings;

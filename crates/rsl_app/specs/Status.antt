@@ -1,5 +1,7 @@
 -- The exit status of the program, and what its faults say.
 use Rattle.std.specs.Prelude.{ℕ, ⊤, List, Result, Ok, Err}
+use Rattle.rsl_report.specs.declared.exit_status.ExitStatus.{ExitStatus}
+use Rattle.rsl_report.specs.declared.exit_status.ExitStatus.TheVariants.{Done, WrongInput}
 use Rattle.rsl_app.specs.declared.fault.Fault.{Fault}
 use Rattle.rsl_app.specs.declared.fault.Fault.TheVariants.{Usage, Replay, Serve}
 use Rattle.rsl_replay.specs.Fault.{status_of}
@@ -13,15 +15,15 @@ abbrev pub fault_of_server : ServeFault → Fault
 fault_of_server server_usage = Usage
 fault_of_server fault = Serve fault
 
--- 1 where the arguments are wrong; else the status of the replay's fault, or of the server's
-abbrev pub fault_status : Fault → ℕ
-fault_status Usage = 1
+-- wrong arguments are wrong input; else it is the status of the replay's fault, or of the server's
+abbrev pub fault_status : Fault → ExitStatus
+fault_status Usage = WrongInput
 fault_status (Replay fault) = status_of fault
 fault_status (Serve fault) = status_of_server fault
 
 -- the status of a process whose work came to this
-abbrev pub status_after : {T : Type 0} → Result T Fault → ℕ
-status_after (Ok value) = 0
+abbrev pub status_after : {T : Type 0} → Result T Fault → ExitStatus
+status_after (Ok value) = Done
 status_after (Err fault) = fault_status fault
 
 -- a fault of the script that was read is there; wrong arguments are no fault of a script, nor is

@@ -1,5 +1,6 @@
 use rsl_edges::ServeFault;
 use rsl_replay::ReplayFault;
+use rsl_report::ExitStatus;
 use thiserror::Error;
 
 /// Why the program does not end well. It prints as the line for standard error.
@@ -22,11 +23,11 @@ impl Fault {
     ghost use Rattle.rsl_app.specs.Status.{fault_status};
 
     /// The status with which the process ends.
-    pub(crate) fn status(self) -> u8
+    pub(crate) fn status(self) -> ExitStatus
         ensures { result ≡ fault_status self }
     {
         match self {
-            Fault::Usage => 1,
+            Fault::Usage => ExitStatus::WrongInput,
             Fault::Replay(fault) => fault.status(),
             Fault::Serve(fault) => fault.status(),
         }

@@ -1,8 +1,7 @@
--- What a server prints once it has ended well.
-use Rattle.std.specs.Prelude.{ℕ, List, [], ◌∷◌, ◌++◌, codes, string_bytes}
+-- What a server prints of its receivers once it has ended well.
+use Rattle.std.specs.Prelude.{ℕ, List, [], ◌∷◌, ◌++◌, codes}
 use Rattle.std.specs.Fmt.{decimal}
 use Rattle.rsl_receive.specs.declared.counts.Counts.{Counts}
-use Rattle.rsl_edges.specs.declared.output.Output.{Output}
 
 -- a word and a number, after a space each
 abbrev pub counted : (word : List ℕ) → (number : ℕ) → List ℕ
@@ -18,7 +17,3 @@ counts_line port counts =
     ++ counted (codes "refused") counts.refused
     ++ counted (codes "unsent") counts.unsent
     ++ 10 ∷ []
-
--- the octets that are printed: a line for each receiver, and then the report
-abbrev pub output_octets : Output → List ℕ
-output_octets output = string_bytes output.lines ++ output.report.items

@@ -4,8 +4,9 @@ ghost use Rattle.rsl_edges.specs.declared.fault.ServeFault.TheVariants.{
   NoMemory as no_memory,
 };
 
-use rsl_accounts::ConfigFault;
+use rsl_accounts::{ConfigFault, FileFault};
 use rsl_receive::ReceiveFault;
+use rsl_report::{ExitStatus, WriteFault};
 use rsl_service::{CloseFault, PassFault};
 use rsl_wire::NoMemory;
 use std::alloc::{AllocError, AllocFailed};
@@ -40,26 +41,29 @@ impl ServeFault {
     ghost use Rattle.rsl_edges.specs.Fault.{status_of};
 
     /// The status with which the process ends.
-    pub fn status(self) -> u8
+    pub fn status(self) -> ExitStatus
         ensures { result ≡ status_of self }
     {
         match self {
-            ServeFault::Usage | ServeFault::Unreadable | ServeFault::Config(_) => 1,
-            ServeFault::InputOutput => 2,
-            ServeFault::NoMemory => 3,
+            ServeFault::Usage | ServeFault::Unreadable | ServeFault::Config(_) => {
+                ExitStatus::WrongInput
+            }
+            ServeFault::InputOutput => ExitStatus::InputOutput,
+            ServeFault::NoMemory => ExitStatus::NoMemory,
         }
     }
 }
 
-impl From<ConfigFault> for ServeFault {
-    ghost use Rattle.rsl_edges.specs.Fault.{fault_of_config};
+impl From<FileFault> for ServeFault {
+    ghost use Rattle.rsl_edges.specs.Fault.{fault_of_file};
 
-    ghost from_gives = { λ fault made. made ≡ fault_of_config fault };
+    ghost from_gives = { λ fault made. made ≡ fault_of_file fault };
 
-    fn from(fault: ConfigFault) -> ServeFault {
+    fn from(fault: FileFault) -> ServeFault {
         match fault {
-            ConfigFault::NoMemory => ServeFault::NoMemory,
-            _ => ServeFault::Config(fault),
+            FileFault::Unreadable | FileFault::TooLong => ServeFault::Unreadable,
+            FileFault::Config(fault) => ServeFault::Config(fault),
+            FileFault::NoMemory => ServeFault::NoMemory,
         }
     }
 }
@@ -92,6 +96,14 @@ impl From<io::Error> for ServeFault {
     ghost from_gives = { λ _ fault. fault ≡ InputOutput };
 
     fn from(_failed: io::Error) -> ServeFault {
+        ServeFault::InputOutput
+    }
+}
+
+impl From<WriteFault> for ServeFault {
+    ghost from_gives = { λ _ fault. fault ≡ InputOutput };
+
+    fn from(_failed: WriteFault) -> ServeFault {
         ServeFault::InputOutput
     }
 }

@@ -1,21 +1,19 @@
-//! The edges of a running server: what its arguments ask for, its account file, its sockets, what it
-//! prints at its end, and with which status each fault ends.
+//! The edges of a running server: what its arguments ask for, its account file, its sockets, what its
+//! receivers did, and with which status each fault ends.
 //!
 //! They are apart from `rsl_serve`, whose threads need them, since each of them is a matter of
 //! values alone.
 //!
 //! The promise: what the arguments ask for is exactly `specs/Plan.antt`, what is printed
-//! `specs/Output.antt`, and the status `specs/Fault.antt`.
+//! of the receivers `specs/Output.antt`, and the status `specs/Fault.antt`.
 #![tactic(auto)]
 
 mod fault;
-mod file;
 mod output;
 mod plan;
 mod port;
 
 pub use fault::ServeFault;
-pub use file::config_of_file;
-pub use output::{Output, counts_of, table_of, write_output};
+pub use output::counts_of;
 pub use plan::Plan;
 pub use port::UdpPort;

@@ -10,7 +10,7 @@ use Rattle.rsl_event.specs.declared.meaning.Meaning.TheVariants.{Bare, Own, Reje
 use Rattle.rsl_event.specs.declared.meaning.Port.{Port}
 use Rattle.rsl_service.specs.Receipts.{AreNoted}
 use Rattle.rsl_service.specs.Service.{ServiceSeen}
-use Rattle.rsl_settle.specs.declared.receipt.Receipt.{Receipt}
+use Rattle.rsl_record.specs.declared.receipt.Receipt.{Receipt}
 use Rattle.rsl_receive.specs.Served.{HasStopped, IsRefused}
 use Rattle.rsl_receive.specs.Told.{datagram_of}
 

@@ -3,7 +3,7 @@ use Rattle.std.proofs.Common.{◌≡◌, ℕ, ◌+◌, List, [], ◌∷◌, ◌+
 use Rattle.std.proofs.lemmas.List.{append_assoc}
 use Rattle.rsl_event.specs.declared.meaning.Port.{Port}
 use Rattle.rsl_service.specs.Service.{ServiceSeen}
-use Rattle.rsl_settle.specs.declared.receipt.Receipt.{Receipt}
+use Rattle.rsl_record.specs.declared.receipt.Receipt.{Receipt}
 use Rattle.rsl_receive.specs.Counted.{no_counts}
 use Rattle.rsl_receive.specs.Served.{HasServed, Served, State, NoneYet, ThenDropped, ThenRefused, ThenAnswered}
 use Rattle.rsl_receive.specs.Turned.{HasTurned, TookAnswered, TookNone, counted}

@@ -12,7 +12,7 @@ use Rattle.rsl_event.specs.declared.meaning.Port.{Port}
 use Rattle.rsl_service.specs.Applied.{HasDecided}
 use Rattle.rsl_service.specs.Receipts.{AreNoted}
 use Rattle.rsl_service.specs.Service.{ServiceSeen}
-use Rattle.rsl_settle.specs.declared.receipt.Receipt.{Receipt}
+use Rattle.rsl_record.specs.declared.receipt.Receipt.{Receipt}
 use Rattle.rsl_shard.specs.declared.moved.Move.TheVariants as moves
 use Rattle.rsl_wire.specs.Packet.{Fields, packet_of}
 use Rattle.rsl_receive.specs.declared.counts.Counts.{Counts}

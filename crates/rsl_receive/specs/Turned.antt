@@ -2,7 +2,7 @@
 use Rattle.std.specs.Prelude.{◌≡◌, ℕ, ◌+◌, Bool, true, false, List, [], ◌∷◌, ◌++◌}
 use Rattle.rsl_event.specs.declared.meaning.Port.{Port}
 use Rattle.rsl_service.specs.Service.{ServiceSeen}
-use Rattle.rsl_settle.specs.declared.receipt.Receipt.{Receipt}
+use Rattle.rsl_record.specs.declared.receipt.Receipt.{Receipt}
 use Rattle.rsl_receive.specs.Counted.{IsCalled}
 use Rattle.rsl_receive.specs.Served.{IsAnsweredBy, IsDropped, IsRefused, State}
 use Rattle.rsl_receive.specs.declared.counts.Counts.{Counts}

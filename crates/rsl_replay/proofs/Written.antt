@@ -1,6 +1,5 @@
--- Faults of reading, and what a writer holds.
-use Rattle.std.proofs.Common.{◌≡◌, ℕ, ◌<◌, List, length, Option, Some, None, IfSome, refl, ◌∙◌}
-use Rattle.std.specs.Io.KnownBytes.{Appends, Keeps}
+-- Faults of reading.
+use Rattle.std.proofs.Common.{◌≡◌, ℕ, ◌<◌, List, length, Option, Some, None, IfSome, refl}
 use Rattle.rsl_replay.specs.Fault.{IsReadFault}
 use Rattle.rsl_replay.specs.Replay.{IsFaultOf, most_octets}
 use Rattle.rsl_replay.specs.declared.fault.ReplayFault.{ReplayFault}
@@ -14,10 +13,3 @@ read_fault (Some text) TooLong is over = over refl
 read_fault (Some text) (Config fault) is over = absurd is
 read_fault (Some text) InputOutput is over = tt
 read_fault (Some text) NoMemory is over = tt
-
--- what was written is still there once it was passed on
-pub flushed : (old new held : Option (List ℕ)) (octets : List ℕ) → Appends old new octets → Keeps new held → Appends old held octets
-flushed None new held octets written kept = tt
-flushed (Some xs) None held octets written kept = absurd written
-flushed (Some xs) (Some ys) None octets written kept = absurd kept
-flushed (Some xs) (Some ys) (Some zs) octets written kept = kept ∙ written

@@ -1,7 +1,9 @@
 -- Why a script is not replayed.
-use Rattle.std.specs.Prelude.{ℕ, ⊤}
+use Rattle.std.specs.Prelude.{⊤}
 use Rattle.rsl_accounts.specs.declared.fault.ConfigFault.{ConfigFault}
 use Rattle.rsl_accounts.specs.declared.fault.ConfigFault.TheVariants.{NoMemory as config_no_memory}
+use Rattle.rsl_report.specs.declared.exit_status.ExitStatus.{ExitStatus}
+use Rattle.rsl_report.specs.declared.exit_status.ExitStatus.TheVariants.{WrongInput, InputOutput as input_output_status, NoMemory as no_memory_status}
 use Rattle.rsl_script.specs.declared.fault.ScriptFault.{ScriptFault}
 use Rattle.rsl_script.specs.declared.fault.ScriptFault.TheVariants.{Line as script_line, NoMemory as script_no_memory}
 use Rattle.rsl_replay.specs.declared.fault.ReplayFault.{ReplayFault}
@@ -17,14 +19,13 @@ abbrev pub fault_of_config : ConfigFault → ReplayFault
 fault_of_config config_no_memory = NoMemory
 fault_of_config fault = Config fault
 
--- the status of a process that ends so: 1 where the script is at fault, 2 for input and output, 3
--- for memory
-abbrev pub status_of : ReplayFault → ℕ
-status_of (Line number) = 1
-status_of TooLong = 1
-status_of (Config fault) = 1
-status_of InputOutput = 2
-status_of NoMemory = 3
+-- the status of a process that ends so: the script is its input
+abbrev pub status_of : ReplayFault → ExitStatus
+status_of (Line number) = WrongInput
+status_of TooLong = WrongInput
+status_of (Config fault) = WrongInput
+status_of InputOutput = input_output_status
+status_of NoMemory = no_memory_status
 
 -- a fault of reading the octets of a script, before any line is looked at
 abbrev pub IsReadFault : ReplayFault → Type 0

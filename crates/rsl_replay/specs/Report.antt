@@ -1,9 +1,8 @@
 -- The report that a replay prints: what each account holds after the steps that were taken, by
 -- looking back over the account's own events among them. No book is carried for that.
-use Rattle.std.specs.Prelude.{ℕ, ◌+◌, List, [], ◌∷◌, ◌++◌, string_bytes}
+use Rattle.std.specs.Prelude.{ℕ, ◌+◌, List, [], ◌∷◌}
 use Rattle.rsl_accounts.specs.Configuration.{Configuration}
 use Rattle.rsl_accounts.specs.declared.entry.Entry.{Entry}
-use Rattle.rsl_replay.specs.declared.output.Output.{Output}
 use Rattle.rsl_report.specs.Table.{table}
 use Rattle.rsl_session.specs.BookOf.{book_of}
 use Rattle.rsl_session.specs.Rule.{past_of}
@@ -33,7 +32,3 @@ rows_after config boot before number (entry ∷ entries) =
 -- the report after steps: a row for each account, in the order of their numbers, over all shards
 abbrev pub report_after : Configuration → (boot : ℕ) → (before : List Step) → List ℕ
 report_after config boot before = table config (rows_after config boot before 0 config.accounts)
-
--- the octets of what a replay prints: its lines, and then its report
-abbrev pub output_octets : Output → List ℕ
-output_octets output = string_bytes output.lines ++ table output.config output.rows.items

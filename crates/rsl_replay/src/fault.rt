@@ -5,7 +5,7 @@ ghost use Rattle.rsl_replay.specs.declared.fault.ReplayFault.TheVariants.{
 };
 
 use rsl_accounts::ConfigFault;
-use rsl_report::WriteFault;
+use rsl_report::{ExitStatus, WriteFault};
 use rsl_script::ScriptFault;
 use rsl_wire::NoMemory;
 use std::alloc::AllocError;
@@ -38,13 +38,15 @@ impl ReplayFault {
     ghost use Rattle.rsl_replay.specs.Fault.{status_of};
 
     /// The status with which the process ends.
-    pub fn status(self) -> u8
+    pub fn status(self) -> ExitStatus
         ensures { result ≡ status_of self }
     {
         match self {
-            ReplayFault::Line(_) | ReplayFault::TooLong | ReplayFault::Config(_) => 1,
-            ReplayFault::InputOutput => 2,
-            ReplayFault::NoMemory => 3,
+            ReplayFault::Line(_) | ReplayFault::TooLong | ReplayFault::Config(_) => {
+                ExitStatus::WrongInput
+            }
+            ReplayFault::InputOutput => ExitStatus::InputOutput,
+            ReplayFault::NoMemory => ExitStatus::NoMemory,
         }
     }
 }

@@ -1,20 +1,7 @@
-ghost use Rattle.std.specs.Prelude.{
-  ◌≡◌,
-  ◌≢◌,
-  ◌<◌,
-  ◌≤◌,
-  ℕ,
-  All,
-  List,
-  IfErr,
-  IfOk,
-  IfSome,
-  OnOk,
-  length,
-};
+ghost use Rattle.std.specs.Prelude.{◌≢◌, ◌≤◌, ℕ, List, IfErr, IfOk, IfSome, OnOk, length};
 ghost use Rattle.std.specs.Io.KnownBytes.{Appends, Keeps};
 ghost use Rattle.rsl_replay.specs.Replay.{IsFaultOf, IsReplayed, most_octets};
-ghost use Rattle.rsl_replay.specs.Report.{output_octets};
+ghost use Rattle.rsl_report.specs.Output.{output_octets};
 
 use crate::fault::ReplayFault;
 use crate::input::read_text;
@@ -22,23 +9,14 @@ use crate::lines::lines_of;
 use crate::rows::rows_of;
 use crate::steps::steps_of;
 use rsl_accounts::Config;
-use rsl_report::write_table;
+use rsl_report::{Output, table_of};
 use rsl_script::Script;
-use rsl_shard::Row;
 use rsl_steps::run;
 use std::alloc::Global;
 use std::io::{Read, Write};
 
 /// The boot number of a server that replays a script.
 const BOOT: u64 = 1;
-
-/// What a replay prints: its lines, and the rows of its report.
-#[derive(Drop)]
-struct Output {
-    config: Config,
-    lines: String,
-    rows: Vec<Row>,
-}
 
 /// Reads a script, gives its event lines to the server one after the other, and writes one line for
 /// each; then a report of what each account holds.
@@ -48,7 +26,7 @@ struct Output {
 /// 1,048,576 octets, whichever comes first; `Line` of the first wrong line; `Config` where the
 /// configuration lines are refused; `InputOutput` where a write fails, after which nothing is said
 /// of how much was written. `NoMemory` comes where memory is refused, before the checks that
-/// follow, and for the report's rows before anything is written; a step whose memory is refused is
+/// follow, and for the report before anything is written; a step whose memory is refused is
 /// answered in its own line.
 #[tactic(auto, using(crate::proofs::Written::read_fault))]
 pub fn replay<R: Read, W: Write>(
@@ -70,15 +48,14 @@ pub fn replay<R: Read, W: Write>(
 {
     let text = read_text(alloc, reader)?;
     let output = replay_text(alloc, text.as_slice())?;
-    write_output(writer, &output)
+    output.write(writer)?;
+    Ok(())
 }
 
 /// What is printed for the octets of a script.
 fn replay_text(alloc: Global, text: &[u8]) -> Result<Output, ReplayFault>
     requires { length text.now ≤ most_octets }
     ensures replayed { IfOk result (λ output. IsReplayed text.now (output_octets output)) }
-    ensures rows { IfOk result (λ output.
-        All (λ row. row.account < length output.config.accounts) output.rows.items) }
     ensures fault { IfErr result (λ fault.
         (fault ≢ ReplayFault.InputOutput) × IsFaultOf text.now fault) }
 {
@@ -89,23 +66,6 @@ fn replay_text(alloc: Global, text: &[u8]) -> Result<Output, ReplayFault>
     let ran = run(alloc, &config, BOOT, steps.as_slice())?;
     let lines = lines_of(alloc, &config, lines, ran.answers.as_slice())?;
     let rows = rows_of(alloc, &config, ran.shards.as_slice())?;
-    Ok(Output {
-        config,
-        lines,
-        rows,
-    })
-}
-
-/// Writes the lines and the report, and has the writer pass them on.
-fn write_output<W: Write>(writer: &mut W, output: &Output) -> Result<(), ReplayFault>
-    requires { All (λ row. row.account < length output.now.config.accounts)
-        output.now.rows.items }
-    ensures written { OnOk result
-        (Appends (W.contents writer.old) (W.contents writer.new) (output_octets output.now)) }
-    ensures fault { IfErr result (λ fault. fault ≡ ReplayFault.InputOutput) }
-{
-    writer.write_all(output.lines.as_bytes())?;
-    write_table(&output.config, output.rows.as_slice(), writer)?;
-    writer.flush()?;
-    Ok(())
+    let report = table_of(alloc, &config, rows.as_slice())?;
+    Ok(Output { lines, report })
 }

@@ -1,3 +1,1 @@
-pub mod AuditLaws
 pub mod TableLaws
-pub mod Walking

@@ -1,4 +1,3 @@
-pub mod Audit
-pub mod Restep
+pub mod ExitStatus
+pub mod Output
 pub mod Table
-pub mod Walk

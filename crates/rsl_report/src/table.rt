@@ -1,4 +1,4 @@
-ghost use Rattle.std.specs.Prelude.{◌<◌, All, OnOk, decimal, length, map};
+ghost use Rattle.std.specs.Prelude.{◌≡◌, ◌<◌, All, IfOk, OnOk, decimal, length, map};
 ghost use Rattle.std.specs.Io.KnownBytes.{Appends};
 ghost use Rattle.rsl_accounts.specs.Limits.{IsName};
 ghost use Rattle.rsl_report.specs.Table.{column, name_column, line, row_line, table};
@@ -6,6 +6,8 @@ ghost use Rattle.rsl_report.specs.Table.{column, name_column, line, row_line, ta
 use crate::fault::WriteFault;
 use rsl_accounts::Config;
 use rsl_shard::Row;
+use rsl_wire::NoMemory;
+use std::alloc::Global;
 use std::io::Write;
 
 /// The line of titles, with its line feed.
@@ -35,6 +37,19 @@ pub fn write_table<W: Write>(
         write_row(config, row, writer)?;
     }
     Ok(())
+}
+
+/// The octets of a report, as `write_table` writes them. It fails only where memory is refused.
+pub fn table_of(alloc: Global, config: &Config, rows: &[Row]) -> Result<Vec<u8>, NoMemory>
+    requires { All (λ row. row.account < length config.now.accounts) rows.now }
+    ensures { IfOk result (λ octets. octets.items ≡ table config.now rows.now) }
+{
+    let mut octets = Vec::new(alloc);
+    match write_table(config, rows, &mut octets) {
+        Ok(()) => Ok(octets),
+        // A write to a list of octets fails only where memory is refused.
+        Err(WriteFault) => Err(NoMemory),
+    }
 }
 
 /// Writes the line of a row.

@@ -1,15 +1,16 @@
 ghost use Rattle.std.specs.Prelude.{◌≡◌, ℕ, IfOk};
 ghost use Rattle.rsl_receive.specs.Told.{no_numbers};
-ghost use Rattle.rsl_edges.specs.Output.{output_octets};
+ghost use Rattle.rsl_report.specs.Output.{output_octets};
 ghost use Rattle.rsl_serve.specs.Served.{HasReceived, HasReported, IsServed};
 ghost use Rattle.rsl_service.specs.Service.{IsLedgerOf};
 
 use crate::ending::Ending;
 use crate::worker::{Received, Receiver, Shared, Span, received, ticked};
 use rsl_accounts::Config;
-use rsl_edges::{Output, ServeFault, UdpPort, counts_of, table_of};
+use rsl_edges::{ServeFault, UdpPort, counts_of};
 use rsl_event::Port;
 use rsl_receive::Counts;
+use rsl_report::{Output, table_of};
 use rsl_service::{Blanks, Open, Pass, Service, Tally};
 use std::alloc::Global;
 use std::sync::Wait;
@@ -220,7 +221,8 @@ fn report_of<L0: Tally, L1: Tally, L2: Tally, L3: Tally, R: Wait>(
     ensures { IfOk result (λ report. HasReported service.now.config report.items) }
 {
     let rows = service.report(rt, alloc)?;
-    table_of(alloc, service.config(), rows.as_slice())
+    let report = table_of(alloc, service.config(), rows.as_slice())?;
+    Ok(report)
 }
 
 /// What is printed of a service, as it stands, and of its receivers.

@@ -1,12 +1,14 @@
 ghost use Rattle.std.specs.Prelude.{◌≢◌, ℕ, List, IfErr, IfOk, OnOk};
 ghost use Rattle.std.specs.Io.KnownBytes.{Appends, Keeps};
 ghost use Rattle.rsl_accounts.specs.Configuration.{Configuration};
-ghost use Rattle.rsl_edges.specs.Output.{output_octets};
+ghost use Rattle.rsl_report.specs.Output.{output_octets};
 ghost use Rattle.rsl_serve.specs.Served.{IsServed};
 
 use crate::running::{Sockets, run};
 use crate::worker::Span;
-use rsl_edges::{Output, Plan, ServeFault, UdpPort, config_of_file, write_output};
+use rsl_accounts::Config;
+use rsl_edges::{Plan, ServeFault, UdpPort};
+use rsl_report::Output;
 use rsl_service::Blanks;
 use std::alloc::Global;
 use std::env::{self, Args, Env};
@@ -40,7 +42,8 @@ where
         fault ≢ ServeFault.InputOutput → Keeps (W.contents stdout.old) (W.contents stdout.new)) }
 {
     let output = served(rt)?;
-    write_output(stdout, &output)
+    output.write(stdout)?;
+    Ok(())
 }
 
 /// Serves until both receivers have taken their turns, and gives what is then printed.
@@ -56,7 +59,7 @@ where
         Err(error) if error.kind() == ErrorKind::OutOfMemory => return Err(ServeFault::NoMemory),
         Err(_) => return Err(ServeFault::Usage),
     };
-    let config = config_of_file(rt, alloc, file.as_str())?;
+    let config = Config::read_file(rt, alloc, file.as_str())?;
     let sockets = Sockets {
         auth: UdpPort::bind(rt, plan.address, plan.auth)?,
         acct: UdpPort::bind(rt, plan.address, plan.acct)?,

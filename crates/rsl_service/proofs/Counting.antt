@@ -4,7 +4,7 @@ use Rattle.std.specs.Prelude.{◌==◌}
 use Rattle.std.proofs.lemmas.Bool.{eq-eqb, ne_eqb}
 use Rattle.std.proofs.lemmas.List.Sums.{sum_by-append, sum_by-cons}
 use Rattle.rsl_service.specs.Receipts.{count_of}
-use Rattle.rsl_settle.specs.declared.receipt.Receipt.{Receipt}
+use Rattle.rsl_record.specs.declared.receipt.Receipt.{Receipt}
 
 -- the count with one receipt more, by whether it is of the shard
 count_more : (shard : ℕ) (receipts : List Receipt) (more : Receipt) (b : Bool) → (more.shard == shard) ≡ b

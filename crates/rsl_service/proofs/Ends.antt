@@ -8,11 +8,11 @@ use Rattle.std.proofs.lemmas.List.Elements.{filter-append, filter_agree}
 use Rattle.std.proofs.lemmas.List.Sums.{sum_by-cons}
 use Rattle.rsl_accounts.specs.Configuration.{Configuration}
 use Rattle.rsl_book.specs.RuledBook.{RuledBook}
-use Rattle.rsl_settle.specs.Segments.{AllGoOn, HasJoined, of_shard, shard_lines}
-use Rattle.rsl_settle.specs.Settled.{IsCloseFault, IsSettled}
-use Rattle.rsl_settle.specs.declared.close_fault.CloseFault.{CloseFault}
-use Rattle.rsl_settle.specs.declared.close_fault.CloseFault.TheVariants.{MissingPass, MissingSegment, Mismatch, NoMemory}
-use Rattle.rsl_settle.specs.declared.receipt.Receipt.{Receipt}
+use Rattle.rsl_record.specs.Segments.{AllGoOn, HasJoined, of_shard, shard_lines}
+use Rattle.rsl_record.specs.Settled.{IsCloseFault, IsSettled}
+use Rattle.rsl_record.specs.declared.close_fault.CloseFault.{CloseFault}
+use Rattle.rsl_record.specs.declared.close_fault.CloseFault.TheVariants.{MissingPass, MissingSegment, Mismatch, NoMemory}
+use Rattle.rsl_record.specs.declared.receipt.Receipt.{Receipt}
 use Rattle.rsl_shard.specs.Restep.{new_books, restep}
 use Rattle.rsl_shard.specs.Setup.{Setup, setup_of}
 use Rattle.rsl_shard.specs.declared.segment.Segment.{Segment}

@@ -4,7 +4,7 @@ use Rattle.std.specs.List.{sum_by}
 use Rattle.std.proofs.lemmas.List.Sums.{sum_by-append, sum_by-cons}
 use Rattle.rsl_service.specs.Closed.{count_in}
 use Rattle.rsl_service.specs.Receipts.{count_of}
-use Rattle.rsl_settle.specs.declared.receipt.Receipt.{Receipt}
+use Rattle.rsl_record.specs.declared.receipt.Receipt.{Receipt}
 
 -- a pass more has its parts
 pub parts_more : (now new start : ℕ) (all left : List (List Receipt)) (pass : List Receipt) → all ≡ left ++ pass ∷ []

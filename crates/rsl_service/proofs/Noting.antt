@@ -8,7 +8,7 @@ use Rattle.rsl_service.specs.Applied.{IsStopped}
 use Rattle.rsl_service.specs.Receipts.{AreNoted, HasOneMore}
 use Rattle.rsl_service.specs.Service.{ServiceSeen}
 use Rattle.rsl_service.specs.declared.fault.ApplyFault.TheVariants as faults
-use Rattle.rsl_settle.specs.declared.receipt.Receipt.{Receipt}
+use Rattle.rsl_record.specs.declared.receipt.Receipt.{Receipt}
 
 -- before the first shard there is none
 pub none_noted : (moved : Move) (old : List Receipt) → AreNoted 0 moved old old

@@ -16,7 +16,7 @@ use Rattle.rsl_service.specs.declared.fault.ApplyFault.{ApplyFault}
 use Rattle.rsl_service.specs.declared.fault.ApplyFault.TheVariants as faults
 use Rattle.rsl_service.specs.declared.fault.StepFault.{StepFault}
 use Rattle.rsl_service.specs.declared.fault.StepFault.TheVariants as steps
-use Rattle.rsl_settle.specs.declared.receipt.Receipt.{Receipt}
+use Rattle.rsl_record.specs.declared.receipt.Receipt.{Receipt}
 
 -- the word and the octets that answer a datagram on which this was decided
 pub record IsAnswered (service : ServiceSeen) (prepared : Prepared) (decision : Decision)

@@ -6,11 +6,11 @@ use Rattle.std.specs.Prelude.{◌≡◌, ℕ, ◌+◌, ◌<◌, ◌++◌, ⊤, L
 use Rattle.std.specs.List.{sum_by}
 use Rattle.std.specs.List.Sorted.{IsNonDecreasingBy}
 use Rattle.rsl_accounts.specs.Configuration.{Configuration}
-use Rattle.rsl_settle.specs.Segments.{of_shard, shard_lines}
-use Rattle.rsl_settle.specs.Settled.{IsCloseFault, IsSettled}
-use Rattle.rsl_settle.specs.declared.close_fault.CloseFault.{CloseFault}
-use Rattle.rsl_settle.specs.declared.close_fault.CloseFault.TheVariants.{NoMemory}
-use Rattle.rsl_settle.specs.declared.receipt.Receipt.{Receipt}
+use Rattle.rsl_record.specs.Segments.{of_shard, shard_lines}
+use Rattle.rsl_record.specs.Settled.{IsCloseFault, IsSettled}
+use Rattle.rsl_record.specs.declared.close_fault.CloseFault.{CloseFault}
+use Rattle.rsl_record.specs.declared.close_fault.CloseFault.TheVariants.{NoMemory}
+use Rattle.rsl_record.specs.declared.receipt.Receipt.{Receipt}
 use Rattle.rsl_shard.specs.Journal.{IsJournal}
 use Rattle.rsl_shard.specs.Setup.{Setup, setup_of}
 use Rattle.rsl_shard.specs.declared.segment.Segment.{Segment}

@@ -2,7 +2,7 @@
 use Rattle.std.specs.Prelude.{◌≡◌, ℕ, ◌==◌, List, [], ◌∷◌, ◌++◌, zero, suc, count_by}
 use Rattle.rsl_event.specs.declared.event.Decision.{Decision}
 use Rattle.rsl_shard.specs.declared.moved.Move.{Move}
-use Rattle.rsl_settle.specs.declared.receipt.Receipt.{Receipt}
+use Rattle.rsl_record.specs.declared.receipt.Receipt.{Receipt}
 
 -- how many of the receipts are of a shard
 unfoldable pub count_of : (shard : ℕ) → List Receipt → ℕ

@@ -1,7 +1,7 @@
 ghost use Rattle.std.specs.Prelude.{◌≡◌, ◌++◌, ℕ, IfErr, IfOk};
 ghost use Rattle.std.specs.List.Sorted.{IsNonDecreasingBy};
 ghost use Rattle.rsl_service.specs.Closed.{IsClosed, IsUnsettled};
-ghost use Rattle.rsl_settle.specs.Segments.{of_shard};
+ghost use Rattle.rsl_record.specs.Segments.{of_shard};
 
 use crate::ended::Ended;
 use crate::ending::{audit_if_there, end, end_if_there, list};
@@ -10,7 +10,7 @@ use crate::gather::Shares;
 use crate::pass::Pass;
 use crate::service::Service;
 use crate::tally::Tally;
-use rsl_settle::{CloseFault, settle};
+use rsl_record::{CloseFault, settle};
 use rsl_shard::Segment;
 use rsl_wire::NoMemory;
 use std::alloc::Global;

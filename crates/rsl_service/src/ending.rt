@@ -1,6 +1,6 @@
 ghost use Rattle.std.specs.Prelude.{◌≡◌, ◌++◌, IfOk, IfSome, OnOk, Some, is_some};
 ghost use Rattle.std.specs.List.{sum_by};
-ghost use Rattle.rsl_settle.specs.Segments.{of_shard};
+ghost use Rattle.rsl_record.specs.Segments.{of_shard};
 ghost use Rattle.rsl_service.specs.Closed.{IsEnd, lines_to, as_list};
 
 use crate::desk::Desk;

@@ -20,7 +20,7 @@ use crate::fault::StepFault;
 use crate::gate::Gate;
 use crate::tally::Tally;
 use rsl_event::Decision;
-use rsl_settle::Receipt;
+use rsl_record::Receipt;
 use rsl_shard::{Line, Move, Ready, Spare};
 use std::alloc::Global;
 use std::sync::ledger::Share;

@@ -29,6 +29,6 @@ pub use fault::{ApplyFault, CutFault, PassFault};
 pub use gate::{Gate, Open};
 pub use making::Blanks;
 pub use pass::Pass;
-pub use rsl_settle::CloseFault;
+pub use rsl_record::{CloseFault, HasReceipts, Receipt, settle};
 pub use service::Service;
 pub use tally::Tally;

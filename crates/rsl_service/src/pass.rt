@@ -1,7 +1,7 @@
 ghost use Rattle.std.specs.Prelude.{◌≡◌};
 
 use crate::tally::Tally;
-use rsl_settle::{HasReceipts, Receipt};
+use rsl_record::{HasReceipts, Receipt};
 use rsl_shard::Spare;
 use std::marker::Model;
 use std::sync::ledger::Share;
@@ -24,7 +24,7 @@ pub struct Pass<L0: Tally, L1: Tally, L2: Tally, L3: Tally> {
 
 impl<L0: Tally, L1: Tally, L2: Tally, L3: Tally> Model for Pass<L0, L1, L2, L3> {
     ghost use Rattle.std.specs.Prelude.{◌≡◌, List};
-    ghost use Rattle.rsl_settle.specs.declared.receipt.Receipt.{Receipt};
+    ghost use Rattle.rsl_record.specs.declared.receipt.Receipt.{Receipt};
     ghost use Rattle.rsl_service.specs.Receipts.{count_of};
 
     ghost Value = { List Receipt };

@@ -283,7 +283,7 @@ impl Subject for Faults {
             ["NoMemory"] => ReplayFault::NoMemory,
             _ => Err("an unknown fault")?,
         };
-        Ok(format!(in alloc; "{fault}, {}", fault.status())?)
+        Ok(format!(in alloc; "{fault}, {}", fault.status().number())?)
     }
 }
 

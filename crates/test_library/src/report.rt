@@ -3,7 +3,7 @@
 ghost use Rattle.std.specs.Prelude.{IsTrue, All, ◌<◌};
 
 use rsl_accounts::Config;
-use rsl_report::{AuditFault, WriteFault, write_table};
+use rsl_report::{AuditFault, Output, WriteFault, table_of, write_table};
 use rsl_shard::Row;
 use std::alloc::Global;
 use std::io;
@@ -158,6 +158,32 @@ fn fails_at_each_octet<R: AllocGlobal + Abort>(rt: &R, config: &Config) -> Resul
     }
     let (result, _) = write(rt, config, &rows, usize::MAX, whole.len())?;
     assert_eq!(rt; result, Ok(()));
+    Ok(())
+}
+
+#[test]
+fn an_output_is_its_lines_and_then_its_report(rt: HostRuntime) -> Result<(), Fail> {
+    let alloc = rt.alloc();
+    let config = Config::read(alloc, FILE.as_bytes())?;
+    let rows = [RESERVED, EACH];
+    let known = are_below(&rows, config.accounts());
+    assert!(rt; known);
+    let output = Output {
+        lines: String::from_str(alloc, "1 accept\n")?,
+        report: table_of(alloc, &config, &rows)?,
+    };
+    let (_, table) = write(&rt, &config, &rows, usize::MAX, usize::MAX)?;
+    let whole = format!(in alloc; "1 accept\n{}", str::from_utf8(table.as_slice())?)?;
+    for in_all in 0..=whole.len() {
+        let mut writer = Limited {
+            taken: Vec::new(alloc),
+            of_one: 3,
+            in_all,
+        };
+        let result = output.write(&mut writer);
+        assert_eq!(rt; result.is_ok(), in_all == whole.len(), "{in_all}");
+        assert_eq!(rt; writer.taken.as_slice(), &whole.as_bytes()[..in_all]);
+    }
     Ok(())
 }
 

@@ -7,7 +7,7 @@
 
 use crate::records::{config_of, line_of, segment_of};
 use rsl_accounts::Config;
-use rsl_settle::{HasReceipts, Receipt, settle};
+use rsl_record::{HasReceipts, Receipt, settle};
 use rsl_shard::Segment;
 use std::alloc::Global;
 use std::test::Fail;

@@ -57,6 +57,6 @@ pub(crate) fn replayed(alloc: Global, script: &str) -> io::Result<String> {
     };
     match outcome {
         Ok(()) => Ok(String::from_str(alloc, printed)?),
-        Err(fault) => Ok(format!(in alloc; "{printed}{} {fault}\n", fault.status())?),
+        Err(fault) => Ok(format!(in alloc; "{printed}{} {fault}\n", fault.status().number())?),
     }
 }

@@ -18,7 +18,7 @@ impl Subject for Endings {
         };
         let fault = ServeFault::from(fault_of(word)?);
         let mut text = shown(alloc, &fault)?;
-        push_printed(&mut text, &fault.status())?;
+        push_printed(&mut text, &fault.status().number())?;
         Ok(text)
     }
 }

@@ -7,6 +7,7 @@
 use super::{SAMPLE, said};
 use rsl_accounts::{Client, Config, Entry};
 use std::alloc::Global;
+use std::io::{self, ErrorKind, Read};
 use std::test::Fail;
 use test_rows::{Subject, check_rows, printed, replaced, shown};
 
@@ -114,6 +115,65 @@ fn the_first_fault_of_a_file_is_named(rt: HostRuntime) -> Result<(), Fail> {
     let found = said(rt.alloc(), Config::read(rt.alloc(), b"\xff"))?;
     assert_eq!(rt; found.as_str(), "NotToml", "no UTF-8");
     Ok(())
+}
+
+/// A reader that gives a text seven octets at a time. Then it fails, or is at its end.
+#[derive(Drop)]
+struct Sevens<'a> {
+    text: &'a [u8],
+    fails: bool,
+}
+
+impl Read for Sevens<'_> {
+    fn read(&mut self, buf: &mut [u8]) -> io::Result<usize> {
+        if self.text.is_empty() && self.fails {
+            return Err(io::Error::from(ErrorKind::BrokenPipe));
+        }
+        let len = self.text.len().min(7).min(buf.len());
+        let (piece, rest) = self.text.split_at(len);
+        buf[..len].copy_from_slice(piece);
+        self.text = rest;
+        Ok(len)
+    }
+}
+
+/// What comes of a file that a reader gives: `Ok`, or what its fault prints.
+struct ReadRows {
+    fails: bool,
+}
+
+impl Subject for ReadRows {
+    fn found(&self, alloc: Global, fields: &[&str]) -> Result<String, Fail> {
+        let text = file_of(alloc, fields)?;
+        let reader = Sevens {
+            text: text.as_bytes(),
+            fails: self.fails,
+        };
+        match Config::read_from(alloc, reader) {
+            Ok(_) => shown(alloc, &"Ok"),
+            Err(fault) => shown(alloc, &fault),
+        }
+    }
+}
+
+#[test]
+fn a_file_is_read_to_its_end(rt: HostRuntime) -> Result<(), Fail> {
+    let rows = "
+        the sample | Ok
+        no TOML | = | bad file: NotToml
+        nothing | | bad file: Missing version
+        keep | keep_secs = 10 => keep_secs = 61 | bad file: KeepTooLong
+    ";
+    check_rows(&rt, &ReadRows { fails: false }, rows)
+}
+
+#[test]
+fn a_file_whose_read_fails_is_unreadable(rt: HostRuntime) -> Result<(), Fail> {
+    let rows = "
+        the sample | bad file: unreadable
+        no TOML | = | bad file: unreadable
+    ";
+    check_rows(&rt, &ReadRows { fails: true }, rows)
 }
 
 #[test]

@@ -20,6 +20,7 @@ returns-clause-replayed c =
     let after : AreShardsAfter config replay_boot before c.in_ok-ran.ran.shards.items = record { moved = c.in_ok-ran.ensures.shards; books = c.in_ok-ran.ensures.books } in
     let rows = c.in_ok-rows.ensures.rows replay_boot before (subst (AreShardsAfter config replay_boot before) (sym c.as_slice-3.ensures.value) after)
     ∙ ap (λ (given : List Step). rows_after config replay_boot (steps_taken [] given answers) 0 config.accounts) steps in
+    let report = c.in_ok-report.ensures ∙ ap (table config) (c.as_slice-4.ensures.value ∙ rows) in
     let lines = c.in_ok-lines.ensures ∙ (λ k. printed_lines config (events k) (c.as_slice-2.ensures.value k)) in
     record {
       script = contents c.in_ok-script.script;
@@ -29,5 +30,5 @@ returns-clause-replayed c =
       read = c.in_ok-script.ensures.script;
       made = c.in_ok-config.ensures.ok;
       answered = subst (λ (given : List Step). AreAnswers config replay_boot [] given answers) steps c.in_ok-ran.ensures.answers;
-      lines_and_report = λ k. lines k ++ table config (rows k);
+      lines_and_report = λ k. lines k ++ report k;
     }

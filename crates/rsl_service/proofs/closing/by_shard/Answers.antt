@@ -1,6 +1,6 @@
 use Rattle.std.proofs.Common.{rules, ap, ◌∙◌}
 use Rattle.std.proofs.lemmas.List.Sorted.{IsNonDecreasingBy-from_sort_by_key, answers_always}
-use Rattle.rsl_settle.specs.Segments.{of_shard}
+use Rattle.rsl_record.specs.Segments.{of_shard}
 use Rattle.rsl_service.proofs.Ends.{sorted_same}
 use Rattle.rsl_service.proofs.closing.by_shard.Goals as goal
 

@@ -1,7 +1,7 @@
 use Rattle.std.proofs.Common.{◌≡◌, ◌++◌, arith, subst}
 use Rattle.std.proofs.lemmas.Result.{err_from_is_err_and}
 use Rattle.rsl_accounts.specs.Configuration.{Configuration}
-use Rattle.rsl_settle.specs.Settled.{IsSettled}
+use Rattle.rsl_record.specs.Settled.{IsSettled}
 use Rattle.rsl_service.specs.Closed.{IsClosed, IsUnsettled, count_in, end_of}
 use Rattle.rsl_service.proofs.Ends.{all_counted, closes, same_total, seen_settled, unsettled}
 use Rattle.rsl_service.proofs.ended.Ended.close.Goals as goal

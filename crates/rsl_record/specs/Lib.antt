@@ -1,0 +1,9 @@
+pub mod Audit
+pub mod Chain
+pub mod Faults
+pub mod Receipts
+pub mod Records
+pub mod Restep
+pub mod Segments
+pub mod Settled
+pub mod Walk

@@ -1,0 +1,27 @@
+ghost use Rattle.std.specs.Prelude.{◌≡◌, List};
+ghost use Rattle.rsl_record.specs.declared.receipt.Receipt.{Receipt as OneReceipt};
+
+use rsl_shard::Line;
+
+/// What a caller keeps of a move that it made: the line that the move is in a shard's journal.
+#[derive(Debug, PartialEq, Eq, Drop)]
+pub struct Receipt {
+    /// The shard's number.
+    pub shard: u32,
+    /// The line's position, counted from 0 over all segments of the shard.
+    pub position: u64,
+    /// The line: the move, and what was decided.
+    pub line: Line,
+}
+
+/// A pass: what holds a caller's receipts, one for each move that it made, in the order of its
+/// calls.
+///
+/// Whatever a pass keeps beside them is no matter of settling. It lends them, so nothing is copied.
+pub trait HasReceipts {
+    ghost receipts: { Self → List OneReceipt };
+
+    /// The receipts, in the order in which the moves were made.
+    fn receipts(&self) -> &[Receipt]
+        ensures { result.now ≡ Self.receipts self.now };
+}

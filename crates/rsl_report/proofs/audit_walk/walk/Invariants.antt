@@ -1,6 +1,0 @@
-use Rattle.rsl_report.proofs.Walking.{AreWalked}
-use Rattle.rsl_report.proofs.audit_walk.walk.Given as goal
-
--- the segments so far are walked
-abbrev pub invariant-loop-number : goal.invariant-loop-number
-invariant-loop-number l = AreWalked l.config l.segments l.fn.restep l.restep l.number

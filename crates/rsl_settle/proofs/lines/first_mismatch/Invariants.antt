@@ -1,6 +1,0 @@
-use Rattle.std.proofs.Common.{All, map, take}
-use Rattle.rsl_settle.specs.Faults.{IsAmong}
-use Rattle.rsl_settle.proofs.lines.first_mismatch.Given as goal
-
-abbrev pub invariant-loop-receipt : goal.invariant-loop-receipt
-invariant-loop-receipt l = All (IsAmong (map (λ line. line.now) l.lines) l.shard) (take l.receipt-index l.receipts)

@@ -1,5 +1,0 @@
-use Rattle.std.proofs.Common.{◌≡◌, ◌++◌, map, take}
-use Rattle.rsl_settle.proofs.lines.push_each.Given as goal
-
-abbrev pub invariant-loop-line : goal.invariant-loop-line
-invariant-loop-line l = map (λ line. line.now) l.lines.items ≡ map (λ line. line.now) l.initial.lines.items ++ take l.line-index l.more

@@ -1,8 +1,0 @@
-use Rattle.std.proofs.Common.{◌++◌, List, take}
-use Rattle.rsl_settle.specs.Faults.{IsLowestAstray}
-use Rattle.rsl_shard.specs.declared.segment.Segment.{Segment}
-use Rattle.rsl_settle.proofs.segments.lowest_astray.Given as goal
-
-abbrev pub invariant-loop-segment : goal.invariant-loop-segment
-invariant-loop-segment l =
-    (before : List Segment) → IsLowestAstray l.shards before l.fn.found → IsLowestAstray l.shards (before ++ take l.segment-index l.segments) l.lowest

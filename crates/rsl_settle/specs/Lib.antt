@@ -1,4 +1,0 @@
-pub mod Faults
-pub mod Receipts
-pub mod Segments
-pub mod Settled
