@@ -26,7 +26,8 @@ use Rattle.rsl_book.specs.declared.kept.EndedSession.{EndedSession}
 use Rattle.rsl_book.specs.Seen.{ask_seen, asks_seen, stop_seen, stops_seen}
 use Rattle.rsl_book.specs.RuledBook.{RuledBook, IsWithinLimit}
 use Rattle.rsl_book.specs.BookSeen.{IsSound, running, book_seen}
-use Rattle.rsl_links.specs.Seen.{link_seen, links_seen, server_at, bundle_with}
+use Rattle.rsl_links.specs.Seen.{link_seen, links_seen, server_at, bundle_with, holder_at}
+use Rattle.rsl_links.specs.declared.link.Holder.{Holder as LinkHolder}
 use Rattle.rsl_links.specs.Counted.{AreCounted}
 use Rattle.rsl_links.specs.Named.{AreIndexed}
 use Rattle.rsl_links.proofs.Callers.{length-bundles, bundles-push}
@@ -161,6 +162,12 @@ pub bound_seen : (servers : List Nas) (nas touched : ℕ) (id : List ℕ) (bundl
     let seen : BookLink = record { nas = at; holder = Bound (record { nas = at; id = id }); bundle = bundle_with at bundle; touched = touched } in link_seen servers link ≡ seen)
 unfolding link_seen
 bound_seen servers nas touched id bundle at stands = rw stands refl
+
+pub as_saved_seen : (servers : List Nas) (nas touched : ℕ) (holder : LinkHolder) (bundle : Option (List ℕ)) (at : Nas) → server_at servers nas ≡ at
+    → (let link : Link = record { nas = nas; holder = holder; bundle = bundle; touched = touched } in
+    let seen : BookLink = record { nas = at; holder = holder_at at holder; bundle = bundle_with at bundle; touched = touched } in link_seen servers link ≡ seen)
+unfolding link_seen
+as_saved_seen servers nas touched holder bundle at stands = rw stands refl
 
 -- no links take no place
 pub counted_none : (servers : List Nas) (links : Links) → links.list.items ≡ [] → links.places ≡ 0 → 1 ≤ links.ports → AreCounted servers links

@@ -3,3 +3,4 @@ pub mod Seen
 pub mod Named
 pub mod Fingerprint
 pub mod BookSeen
+pub mod Restored

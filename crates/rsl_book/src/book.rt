@@ -21,6 +21,8 @@ ghost use Rattle.rsl_links.specs.First.{IsFirst, change_at};
 ghost use Rattle.rsl_links.specs.Seen.{bundle_with};
 ghost use Rattle.rsl_links.specs.Steps.{touch_here, take_here, without_at};
 
+mod restoring;
+
 use crate::kept::{DecidedAsk, EndedSession, Kept};
 use crate::ring::Ring;
 use crate::same::has_same_links;

@@ -13,8 +13,12 @@
 
 mod book;
 mod kept;
+pub mod laws;
+mod restore_fault;
 mod ring;
 mod same;
+mod saving;
 mod table;
 
 pub use book::{Book, Stored};
+pub use restore_fault::RestoreFault;

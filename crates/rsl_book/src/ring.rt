@@ -95,6 +95,17 @@ impl<S: Subject> Ring<S> {
         self.kept.len()
     }
 
+    /// What is kept at an index.
+    pub(crate) fn index(&self, index: usize) -> &Kept<S>
+        requires { index < length self.now.items }
+        ensures { result.now ≡ get_or self.now.items index result.now }
+    {
+        match self.kept.get(index) {
+            Some(kept) => kept,
+            None => unreachable!(),
+        }
+    }
+
     /// Keeps one in front of the others.
     pub(crate) fn push(&mut self, kept: Kept<S>)
         ensures { self.new ≡

@@ -49,7 +49,7 @@ new_book_at config shard index less =
     new_at config.settings.shards shard 0 shard index (shard + index * config.settings.shards) config.accounts less
     (ap (λ (n : ℕ). n % config.settings.shards) (omega arith) ∙ mod-eq_of_lt less) refl
 
-has_index : (config : Configuration) (shard index : ℕ) → shard < config.settings.shards → shard + index * config.settings.shards < length config.accounts
+pub has_index : (config : Configuration) (shard index : ℕ) → shard < config.settings.shards → shard + index * config.settings.shards < length config.accounts
     → index < length (new_books config shard)
 has_index config shard index less within = by (slice_get config.accounts (shard + index * config.settings.shards)) refl
   where
@@ -57,7 +57,7 @@ has_index config shard index less within = by (slice_get config.accounts (shard 
     by (Some entry) is = slice_get_within (new_books config shard) index (book_of_entry entry) (new_book_at config shard index less ∙ ap (option_map book_of_entry) is)
     by None is = absurd (there config.accounts (shard + index * config.settings.shards) within is)
 
-has_account : (config : Configuration) (shard index : ℕ) → shard < config.settings.shards → index < length (new_books config shard)
+pub has_account : (config : Configuration) (shard index : ℕ) → shard < config.settings.shards → index < length (new_books config shard)
     → shard + index * config.settings.shards < length config.accounts
 has_account config shard index less within = by (slice_get config.accounts (shard + index * config.settings.shards)) refl
   where

@@ -4,3 +4,4 @@ pub mod Journaling
 pub mod Moving
 pub mod Numbers
 pub mod Rowing
+pub mod GivenBooks

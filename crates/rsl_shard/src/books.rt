@@ -36,6 +36,8 @@ ghost use Rattle.rsl_shard.specs.Restep.{
 ghost use Rattle.rsl_shard.specs.Rows.{rows_from, rows_of};
 ghost use Rattle.rsl_shard.specs.declared.moved.Move.TheVariants as moves;
 
+mod given;
+
 use crate::moved::Move;
 use crate::ready::copy_of_event;
 use crate::row::Row;

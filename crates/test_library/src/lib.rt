@@ -12,6 +12,8 @@ mod replay;
 #[cfg(test)]
 mod report;
 #[cfg(test)]
+mod saved;
+#[cfg(test)]
 mod script;
 #[cfg(test)]
 mod shards;

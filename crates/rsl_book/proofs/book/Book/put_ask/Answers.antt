@@ -1,0 +1,27 @@
+use Rattle.std.proofs.Common.{◌≡◌, ◌∙◌, ap, arith}
+use Rattle.circular_buffer.specs.Buffer.{Buffer}
+use Rattle.rsl_book.specs.declared.kept.Kept.{Kept}
+use Rattle.rsl_book.specs.declared.kept.DecidedAsk.{DecidedAsk}
+use Rattle.rsl_links.specs.Seen.{links_seen}
+use Rattle.rsl_book.specs.Seen.{asks_seen}
+use Rattle.rsl_book.proofs.Insides.{same_value, room_in_table, pushed_ask}
+use Rattle.rsl_book.proofs.book.Book.put_ask.Goals as goal
+
+pub index_for-nas-requires : goal.index_for-nas-requires
+index_for-nas-requires c =
+    let room = room_in_table c.self.inside c.self.invariant in
+    omega arith
+
+pub returns : goal.returns
+returns c =
+    let inside = c.self.inside in
+    let place = c.index_for-nas in
+    let saved = c.args.saved.now in
+    let links : links_seen place.new.servers inside.links.list.items ≡ links_seen inside.servers inside.links.list.items =
+    place.ensures.links in
+    rw (← c.self.view_is)
+    (same_value inside.rules inside.clock inside.accepts inside.over links
+    (ap (λ (ring : Buffer (Kept DecidedAsk)). asks_seen place.new.servers ring.items) c.push.ensures
+    ∙ pushed_ask inside.servers place.new.servers (record { subject = record { key = saved.key; decision = saved.decision }; at = saved.at; swept = saved.swept; nas = place.result }) inside.asks.items saved.nas 8 inside.asks.capacity
+    c.self.invariant.asks (place.ensures.stands ∙ c.in_ok-nas.ensures.copy) place.ensures.asks)
+    place.ensures.stops)

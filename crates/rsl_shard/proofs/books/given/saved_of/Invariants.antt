@@ -1,0 +1,7 @@
+use Rattle.std.proofs.Common.{◌≡◌, map, take}
+use Rattle.rsl_book.specs.Restored.{saved}
+use Rattle.rsl_saved.specs.Saved.{saved_book}
+use Rattle.rsl_shard.proofs.books.given.saved_of.Given as goal
+
+abbrev pub invariant-loop-book : goal.invariant-loop-book
+invariant-loop-book l = map saved_book l.kept.items ≡ map saved (take l.book-index l.books)
