@@ -1,10 +1,11 @@
 ghost use Rattle.std.specs.Prelude.{◌≡◌, ◌↔◌, ◌+◌, ◌-◌, ◌*◌, ◌^◌, ◌<◌, ◌≤◌};
-ghost use Rattle.std.specs.Prelude.{Option, Some, None, find, IfOk, IfSome, IfNone, IsTrue, length};
+ghost use Rattle.std.specs.Prelude.{Option, Some, None, find, IfOk, IfSome, IfNone, IsTrue, OnErr, length};
 ghost use Rattle.std.specs.Prelude.{if◌then◌else◌};
 ghost use Rattle.std.specs.List.{list_any};
 ghost use Rattle.std.specs.Option.{option_map};
 ghost use Rattle.rsl_accounts.specs.Limits.{RulesFit};
-ghost use Rattle.rsl_event.specs.declared.event.Act.TheVariants.{Sweep, Tick};
+ghost use Rattle.rsl_event.specs.Copied.{ActHoldsOctets};
+ghost use Rattle.rsl_event.specs.declared.event.Act.TheVariants.{Ask, Sweep, Tick};
 ghost use Rattle.rsl_event.specs.declared.event.Decision.TheVariants.{Done};
 ghost use Rattle.rsl_session.specs.declared.kept.KeptAsk.{KeptAsk};
 ghost use Rattle.rsl_session.specs.Ask.{repeats};
@@ -118,6 +119,46 @@ impl Book {
         let Event { moment, act } = event;
         self.come_to(moment);
         let decision = self.act(act);
+        self.open_invariant();
+        decision
+    }
+
+    /// What an event that is lent makes of the book, and the decision on it, as `apply` has them. Of
+    /// the event it copies what the book may keep, before anything changes: where memory is refused
+    /// nothing has changed. It takes memory only for names and ids of more than 22 octets.
+    pub fn apply_lent(&mut self, alloc: Global, event: &Event) -> Result<Decision, NoMemory>
+        ensures step { IfOk result (λ decision.
+            (self.new.book, decision) ≡ step self.old.rules self.old.book event.now) }
+        ensures rules { self.new.rules ≡ self.old.rules }
+        ensures err { OnErr result (self.new ≡ self.old) }
+        ensures refused { OnErr result (ActHoldsOctets event.now.act) }
+        ensures limit_before { IsWithinLimit self.old }
+        ensures limit { IsWithinLimit self.new }
+    {
+        self.open_invariant();
+        match &event.act {
+            Act::Ask { key, nas } => match nas.try_copy(alloc) {
+                Ok(nas) => Ok(self.ask_at(event.moment, *key, nas)),
+                Err(NoMemory) => Err(NoMemory),
+            },
+            Act::Alive { .. } | Act::Stop { .. } | Act::Sweep { .. } | Act::Tick => {
+                match event.try_copy(alloc) {
+                    Ok(event) => Ok(self.apply(event)),
+                    Err(NoMemory) => Err(NoMemory),
+                }
+            }
+        }
+    }
+
+    /// An ask at a moment.
+    fn ask_at(&mut self, moment: u64, key: Key, nas: Nas) -> Decision
+        ensures step { (self.new.book, result) ≡
+            step self.old.rules self.old.book (record { moment = moment; act = Ask key nas }) }
+        ensures rules { self.new.rules ≡ self.old.rules }
+        ensures limit { IsWithinLimit self.new }
+    {
+        self.come_to(moment);
+        let decision = self.ask(key, nas);
         self.open_invariant();
         decision
     }

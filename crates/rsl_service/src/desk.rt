@@ -12,7 +12,7 @@ use crate::gate::Gate;
 use crate::tally::Tally;
 use rsl_accounts::Config;
 use rsl_event::Decision;
-use rsl_shard::{CutRoom, LooseSegment, Ready, Segment, Shard, Spare};
+use rsl_shard::{CutRoom, LooseSegment, Move, Segment, Shard, Spare};
 use rsl_wire::NoMemory;
 use std::alloc::Global;
 use std::sync::ledger::{Blank, Book as LineLedger, Share};
@@ -110,10 +110,10 @@ impl<L: Tally> Desk<L> {
         gate: &G,
         number: u32,
         mine: &mut Share<L>,
-        ready: Ready,
+        moved: &Move,
         spare: &mut Spare,
     ) -> Result<Made, StepFault>
-        requires takes { IsTaken L.setup ready }
+        requires takes { IsTaken L.setup moved.now }
         requires part { 0 < mine.old.parts }
         ensures parts { mine.new.parts ≡ mine.old.parts }
         ensures counted { OnOk result (mine.new.amount ≡ mine.old.amount + 1) }
@@ -124,7 +124,7 @@ impl<L: Tally> Desk<L> {
         if position == u64::MAX {
             return Err(StepFault::Spent);
         }
-        let decision = shard.step_ready(alloc, ready, spare)?;
+        let decision = shard.step_ready(alloc, moved, spare)?;
         count_line(ledger, mine);
         gate.at(number);
         Ok(Made { position, decision })

@@ -21,14 +21,13 @@ use crate::gate::Gate;
 use crate::tally::Tally;
 use rsl_event::Decision;
 use rsl_record::Receipt;
-use rsl_shard::{Line, Move, Ready, Spare};
+use rsl_shard::{Line, Move, Spare};
 use std::alloc::Global;
 use std::sync::ledger::Share;
 use std::sync::{Mutex, Wait};
 
-/// Makes a move in a shard, and notes it as the last of the receipts. What the step needs is taken
-/// before the lock: copies of the move and of its event, and room for a receipt and for lines of
-/// the journal. Where it fails, nothing has changed but the room.
+/// Makes a move in a shard, to which it is lent, and then notes it as the last of the receipts. Where
+/// it fails, nothing has changed but the room that was taken.
 pub(crate) fn enter<L: Tally, G: Gate, R: Wait>(
     rt: &R,
     alloc: Global,
@@ -51,23 +50,50 @@ pub(crate) fn enter<L: Tally, G: Gate, R: Wait>(
         count_of other receipts.new.items ≡ count_of other receipts.old.items }
     ensures err { OnErr result (receipts.new.items ≡ receipts.old.items) }
 {
+    match make_in_room(rt, alloc, desk, gate, shard, mine, receipts, spare, &moved) {
+        Ok(Made { position, decision }) => {
+            let line = Line { moved, decision };
+            note(
+                receipts,
+                Receipt {
+                    shard,
+                    position,
+                    line,
+                },
+            );
+            Ok(decision)
+        }
+        Err(fault) => {
+            // Left to the end of the function, this would cost each step that does not fail.
+            drop(moved);
+            Err(fault)
+        }
+    }
+}
+
+/// Makes a move under the lock of its shard, and has room for its receipt. That room, and room for
+/// lines of the journal, is taken before the lock. Where it fails, nothing has changed but the room.
+fn make_in_room<L: Tally, G: Gate, R: Wait>(
+    rt: &R,
+    alloc: Global,
+    desk: &Mutex<Desk<L>>,
+    gate: &G,
+    shard: u32,
+    mine: &mut Share<L>,
+    receipts: &mut Vec<Receipt>,
+    spare: &mut Spare,
+    moved: &Move,
+) -> Result<Made, StepFault>
+    requires takes { IsTaken L.setup moved.now }
+    requires part { 0 < mine.old.parts }
+    ensures receipts { receipts.new.items ≡ receipts.old.items }
+    ensures room { OnOk result (vec_len receipts.new < vec_capacity receipts.new) }
+    ensures parts { mine.new.parts ≡ mine.old.parts }
+    ensures counted { OnOk result (mine.new.amount ≡ mine.old.amount + 1) }
+    ensures err { OnErr result (mine.new ≡ mine.old) }
+{
     take_room(receipts, spare)?;
-    let (copy, ready) = copy_for_step(alloc, moved)?;
-    let made = make_under_lock(rt, alloc, desk, gate, shard, mine, ready, spare)?;
-    let line = Line {
-        moved: copy,
-        decision: made.decision,
-    };
-    let position = made.position;
-    note(
-        receipts,
-        Receipt {
-            shard,
-            position,
-            line,
-        },
-    );
-    Ok(made.decision)
+    make_under_lock(rt, alloc, desk, gate, shard, mine, moved, spare)
 }
 
 /// Room for a receipt and for lines of the journal. Where it fails, nothing has changed but the
@@ -79,16 +105,6 @@ fn take_room(receipts: &mut Vec<Receipt>, spare: &mut Spare) -> Result<(), StepF
     receipts.reserve(1)?;
     spare.fill()?;
     Ok(())
-}
-
-/// A copy of a move for its receipt, and the move with what its step takes over.
-fn copy_for_step(alloc: Global, moved: Move) -> Result<(Move, Ready), StepFault>
-    ensures copy { IfOk result (λ taken. taken.0 ≡ moved) }
-    ensures ready { IfOk result (λ taken. taken.1 ≡ moved) }
-{
-    let copy = moved.try_copy(alloc)?;
-    let ready = Ready::new(alloc, moved)?;
-    Ok((copy, ready))
 }
 
 /// Puts a receipt after those of a pass, for which there is room.
@@ -112,14 +128,14 @@ fn make_under_lock<L: Tally, G: Gate, R: Wait>(
     gate: &G,
     shard: u32,
     mine: &mut Share<L>,
-    ready: Ready,
+    moved: &Move,
     spare: &mut Spare,
 ) -> Result<Made, StepFault>
-    requires takes { IsTaken L.setup ready }
+    requires takes { IsTaken L.setup moved.now }
     requires part { 0 < mine.old.parts }
     ensures parts { mine.new.parts ≡ mine.old.parts }
     ensures counted { OnOk result (mine.new.amount ≡ mine.old.amount + 1) }
     ensures err { OnErr result (mine.new ≡ mine.old) }
 {
-    desk.lock(rt).make(alloc, gate, shard, mine, ready, spare)
+    desk.lock(rt).make(alloc, gate, shard, mine, moved, spare)
 }

@@ -39,7 +39,6 @@ ghost use Rattle.rsl_shard.specs.declared.moved.Move.TheVariants as moves;
 mod given;
 
 use crate::moved::Move;
-use crate::ready::copy_of_event;
 use crate::row::Row;
 use rsl_accounts::Config;
 use rsl_book::Book;
@@ -263,14 +262,17 @@ impl Books {
             decision ≡ decision_by self.old.setup self.old.books moved.now) }
         ensures err { OnErr result (self.new ≡ self.old) }
     {
-        let copy = copy_of_event(alloc, moved)?;
-        Ok(self.step_ready(moved, copy))
+        match moved {
+            Move::Own { account, event } => self.own_lent(alloc, *account, event),
+            Move::Sweep { moment, nas } => Ok(self.sweep(*moment, nas)),
+            Move::Tick { moment } => Ok(self.tick(*moment)),
+            Move::Stray { .. } => Ok(Decision::Done),
+        }
     }
 
     /// Steps the books by a move as `step` does, with a copy of its event if it is an account's
-    /// own.
-    #[inline(always)]
-    pub(crate) fn step_ready(&mut self, moved: &Move, copy: Option<Event>) -> Decision
+    /// own, as `Move::try_copy_event` gives it. So it takes no memory, and can't fail.
+    pub fn step_ready(&mut self, moved: &Move, copy: Option<Event>) -> Decision
         requires taken { IsTaken self.old.setup moved.now }
         requires copy { copy ≡ event_in moved.now }
         ensures setup { self.new.setup ≡ self.old.setup }
@@ -290,8 +292,23 @@ impl Books {
         }
     }
 
+    /// Steps the book of an account by an event of its own, which is lent. Where memory is refused
+    /// nothing has changed.
+    fn own_lent(&mut self, alloc: Global, account: u32, event: &Event) -> Result<Decision, NoMemory>
+        requires { IsOwn self.old.setup account event.now }
+        ensures setup { self.new.setup ≡ self.old.setup }
+        ensures books { IfOk result (λ _. self.new.books ≡
+            books_after self.old.setup self.old.books (moves.Own account event.now)) }
+        ensures decision { IfOk result (λ decision. decision ≡
+            decision_by self.old.setup self.old.books (moves.Own account event.now)) }
+        ensures err { OnErr result (self.new ≡ self.old) }
+    {
+        let index = self.index_of(account);
+        let decision = self.list[index].apply_lent(alloc, event)?;
+        Ok(decision)
+    }
+
     /// Steps the book of an account by an event of its own.
-    #[inline(always)]
     fn own(&mut self, account: u32, event: Event) -> Decision
         requires { IsOwn self.old.setup account event }
         ensures setup { self.new.setup ≡ self.old.setup }

@@ -25,7 +25,6 @@ use crate::line::Line;
 use crate::loose::{CutRoom, LooseSegment};
 use crate::moved::Move;
 use crate::opening::Opening;
-use crate::ready::Ready;
 use crate::row::Row;
 use crate::segment::Segment;
 use crate::spare::Spare;
@@ -99,39 +98,73 @@ impl Shard {
         ensures err { OnErr result (self.new ≡ self.old) }
         ensures kept { IsShard self.new }
     {
-        self.open_invariant();
-        let ready = Ready::new(alloc, moved)?;
-        self.step_ready(alloc, ready, &mut Spare::new(alloc))
+        self.step_over(alloc, moved, &mut Spare::new(alloc))
     }
 
-    /// Makes a move as `step` does, with what its caller took before: the copy of its event, and
-    /// room for the journal. So where there is spare room no memory is taken for the move or its
-    /// line, and none is let go; only where the chunks of the journal pass 1,024, and each time
-    /// that they double, is their list moved. Where memory is refused nothing has changed.
-    #[inline(always)]
+    /// Makes a move that is lent, as `step` does, with room for the journal that its caller took
+    /// before. The move is copied for the journal, and so is what a book may keep of it: for names
+    /// and ids of at most 22 octets that takes no memory. Where there is spare room none is taken
+    /// for the line, and none is let go; only where the chunks of the journal pass 1,024, and each
+    /// time that they double, is their list moved. Where memory is refused nothing has changed.
     pub fn step_ready(
         &mut self,
         alloc: Global,
-        ready: Ready,
+        moved: &Move,
         spare: &mut Spare,
     ) -> Result<Decision, NoMemory>
-        requires takes { IsTaken self.old.setup ready }
+        requires takes { IsTaken self.old.setup moved.now }
         requires room { total_of self.old < 2 ^ 64 - 1 }
-        ensures line { IfOk result (λ decision. self.new ≡ with_line self.old ready decision) }
+        ensures line { IfOk result (λ decision. self.new ≡ with_line self.old moved.now decision) }
         ensures decision { IfOk result (λ decision.
-            decision ≡ decision_by self.old.setup (books_of self.old) ready) }
+            decision ≡ decision_by self.old.setup (books_of self.old) moved.now) }
         ensures books { IfOk result (λ _.
-            HaveStepped self.old.setup ready (books_of self.old) (books_of self.new)) }
+            HaveStepped self.old.setup moved.now (books_of self.old) (books_of self.new)) }
         ensures err { OnErr result (self.new ≡ self.old) }
         ensures kept { IsShard self.new }
     {
-        self.journal.make_room(alloc, spare)?;
-        let (moved, copy) = ready.into_parts();
-        let decision = self.books.step_ready(&moved, copy);
-        self.books.open_invariant();
-        self.journal.push(Line { moved, decision });
         self.open_invariant();
-        Ok(decision)
+        match moved.try_copy(alloc) {
+            Ok(copy) => self.step_over(alloc, copy, spare),
+            Err(NoMemory) => Err(NoMemory),
+        }
+    }
+
+    /// Makes a move that is handed over, and becomes that of its line.
+    fn step_over(
+        &mut self,
+        alloc: Global,
+        moved: Move,
+        spare: &mut Spare,
+    ) -> Result<Decision, NoMemory>
+        requires takes { IsTaken self.old.setup moved }
+        requires room { total_of self.old < 2 ^ 64 - 1 }
+        ensures line { IfOk result (λ decision. self.new ≡ with_line self.old moved decision) }
+        ensures decision { IfOk result (λ decision.
+            decision ≡ decision_by self.old.setup (books_of self.old) moved) }
+        ensures books { IfOk result (λ _.
+            HaveStepped self.old.setup moved (books_of self.old) (books_of self.new)) }
+        ensures err { OnErr result (self.new ≡ self.old) }
+        ensures kept { IsShard self.new }
+    {
+        self.open_invariant();
+        // Where it fails, the move is freed by a call of `drop`. Left to the end of the function, this
+        // would cost each step that does not fail.
+        if self.journal.make_room(alloc, spare).is_err() {
+            drop(moved);
+            return Err(NoMemory);
+        }
+        match self.books.step(alloc, &moved) {
+            Ok(decision) => {
+                self.books.open_invariant();
+                self.journal.push(Line { moved, decision });
+                self.open_invariant();
+                Ok(decision)
+            }
+            Err(NoMemory) => {
+                drop(moved);
+                Err(NoMemory)
+            }
+        }
     }
 
     /// The book of an account, if the account is one of this shard.

@@ -2,7 +2,7 @@
 
 use crate::records::config_of;
 use rsl_accounts::Config;
-use rsl_shard::{Line, Move, Ready, Shard, Spare};
+use rsl_shard::{Line, Move, Shard, Spare};
 use std::alloc::Global;
 use std::test::Fail;
 use test_rows::{Subject, check_rows, number, printed};
@@ -52,8 +52,7 @@ fn tick_ready(alloc: Global, shard: &mut Shard, ticks: u64) -> Result<(), Fail> 
             return Err("too many lines")?;
         }
         spare.fill()?;
-        let ready = Ready::new(alloc, Move::Tick { moment })?;
-        shard.step_ready(alloc, ready, &mut spare)?;
+        shard.step_ready(alloc, &Move::Tick { moment }, &mut spare)?;
     }
     Ok(())
 }
