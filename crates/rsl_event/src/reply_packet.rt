@@ -24,16 +24,16 @@ use crate::codes::{ACCESS_ACCEPT, ACCESS_REJECT, ACCOUNTING_RESPONSE, MESSAGE_AU
 use crate::event::Decision;
 use crate::meaning::{Meaning, Prepared};
 use crate::meaning_kind::MeaningKind;
+use crate::reply_attributes::{push_accept, push_limit_message, push_proxy_states};
 use crate::signing::Signing;
 use crate::words::Said;
-use crate::reply_attributes::{push_accept, push_limit_message, push_proxy_states};
 use rsl_accounts::Config;
 use rsl_auth::{HmacKey, sealed};
 use rsl_wire::{Attrs, Draft, NoMemory, Packet};
 use std::alloc::Global;
 
-/// What is answered to a meaning, in a word. The decision tells of an ask alone; an ask that is
-/// `Done` was not accepted.
+/// What is answered to a meaning, in a word. Only the word for an ask depends on the decision; an
+/// ask that is `Done` was not accepted.
 pub fn said(meaning: &Meaning, decision: Decision) -> Said
     ensures { result ≡ said meaning.now decision }
 {
