@@ -1,4 +1,4 @@
--- No check of the walk finds want of memory.
+-- No check of the walk answers that memory was refused.
 use Rattle.std.proofs.Common.{◌≡◌, ℕ, Bool, true, false, List, [], ◌∷◌, ◌++◌, length, Option, None, Some, refl}
 use Rattle.std.specs.List.{flat_map, AllByRecursion}
 use Rattle.rsl_accounts.specs.declared.client.Client.{Client}

@@ -92,7 +92,7 @@ module _ {K X : Type 0} (g : K → List ℕ) (f : X → List ℕ) (keys : List K
         not_twice f xs i x within is before (found_in_both ∙ absent),
       )
 
--- the first place of a text is the same in two lists that show the same
+-- the first index of a text is the same in two lists that show the same
 pub position-same : {K X : Type 0} (g : K → List ℕ) (f : X → List ℕ) (keys : List K) (xs : List X) (text : List ℕ) → map g keys ≡ map f xs → position (λ k. same_octets text (g k)) keys ≡ position (λ x. same_octets text (f x)) xs
 position-same g f keys xs text same =
     sym (position-map (same_octets text) g keys) ∙ ap (position (same_octets text)) same ∙ position-map (same_octets text) f xs

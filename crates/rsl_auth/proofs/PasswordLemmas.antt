@@ -48,7 +48,7 @@ unfolding masked
 masked-masked block secret before len =
     xor_octets-xor_octets block (md5 (secret ++ before)) (len ∙ sym (length-md5 (secret ++ before)))
 
--- octets that are the block's xor the digest's, each at its place
+-- octets that are the block's xor the digest's, each at its index
 pub masked_from_reads : (octets block secret before digest : List ℕ) → digest ≡ md5 (secret ++ before)
     → length octets ≡ 16 → length block ≡ 16
     → ((k : ℕ) → k < 16 → get_or octets k 0 ≡ bit_xor (get_or block k 0) (get_or digest k 0))

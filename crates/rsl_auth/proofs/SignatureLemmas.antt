@@ -13,7 +13,7 @@ length-signature : (packet : List ℕ) (at : ℕ) (request_auth secret : List �
 unfolding signature hmac_md5
 length-signature packet at request_auth secret = length-md5 _
 
--- ---- the parts of a packet with a value at a place
+-- ---- the parts of a packet with a value at an offset
 
 module _ (packet : List ℕ) (at : ℕ) (value : List ℕ) (long : length value ≡ 16) (within : at + 16 ≤ length packet) where
   front_long : length (take at packet) ≡ at
@@ -43,7 +43,7 @@ module _ (packet : List ℕ) (at : ℕ) (value : List ℕ) (long : length value 
   drop-with_value : drop (at + 16) (with_value packet at value) ≡ drop (at + 16) packet
   drop-with_value = drop_at (take at packet ++ value) (drop (at + 16) packet) (at + 16) (omega (arith, length-append (take at packet) value, front_long, long))
 
-  -- so a second value takes its place
+  -- so a second value stands there in its stead
   with_value-with_value : (other : List ℕ) → with_value (with_value packet at value) at other ≡ with_value packet at other
   with_value-with_value other = rw (take-with_value, drop-with_value)
 
@@ -60,7 +60,7 @@ module _ (packet : List ℕ) (at : ℕ) (value : List ℕ) (long : length value 
 
 -- ---- what is given to the digest
 
--- the attributes with zeros at the place, by their parts
+-- the attributes with zeros for the value, by their parts
 attributes_of_parts : (packet : List ℕ) (at : ℕ) → 20 ≤ at → at + 16 ≤ length packet
     → drop 20 (with_value packet at (replicate 16 0)) ≡ take (at - 20) (drop 20 packet) ++ replicate 16 0 ++ drop (at + 16) packet
 attributes_of_parts packet at header within =

@@ -14,7 +14,7 @@ nuls_after n = if n == 0 then 16 else (16 - n % 16) % 16
 abbrev pub padded_password : List ℕ → List ℕ
 padded_password password = password ++ replicate (nuls_after (length password)) 0
 
--- each octet xor the other's at its place
+-- each octet xor the other's at its index
 abbrev pub xor_octets : List ℕ → List ℕ → List ℕ
 xor_octets [] others = []
 xor_octets (x ∷ octets) [] = []

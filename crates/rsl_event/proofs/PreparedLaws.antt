@@ -55,7 +55,7 @@ done m = Ok m
 ok_is : (x y : Meaning) → done x ≡ done y → x ≡ y
 ok_is x y e = cc
 
--- a place that is found is one of the list
+-- an index that is found is one of the list
 position_within : {X : Type 0} (p : X → Bool) (xs : List X) (i : ℕ) → position p xs ≡ Some i → i < length xs
 position_within p xs i e = by (ltb (position_or_len p xs) (length xs)) refl e
   where

@@ -26,7 +26,8 @@ said_of (decisions.Accept number) = words.Accept number
 said_of decisions.LimitReject = words.LimitReject
 said_of decisions.Done = words.LimitReject
 
--- the word for what is answered to a meaning of this kind; the decision tells of an ask alone
+-- the word for what is answered to a meaning of this kind; only that for an ask depends on the
+-- decision
 abbrev pub said_to : MeaningKind → Decision → Said
 said_to kinds.Bare decision = words.Reject
 said_to kinds.Reject decision = words.Reject

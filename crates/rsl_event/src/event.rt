@@ -13,7 +13,7 @@ pub struct Source {
     pub port: u16,
 }
 
-/// What tells one Access-Request from another. A packet that is sent again has the same key
+/// What an Access-Request is known by. A packet that is sent again has the same key
 /// (RFC 2865 section 2.5).
 #[derive(Clone, Copy, Debug, PartialEq, Eq)]
 pub struct Key {
@@ -43,7 +43,7 @@ impl Key {
 pub enum Act {
     /// An Access-Request whose password is right.
     Ask {
-        /// What tells it from other requests.
+        /// What it is known by.
         key: Key,
         /// The access server that asks.
         nas: Nas,

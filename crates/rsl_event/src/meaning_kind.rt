@@ -23,8 +23,8 @@ pub enum MeaningKind {
 }
 
 impl MeaningKind {
-    /// What is answered to a meaning of this kind, in a word. The decision tells of an ask alone; an
-    /// ask that is `Done` was not accepted.
+    /// What is answered to a meaning of this kind, in a word. Only the word for an ask depends on the
+    /// decision; an ask that is `Done` was not accepted.
     pub fn said(self, decision: Decision) -> Said
         ensures { result ≡ said_to self decision }
     {

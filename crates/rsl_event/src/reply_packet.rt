@@ -32,8 +32,8 @@ use rsl_auth::{HmacKey, sealed};
 use rsl_wire::{Attrs, Draft, NoMemory, Packet};
 use std::alloc::Global;
 
-/// What is answered to a meaning, in a word. The decision tells of an ask alone; an ask that is
-/// `Done` was not accepted.
+/// What is answered to a meaning, in a word. Only the word for an ask depends on the decision; an
+/// ask that is `Done` was not accepted.
 pub fn said(meaning: &Meaning, decision: Decision) -> Said
     ensures { result ≡ said meaning.now decision }
 {

@@ -120,7 +120,7 @@ none_same p q same (x ∷ xs) none =
     let parts = or_parts (q x) (list_any q xs) none in
     rw (same x, parts.0, none_same p q same xs parts.1) refl
 
--- what a test tells of is gone from the elements that it does not tell of
+-- no element of which a test holds is left among those of which it does not hold
 none_left : (p r : ℕ → Bool) (xs : List ℕ) → list_any p (filter (λ x. not (p x || r x)) xs) ≡ false
 none_left p r [] = refl
 none_left p r (x ∷ xs) = by_cases (p x) (r x) refl (none_left p r xs) where

@@ -1,4 +1,4 @@
--- What is told of a link that yields.
+-- What is known of a link that yields.
 use Rattle.std.specs.Prelude.{◌≡◌, ℕ, ◌∷◌, ◌≤◌, true, false, All, Any, None}
 use Rattle.rsl_accounts.specs.declared.rules.Rules.{Rules}
 use Rattle.rsl_event.specs.declared.event.Act.TheVariants.{Ask}

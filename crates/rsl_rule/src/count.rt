@@ -58,8 +58,7 @@ fn places_of_bundle(ports: u64, bundle: &Bundle, bundles: &[Option<Bundle>]) -> 
     (link_count(bundle, bundles) as u64).div_ceil(ports)
 }
 
-/// The places of some links, told by the bundle of each: the last of a bundle's links counts the
-/// bundle.
+/// The places of some links, by the bundle of each: the last of a bundle's links counts the bundle.
 #[tactic(auto, using(crate::proofs::Counted::places_steps))]
 pub(crate) fn places_taken(ports: u64, bundles: &[Option<Bundle>]) -> u64
     requires { 0 < ports }

@@ -12,7 +12,7 @@ use Rattle.rsl_script.specs.Values.{read_id, read_name, read_nas, read_password}
 abbrev pub seen : List (Bor (List ℕ)) → List (List ℕ)
 seen words = map (λ word. word.now) words
 
--- the word at a place, and those after it
+-- the word at an index, and those after it
 pub seen_next : (words : List (Bor (List ℕ))) (i : ℕ) (d : Bor (List ℕ)) → i < length words → seen (drop i words) ≡ (get_or words i d).now ∷ seen (drop (i + 1) words)
 seen_next words i d below = ap seen (drop_more words i d below)
 

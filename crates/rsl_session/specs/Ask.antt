@@ -96,7 +96,7 @@ unfoldable pub held_without : Rules → Past → Event → ℕ → List ℕ
 held_without rules past event link =
     filter (λ other. not (other == link)) (held_before rules past event)
 
--- whether one more link without a bundle can open in the place of one
+-- whether one more link without a bundle can open once this one has ended
 unfoldable pub has_a_place_without : Rules → Past → Event → ℕ → Bool
 has_a_place_without rules past event link =
     has_place_beside rules past (held_without rules past event link)

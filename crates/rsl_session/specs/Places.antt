@@ -24,7 +24,7 @@ each_bundle (Some bundle ∷ bundles) =
     then each_bundle bundles
     else bundle ∷ each_bundle bundles
 
--- the places of some links, told by the bundle of each
+-- the places of some links, by the bundle of each
 unfoldable pub places_of : ℕ → List (Option Bundle) → ℕ
 places_of ports bundles =
     count_by is_none bundles

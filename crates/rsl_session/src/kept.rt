@@ -15,7 +15,7 @@ const _: () = prove!(KEPT_STOPS == 16);
 /// A fresh ask, as it is kept for its repeats.
 #[derive(Debug, PartialEq, Eq, Drop)]
 pub struct KeptAsk {
-    /// What tells it from other asks.
+    /// What it is known by.
     pub key: Key,
     /// The access server that asked.
     pub nas: Nas,

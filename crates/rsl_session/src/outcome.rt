@@ -6,15 +6,15 @@ use rsl_event::Decision;
 pub enum Outcome {
     /// A fresh ask was accepted with this number, and opened a reserved link.
     Accepted(u64),
-    /// A fresh ask that did not fit was accepted in the place of a stale link, and opened a
-    /// reserved link.
+    /// A fresh ask that did not fit was accepted since a stale link yielded, and opened a reserved
+    /// link.
     AcceptedInPlace {
         /// The accept number.
         number: u64,
-        /// The stale link, which yielded its place and ended.
+        /// The stale link, which yielded and ended.
         yielded: usize,
     },
-    /// A fresh ask was refused, for want of a free place.
+    /// A fresh ask was refused, since no place was free.
     Refused,
     /// An ask was a repeat of a fresh ask, and got its decision again.
     Repeated(Decision),
