@@ -1,3 +1,4 @@
+pub mod FaultText
 pub mod Faults
 pub mod Receipts
 pub mod Segments
