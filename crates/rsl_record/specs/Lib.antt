@@ -1,5 +1,6 @@
 pub mod Audit
 pub mod Chain
+pub mod FaultText
 pub mod Faults
 pub mod Receipts
 pub mod Records

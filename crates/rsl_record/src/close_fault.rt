@@ -2,24 +2,22 @@ ghost use Rattle.std.specs.Prelude.{◌≡◌};
 ghost use Rattle.rsl_record.specs.declared.close_fault.CloseFault.TheVariants.{NoMemory as no_memory};
 
 use rsl_wire::NoMemory;
-use thiserror::Error;
+use std::error::Error;
+use std::fmt;
 
 /// Why a record isn't settled, or that memory was refused.
-#[derive(Clone, Copy, Debug, PartialEq, Eq, Error)]
+#[derive(Clone, Copy, Debug, PartialEq, Eq)]
 pub enum CloseFault {
     /// Not as many passes are given as were opened.
-    #[error("missing pass")]
     MissingPass,
     /// The segments of this shard don't join from its new books, in the order given, or have a move
     /// that it doesn't take, or there is no such shard. It is the lowest such number.
-    #[error("missing segment of shard {shard}")]
     MissingSegment {
         /// The shard's number.
         shard: u32,
     },
     /// A receipt names this position, and is not the line there, or not the only receipt of it, or
     /// an earlier receipt of its pass names the same or a later position of this shard.
-    #[error("mismatch at {position} of shard {shard}")]
     Mismatch {
         /// The shard's number.
         shard: u32,
@@ -27,7 +25,6 @@ pub enum CloseFault {
         position: u64,
     },
     /// Memory was refused.
-    #[error("no memory")]
     NoMemory,
 }
 
@@ -38,3 +35,26 @@ impl From<NoMemory> for CloseFault {
         CloseFault::NoMemory
     }
 }
+
+impl fmt::Display for CloseFault {
+    ghost use Rattle.std.specs.Prelude.{Some};
+    ghost use Rattle.rsl_record.specs.FaultText.{fault_text};
+
+    ghost output = { λ fault. Some (fault_text fault) };
+
+    /// Writes what is missing or wrong, and where.
+    fn fmt<W: fmt::Write>(&self, f: &mut fmt::Formatter<W>) -> fmt::Result {
+        match self {
+            CloseFault::MissingPass => f.write_str("missing pass"),
+            CloseFault::MissingSegment { shard } => {
+                write!(f, "missing segment of shard {shard}")
+            }
+            CloseFault::Mismatch { shard, position } => {
+                write!(f, "mismatch at {position} of shard {shard}")
+            }
+            CloseFault::NoMemory => f.write_str("no memory"),
+        }
+    }
+}
+
+impl Error for CloseFault {}

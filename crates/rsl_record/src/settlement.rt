@@ -1,4 +1,4 @@
-ghost use Rattle.std.specs.Prelude.{◌≡◌, ◌≢◌, ◌++◌, ◌↔◌, IfErr, IsTrue, OnOk, map};
+ghost use Rattle.std.specs.Prelude.{◌≡◌, ◌≢◌, ◌++◌, ◌↔◌, IfErr, IsTrue, OnOk, length, map};
 ghost use Rattle.rsl_record.specs.Settled.{IsCloseFault, IsSettled};
 
 use crate::close_fault::CloseFault;
@@ -40,6 +40,8 @@ pub fn settle<P: HasReceipts>(
         (map P.receipts passes.now) (given.now ++ present.now)) }
     ensures fault { IfErr result (IsCloseFault config.now opened
         (map P.receipts passes.now) (given.now ++ present.now)) }
+    ensures missing { IfErr result (λ fault.
+        length passes.now ≢ opened → fault ≡ CloseFault.MissingPass) }
     ensures exact { IfErr result (λ fault. fault ≢ CloseFault.NoMemory →
         IsSettled config.now opened (map P.receipts passes.now) (given.now ++ present.now) → ⊥) }
 {

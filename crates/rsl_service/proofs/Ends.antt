@@ -1,5 +1,5 @@
 -- What the journals of all shards come to, when a service is closed.
-use Rattle.std.proofs.Common.{◌≡◌, ℕ, zero, suc, ◌+◌, ◌<◌, ◌≤◌, ◌⊎◌, List, [], ◌∷◌, ◌++◌, Option, Some, None, Bool, true, false, cond, not, ◌&&◌, ◌==◌, refl, sym, ap, subst, ◌∙◌, arith, length, length-append, append-nil, map, inl, inr, true≢false, is_lt, nat_cmp, Less, Equal, Greater, lt-ltb, le-ltb, eq-eqb, ne_eqb}
+use Rattle.std.proofs.Common.{◌≡◌, ◌≢◌, ℕ, zero, suc, ◌+◌, ◌<◌, ◌≤◌, ◌⊎◌, List, [], ◌∷◌, ◌++◌, Option, Some, None, Bool, true, false, cond, not, ◌&&◌, ◌==◌, refl, sym, ap, subst, ◌∙◌, arith, length, length-append, append-nil, map, inl, inr, true≢false, is_lt, nat_cmp, Less, Equal, Greater, lt-ltb, le-ltb, eq-eqb, ne_eqb}
 use Rattle.std.specs.Prelude.{IfSome, filter, is_some, nat_lt}
 use Rattle.std.specs.List.{flat_map, sum_by}
 use Rattle.std.specs.List.Sorted.{IsNonDecreasingBy, IsStableByKey, ties}
@@ -16,32 +16,38 @@ use Rattle.rsl_record.specs.declared.receipt.Receipt.{Receipt}
 use Rattle.rsl_shard.specs.Restep.{new_books, restep}
 use Rattle.rsl_shard.specs.Setup.{Setup, setup_of}
 use Rattle.rsl_shard.specs.declared.segment.Segment.{Segment}
-use Rattle.rsl_service.specs.Closed.{HasEnd, HaveEnds, IsClosed, IsEnd, IsUnsettled, count_in, end_of, lines_to, as_list}
+use Rattle.rsl_service.specs.Closed.{EndedSeen, HasCloseFault, HasEnd, HaveEnds, IsClosedBy, IsEnd, IsEndOf, IsFaultOf, IsRecordSettled, IsUnsettled, count_in, end_of, lines_to, as_list}
 
 -- ---- the journals that shards end with
 
 -- a journal that is there is the shard's end
-end_at : (config : Configuration) (shard : ℕ) (setup : Setup) (journal : Option Segment) (present : List Segment) → setup ≡ setup_of config shard
-    → is_some journal ≡ true → IfSome journal (IsEnd setup) → of_shard shard present ≡ as_list journal → HasEnd config present shard
-end_at config shard setup None present is there end alone = absurd (true≢false (sym there))
-end_at config shard setup (Some segment) present is there end alone =
-    record { segment = segment; alone = alone; ended = subst (λ (s : Setup). IsEnd s segment) is end }
+end_at : (config : Configuration) (shard : ℕ) (setup : Setup) (books : List RuledBook) (journal : Option Segment) (present : List Segment)
+    → setup ≡ setup_of config shard → books ≡ new_books config shard
+    → is_some journal ≡ true → IfSome journal (IsEnd setup books) → of_shard shard present ≡ as_list journal → HasEnd config present shard
+end_at config shard setup books None present is are there end alone = absurd (true≢false (sym there))
+end_at config shard setup books (Some segment) present is are there end alone =
+    record {
+      segment = segment;
+      alone = alone;
+      ended = subst (λ (s : Setup). IsEnd s (new_books config shard) segment) is (subst (λ (all : List RuledBook). IsEnd setup all segment) are end);
+    }
 
 -- so each shard has its end among all
-pub have_ends : (config : Configuration) (s0 s1 s2 s3 : Setup) (j0 : Segment) (j1 j2 j3 : Option Segment) (present : List Segment)
+pub have_ends : (config : Configuration) (s0 s1 s2 s3 : Setup) (b0 b1 b2 b3 : List RuledBook) (j0 : Segment) (j1 j2 j3 : Option Segment) (present : List Segment)
     → of_shard 0 present ≡ as_list (Some j0) → of_shard 1 present ≡ as_list j1 → of_shard 2 present ≡ as_list j2 → of_shard 3 present ≡ as_list j3
     → s0 ≡ setup_of config 0 → s1 ≡ setup_of config 1 → s2 ≡ setup_of config 2 → s3 ≡ setup_of config 3
+    → b0 ≡ new_books config 0 → b1 ≡ new_books config 1 → b2 ≡ new_books config 2 → b3 ≡ new_books config 3
     → config.settings.shards ≤ 4
     → is_some j1 ≡ nat_lt 1 config.settings.shards → is_some j2 ≡ nat_lt 2 config.settings.shards → is_some j3 ≡ nat_lt 3 config.settings.shards
-    → IsEnd s0 j0 → IfSome j1 (IsEnd s1) → IfSome j2 (IsEnd s2) → IfSome j3 (IsEnd s3)
+    → IsEnd s0 b0 j0 → IfSome j1 (IsEnd s1 b1) → IfSome j2 (IsEnd s2 b2) → IfSome j3 (IsEnd s3 b3)
     → HaveEnds config present
-have_ends config s0 s1 s2 s3 j0 j1 j2 j3 present of0 of1 of2 of3 is0 is1 is2 is3 few there1 there2 there3 e0 e1 e2 e3 = pick
+have_ends config s0 s1 s2 s3 b0 b1 b2 b3 j0 j1 j2 j3 present of0 of1 of2 of3 is0 is1 is2 is3 are0 are1 are2 are3 few there1 there2 there3 e0 e1 e2 e3 = pick
   where
     pick : (shard : ℕ) → shard < config.settings.shards → HasEnd config present shard
-    pick zero within = end_at config 0 s0 (Some j0) present is0 refl e0 of0
-    pick (suc zero) within = end_at config 1 s1 j1 present is1 (there1 ∙ lt-ltb 1 config.settings.shards within) e1 of1
-    pick (suc (suc zero)) within = end_at config 2 s2 j2 present is2 (there2 ∙ lt-ltb 2 config.settings.shards within) e2 of2
-    pick (suc (suc (suc zero))) within = end_at config 3 s3 j3 present is3 (there3 ∙ lt-ltb 3 config.settings.shards within) e3 of3
+    pick zero within = end_at config 0 s0 b0 (Some j0) present is0 are0 refl e0 of0
+    pick (suc zero) within = end_at config 1 s1 b1 j1 present is1 are1 (there1 ∙ lt-ltb 1 config.settings.shards within) e1 of1
+    pick (suc (suc zero)) within = end_at config 2 s2 b2 j2 present is2 are2 (there2 ∙ lt-ltb 2 config.settings.shards within) e2 of2
+    pick (suc (suc (suc zero))) within = end_at config 3 s3 b3 j3 present is3 are3 (there3 ∙ lt-ltb 3 config.settings.shards within) e3 of3
     pick (suc (suc (suc (suc shard)))) within = absurd (omega (arith, within, few))
 
 -- ---- what the ledgers tell
@@ -125,37 +131,55 @@ seen_settled config opened passes passes_seen given given_seen present present_s
     (subst (λ (all : List Segment). IsSettled config opened passes (all ++ present_seen)) is_given
     (subst (λ (all : List (List Receipt)). IsSettled config opened all (given_seen ++ present_seen)) (same_passes passes_seen ∙ is_passes) settled))
 
--- a service is closed where its record is settled and its journals have ended
-pub closes : (config : Configuration) (opened : ℕ) (passes : List (List Receipt)) (given present sorted : List Segment) → HaveEnds config present
-    → ((shard : ℕ) → shard < config.settings.shards → end_of shard present ≡ count_in passes shard)
-    → IsSettled config opened passes (given ++ present)
-    → ((shard : ℕ) → of_shard shard sorted ≡ of_shard shard (given ++ present)) → IsNonDecreasingBy (λ segment. segment.shard) sorted
-    → IsClosed config passes given sorted
-closes config opened passes given present sorted ends told settled same by_shard = record {
-  opened = opened;
-  present = present;
-  ends = ends;
+-- an ended service is closed where its record is settled
+pub closes : (ended : EndedSeen) (passes : List (List Receipt)) (given sorted : List Segment) → HaveEnds ended.config ended.present
+    → ((shard : ℕ) → shard < ended.config.settings.shards → end_of shard ended.present ≡ count_in passes shard)
+    → IsRecordSettled ended passes given
+    → ((shard : ℕ) → of_shard shard sorted ≡ of_shard shard (given ++ ended.present)) → IsNonDecreasingBy (λ segment. segment.shard) sorted
+    → IsClosedBy ended passes given sorted
+closes ended passes given sorted ends told settled same by_shard = record {
   settled = settled;
-  counted = λ shard within. lines_told config shard given present (ends shard within) (settled.joined shard) ∙ told shard within;
+  counted = λ shard within. lines_told ended.config shard given ended.present (ends shard within) (settled.joined shard) ∙ told shard within;
   same = same;
   by_shard = by_shard;
 }
 
--- and why it is not, where its record isn't
-pub unsettled : (config : Configuration) (opened : ℕ) (passes passes_seen : List (List Receipt)) (given given_seen present present_seen : List Segment)
-    (fault : CloseFault) → HaveEnds config present → passes_seen ≡ passes → given_seen ≡ given → present_seen ≡ present
-    → IsCloseFault config opened (map (λ (pass : List Receipt). pass) passes_seen) (given_seen ++ present_seen) fault → IsUnsettled config passes given fault
-unsettled config opened passes passes_seen given given_seen present present_seen fault ends is_passes is_given is_present first =
-    by fault
-    (subst (λ (all : List Segment). IsCloseFault config opened passes (given ++ all) fault) is_present
-    (subst (λ (all : List Segment). IsCloseFault config opened passes (all ++ present_seen) fault) is_given
-    (subst (λ (all : List (List Receipt)). IsCloseFault config opened all (given_seen ++ present_seen) fault) (same_passes passes_seen ∙ is_passes) first)))
+-- and why it is not, by what was seen of the parts of its record
+pub faults : (ended : EndedSeen) (passes passes_seen : List (List Receipt)) (given given_seen present_seen : List Segment) (fault : CloseFault)
+    → passes_seen ≡ passes → given_seen ≡ given → present_seen ≡ ended.present
+    → IsCloseFault ended.config ended.opened (map (λ (pass : List Receipt). pass) passes_seen) (given_seen ++ present_seen) fault
+    → (length passes_seen ≢ ended.opened → fault ≡ MissingPass)
+    → (fault ≢ NoMemory → IsSettled ended.config ended.opened (map (λ (pass : List Receipt). pass) passes_seen) (given_seen ++ present_seen) → ⊥)
+    → IsFaultOf ended passes given fault
+faults ended passes passes_seen given given_seen present_seen fault is_passes is_given is_present first missing unsettled =
+    subst (λ (some : List (List Receipt)). IsFaultOf ended some given fault) is_passes
+    (subst (λ (some : List Segment). IsFaultOf ended passes_seen some fault) is_given (record {
+      first = is (λ (all : List (List Receipt)) (some : List Segment). IsCloseFault ended.config ended.opened all some fault) first;
+      missing = missing;
+      unsettled = is (λ (all : List (List Receipt)) (some : List Segment). fault ≢ NoMemory → IsSettled ended.config ended.opened all some → ⊥) unsettled;
+    }))
   where
-    by : (some : CloseFault) → IsCloseFault config opened passes (given ++ present) some → IsUnsettled config passes given some
-    by MissingPass is = record { opened = opened; present = present; ends = ends; first = is }
-    by (MissingSegment shard) is = record { opened = opened; present = present; ends = ends; first = is }
-    by (Mismatch shard position) is = record { opened = opened; present = present; ends = ends; first = is }
-    by NoMemory is = tt
+    is : (said : List (List Receipt) → List Segment → Type 0) → said (map (λ (pass : List Receipt). pass) passes_seen) (given_seen ++ present_seen)
+        → said passes_seen (given_seen ++ ended.present)
+    is said at =
+        subst (λ (all : List Segment). said passes_seen (given_seen ++ all)) is_present
+        (subst (λ (all : List (List Receipt)). said all (given_seen ++ present_seen)) (same_passes passes_seen) at)
+
+-- where its record is settled, memory alone is refused
+pub refused : (ended : EndedSeen) (passes : List (List Receipt)) (given : List Segment) → IsRecordSettled ended passes given → IsFaultOf ended passes given NoMemory
+refused ended passes given settled = record {
+  first = tt;
+  missing = λ missing. absurd (missing settled.given);
+  unsettled = λ other is_settled. other refl;
+}
+
+-- a service is not closed for a fault of what came out of its locks
+pub unsettled : (config : Configuration) (ended : EndedSeen) (passes : List (List Receipt)) (given : List Segment) (fault : CloseFault)
+    → IsEndOf config ended → IsFaultOf ended passes given fault → IsUnsettled config passes given fault
+unsettled config ended passes given MissingPass is_end first = record { ended = ended; is_end = is_end; first = first }
+unsettled config ended passes given (MissingSegment shard) is_end first = record { ended = ended; is_end = is_end; first = first }
+unsettled config ended passes given (Mismatch shard position) is_end first = record { ended = ended; is_end = is_end; first = first }
+unsettled config ended passes given NoMemory is_end first = tt
 
 -- ---- a stable sort keeps the segments of a shard in their order
 

@@ -4,3 +4,4 @@ pub mod Gathering
 pub mod Noting
 pub mod Reported
 pub mod Ruled
+pub mod Ruling

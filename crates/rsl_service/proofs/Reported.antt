@@ -1,13 +1,14 @@
 -- The rows of a report, one by one.
 use Rattle.std.proofs.Common.{◌≡◌, ℕ, zero, suc, ◌+◌, ◌*◌, ◌/◌, ◌%◌, ◌<◌, ◌≤◌, ◌⊎◌, inl, inr, List, [], ◌∷◌, ◌++◌, length, map, set, Option, Some, None, refl, sym, ap, subst, ◌∙◌, arith, length-set, length-append}
-use Rattle.std.specs.Prelude.{slice_get}
+use Rattle.std.specs.Prelude.{All, slice_get}
 use Rattle.std.specs.Option.{option_map}
 use Rattle.std.proofs.lemmas.Bool.{cases_eq, cases_lt}
-use Rattle.std.proofs.lemmas.Option.{slice_get-map, slice_get_within, slice_get_past, same_Some}
+use Rattle.std.proofs.lemmas.List.Elements.{All-get_or}
+use Rattle.std.proofs.lemmas.Option.{get_or_from_slice_get, slice_get-map, slice_get_within, slice_get_past, same_Some}
 use Rattle.rsl_accounts.specs.Configuration.{Configuration}
 use Rattle.rsl_accounts.specs.declared.entry.Entry.{Entry}
 use Rattle.rsl_accounts.specs.declared.rules.Rules.{Rules}
-use Rattle.rsl_book.specs.RuledBook.{RuledBook}
+use Rattle.rsl_book.specs.RuledBook.{IsWithinLimit, RuledBook}
 use Rattle.rsl_session.specs.Book.{places_in}
 use Rattle.rsl_shard.specs.Moves.{IsOfShard}
 use Rattle.rsl_shard.specs.Opening.{as_new}
@@ -17,7 +18,7 @@ use Rattle.rsl_shard.specs.Seen.{IsShard, ShardSeen, books_of}
 use Rattle.rsl_shard.specs.Setup.{Setup, setup_of}
 use Rattle.rsl_shard.specs.declared.row.Row.{Row}
 use Rattle.rsl_shard.proofs.Callers.{account_is, book_at_index, new_book_at}
-use Rattle.rsl_service.specs.Report.{IsReport, IsRowOf}
+use Rattle.rsl_service.specs.Report.{AreShown, IsReport, IsRowOf, shown_book, with_book}
 
 -- what stands in a list in which one element was set
 set_same : {X : Type 0} (xs : List X) (at : ℕ) (new x : X) → slice_get (set xs at new) at ≡ Some x → x ≡ new
@@ -115,15 +116,80 @@ all_first accounts many rows all first = record { one_each = first.long ∙ all;
 
 pub ruleset firsts = (none_first, one_first, all_first)
 
+-- no book of a shard holds more than its places
+held_within : (setup : Setup) (account : ℕ) (books : List RuledBook) (ruled : RuledBook) → IsOfShard setup account → setup.shard < setup.shards
+    → All IsWithinLimit books → book_at setup books account ≡ Some ruled → places_in ruled.rules ruled.book ≤ ruled.rules.places
+held_within setup account books ruled there within all found =
+    let index = account / setup.shards in
+    let at : account ≡ setup.shard + index * setup.shards = account_is setup.shards setup.shard account there.of_shard in
+    let stands : slice_get books index ≡ Some ruled = sym (book_at_index setup.shard setup.shards account index books (omega (arith, within)) at) ∙ found in
+    (subst IsWithinLimit (get_or_from_slice_get books index ruled ruled stands)
+    (All-get_or IsWithinLimit books index ruled (slice_get_within books index ruled stands) all)).limit
+
 -- the same of what a lock keeps
 pub shown_by : (config : Configuration) (number account : ℕ) (shard : ShardSeen) (setup : Setup) (books : List RuledBook) (rows : List Row) (ruled : RuledBook) (row : Row)
     → IsShard shard → shard.setup ≡ setup → setup ≡ setup_of config number → map as_new (books_of shard) ≡ books → books ≡ new_books config number
     → IsOfShard shard.setup account → book_at shard.setup (books_of shard) account ≡ Some ruled
-    → places_in ruled.rules ruled.book ≤ ruled.rules.places → row ≡ row_of account ruled → IsReport config.accounts rows
+    → row ≡ row_of account ruled → IsReport config.accounts rows
     → IsReport config.accounts (set rows account row)
-shown_by config number account shard setup books rows ruled row kept numbered is are_ruled are of_shard found limit is_row report =
+shown_by config number account shard setup books rows ruled row kept numbered is are_ruled are of_shard found is_row report =
     let mine : shard.setup ≡ setup_of config number = numbered ∙ is in
+    let limit = held_within shard.setup account (books_of shard) ruled of_shard kept.books.within.shard kept.books.limit found in
     let within : number < config.settings.shards = subst (λ (s : Setup). s.shard < s.shards) mine kept.books.within.shard in
     subst (λ (r : Row). IsReport config.accounts (set rows account r)) (sym is_row)
     (shown config number account (books_of shard) rows ruled within (subst (λ (s : Setup). IsOfShard s account) mine of_shard) (are_ruled ∙ are)
     (subst (λ (s : Setup). book_at s (books_of shard) account ≡ Some ruled) mine found) limit report)
+
+-- ---- the rows of a shard's books
+
+-- before the first account all rows are as they were
+pub none_shown : (shard : ShardSeen) (rows : List Row) → AreShown 0 shard rows rows
+none_shown shard rows = record {
+  shown = λ account ruled before is. absurd (omega (arith, before));
+  others = λ account none. refl;
+  later = λ account past. refl;
+}
+
+set_here : {X : Type 0} (xs : List X) (at : ℕ) (new : X) → at < length xs → slice_get (set xs at new) at ≡ Some new
+set_here [] at new within = absurd (omega (arith, within))
+set_here (x ∷ xs) zero new within = refl
+set_here (x ∷ xs) (suc at) new within = set_here xs at new (omega (arith, within))
+
+-- the row of one account, by whether the shard has its book
+one_row : (account at : ℕ) (found : Option RuledBook) (rows : List Row) → (at ≡ account → ⊥)
+    → slice_get (with_book account found rows) at ≡ slice_get rows at
+one_row account at None rows apart = refl
+one_row account at (Some ruled) rows apart = set_other rows account at (row_of account ruled) apart
+
+-- and with the row of one account more
+pub one_shown : (account : ℕ) (shard : ShardSeen) (old now new : List Row) → account < length now → AreShown account shard old now
+    → new ≡ with_book account (shown_book shard account) now → AreShown (account + 1) shard old new
+one_shown account shard old now new there so_far is = subst (AreShown (account + 1) shard old) (sym is) (record {
+  shown = λ at ruled before found. shown at ruled before found (cases_eq at account);
+  others = λ at none. other at none (cases_eq at account);
+  later = λ at past. one_row account at (shown_book shard account) now (λ same. omega (arith, past, same)) ∙ so_far.later at (omega (arith, past));
+})
+  where
+    all : List Row
+    all = with_book account (shown_book shard account) now
+
+    shown : (at : ℕ) (ruled : RuledBook) → at < account + 1 → shown_book shard at ≡ Some ruled → (at ≡ account) ⊎ (at ≡ account → ⊥)
+        → slice_get all at ≡ Some (row_of at ruled)
+    shown at ruled before found (inr apart) = one_row account at (shown_book shard account) now apart ∙ so_far.shown at ruled (omega (arith, before, apart)) found
+    shown at ruled before found (inl same) =
+        let mine : shown_book shard account ≡ Some ruled = ap (shown_book shard) (sym same) ∙ found in
+        ap (λ (book : Option RuledBook). slice_get (with_book account book now) at) mine
+        ∙ ap (slice_get (set now account (row_of account ruled))) same
+        ∙ set_here now account (row_of account ruled) there
+        ∙ ap (λ (n : ℕ). Some (row_of n ruled)) (sym same)
+
+    other : (at : ℕ) → shown_book shard at ≡ None → (at ≡ account) ⊎ (at ≡ account → ⊥) → slice_get all at ≡ slice_get old at
+    other at none (inr apart) = one_row account at (shown_book shard account) now apart ∙ so_far.others at none
+    other at none (inl same) =
+        ap (λ (book : Option RuledBook). slice_get (with_book account book now) at) (ap (shown_book shard) (sym same) ∙ none) ∙ so_far.others at none
+
+-- up to the last
+pub all_shown : (many : ℕ) (shard : ShardSeen) (old new : List Row) → many ≡ length old → AreShown many shard old new → AreShown (length old) shard old new
+all_shown many shard old new all shown = subst (λ (n : ℕ). AreShown n shard old new) all shown
+
+pub ruleset showing = (none_shown, one_shown, all_shown)

@@ -11,7 +11,7 @@ use Rattle.rsl_shard.specs.declared.moves.Moves.TheVariants.{Nothing, One, Each}
 use Rattle.rsl_wire.specs.Seen.{fields_of}
 use Rattle.rsl_service.specs.Receipts.{IsNoted, AreNoted}
 use Rattle.rsl_service.specs.Service.{ServiceSeen}
-use Rattle.rsl_service.specs.declared.answered.Answered.{Answered}
+use Rattle.rsl_service.specs.declared.apply.Answered.{Answered}
 use Rattle.rsl_service.specs.declared.fault.ApplyFault.{ApplyFault}
 use Rattle.rsl_service.specs.declared.fault.ApplyFault.TheVariants as faults
 use Rattle.rsl_service.specs.declared.fault.StepFault.{StepFault}

@@ -1,17 +1,21 @@
 -- What the closing of a service tells of its journals and of the passes that were given back.
 --
--- How many passes were opened, and the journals that the shards end with, stand behind locks, which
--- no clause sees into. So there are such a number and such journals, of which all else is said.
-use Rattle.std.specs.Prelude.{◌≡◌, ℕ, ◌+◌, ◌<◌, ◌++◌, ⊤, List, [], ◌∷◌, length, Option, Some, None}
+-- A service that came out of its locks has a number of passes that it opened, and the present
+-- journals of its shards: its closing is said exactly, by these. Behind the locks no clause sees
+-- them. So of the closing of a service it is said that there are such a number and such journals.
+use Rattle.std.specs.Prelude.{◌≡◌, ◌≢◌, ℕ, ◌+◌, ◌<◌, ◌≤◌, ◌++◌, ⊤, List, [], ◌∷◌, length, map, Option, Some, None}
 use Rattle.std.specs.List.{sum_by}
 use Rattle.std.specs.List.Sorted.{IsNonDecreasingBy}
 use Rattle.rsl_accounts.specs.Configuration.{Configuration}
+use Rattle.rsl_book.specs.RuledBook.{RuledBook}
 use Rattle.rsl_record.specs.Segments.{of_shard, shard_lines}
 use Rattle.rsl_record.specs.Settled.{IsCloseFault, IsSettled}
 use Rattle.rsl_record.specs.declared.close_fault.CloseFault.{CloseFault}
-use Rattle.rsl_record.specs.declared.close_fault.CloseFault.TheVariants.{NoMemory}
+use Rattle.rsl_record.specs.declared.close_fault.CloseFault.TheVariants.{MissingPass, NoMemory}
 use Rattle.rsl_record.specs.declared.receipt.Receipt.{Receipt}
 use Rattle.rsl_shard.specs.Journal.{IsJournal}
+use Rattle.rsl_shard.specs.Opening.{as_new}
+use Rattle.rsl_shard.specs.Restep.{new_books}
 use Rattle.rsl_shard.specs.Setup.{Setup, setup_of}
 use Rattle.rsl_shard.specs.declared.segment.Segment.{Segment}
 use Rattle.rsl_service.specs.Receipts.{count_of}
@@ -20,10 +24,12 @@ use Rattle.rsl_service.specs.Receipts.{count_of}
 abbrev pub lines_to : Segment → ℕ
 lines_to segment = segment.first + length segment.lines.items
 
--- The journal that a shard ends with: the shard takes each move in it, and each decision is that of
--- the books.
-pub record IsEnd (setup : Setup) (segment : Segment) : Type 0 where
+-- The journal that a shard ends with: it begins with a book of each of the shard's accounts, of
+-- which `books` are the new ones; the shard takes each move in it, and each decision is that of the
+-- books.
+pub record IsEnd (setup : Setup) (books : List RuledBook) (segment : Segment) : Type 0 where
   pub shard : segment.shard ≡ setup.shard
+  pub opening : map as_new segment.opening.items ≡ books
   pub journal : IsJournal setup segment.opening.items segment.lines.items
 
 -- the journal of a shard that there may be, as a list
@@ -35,7 +41,7 @@ as_list (Some segment) = segment ∷ []
 pub record HasEnd (config : Configuration) (present : List Segment) (shard : ℕ) : Type 0 where
   pub segment : Segment
   pub alone : of_shard shard present ≡ segment ∷ []
-  pub ended : IsEnd (setup_of config shard) segment
+  pub ended : IsEnd (setup_of config shard) (new_books config shard) segment
 
 -- the journals that all shards end with
 abbrev pub HaveEnds : Configuration → (present : List Segment) → Type 0
@@ -49,29 +55,59 @@ end_of shard present = sum_by lines_to (of_shard shard present)
 abbrev pub count_in : (passes : List (List Receipt)) → (shard : ℕ) → ℕ
 count_in passes shard = sum_by (count_of shard) passes
 
--- The record is settled, by the segments given and the present journals; the lines of each shard
--- are as many as the receipts of it; and the segments that come back are those, by shard, and those
--- of a shard in the order in which they join.
-pub record IsClosed (config : Configuration) (passes : List (List Receipt)) (given : List Segment)
-    (closed : List Segment) : Type 0 where
+-- what a contract sees of a service that came out of its locks
+pub record EndedSeen : Type 0 where
+  pub config : Configuration
   pub opened : ℕ
   pub present : List Segment
-  pub ends : HaveEnds config present
-  pub settled : IsSettled config opened passes (given ++ present)
-  pub counted : (shard : ℕ) → shard < config.settings.shards
-      → length (shard_lines shard (given ++ present)) ≡ count_in passes shard
-  pub same : (shard : ℕ) → of_shard shard closed ≡ of_shard shard (given ++ present)
+
+-- The record of an ended service is settled, by the segments given and the present journals.
+abbrev pub IsRecordSettled : EndedSeen → (passes : List (List Receipt)) → (given : List Segment)
+    → Type 0
+IsRecordSettled ended passes given =
+    IsSettled ended.config ended.opened passes (given ++ ended.present)
+
+-- The record of an ended service is settled; the lines of each shard are as many as the receipts of
+-- it; and the segments that come back are those given and the present journals, by shard, and those
+-- of a shard in the order in which they join.
+pub record IsClosedBy (ended : EndedSeen) (passes : List (List Receipt)) (given : List Segment)
+    (closed : List Segment) : Type 0 where
+  pub settled : IsRecordSettled ended passes given
+  pub counted : (shard : ℕ) → shard < ended.config.settings.shards
+      → length (shard_lines shard (given ++ ended.present)) ≡ count_in passes shard
+  pub same : (shard : ℕ) → of_shard shard closed ≡ of_shard shard (given ++ ended.present)
   pub by_shard : IsNonDecreasingBy (λ segment. segment.shard) closed
 
--- The fault is the first of the record, with the passes that were opened and the present journals.
+-- Why an ended service is not closed: memory was refused; or its record isn't settled, and the fault
+-- is the first of it. A pass that is missing is found whether or not there is memory.
+pub record IsFaultOf (ended : EndedSeen) (passes : List (List Receipt)) (given : List Segment)
+    (fault : CloseFault) : Type 0 where
+  pub first : IsCloseFault ended.config ended.opened passes (given ++ ended.present) fault
+  pub missing : length passes ≢ ended.opened → fault ≡ MissingPass
+  pub unsettled : fault ≢ NoMemory → IsRecordSettled ended passes given → ⊥
+
+-- What comes out of the locks of a service: at most 1,024 passes were opened, and the journals are
+-- those that its shards end with.
+pub record IsEndOf (config : Configuration) (ended : EndedSeen) : Type 0 where
+  pub config_kept : ended.config ≡ config
+  pub most : ended.opened ≤ 1024
+  pub ends : HaveEnds ended.config ended.present
+
+-- A service is closed: so is what came out of its locks.
+pub record IsClosed (config : Configuration) (passes : List (List Receipt)) (given : List Segment)
+    (closed : List Segment) : Type 0 where
+  pub ended : EndedSeen
+  pub is_end : IsEndOf config ended
+  pub closed_by : IsClosedBy ended passes given closed
+
+-- Why a service could not be closed: memory was refused, perhaps before it came out of its locks; or
+-- its record isn't settled, and the fault is the first of it.
 pub record HasCloseFault (config : Configuration) (passes : List (List Receipt))
     (given : List Segment) (fault : CloseFault) : Type 0 where
-  pub opened : ℕ
-  pub present : List Segment
-  pub ends : HaveEnds config present
-  pub first : IsCloseFault config opened passes (given ++ present) fault
+  pub ended : EndedSeen
+  pub is_end : IsEndOf config ended
+  pub first : IsFaultOf ended passes given fault
 
--- why a service could not be closed: memory was refused, or its record isn't settled
 abbrev pub IsUnsettled : Configuration → (passes : List (List Receipt)) → (given : List Segment)
     → CloseFault → Type 0
 IsUnsettled config passes given NoMemory = ⊤

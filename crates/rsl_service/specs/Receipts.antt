@@ -1,6 +1,7 @@
 -- The receipts of a pass: one for each move that its holder made, in the order of the calls.
 use Rattle.std.specs.Prelude.{◌≡◌, ℕ, ◌==◌, List, [], ◌∷◌, ◌++◌, zero, suc, count_by}
 use Rattle.rsl_event.specs.declared.event.Decision.{Decision}
+use Rattle.rsl_event.specs.declared.event.Decision.TheVariants.{Done}
 use Rattle.rsl_shard.specs.declared.moved.Move.{Move}
 use Rattle.rsl_record.specs.declared.receipt.Receipt.{Receipt}
 
@@ -18,9 +19,10 @@ pub record IsNoted (shard : ℕ) (moved : Move) (decision : Decision) (old new :
     line = record { moved = moved; decision = decision };
   } ∷ []
 
--- a receipt more of this shard, with this move and some decision
+-- a receipt more of this shard, with this move, which is each shard's and so merely done
 pub record HasOneMore (shard : ℕ) (moved : Move) (old new : List Receipt) : Type 0 where
   pub decision : Decision
+  pub done : decision ≡ Done
   pub noted : IsNoted shard moved decision old new
 
 -- a receipt more of each of the first shards, in their order, with this move: those of the shards

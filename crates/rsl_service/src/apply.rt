@@ -1,35 +1,40 @@
-ghost use Rattle.std.specs.Prelude.{◌≡◌, ◌<◌, [], IfErr, IfOk};
-ghost use Rattle.rsl_event.specs.Prepared.{HasOwnAct, IsPrepared};
+ghost use Rattle.std.specs.Prelude.{◌≡◌, ℕ, ◌+◌, ◌≤◌, ◌<◌, [], IfErr, IfOk, IsOk, OnErr, vec_capacity, vec_len};
+ghost use Rattle.rsl_event.specs.Prepared.{HasAccount, HasOwnAct, IsPrepared};
+ghost use Rattle.rsl_shard.specs.Moves.{IsOfAll, IsTaken};
+ghost use Rattle.rsl_shard.specs.Setup.{setup_of};
 ghost use Rattle.rsl_shard.specs.declared.moved.Move.TheVariants as moves;
-ghost use Rattle.rsl_service.specs.Applied.{IsApplied, IsStopped, swept_before};
-ghost use Rattle.rsl_service.specs.Receipts.{AreNoted};
+ghost use Rattle.rsl_service.specs.Applied.{HasDecided, IsApplied, IsStopped, swept_before};
+ghost use Rattle.rsl_service.specs.Receipts.{AreNoted, HasOneMore, IsNoted, count_of};
 
-use crate::answered::Answered;
-use crate::fault::ApplyFault;
-use crate::gate::Gate;
-use crate::pass::Pass;
-use crate::service::Service;
-use crate::tally::Tally;
-use rsl_event::{Prepared, reply_to, room_in};
-use rsl_shard::Move;
+use crate::desk::Desk;
+use crate::fault::{ApplyFault, StepFault};
+use crate::ledger::Tally;
+use crate::pass::{Notes, Pass, ReplyRoom};
+use crate::service::{Desks, Gate, Service};
+use rsl_event::{Decision, Meaning, Prepared, Said, reply_to, room_in};
+use rsl_shard::{Move, Moves};
 use rsl_wire::{Draft, NoMemory};
 use std::alloc::Global;
-use std::mem::replace;
-use std::sync::Wait;
+use std::sync::ledger::Share;
+use std::sync::{Mutex, Wait};
 
-/// Room for the reply to a datagram, in that of the reply before it. Where it fails, that room is let
-/// go.
-fn draft_for<L0: Tally, L1: Tally, L2: Tally, L3: Tally>(
-    alloc: Global,
-    pass: &mut Pass<L0, L1, L2, L3>,
-    prepared: &Prepared<'_>,
-) -> Result<Draft, NoMemory>
-    ensures pass { pass.new ≡ pass.old }
+/// The answer to a datagram.
+#[derive(Debug, PartialEq, Eq, Drop)]
+pub struct Answered {
+    /// Its word.
+    pub said: Said,
+    /// The octets of the reply: the whole packet, as it is sent.
+    pub octets: Vec<u8>,
+}
+
+/// A draft of the reply to a datagram, in the room of the reply before it. It takes memory only where
+/// there is room for less than 4,096 octets. Where it fails, that room is let go.
+fn draft_in(alloc: Global, room: &mut ReplyRoom, prepared: &Prepared<'_>) -> Result<Draft, NoMemory>
     ensures draft { IfOk result (λ draft.
         draft ≡ record { id = prepared.now.packet.id; attributes = [] }) }
+    ensures enough { 4096 ≤ room.old → IsOk result }
 {
-    let earlier = replace(&mut pass.room, Vec::new(alloc));
-    room_in(prepared, earlier)
+    room_in(prepared, room.take(alloc))
 }
 
 impl<L0: Tally, L1: Tally, L2: Tally, L3: Tally, G: Gate> Service<L0, L1, L2, L3, G> {
@@ -61,9 +66,8 @@ impl<L0: Tally, L1: Tally, L2: Tally, L3: Tally, G: Gate> Service<L0, L1, L2, L3
         ensures fewer { IfErr result (λ fault.
             swept_before fault < self.now.config.settings.shards) }
     {
-        // A configuration has 1 to 4 shards: this call tells it.
-        let _shards = self.config.shards();
-        let draft = match draft_for(alloc, pass, &prepared) {
+        let config = self.config();
+        let draft = match draft_in(alloc, &mut pass.reply_room, &prepared) {
             Ok(draft) => draft,
             Err(NoMemory) => return Err(ApplyFault::NoMemory { swept: 0 }),
         };
@@ -75,7 +79,6 @@ impl<L0: Tally, L1: Tally, L2: Tally, L3: Tally, G: Gate> Service<L0, L1, L2, L3
         let kind = meaning.kind();
         let decision = self.decide(rt, alloc, pass, moment, meaning)?;
         let said = kind.said(decision);
-        let config = &self.config;
         let octets = reply_to(&packet, client, kind, config, self.boot, decision, draft);
         Ok(Answered { said, octets })
     }
@@ -102,4 +105,161 @@ impl<L0: Tally, L1: Tally, L2: Tally, L3: Tally, G: Gate> Service<L0, L1, L2, L3
     {
         self.step_each(rt, alloc, pass, &Move::Tick { moment })
     }
+
+    /// Makes the moves of a datagram with this meaning, and gives what was decided on it. A restart
+    /// sweeps every shard.
+    fn decide<R: Wait>(
+        &self,
+        rt: &R,
+        alloc: Global,
+        pass: &mut Pass<L0, L1, L2, L3>,
+        moment: u64,
+        meaning: Meaning,
+    ) -> Result<Decision, ApplyFault>
+        requires account { HasAccount self.now.config meaning }
+        requires act { HasOwnAct meaning }
+        ensures decided { IfOk result (λ decision.
+            HasDecided self.now moment meaning decision pass.old pass.new) }
+        ensures err { IfErr result (λ fault.
+            IsStopped self.now moment meaning fault pass.old pass.new) }
+        ensures fewer { IfErr result (λ fault.
+            swept_before fault < self.now.config.settings.shards) }
+    {
+        match Moves::of(self.config(), moment, meaning) {
+            Moves::Nothing => Ok(Decision::Done),
+            Moves::One { shard, moved } => match self
+                .desks
+                .step(rt, alloc, &self.gate, pass, shard, moved)
+            {
+                Ok(decision) => Ok(decision),
+                Err(fault) => Err(fault.after(0)),
+            },
+            Moves::Each(moved) => match self.step_each(rt, alloc, pass, &moved) {
+                Ok(()) => Ok(Decision::Done),
+                Err(fault) => Err(fault),
+            },
+        }
+    }
+
+    /// Makes a move that every shard takes in each of them in turn.
+    #[tactic(auto, using(crate::proofs::Noting::noting))]
+    fn step_each<R: Wait>(
+        &self,
+        rt: &R,
+        alloc: Global,
+        pass: &mut Pass<L0, L1, L2, L3>,
+        moved: &Move,
+    ) -> Result<(), ApplyFault>
+        requires takes { IsOfAll moved.now }
+        ensures noted { IfOk result (λ _.
+            AreNoted self.now.config.settings.shards moved.now pass.old pass.new) }
+        ensures err { IfErr result (λ fault.
+            AreNoted (swept_before fault) moved.now pass.old pass.new) }
+        ensures fewer { IfErr result (λ fault.
+            swept_before fault < self.now.config.settings.shards) }
+    {
+        for shard in 0..self.config().shards() {
+            self.step_copy(rt, alloc, pass, shard, moved)?;
+        }
+        Ok(())
+    }
+
+    /// Makes a copy of a move in the shard after so many that have made it.
+    fn step_copy<R: Wait>(
+        &self,
+        rt: &R,
+        alloc: Global,
+        pass: &mut Pass<L0, L1, L2, L3>,
+        shard: u32,
+        moved: &Move,
+    ) -> Result<(), ApplyFault>
+        requires there { shard < self.now.config.settings.shards }
+        requires takes { IsOfAll moved.now }
+        ensures noted { IfOk result (λ _. HasOneMore shard moved.now pass.old pass.new) }
+        ensures err { IfErr result (λ fault.
+            (swept_before fault ≡ shard) × (pass.new ≡ pass.old)) }
+    {
+        let copy = match moved.try_copy(alloc) {
+            Ok(copy) => copy,
+            Err(_) => return Err(ApplyFault::NoMemory { swept: shard }),
+        };
+        match self.desks.step(rt, alloc, &self.gate, pass, shard, copy) {
+            Ok(_) => Ok(()),
+            Err(fault) => Err(fault.after(shard)),
+        }
+    }
+}
+
+impl<L0: Tally, L1: Tally, L2: Tally, L3: Tally> Desks<L0, L1, L2, L3> {
+    /// Makes a move in a shard, with a receipt. What the step needs is taken before the lock: room
+    /// for a receipt and for lines of the journal. Where it fails, the pass is as it was.
+    fn step<G: Gate, R: Wait>(
+        &self,
+        rt: &R,
+        alloc: Global,
+        gate: &G,
+        pass: &mut Pass<L0, L1, L2, L3>,
+        shard: u32,
+        moved: Move,
+    ) -> Result<Decision, StepFault>
+        requires there { shard < self.now.settings.shards }
+        requires takes { IsTaken (setup_of self.now shard) moved }
+        ensures noted { IfOk result (λ decision. IsNoted shard moved decision pass.old pass.new) }
+        ensures done { IfOk result (λ decision. IsOfAll moved → decision ≡ Decision.Done) }
+        ensures err { OnErr result (pass.new ≡ pass.old) }
+    {
+        let desk0 = &self.desk0;
+        let notes = &mut pass.notes;
+        if notes.take_room().is_err() {
+            drop(moved);
+            return Err(StepFault::NoMemory);
+        }
+        let (share0, share1) = (&mut pass.shares.share0, &mut pass.shares.share1);
+        let (share2, share3) = (&mut pass.shares.share2, &mut pass.shares.share3);
+        match shard {
+            0 => make_under_lock(rt, alloc, desk0, gate, 0, share0, notes, moved),
+            1 => match &self.desk1 {
+                Some(desk) => make_under_lock(rt, alloc, desk, gate, 1, share1, notes, moved),
+                None => unreachable!(),
+            },
+            2 => match &self.desk2 {
+                Some(desk) => make_under_lock(rt, alloc, desk, gate, 2, share2, notes, moved),
+                None => unreachable!(),
+            },
+            3 => match &self.desk3 {
+                Some(desk) => make_under_lock(rt, alloc, desk, gate, 3, share3, notes, moved),
+                None => unreachable!(),
+            },
+            _ => unreachable!(),
+        }
+    }
+}
+
+/// Makes a move in a shard, under its lock, and puts its receipt into the notes.
+#[inline(always)]
+fn make_under_lock<L: Tally, G: Gate, R: Wait>(
+    rt: &R,
+    alloc: Global,
+    desk: &Mutex<Desk<L>>,
+    gate: &G,
+    shard: u32,
+    mine: &mut Share<L>,
+    notes: &mut Notes,
+    moved: Move,
+) -> Result<Decision, StepFault>
+    requires takes { IsTaken L.setup moved }
+    requires part { 0 < mine.old.parts }
+    requires room { vec_len notes.old.receipts < vec_capacity notes.old.receipts }
+    requires lines { 1024 ≤ notes.old.spare }
+    ensures noted { IfOk result (λ decision.
+        IsNoted shard moved decision notes.old.receipts.items notes.new.receipts.items) }
+    ensures done { IfOk result (λ decision. IsOfAll moved → decision ≡ Decision.Done) }
+    ensures parts { mine.new.parts ≡ mine.old.parts }
+    ensures counted { mine.new.amount + count_of shard notes.old.receipts.items
+        ≡ mine.old.amount + count_of shard notes.new.receipts.items }
+    ensures others { (other : ℕ) → (other ≡ shard → ⊥) →
+        count_of other notes.new.receipts.items ≡ count_of other notes.old.receipts.items }
+    ensures err { OnErr result (notes.new.receipts.items ≡ notes.old.receipts.items) }
+{
+    desk.lock(rt).make(alloc, gate, shard, mine, notes, moved)
 }

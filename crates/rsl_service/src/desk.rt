@@ -1,18 +1,39 @@
-ghost use Rattle.std.specs.Prelude.{◌≡◌, ◌+◌, ◌<◌, IfOk, OnErr, OnOk, map};
-ghost use Rattle.rsl_shard.specs.Moves.{IsTaken};
+ghost use Rattle.std.specs.Prelude.{
+  ◌≡◌,
+  ℕ,
+  ◌+◌,
+  ◌-◌,
+  ◌^◌,
+  ◌<◌,
+  ◌≤◌,
+  ◌↔◌,
+  IfErr,
+  IfOk,
+  OnErr,
+  length,
+  map,
+  vec_capacity,
+  vec_len,
+};
 ghost use Rattle.rsl_shard.specs.Journal.{IsJournal};
+ghost use Rattle.rsl_shard.specs.Moves.{IsTaken};
 ghost use Rattle.rsl_shard.specs.Opening.{as_new};
 ghost use Rattle.rsl_shard.specs.Restep.{new_books};
-ghost use Rattle.rsl_shard.specs.Seen.{books_of, total_of};
+ghost use Rattle.rsl_shard.specs.Seen.{books_of, cut_off, total_of};
 ghost use Rattle.rsl_shard.specs.Setup.{setup_of};
 ghost use Rattle.rsl_service.specs.Closed.{IsEnd, lines_to};
+ghost use Rattle.rsl_service.specs.Made.{IsMade};
+ghost use Rattle.rsl_service.specs.Receipts.{count_of};
+ghost use Rattle.rsl_service.specs.Report.{AreShown, IsReport, shown_book, with_book};
 
 use crate::fault::StepFault;
-use crate::gate::Gate;
-use crate::tally::Tally;
+use crate::ledger::Tally;
+use crate::pass::Notes;
+use crate::service::Gate;
 use rsl_accounts::Config;
 use rsl_event::Decision;
-use rsl_shard::{CutRoom, LooseSegment, Move, Segment, Shard, Spare};
+use rsl_record::Receipt;
+use rsl_shard::{CutRoom, Line, LooseSegment, Move, Row, Segment, Shard};
 use rsl_wire::NoMemory;
 use std::alloc::Global;
 use std::sync::ledger::{Blank, Book as LineLedger, Share};
@@ -22,6 +43,8 @@ use std::sync::ledger::{Blank, Book as LineLedger, Share};
 /// Its type keeps that it is the shard for which the ledger stands, with books of its accounts'
 /// rules, and that the ledger's total is the number of the shard's lines, with those that were
 /// handed out.
+///
+/// All that is done under the lock is a method here, which says exactly what it does to the shard.
 #[derive(Drop)]
 pub(crate) struct Desk<L: Tally> {
     pub(crate) shard: Shard,
@@ -29,15 +52,6 @@ pub(crate) struct Desk<L: Tally> {
     ghost counted: { ledger.total ≡ total_of shard },
     ghost numbered: { shard.setup ≡ L.setup },
     ghost ruled: { map as_new (books_of shard) ≡ L.books },
-}
-
-/// What came of a step: where its line stands, and what was decided.
-#[derive(Debug, Clone, Copy, PartialEq, Eq, Drop)]
-pub(crate) struct Made {
-    /// The line's position, counted over all segments.
-    pub(crate) position: u64,
-    /// The decision on the move.
-    pub(crate) decision: Decision,
 }
 
 /// Counts a line of a shard in its ledger and in the share of who made it.
@@ -73,6 +87,60 @@ impl<L: Tally> Desk<L> {
         Ok((Desk { shard, ledger }, share))
     }
 
+    /// Makes a move in the shard, counts its line in the share and puts its receipt into the notes,
+    /// and then calls the gate. Where it fails, nothing has changed but the spare room. A shard
+    /// that is spent says so whether or not there is memory.
+    #[tactic(auto, using(crate::proofs::Ruled::ruled))]
+    pub(crate) fn make<G: Gate>(
+        &mut self,
+        alloc: Global,
+        gate: &G,
+        number: u32,
+        mine: &mut Share<L>,
+        notes: &mut Notes,
+        moved: Move,
+    ) -> Result<Decision, StepFault>
+        requires takes { IsTaken L.setup moved }
+        requires part { 0 < mine.old.parts }
+        requires room { vec_len notes.old.receipts < vec_capacity notes.old.receipts }
+        requires lines { 1024 ≤ notes.old.spare }
+        ensures made { IfOk result (λ decision. IsMade number moved decision
+            self.old.shard self.new.shard notes.old.receipts.items notes.new.receipts.items) }
+        ensures spent { IfErr result (λ fault.
+            fault ≡ StepFault.Spent ↔ (total_of self.old.shard ≡ 2 ^ 64 - 1)) }
+        ensures err { OnErr result (self.new.shard ≡ self.old.shard) }
+        ensures unnoted { OnErr result (notes.new.receipts.items ≡ notes.old.receipts.items) }
+        ensures parts { mine.new.parts ≡ mine.old.parts }
+        ensures counted { mine.new.amount + count_of number notes.old.receipts.items
+            ≡ mine.old.amount + count_of number notes.new.receipts.items }
+        ensures others { (other : ℕ) → (other ≡ number → ⊥) →
+            count_of other notes.new.receipts.items ≡ count_of other notes.old.receipts.items }
+    {
+        let Desk { shard, ledger } = self;
+        let position = shard.total();
+        // Where it fails, the move is freed by a call of `drop`: left to the end of the function, this
+        // would cost each step that does not fail.
+        if position == u64::MAX {
+            drop(moved);
+            return Err(StepFault::Spent);
+        }
+        let decision = match shard.step_ready(alloc, &moved, &mut notes.spare) {
+            Ok(decision) => decision,
+            Err(NoMemory) => {
+                drop(moved);
+                return Err(StepFault::NoMemory);
+            }
+        };
+        count_line(ledger, mine);
+        notes.note(Receipt {
+            shard: number,
+            position,
+            line: Line { moved, decision },
+        });
+        gate.at(number);
+        Ok(decision)
+    }
+
     /// The number of lines of the present journal.
     pub(crate) fn moves(&self) -> usize {
         self.shard.moves()
@@ -83,16 +151,25 @@ impl<L: Tally> Desk<L> {
     #[tactic(auto, using(crate::proofs::Ruled::ruled))]
     pub(crate) fn cut(&mut self, alloc: Global, room: CutRoom) -> Result<LooseSegment, NoMemory>
         ensures shard { IfOk result (λ loose. loose.shard ≡ L.setup.shard) }
+        ensures first { IfOk result (λ loose. loose.first ≡ self.old.shard.first) }
+        ensures opening { IfOk result (λ loose. loose.opening ≡ self.old.shard.opening) }
+        ensures lines { IfOk result (λ loose. loose.lines ≡ self.old.shard.lines) }
+        ensures cut { IfOk result (λ _. self.new.shard ≡ cut_off self.old.shard) }
+        ensures books { IfOk result (λ loose. map as_new loose.opening ≡ L.books) }
         ensures journal { IfOk result (λ loose. IsJournal L.setup loose.opening loose.lines) }
+        ensures err { OnErr result (self.new.shard ≡ self.old.shard) }
     {
-        // What is kept of every shard: this call tells it.
-        let _total = self.shard.total();
+        self.shard.open_invariant();
         self.shard.cut_loose(alloc, room)
     }
 
     /// Ends the journal, and hands it out with its ledger. It fails only where memory is refused.
+    #[tactic(auto, using(crate::proofs::Ruled::ruled))]
     pub(crate) fn end(self, alloc: Global) -> Result<(Segment, LineLedger<L>), NoMemory>
-        ensures end { IfOk result (λ ended. IsEnd L.setup ended.0) }
+        ensures first { IfOk result (λ ended. ended.0.first ≡ self.shard.first) }
+        ensures opening { IfOk result (λ ended. ended.0.opening.items ≡ self.shard.opening) }
+        ensures lines { IfOk result (λ ended. ended.0.lines.items ≡ self.shard.lines) }
+        ensures end { IfOk result (λ ended. IsEnd L.setup L.books ended.0) }
         ensures told { IfOk result (λ ended. ended.1.total ≡ lines_to ended.0) }
     {
         let Desk { shard, ledger } = self;
@@ -100,33 +177,33 @@ impl<L: Tally> Desk<L> {
         Ok((journal, ledger))
     }
 
-    /// Makes a move in the shard, counts its line in the share, and then calls the gate. Where it
-    /// fails, nothing has changed but the spare room. A shard that is spent says so whether or not
-    /// there is memory.
-    #[tactic(auto, using(crate::proofs::Ruled::ruled))]
-    pub(crate) fn make<G: Gate>(
-        &mut self,
-        alloc: Global,
-        gate: &G,
-        number: u32,
-        mine: &mut Share<L>,
-        moved: &Move,
-        spare: &mut Spare,
-    ) -> Result<Made, StepFault>
-        requires takes { IsTaken L.setup moved.now }
-        requires part { 0 < mine.old.parts }
-        ensures parts { mine.new.parts ≡ mine.old.parts }
-        ensures counted { OnOk result (mine.new.amount ≡ mine.old.amount + 1) }
-        ensures err { OnErr result (mine.new ≡ mine.old) }
+    /// Puts what each account of the shard holds into its row. The other rows are as they were.
+    #[tactic(auto, using(crate::proofs::Reported::showing))]
+    pub(crate) fn show(&self, config: &Config, number: u32, rows: &mut [Row])
+        requires setup { L.setup ≡ setup_of config.now number }
+        requires books { L.books ≡ new_books config.now number }
+        requires rows { IsReport config.now.accounts rows.old }
+        ensures shown { AreShown (length rows.old) self.now.shard rows.old rows.new }
+        ensures report { IsReport config.now.accounts rows.new }
     {
-        let Desk { shard, ledger } = self;
-        let position = shard.total();
-        if position == u64::MAX {
-            return Err(StepFault::Spent);
+        for account in 0..rows.len() {
+            self.show_one(config, number, account, rows);
         }
-        let decision = shard.step_ready(alloc, moved, spare)?;
-        count_line(ledger, mine);
-        gate.at(number);
-        Ok(Made { position, decision })
+    }
+
+    /// Puts what an account holds into its row, if it is one of the shard.
+    fn show_one(&self, config: &Config, number: u32, account: usize, rows: &mut [Row])
+        requires setup { L.setup ≡ setup_of config.now number }
+        requires books { L.books ≡ new_books config.now number }
+        requires account { account < length rows.old }
+        requires rows { IsReport config.now.accounts rows.old }
+        ensures shown { rows.new
+            ≡ with_book account (shown_book self.now.shard account) rows.old }
+        ensures report { IsReport config.now.accounts rows.new }
+    {
+        self.shard.open_invariant();
+        if let Some(book) = self.shard.book(account as u32) {
+            rows[account] = Row::of(account as u32, book);
+        }
     }
 }

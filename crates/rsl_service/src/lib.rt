@@ -2,33 +2,27 @@
 //!
 //! The promise: a datagram is answered only where the caller's pass has a receipt of each move that
 //! it made (`specs/Applied.antt`, `specs/Receipts.antt`); and `Service::close` says Ok only where
-//! the journals hold the moves of all passes, each once, and no others (`specs/Closed.antt`).
+//! the journals hold the moves of all passes, each once, and no others (`specs/Closed.antt`). The
+//! journals of a closed service obey the session rule (`laws`). What is done behind a lock is said
+//! exactly, by the methods of `Desk` (`specs/Made.antt`, `specs/Report.antt`).
 #![tactic(auto)]
 
-mod answered;
 mod apply;
-mod closing;
+mod close;
+mod cut;
 mod desk;
-mod ended;
-mod ending;
-mod enter;
 mod fault;
-mod gate;
-mod gather;
-mod left;
-mod making;
+pub mod laws;
+mod ledger;
 mod pass;
-mod reporting;
+mod report;
 mod service;
-mod stepping;
-mod tally;
+mod shares;
 
-pub use answered::Answered;
-pub use closing::Closed;
+pub use apply::Answered;
+pub use close::Closed;
 pub use fault::{ApplyFault, CutFault, PassFault};
-pub use gate::{Gate, Open};
-pub use making::Blanks;
+pub use ledger::{Blanks, Tally};
 pub use pass::Pass;
 pub use rsl_record::{CloseFault, HasReceipts, Receipt, settle};
-pub use service::Service;
-pub use tally::Tally;
+pub use service::{Gate, Open, Service};

@@ -1,10 +1,83 @@
-ghost use Rattle.std.specs.Prelude.{◌≡◌};
+ghost use Rattle.std.specs.Prelude.{
+  ◌≡◌,
+  ℕ,
+  ◌+◌,
+  ◌≤◌,
+  ◌<◌,
+  ◌↔◌,
+  ◌++◌,
+  ◌∷◌,
+  [],
+  IfErr,
+  IfOk,
+  OnErr,
+  OnOk,
+  vec_capacity,
+  vec_len,
+};
+ghost use Rattle.rsl_service.specs.Receipts.{count_of};
 
-use crate::tally::Tally;
+use crate::fault::PassFault;
+use crate::ledger::Tally;
+use crate::shares::Shares;
 use rsl_record::{HasReceipts, Receipt};
 use rsl_shard::Spare;
+use rsl_wire::NoMemory;
+use std::alloc::Global;
 use std::marker::Model;
-use std::sync::ledger::Share;
+use std::mem::replace;
+
+/// The most passes that a service opens.
+pub(crate) const MAX_PASSES: u64 = 1024;
+
+/// How many receipts a new pass has room for.
+const FIRST_RECEIPTS: usize = 64;
+
+/// The receipts of a pass, in the order of the calls, with the room that its next step may need.
+#[derive(Drop)]
+pub(crate) struct Notes {
+    pub(crate) receipts: Vec<Receipt>,
+    pub(crate) spare: Spare,
+}
+
+/// Room for the octets of a reply.
+///
+/// A contract sees for how many octets there is room.
+#[derive(Drop)]
+pub(crate) struct ReplyRoom {
+    octets: Vec<u8>,
+}
+
+impl Model for ReplyRoom {
+    ghost use Rattle.std.specs.Prelude.{ℕ, vec_capacity};
+
+    ghost Value = { ℕ };
+
+    ghost view = { λ room. vec_capacity room.octets };
+}
+
+impl ReplyRoom {
+    /// No room yet.
+    fn new(alloc: Global) -> ReplyRoom {
+        ReplyRoom {
+            octets: Vec::new(alloc),
+        }
+    }
+
+    /// Takes the room of these octets in place of its own.
+    fn put(&mut self, octets: Vec<u8>)
+        ensures { self.new ≡ vec_capacity octets }
+    {
+        self.octets = octets;
+    }
+
+    /// Gives the room away.
+    pub(crate) fn take(&mut self, alloc: Global) -> Vec<u8>
+        ensures { vec_capacity result ≡ self.old }
+    {
+        replace(&mut self.octets, Vec::new(alloc))
+    }
+}
 
 /// What a caller of the service holds: a receipt for each move that it made.
 ///
@@ -13,13 +86,9 @@ use std::sync::ledger::Share;
 /// has the room for lines that its next step may need, and for the octets of its next reply.
 #[derive(Drop)]
 pub struct Pass<L0: Tally, L1: Tally, L2: Tally, L3: Tally> {
-    pub(crate) share0: Share<L0>,
-    pub(crate) share1: Share<L1>,
-    pub(crate) share2: Share<L2>,
-    pub(crate) share3: Share<L3>,
-    pub(crate) receipts: Vec<Receipt>,
-    pub(crate) spare: Spare,
-    pub(crate) room: Vec<u8>,
+    pub(crate) shares: Shares<L0, L1, L2, L3>,
+    pub(crate) notes: Notes,
+    pub(crate) reply_room: ReplyRoom,
 }
 
 impl<L0: Tally, L1: Tally, L2: Tally, L3: Tally> Model for Pass<L0, L1, L2, L3> {
@@ -29,17 +98,53 @@ impl<L0: Tally, L1: Tally, L2: Tally, L3: Tally> Model for Pass<L0, L1, L2, L3> 
 
     ghost Value = { List Receipt };
 
-    ghost view = { λ pass. pass.receipts.items };
+    ghost view = { λ pass. pass.notes.receipts.items };
 
     ghost invariant = { λ pass.
-        (pass.share0.parts ≡ 1)
-        × (pass.share1.parts ≡ 1)
-        × (pass.share2.parts ≡ 1)
-        × (pass.share3.parts ≡ 1)
-        × (pass.share0.amount ≡ count_of 0 pass.receipts.items)
-        × (pass.share1.amount ≡ count_of 1 pass.receipts.items)
-        × (pass.share2.amount ≡ count_of 2 pass.receipts.items)
-        × (pass.share3.amount ≡ count_of 3 pass.receipts.items) };
+        (pass.shares.parts ≡ 1)
+        × (pass.shares.amount0 ≡ count_of 0 pass.notes.receipts.items)
+        × (pass.shares.amount1 ≡ count_of 1 pass.notes.receipts.items)
+        × (pass.shares.amount2 ≡ count_of 2 pass.notes.receipts.items)
+        × (pass.shares.amount3 ≡ count_of 3 pass.notes.receipts.items) };
+}
+
+impl Notes {
+    /// No receipts, with room for the first. It fails only where that is refused.
+    fn new(alloc: Global) -> Result<Notes, NoMemory>
+        ensures { IfOk result (λ notes. notes.receipts.items ≡ []) }
+    {
+        let mut receipts = Vec::new(alloc);
+        receipts.reserve(FIRST_RECEIPTS)?;
+        Ok(Notes {
+            receipts,
+            spare: Spare::new(alloc),
+        })
+    }
+
+    /// Takes room for a receipt, and for the lines of a journal's next chunk. Where it fails,
+    /// nothing has changed but the room.
+    pub(crate) fn take_room(&mut self) -> Result<(), NoMemory>
+        ensures receipts { self.new.receipts.items ≡ self.old.receipts.items }
+        ensures room { OnOk result (vec_len self.new.receipts < vec_capacity self.new.receipts) }
+        ensures lines { OnOk result (1024 ≤ self.new.spare) }
+    {
+        self.receipts.reserve(1)?;
+        self.spare.fill()?;
+        Ok(())
+    }
+
+    /// Puts a receipt after the others, for which there is room.
+    #[tactic(auto, using(crate::proofs::Counting::counts))]
+    pub(crate) fn note(&mut self, receipt: Receipt)
+        requires room { vec_len self.old.receipts < vec_capacity self.old.receipts }
+        ensures noted { self.new.receipts.items ≡ self.old.receipts.items ++ receipt ∷ [] }
+        ensures counted { count_of receipt.shard self.new.receipts.items
+            ≡ count_of receipt.shard self.old.receipts.items + 1 }
+        ensures others { (other : ℕ) → (other ≡ receipt.shard → ⊥) →
+            count_of other self.new.receipts.items ≡ count_of other self.old.receipts.items }
+    {
+        self.receipts.push_reserved(receipt);
+    }
 }
 
 impl<L0: Tally, L1: Tally, L2: Tally, L3: Tally> Pass<L0, L1, L2, L3> {
@@ -49,7 +154,18 @@ impl<L0: Tally, L1: Tally, L2: Tally, L3: Tally> Pass<L0, L1, L2, L3> {
     pub fn take_back(&mut self, octets: Vec<u8>)
         ensures { self.new ≡ self.old }
     {
-        self.room = octets;
+        self.reply_room.put(octets);
+    }
+
+    /// The shares alone.
+    pub(crate) fn into_shares(self) -> Shares<L0, L1, L2, L3>
+        ensures parts { result.parts ≡ 1 }
+        ensures amount0 { result.amount0 ≡ count_of 0 self }
+        ensures amount1 { result.amount1 ≡ count_of 1 self }
+        ensures amount2 { result.amount2 ≡ count_of 2 self }
+        ensures amount3 { result.amount3 ≡ count_of 3 self }
+    {
+        self.shares
     }
 }
 
@@ -57,6 +173,59 @@ impl<L0: Tally, L1: Tally, L2: Tally, L3: Tally> HasReceipts for Pass<L0, L1, L2
     ghost receipts = { λ pass. pass };
 
     fn receipts(&self) -> &[Receipt] {
-        self.receipts.as_slice()
+        self.notes.receipts.as_slice()
+    }
+}
+
+/// The passes of a service: how many were opened, and what is left of each ledger for more. A part
+/// of each goes to each pass, and one stays.
+#[derive(Drop)]
+pub(crate) struct PassBook<L0: Tally, L1: Tally, L2: Tally, L3: Tally> {
+    pub(crate) opened: u64,
+    pub(crate) shares: Shares<L0, L1, L2, L3>,
+    ghost most: { opened ≤ 1024 },
+    ghost parts: { shares.parts + opened ≡ 1025 },
+    ghost none0: { shares.amount0 ≡ 0 },
+    ghost none1: { shares.amount1 ≡ 0 },
+    ghost none2: { shares.amount2 ≡ 0 },
+    ghost none3: { shares.amount3 ≡ 0 },
+}
+
+impl<L0: Tally, L1: Tally, L2: Tally, L3: Tally> PassBook<L0, L1, L2, L3> {
+    /// No pass was opened: the shares are all of four ledgers.
+    pub(crate) fn new(shares: Shares<L0, L1, L2, L3>) -> PassBook<L0, L1, L2, L3>
+        requires parts { shares.parts ≡ 1025 }
+        requires none0 { shares.amount0 ≡ 0 }
+        requires none1 { shares.amount1 ≡ 0 }
+        requires none2 { shares.amount2 ≡ 0 }
+        requires none3 { shares.amount3 ≡ 0 }
+        ensures opened { result.opened ≡ 0 }
+    {
+        PassBook { opened: 0, shares }
+    }
+
+    /// Opens a pass, which has a part of each ledger, unless as many as there can be were opened.
+    /// Where it fails, nothing has changed.
+    #[tactic(auto, using(crate::proofs::Counting::none_counted))]
+    pub(crate) fn open(&mut self, alloc: Global) -> Result<Pass<L0, L1, L2, L3>, PassFault>
+        ensures pass { IfOk result (λ pass. pass ≡ []) }
+        ensures opened { OnOk result (self.new.opened ≡ self.old.opened + 1) }
+        ensures full { IfErr result (λ fault.
+            fault ≡ PassFault.TooMany ↔ (self.old.opened ≡ 1024)) }
+        ensures err { OnErr result (self.new ≡ self.old) }
+    {
+        if self.opened >= MAX_PASSES {
+            return Err(PassFault::TooMany);
+        }
+        let Ok(notes) = Notes::new(alloc) else {
+            return Err(PassFault::NoMemory);
+        };
+        let PassBook { opened, shares } = self;
+        *opened += 1;
+        Ok(Pass {
+            shares: shares.split_part(),
+            notes,
+            reply_room: ReplyRoom::new(alloc),
+        })
     }
 }

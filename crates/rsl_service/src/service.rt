@@ -1,27 +1,167 @@
-ghost use Rattle.std.specs.Prelude.{◌≡◌, ◌<◌, IfOk, Ok, OnErr, Some};
+ghost use Rattle.std.specs.Prelude.{◌≡◌, ◌<◌, [], IfOk, Ok, Some, is_some, nat_lt};
 ghost use Rattle.rsl_accounts.specs.Configuration.{client_number};
 ghost use Rattle.rsl_accounts.specs.Limits.{IsConfiguration};
 ghost use Rattle.rsl_event.specs.Meaning.{meaning};
 ghost use Rattle.rsl_event.specs.Prepared.{GivesPrepared, HasOwnAct, IsPrepared};
-ghost use Rattle.rsl_shard.specs.Moves.{IsTaken};
+ghost use Rattle.rsl_shard.specs.Restep.{new_books};
 ghost use Rattle.rsl_shard.specs.Setup.{setup_of};
-ghost use Rattle.rsl_service.specs.Receipts.{IsNoted};
+ghost use Rattle.rsl_service.specs.Service.{IsLedgerOf};
+ghost use Rattle.rsl_service.specs.Shares.{whole};
 ghost use Rattle.rsl_wire.specs.Packet.{packet_of};
 ghost use Rattle.rsl_wire.specs.Seen.{fields_of};
 
 use crate::desk::Desk;
-use crate::enter::enter;
-use crate::fault::StepFault;
-use crate::gate::Gate;
-use crate::left::Left;
-use crate::pass::Pass;
-use crate::tally::Tally;
+use crate::fault::PassFault;
+use crate::ledger::{Blanks, Tally};
+use crate::pass::{Pass, PassBook};
+use crate::shares::Shares;
 use rsl_accounts::Config;
-use rsl_event::{Decision, Dropped, Port, Prepared, Source, prepare};
-use rsl_shard::Move;
+use rsl_event::{Dropped, Port, Prepared, Source, prepare};
+use rsl_wire::NoMemory;
 use std::alloc::Global;
 use std::marker::Model;
+use std::sync::ledger::{Blank, Share};
 use std::sync::{Mutex, Wait};
+
+/// What is called at each step of a shard, under its lock, before that is let go.
+///
+/// A server's does nothing. A test's can hold a call, to show which others go on beside it.
+pub trait Gate {
+    /// A step of the shard with this number was made.
+    fn at(&self, shard: u32);
+}
+
+/// A gate that holds no call.
+#[derive(Debug, Clone, Copy, PartialEq, Eq, Drop)]
+pub struct Open;
+
+impl Gate for Open {
+    fn at(&self, _shard: u32) {}
+}
+
+/// The shards of a configuration, each behind a lock of its own.
+///
+/// A contract sees the configuration. Its type keeps that there is a lock for each shard, and that
+/// each ledger is that of its shard.
+#[derive(Drop)]
+pub(crate) struct Desks<L0: Tally, L1: Tally, L2: Tally, L3: Tally> {
+    pub(crate) config: Config,
+    pub(crate) desk0: Mutex<Desk<L0>>,
+    pub(crate) desk1: Option<Mutex<Desk<L1>>>,
+    pub(crate) desk2: Option<Mutex<Desk<L2>>>,
+    pub(crate) desk3: Option<Mutex<Desk<L3>>>,
+}
+
+impl<L0: Tally, L1: Tally, L2: Tally, L3: Tally> Model for Desks<L0, L1, L2, L3> {
+    ghost use Rattle.std.specs.Prelude.{◌≡◌, nat_lt, is_some};
+    ghost use Rattle.rsl_accounts.specs.Configuration.{Configuration};
+    ghost use Rattle.rsl_accounts.specs.Limits.{IsConfiguration};
+    ghost use Rattle.rsl_shard.specs.Restep.{new_books};
+    ghost use Rattle.rsl_shard.specs.Setup.{setup_of};
+
+    ghost Value = { Configuration };
+
+    ghost view = { λ desks. desks.config };
+
+    ghost invariant = { λ desks.
+        IsConfiguration desks.config
+        × (L0.setup ≡ setup_of desks.config 0)
+        × (L1.setup ≡ setup_of desks.config 1)
+        × (L2.setup ≡ setup_of desks.config 2)
+        × (L3.setup ≡ setup_of desks.config 3)
+        × (is_some desks.desk1 ≡ nat_lt 1 desks.config.settings.shards)
+        × (is_some desks.desk2 ≡ nat_lt 2 desks.config.settings.shards)
+        × (is_some desks.desk3 ≡ nat_lt 3 desks.config.settings.shards)
+        × (L0.books ≡ new_books desks.config 0)
+        × (L1.books ≡ new_books desks.config 1)
+        × (L2.books ≡ new_books desks.config 2)
+        × (L3.books ≡ new_books desks.config 3) };
+}
+
+impl<L0: Tally, L1: Tally, L2: Tally, L3: Tally> Desks<L0, L1, L2, L3> {
+    /// Shards of new books, with all shares of their ledgers. It fails only where memory is refused.
+    fn new(
+        alloc: Global,
+        blanks: Blanks,
+        config: Config,
+    ) -> Result<(Desks<L0, L1, L2, L3>, Shares<L0, L1, L2, L3>), NoMemory>
+        requires ledger0 { IsLedgerOf config 0
+            blanks.blank0.name blanks.blank0.parts L0.name L0.parts L0.setup L0.books }
+        requires ledger1 { IsLedgerOf config 1
+            blanks.blank1.name blanks.blank1.parts L1.name L1.parts L1.setup L1.books }
+        requires ledger2 { IsLedgerOf config 2
+            blanks.blank2.name blanks.blank2.parts L2.name L2.parts L2.setup L2.books }
+        requires ledger3 { IsLedgerOf config 3
+            blanks.blank3.name blanks.blank3.parts L3.name L3.parts L3.setup L3.books }
+        ensures config { IfOk result (λ made. made.0 ≡ config) }
+        ensures shares { IfOk result (λ made. made.1 ≡ whole) }
+    {
+        let Blanks {
+            blank0,
+            blank1,
+            blank2,
+            blank3,
+        } = blanks;
+        // A call for its clause: a configuration has 1 to 4 shards.
+        let _shards = config.shards();
+        // Fewer ways out: all four are looked at together.
+        let first = Desk::new(alloc, &config, 0, blank0);
+        let second = desk_if_there(alloc, &config, 1, blank1);
+        let third = desk_if_there(alloc, &config, 2, blank2);
+        let fourth = desk_if_there(alloc, &config, 3, blank3);
+        let (Ok((desk0, share0)), Ok((desk1, share1)), Ok((desk2, share2)), Ok((desk3, share3))) = (
+            first, second, third, fourth,
+        ) else {
+            return Err(NoMemory);
+        };
+        let desks = Desks {
+            config,
+            desk0: Mutex::new(desk0),
+            desk1,
+            desk2,
+            desk3,
+        };
+        let shares = Shares {
+            share0,
+            share1,
+            share2,
+            share3,
+        };
+        Ok((desks, shares))
+    }
+
+    /// The configuration.
+    pub(crate) fn config(&self) -> &Config
+        ensures config { result.now ≡ self.now }
+        ensures limits { IsConfiguration self.now }
+    {
+        &self.config
+    }
+}
+
+/// The lock of a shard, if the configuration has that shard, and its ledger's only share.
+fn desk_if_there<L: Tally>(
+    alloc: Global,
+    config: &Config,
+    number: u32,
+    blank: Blank,
+) -> Result<(Option<Mutex<Desk<L>>>, Share<L>), NoMemory>
+    requires setup { L.setup ≡ setup_of config.now number }
+    requires books { L.books ≡ new_books config.now number }
+    requires name { blank.name ≡ L.name }
+    requires parts { blank.parts ≡ L.parts }
+    ensures there { IfOk result (λ made.
+        is_some made.0 ≡ nat_lt number config.now.settings.shards) }
+    ensures parts { IfOk result (λ made. made.1.parts ≡ L.parts) }
+    ensures amount { IfOk result (λ made. made.1.amount ≡ 0) }
+{
+    if number >= config.shards() {
+        let (_ledger, share) = blank.open::<L>();
+        return Ok((None, share));
+    }
+    let (desk, share) = Desk::new(alloc, config, number, blank)?;
+    Ok((Some(Mutex::new(desk)), share))
+}
 
 /// Shards of accounts, each behind a lock of its own, which any number of callers use at once.
 ///
@@ -30,42 +170,52 @@ use std::sync::{Mutex, Wait};
 /// moves that its holder made there.
 #[derive(Drop)]
 pub struct Service<L0: Tally, L1: Tally, L2: Tally, L3: Tally, G: Gate> {
-    pub(crate) config: Config,
+    pub(crate) desks: Desks<L0, L1, L2, L3>,
     pub(crate) boot: u64,
     pub(crate) gate: G,
-    pub(crate) desk0: Mutex<Desk<L0>>,
-    pub(crate) desk1: Option<Mutex<Desk<L1>>>,
-    pub(crate) desk2: Option<Mutex<Desk<L2>>>,
-    pub(crate) desk3: Option<Mutex<Desk<L3>>>,
-    pub(crate) left: Mutex<Left<L0, L1, L2, L3>>,
+    pub(crate) passes: Mutex<PassBook<L0, L1, L2, L3>>,
 }
 
 impl<L0: Tally, L1: Tally, L2: Tally, L3: Tally, G: Gate> Model for Service<L0, L1, L2, L3, G> {
-    ghost use Rattle.std.specs.Prelude.{◌≡◌, nat_lt, is_some};
-    ghost use Rattle.rsl_shard.specs.Restep.{new_books};
-    ghost use Rattle.rsl_shard.specs.Setup.{setup_of};
     ghost use Rattle.rsl_service.specs.Service.{ServiceSeen};
 
     ghost Value = { ServiceSeen };
 
-    ghost view = { λ service. record { config = service.config; boot = service.boot } };
+    ghost view = { λ service. record { config = service.desks; boot = service.boot } };
+}
 
-    ghost invariant = { λ service.
-        (L0.setup ≡ setup_of service.config 0)
-        × (L1.setup ≡ setup_of service.config 1)
-        × (L2.setup ≡ setup_of service.config 2)
-        × (L3.setup ≡ setup_of service.config 3)
-        × (L0.parts ≡ 1025)
-        × (L1.parts ≡ 1025)
-        × (L2.parts ≡ 1025)
-        × (L3.parts ≡ 1025)
-        × (is_some service.desk1 ≡ nat_lt 1 service.config.settings.shards)
-        × (is_some service.desk2 ≡ nat_lt 2 service.config.settings.shards)
-        × (is_some service.desk3 ≡ nat_lt 3 service.config.settings.shards)
-        × (L0.books ≡ new_books service.config 0)
-        × (L1.books ≡ new_books service.config 1)
-        × (L2.books ≡ new_books service.config 2)
-        × (L3.books ≡ new_books service.config 3) };
+impl<L0: Tally, L1: Tally, L2: Tally, L3: Tally, G: Gate + Drop> Service<L0, L1, L2, L3, G> {
+    /// A service whose shards have new books, and which has opened no pass. It fails only where
+    /// memory is refused.
+    ///
+    /// Each blank has 1,025 parts, and becomes the ledger of its shard. The boot number tells this
+    /// run of the server from others: it stands in the Class of each accept. The gate is called at
+    /// each step; a server's is `Open`.
+    pub fn new(
+        alloc: Global,
+        blanks: Blanks,
+        config: Config,
+        boot: u64,
+        gate: G,
+    ) -> Result<Service<L0, L1, L2, L3, G>, NoMemory>
+        requires ledger0 { IsLedgerOf config 0
+            blanks.blank0.name blanks.blank0.parts L0.name L0.parts L0.setup L0.books }
+        requires ledger1 { IsLedgerOf config 1
+            blanks.blank1.name blanks.blank1.parts L1.name L1.parts L1.setup L1.books }
+        requires ledger2 { IsLedgerOf config 2
+            blanks.blank2.name blanks.blank2.parts L2.name L2.parts L2.setup L2.books }
+        requires ledger3 { IsLedgerOf config 3
+            blanks.blank3.name blanks.blank3.parts L3.name L3.parts L3.setup L3.books }
+        ensures { IfOk result (λ service. service ≡ record { config = config; boot = boot }) }
+    {
+        let (desks, shares) = Desks::new(alloc, blanks, config)?;
+        Ok(Service {
+            desks,
+            boot,
+            gate,
+            passes: Mutex::new(PassBook::new(shares)),
+        })
+    }
 }
 
 impl<L0: Tally, L1: Tally, L2: Tally, L3: Tally, G: Gate> Service<L0, L1, L2, L3, G> {
@@ -74,9 +224,7 @@ impl<L0: Tally, L1: Tally, L2: Tally, L3: Tally, G: Gate> Service<L0, L1, L2, L3
         ensures config { result.now ≡ self.now.config }
         ensures limits { IsConfiguration self.now.config }
     {
-        // A configuration has 1 to 4 shards: this call tells it.
-        let _shards = self.config.shards();
-        &self.config
+        self.desks.config()
     }
 
     /// What a datagram means to this service, or why it is dropped, as `rsl_event`'s `prepare` says
@@ -97,44 +245,18 @@ impl<L0: Tally, L1: Tally, L2: Tally, L3: Tally, G: Gate> Service<L0, L1, L2, L3
         ensures own { IfOk result (λ prepared. HasOwnAct prepared.meaning) }
         ensures prepared { IfOk result (λ prepared. IsPrepared self.now.config prepared) }
     {
-        prepare(alloc, &self.config, self.boot, port, source, datagram)
+        prepare(alloc, self.config(), self.boot, port, source, datagram)
     }
 
-    /// Makes a move in a shard, with a receipt. Where it fails, the pass is as it was.
-    pub(crate) fn step<R: Wait>(
+    /// A new pass, with no receipts. `TooMany` comes where 1,024 were opened, and else `NoMemory`
+    /// where memory is refused.
+    pub fn open_pass<R: Wait>(
         &self,
         rt: &R,
         alloc: Global,
-        pass: &mut Pass<L0, L1, L2, L3>,
-        shard: u32,
-        moved: Move,
-    ) -> Result<Decision, StepFault>
-        requires there { shard < self.now.config.settings.shards }
-        requires takes { IsTaken (setup_of self.now.config shard) moved }
-        ensures noted { IfOk result (λ decision. IsNoted shard moved decision pass.old pass.new) }
-        ensures err { OnErr result (pass.new ≡ pass.old) }
+    ) -> Result<Pass<L0, L1, L2, L3>, PassFault>
+        ensures { IfOk result (λ pass. pass ≡ []) }
     {
-        // A configuration has 1 to 4 shards: this call tells it.
-        let _shards = self.config.shards();
-        let (gate, desk0) = (&self.gate, &self.desk0);
-        let (receipts, spare) = (&mut pass.receipts, &mut pass.spare);
-        let (share0, share1) = (&mut pass.share0, &mut pass.share1);
-        let (share2, share3) = (&mut pass.share2, &mut pass.share3);
-        match shard {
-            0 => enter(rt, alloc, desk0, gate, 0, share0, receipts, spare, moved),
-            1 => match &self.desk1 {
-                Some(desk) => enter(rt, alloc, desk, gate, 1, share1, receipts, spare, moved),
-                None => unreachable!(),
-            },
-            2 => match &self.desk2 {
-                Some(desk) => enter(rt, alloc, desk, gate, 2, share2, receipts, spare, moved),
-                None => unreachable!(),
-            },
-            3 => match &self.desk3 {
-                Some(desk) => enter(rt, alloc, desk, gate, 3, share3, receipts, spare, moved),
-                None => unreachable!(),
-            },
-            _ => unreachable!(),
-        }
+        self.passes.lock(rt).open(alloc)
     }
 }

@@ -202,7 +202,7 @@ impl Shard {
     }
 
     /// What is kept of a shard, whatever it has come to.
-    fn open_invariant(&self)
+    pub fn open_invariant(&self)
         ensures { IsShard self.now }
     {
         let _ = &self.journal;

@@ -1,0 +1,359 @@
+ghost use Rattle.std.specs.Prelude.{
+  ◌≡◌,
+  ◌++◌,
+  ℕ,
+  IfErr,
+  IfOk,
+  IfSome,
+  OnOk,
+  Some,
+  is_some,
+  nat_lt,
+};
+ghost use Rattle.std.specs.List.{sum_by};
+ghost use Rattle.std.specs.List.Sorted.{IsNonDecreasingBy};
+ghost use Rattle.rsl_accounts.specs.Limits.{IsConfiguration};
+ghost use Rattle.rsl_service.specs.Closed.{
+  HaveEnds,
+  IsClosed,
+  IsClosedBy,
+  IsEnd,
+  IsEndOf,
+  IsFaultOf,
+  IsUnsettled,
+  as_list,
+  end_of,
+  lines_to,
+};
+ghost use Rattle.rsl_record.specs.Segments.{of_shard};
+
+use crate::desk::Desk;
+use crate::ledger::Tally;
+use crate::pass::{Pass, PassBook};
+use crate::service::{Desks, Gate, Service};
+use crate::shares::Shares;
+use rsl_accounts::Config;
+use rsl_record::{CloseFault, settle};
+use rsl_shard::Segment;
+use rsl_wire::NoMemory;
+use std::alloc::Global;
+use std::marker::Model;
+use std::sync::Mutex;
+use std::sync::ledger::{Book as LineLedger, Share};
+
+/// The journals of a service that was closed.
+#[derive(Drop)]
+pub struct Closed {
+    /// The segments of all shards: by shard, and those of a shard in the order in which they join,
+    /// of which the last is the journal that the shard had when the service was closed.
+    pub segments: Vec<Segment>,
+}
+
+impl<L0: Tally, L1: Tally, L2: Tally, L3: Tally, G: Gate + Drop> Service<L0, L1, L2, L3, G> {
+    /// Ends the service, and settles its record: whether its journals, those that were handed out
+    /// and those of its shards, hold the moves of all passes, each once, and no others.
+    ///
+    /// The passes are all that were opened, and the segments those that `cut` handed out, those of
+    /// a shard in the order in which they were.
+    ///
+    /// The first fault is the answer. `MissingPass` comes where not as many passes are given as
+    /// were opened. `MissingSegment` names the lowest shard whose segments, with its journal last,
+    /// don't join from its new books or have a move that it doesn't take, or a number that is no
+    /// shard's. `Mismatch` names the position of a receipt that is not the line there, or not the
+    /// only receipt of it, or that comes in its pass after one of the same or a later position of
+    /// its shard. `NoMemory` comes where memory is refused, which may be before any of these. On a
+    /// fault everything that was handed in is dropped.
+    pub fn close(
+        self,
+        alloc: Global,
+        passes: Vec<Pass<L0, L1, L2, L3>>,
+        segments: Vec<Segment>,
+    ) -> Result<Closed, CloseFault>
+        ensures closed { IfOk result (λ closed.
+            IsClosed self.config passes.items segments.items closed.segments.items) }
+        ensures err { IfErr result (IsUnsettled self.config passes.items segments.items) }
+    {
+        let ended = self.end(alloc)?;
+        ended.close(alloc, passes, segments)
+    }
+
+    /// Takes the shards and the passes' book out of their locks, and ends the journals. It fails only
+    /// where memory is refused.
+    fn end(self, alloc: Global) -> Result<EndedService<L0, L1, L2, L3>, NoMemory>
+        ensures { IfOk result (IsEndOf self.config) }
+    {
+        let Service {
+            desks,
+            boot: _,
+            gate: _,
+            passes,
+        } = self;
+        let PassBook { opened, shares } = passes.into_inner();
+        let (config, ledgers, present) = desks.end(alloc)?;
+        Ok(EndedService {
+            config,
+            opened,
+            shares,
+            ledgers,
+            present,
+        })
+    }
+}
+
+impl<L0: Tally, L1: Tally, L2: Tally, L3: Tally> Desks<L0, L1, L2, L3> {
+    /// Takes the shards out of their locks, and ends their journals. It fails only where memory is
+    /// refused.
+    fn end(self, alloc: Global) -> Result<(Config, Ledgers<L0, L1, L2, L3>, Vec<Segment>), NoMemory>
+        ensures config { IfOk result (λ ended. ended.0 ≡ self) }
+        ensures limits { IfOk result (λ ended. IsConfiguration ended.0) }
+        ensures ends { IfOk result (λ ended. HaveEnds ended.0 ended.2.items) }
+        ensures there1 { IfOk result (λ ended.
+            is_some ended.1.ledger1 ≡ nat_lt 1 ended.0.settings.shards) }
+        ensures there2 { IfOk result (λ ended.
+            is_some ended.1.ledger2 ≡ nat_lt 2 ended.0.settings.shards) }
+        ensures there3 { IfOk result (λ ended.
+            is_some ended.1.ledger3 ≡ nat_lt 3 ended.0.settings.shards) }
+        ensures told0 { IfOk result (λ ended. ended.1.ledger0.total ≡ end_of 0 ended.2.items) }
+        ensures told1 { IfOk result (λ ended.
+            IfSome ended.1.ledger1 (λ ledger. ledger.total ≡ end_of 1 ended.2.items)) }
+        ensures told2 { IfOk result (λ ended.
+            IfSome ended.1.ledger2 (λ ledger. ledger.total ≡ end_of 2 ended.2.items)) }
+        ensures told3 { IfOk result (λ ended.
+            IfSome ended.1.ledger3 (λ ledger. ledger.total ≡ end_of 3 ended.2.items)) }
+    {
+        let Desks {
+            config,
+            desk0,
+            desk1,
+            desk2,
+            desk3,
+        } = self;
+        // Fewer ways out: all four are looked at together.
+        let first = end(alloc, desk0);
+        let second = end_if_there(alloc, desk1);
+        let third = end_if_there(alloc, desk2);
+        let fourth = end_if_there(alloc, desk3);
+        let (
+            Ok((journal0, ledger0)),
+            Ok((journal1, ledger1)),
+            Ok((journal2, ledger2)),
+            Ok((journal3, ledger3)),
+        ) = (first, second, third, fourth) else {
+            return Err(NoMemory);
+        };
+        let present = list(alloc, journal0, journal1, journal2, journal3)?;
+        let ledgers = Ledgers {
+            ledger0,
+            ledger1,
+            ledger2,
+            ledger3,
+        };
+        Ok((config, ledgers, present))
+    }
+}
+
+/// A service that came out of its locks.
+///
+/// A contract sees the configuration, how many passes were opened, and the present journals. Its
+/// type keeps that the journals are those of all shards, that each ledger's total is the lines to
+/// the end of its shard's journal, and that the shares are what was not handed out to the passes
+/// that were opened.
+#[derive(Drop)]
+pub(crate) struct EndedService<L0: Tally, L1: Tally, L2: Tally, L3: Tally> {
+    config: Config,
+    opened: u64,
+    shares: Shares<L0, L1, L2, L3>,
+    ledgers: Ledgers<L0, L1, L2, L3>,
+    present: Vec<Segment>,
+}
+
+impl<L0: Tally, L1: Tally, L2: Tally, L3: Tally> Model for EndedService<L0, L1, L2, L3> {
+    ghost use Rattle.std.specs.Prelude.{◌≡◌, ◌+◌, IfSome, is_some, nat_lt};
+    ghost use Rattle.rsl_accounts.specs.Limits.{IsConfiguration};
+    ghost use Rattle.rsl_service.specs.Closed.{EndedSeen, HaveEnds, end_of};
+
+    ghost Value = { EndedSeen };
+
+    ghost view = { λ ended. record {
+      config = ended.config;
+      opened = ended.opened;
+      present = ended.present.items;
+    } };
+
+    ghost invariant = { λ ended.
+        HaveEnds ended.config ended.present.items
+        × IsConfiguration ended.config
+        × (ended.shares.parts + ended.opened ≡ 1025)
+        × (ended.shares.amount0 ≡ 0)
+        × (ended.shares.amount1 ≡ 0)
+        × (ended.shares.amount2 ≡ 0)
+        × (ended.shares.amount3 ≡ 0)
+        × (is_some ended.ledgers.ledger1 ≡ nat_lt 1 ended.config.settings.shards)
+        × (is_some ended.ledgers.ledger2 ≡ nat_lt 2 ended.config.settings.shards)
+        × (is_some ended.ledgers.ledger3 ≡ nat_lt 3 ended.config.settings.shards)
+        × (ended.ledgers.ledger0.total ≡ end_of 0 ended.present.items)
+        × IfSome ended.ledgers.ledger1 (λ ledger. ledger.total ≡ end_of 1 ended.present.items)
+        × IfSome ended.ledgers.ledger2 (λ ledger. ledger.total ≡ end_of 2 ended.present.items)
+        × IfSome ended.ledgers.ledger3 (λ ledger. ledger.total ≡ end_of 3 ended.present.items) };
+}
+
+impl<L0: Tally, L1: Tally, L2: Tally, L3: Tally> EndedService<L0, L1, L2, L3> {
+    /// Settles the record, and audits each ledger against the shares of all passes.
+    fn close(
+        self,
+        alloc: Global,
+        passes: Vec<Pass<L0, L1, L2, L3>>,
+        segments: Vec<Segment>,
+    ) -> Result<Closed, CloseFault>
+        ensures closed { IfOk result (λ closed.
+            IsClosedBy self passes.items segments.items closed.segments.items) }
+        ensures err { IfErr result (IsFaultOf self passes.items segments.items) }
+    {
+        let EndedService {
+            config,
+            opened,
+            mut shares,
+            ledgers,
+            present,
+        } = self;
+        settle(
+            alloc,
+            &config,
+            opened,
+            passes.as_slice(),
+            segments.as_slice(),
+            present.as_slice(),
+        )?;
+        shares.gather(passes);
+        ledgers.audit(shares);
+        let segments = by_shard(segments, present)?;
+        Ok(Closed { segments })
+    }
+}
+
+/// The ledgers of all shards, out of their locks.
+#[derive(Drop)]
+pub(crate) struct Ledgers<L0: Tally, L1: Tally, L2: Tally, L3: Tally> {
+    pub(crate) ledger0: LineLedger<L0>,
+    pub(crate) ledger1: Option<LineLedger<L1>>,
+    pub(crate) ledger2: Option<LineLedger<L2>>,
+    pub(crate) ledger3: Option<LineLedger<L3>>,
+}
+
+impl<L0: Tally, L1: Tally, L2: Tally, L3: Tally> Ledgers<L0, L1, L2, L3> {
+    /// The total of each ledger, all of whose parts are in the shares, is its amount there.
+    fn audit(self, all: Shares<L0, L1, L2, L3>)
+        requires { all.parts ≡ 1025 }
+        ensures ledger0 { self.ledger0.total ≡ all.amount0 }
+        ensures ledger1 { IfSome self.ledger1 (λ ledger. ledger.total ≡ all.amount1) }
+        ensures ledger2 { IfSome self.ledger2 (λ ledger. ledger.total ≡ all.amount2) }
+        ensures ledger3 { IfSome self.ledger3 (λ ledger. ledger.total ≡ all.amount3) }
+    {
+        let Ledgers {
+            mut ledger0,
+            ledger1,
+            ledger2,
+            ledger3,
+        } = self;
+        let Shares {
+            mut share0,
+            share1,
+            share2,
+            share3,
+        } = all;
+        ledger0.audit(&mut share0);
+        audit_if_there(ledger1, share1);
+        audit_if_there(ledger2, share2);
+        audit_if_there(ledger3, share3);
+    }
+}
+
+/// The total of a ledger, all of whose parts are in a share, is the share's amount.
+fn audit_if_there<L: Tally>(ledger: Option<LineLedger<L>>, all: Share<L>)
+    requires { all.parts ≡ L.parts }
+    ensures { IfSome ledger (λ ledger. ledger.total ≡ all.amount) }
+{
+    let mut all = all;
+    if let Some(mut ledger) = ledger {
+        ledger.audit(&mut all);
+    }
+}
+
+/// Ends the journal of a shard, and hands it out with its ledger.
+pub(crate) fn end<L: Tally>(
+    alloc: Global,
+    desk: Mutex<Desk<L>>,
+) -> Result<(Segment, LineLedger<L>), NoMemory>
+    ensures end { IfOk result (λ ended. IsEnd L.setup L.books ended.0) }
+    ensures told { IfOk result (λ ended. ended.1.total ≡ lines_to ended.0) }
+{
+    desk.into_inner().end(alloc)
+}
+
+/// The same of a shard that there may be.
+pub(crate) fn end_if_there<L: Tally>(
+    alloc: Global,
+    desk: Option<Mutex<Desk<L>>>,
+) -> Result<(Option<Segment>, Option<LineLedger<L>>), NoMemory>
+    ensures journal { IfOk result (λ ended. is_some ended.0 ≡ is_some desk) }
+    ensures ledger { IfOk result (λ ended. is_some ended.1 ≡ is_some desk) }
+    ensures end { IfOk result (λ ended. IfSome ended.0 (IsEnd L.setup L.books)) }
+    ensures told { IfOk result (λ ended.
+        IfSome ended.1 (λ ledger. ledger.total ≡ sum_by lines_to (as_list ended.0))) }
+{
+    match desk {
+        Some(desk) => {
+            let (journal, ledger) = end(alloc, desk)?;
+            Ok((Some(journal), Some(ledger)))
+        }
+        None => Ok((None, None)),
+    }
+}
+
+/// The journals of shards 0 to 3, in this order.
+pub(crate) fn list(
+    alloc: Global,
+    first: Segment,
+    second: Option<Segment>,
+    third: Option<Segment>,
+    fourth: Option<Segment>,
+) -> Result<Vec<Segment>, NoMemory>
+    requires first { first.shard ≡ 0 }
+    requires second { IfSome second (λ journal. journal.shard ≡ 1) }
+    requires third { IfSome third (λ journal. journal.shard ≡ 2) }
+    requires fourth { IfSome fourth (λ journal. journal.shard ≡ 3) }
+    ensures first { IfOk result (λ all. of_shard 0 all.items ≡ as_list (Some first)) }
+    ensures second { IfOk result (λ all. of_shard 1 all.items ≡ as_list second) }
+    ensures third { IfOk result (λ all. of_shard 2 all.items ≡ as_list third) }
+    ensures fourth { IfOk result (λ all. of_shard 3 all.items ≡ as_list fourth) }
+{
+    let mut all = Vec::new(alloc);
+    all.push(first)?;
+    push_if_there(&mut all, second)?;
+    push_if_there(&mut all, third)?;
+    push_if_there(&mut all, fourth)?;
+    Ok(all)
+}
+
+/// Pushes a journal, if there is one.
+fn push_if_there(all: &mut Vec<Segment>, journal: Option<Segment>) -> Result<(), NoMemory>
+    ensures { OnOk result (all.new.items ≡ all.old.items ++ as_list journal) }
+{
+    if let Some(journal) = journal {
+        all.push(journal)?;
+    }
+    Ok(())
+}
+
+/// The segments given, and behind those of each shard its present journal, by shard.
+fn by_shard(given: Vec<Segment>, mut present: Vec<Segment>) -> Result<Vec<Segment>, NoMemory>
+    ensures same { (shard : ℕ) → IfOk result (λ sorted.
+        of_shard shard sorted.items ≡ of_shard shard (given.items ++ present.items)) }
+    ensures by_shard { IfOk result (λ sorted.
+        IsNonDecreasingBy (λ segment. segment.shard) sorted.items) }
+{
+    let mut segments = given;
+    segments.append(&mut present)?;
+    segments.sort_by_key(|segment| segment.shard)?;
+    Ok(segments)
+}
