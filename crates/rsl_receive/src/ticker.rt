@@ -1,5 +1,5 @@
 ghost use Rattle.std.specs.Prelude.{◌≤◌};
-ghost use Rattle.rsl_receive.specs.Ticked.{AreTicked};
+ghost use Rattle.rsl_receive.specs.Ticked.{AreTicked, HasWorked, IsTurn};
 
 use crate::clock::{Clock, Pause};
 use rsl_service::{Gate, Pass, Service, Tally};
@@ -30,10 +30,12 @@ pub fn expire_loop<
 ) -> u64
     ensures most { result ≤ turns }
     ensures ticked { AreTicked service.now.config.settings.shards result turns pass.old pass.new }
+    ensures worked { HasWorked service.now.config.settings.shards result turns (P.said pause.new)
+        (C.shown clock.old) (C.shown clock.new) pass.old pass.new }
 {
     let mut done = 0;
     for _ in 0..turns {
-        done += tick_all(rt, alloc, service, pass, clock.now());
+        done += tick(rt, alloc, service, pass, clock);
         if !pause.pause() {
             return done;
         }
@@ -41,19 +43,22 @@ pub fn expire_loop<
     done
 }
 
-/// Makes a tick in every shard. Gives 1, or 0 where there was a fault.
+/// Makes a tick of the clock's present moment in every shard. Gives 1, or 0 where there was a
+/// fault.
 #[tactic(auto, using(crate::proofs::Ticking::ticking))]
-fn tick_all<L0: Tally, L1: Tally, L2: Tally, L3: Tally, G: Gate, R: Wait>(
+fn tick<L0: Tally, L1: Tally, L2: Tally, L3: Tally, G: Gate, C: Clock, R: Wait>(
     rt: &R,
     alloc: Global,
     service: &Service<L0, L1, L2, L3, G>,
     pass: &mut Pass<L0, L1, L2, L3>,
-    moment: u64,
+    clock: &mut C,
 ) -> u64
     ensures one { result ≤ 1 }
     ensures ticked { AreTicked service.now.config.settings.shards result 1 pass.old pass.new }
+    ensures turn { IsTurn service.now.config.settings.shards result
+        (C.shown clock.old) (C.shown clock.new) pass.old pass.new }
 {
-    match service.expire(rt, alloc, pass, moment) {
+    match service.expire(rt, alloc, pass, clock.now()) {
         Ok(()) => 1,
         Err(_) => 0,
     }

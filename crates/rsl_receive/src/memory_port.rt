@@ -1,8 +1,7 @@
 ghost use Rattle.std.specs.Prelude.{◌≡◌, ◌≤◌, ◌++◌, ◌∷◌, [], IfOk, IfSome, length, true};
 ghost use Rattle.rsl_receive.specs.Told.{datagram_of, no_numbers, taken_by};
 
-use crate::datagram::Datagram;
-use crate::datagram_port::DatagramPort;
+use crate::datagram_port::{Datagram, DatagramPort};
 use crate::fault::PortFault;
 use crate::numbers::Numbers;
 use rsl_event::Source;
@@ -33,6 +32,7 @@ pub struct MemoryPort {
     taken: Vec<Datagram>,
     sent: Vec<Datagram>,
     telling: bool,
+    room: usize,
     numbers: Numbers,
 }
 
@@ -55,6 +55,7 @@ impl MemoryPort {
             taken: Vec::new(alloc),
             sent: Vec::new(alloc),
             telling: true,
+            room: usize::MAX,
             numbers: Numbers::new(),
         }
     }
@@ -80,6 +81,13 @@ impl MemoryPort {
         self.telling
     }
 
+    /// The least room that a `receive` was given, in octets.
+    pub fn room(&self) -> usize
+        ensures { result ≡ self.now.room }
+    {
+        self.room
+    }
+
     /// The calls that it counted.
     pub fn numbers(&self) -> Numbers
         ensures { result ≡ self.now.numbers }
@@ -96,6 +104,7 @@ impl MemoryPort {
         ensures taken { self.new.telling ≡ true →
             self.new.taken.items ≡ self.old.taken.items ++ taken_by result buffer.new }
         ensures sent { self.new.sent ≡ self.old.sent }
+        ensures room { self.new.room ≡ self.old.room }
     {
         let MemoryPort {
             alloc,
@@ -147,7 +156,10 @@ impl DatagramPort for MemoryPort {
 
     ghost sent = { λ port. port.sent.items };
 
+    ghost room = { λ port. port.room };
+
     fn receive(&mut self, buffer: &mut [u8]) -> Result<Option<(usize, Source)>, PortFault> {
+        self.room = self.room.min(buffer.len());
         let received = self.take(buffer);
         self.numbers.note_receive(&received);
         received
