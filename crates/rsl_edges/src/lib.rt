@@ -5,17 +5,18 @@
 //! values alone.
 //!
 //! The promise: what the arguments ask for is exactly `specs/Plan.antt`, what is printed
-//! `specs/Output.antt`, and the status `specs/Fault.antt`.
+//! `specs/Output.antt`, the status `specs/Fault.antt`, and what a read of a socket is to a port
+//! `specs/Socket.antt`.
 #![tactic(auto)]
 
 mod fault;
 mod file;
 mod output;
 mod plan;
-mod port;
+mod udp_port;
 
 pub use fault::ServeFault;
 pub use file::config_of_file;
 pub use output::{Output, counts_of, table_of, write_output};
 pub use plan::Plan;
-pub use port::UdpPort;
+pub use udp_port::UdpPort;

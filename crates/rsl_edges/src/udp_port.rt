@@ -1,5 +1,6 @@
-ghost use Rattle.std.specs.Prelude.{◌≡◌, ◌≤◌, IfOk, IfSome, length};
+ghost use Rattle.std.specs.Prelude.{◌≡◌, ◌≤◌, ℕ, IfOk, IfSome, Some, length};
 ghost use Rattle.rsl_receive.specs.Told.{no_numbers};
+ghost use Rattle.rsl_edges.specs.Socket.{IsFailed, IsReception, is_passing, source_in};
 
 use rsl_event::Source;
 use rsl_receive::{DatagramPort, Numbers, PortFault};
@@ -9,6 +10,8 @@ use std::time::Duration;
 
 /// How long a turn waits for a datagram, in seconds.
 const WAIT_SECS: u64 = 1;
+
+const _: () = prove!(WAIT_SECS == 1);
 
 /// A UDP socket on an IPv4 address. Where no datagram comes within a second, its `receive` gives
 /// none.
@@ -41,8 +44,8 @@ impl UdpPort {
         ensures { IfOk result (λ received. IfSome received (λ found.
             found.0 ≤ length buffer.new)) }
     {
-        let most = buffer.len();
-        received(self.socket.recv_from(buffer), most)
+        let room = buffer.len();
+        reception(self.socket.recv_from(buffer), room)
     }
 }
 
@@ -66,32 +69,57 @@ impl DatagramPort for UdpPort {
 }
 
 /// The address and port of a source, as the system takes them.
-fn socket_addr(source: Source) -> SocketAddr {
+fn socket_addr(source: Source) -> SocketAddr
+    ensures { source_in result ≡ Some source }
+{
     let address = Ipv4Addr::from_octets(source.address);
     SocketAddr::V4(SocketAddrV4::new(address, source.port))
 }
 
-/// What a read of a socket on an IPv4 address gave, which is at most so many octets. A wait that
-/// ended without a datagram, or that was interrupted, is no failure; every other error is a
-/// `PortFault`.
-fn received(
+/// The source with the address and port that the system gave. An IPv6 address is no source.
+fn source_in(from: SocketAddr) -> Option<Source>
+    ensures { result ≡ source_in from }
+{
+    match from {
+        SocketAddr::V4(from) => Some(Source {
+            address: from.ip().octets(),
+            port: from.port(),
+        }),
+        SocketAddr::V6(_) => None,
+    }
+}
+
+/// What a port gives for what a read of a socket gave, which had room for so many octets.
+#[tactic(auto, using(crate::proofs::Reading::reading))]
+fn reception(
     read: io::Result<(usize, SocketAddr)>,
-    most: usize,
+    room: usize,
 ) -> Result<Option<(usize, Source)>, PortFault>
-    ensures { IfOk result (λ received. IfSome received (λ found. found.0 ≤ most)) }
+    ensures given { IsReception room read result }
+    ensures within { IfOk result (λ received. IfSome received (λ found. found.0 ≤ room)) }
 {
     match read {
-        Ok((len, SocketAddr::V4(from))) => Ok(Some((
-            len.min(most),
-            Source {
-                address: from.ip().octets(),
-                port: from.port(),
-            },
-        ))),
-        Ok((_, SocketAddr::V6(_))) => Ok(None),
-        Err(error) => match error.kind() {
-            ErrorKind::WouldBlock | ErrorKind::TimedOut | ErrorKind::Interrupted => Ok(None),
-            _ => Err(PortFault),
+        Ok((len, from)) => match source_in(from) {
+            Some(source) => Ok(Some((len.min(room), source))),
+            None => Ok(None),
         },
+        Err(error) => failure(error.kind()),
+    }
+}
+
+/// What a port gives for a read that failed. That no datagram came in time, that the wait was
+/// interrupted, or that the system had no memory for it, only ends the turn without a datagram;
+/// every other failure is a `PortFault`.
+fn failure(kind: ErrorKind) -> Result<Option<(usize, Source)>, PortFault>
+    ensures failed { IsFailed (is_passing kind) result }
+    ensures none { (room : ℕ) → IfOk result (λ received. IfSome received (λ found.
+        found.0 ≤ room)) }
+{
+    match kind {
+        ErrorKind::WouldBlock
+        | ErrorKind::TimedOut
+        | ErrorKind::Interrupted
+        | ErrorKind::OutOfMemory => Ok(None),
+        _ => Err(PortFault),
     }
 }
