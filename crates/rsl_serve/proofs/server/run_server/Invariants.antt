@@ -1,6 +1,6 @@
 use Rattle.rsl_shard.specs.Restep.{new_books}
 use Rattle.rsl_shard.specs.Setup.{setup_of}
-use Rattle.rsl_serve.proofs.serving.served.Given as goal
+use Rattle.rsl_serve.proofs.server.run_server.Given as goal
 
 -- each ledger is that of its shard
 abbrev pub ghosts-run-L0-Ledger : goal.ghosts-run-L0-Ledger

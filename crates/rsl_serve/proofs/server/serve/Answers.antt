@@ -1,7 +1,7 @@
 use Rattle.std.proofs.lemmas.Result.{on_ok_weaker}
 use Rattle.std.specs.Io.KnownBytes.{Appends}
 use Rattle.rsl_edges.specs.Output.{output_octets}
-use Rattle.rsl_serve.proofs.serving.serve.Goals as goal
+use Rattle.rsl_serve.proofs.server.serve.Goals as goal
 
 pub returns-clause-served : goal.returns-clause-served
 returns-clause-served g c =

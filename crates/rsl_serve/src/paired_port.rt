@@ -1,4 +1,4 @@
-use crate::ending::Ending;
+use crate::shutdown::Shutdown;
 use rsl_edges::UdpPort;
 use rsl_event::Source;
 use rsl_receive::{DatagramPort, PortFault};
@@ -6,27 +6,27 @@ use rsl_receive::{DatagramPort, PortFault};
 /// One of the two ports of a server. It fails once the other's receiver has failed, so that no
 /// receiver goes on alone.
 #[derive(Drop)]
-pub(crate) struct Paired<'a> {
+pub(crate) struct PairedPort<'a> {
     port: UdpPort,
-    ending: &'a Ending,
+    shutdown: &'a Shutdown,
 }
 
-impl<'a> Paired<'a> {
+impl<'a> PairedPort<'a> {
     ghost use Rattle.std.specs.Prelude.{◌≡◌};
 
     /// The port, in a server whose receivers tell each other of their end here.
-    pub(crate) fn new(port: UdpPort, ending: &'a Ending) -> Paired<'a>
+    pub(crate) fn new(port: UdpPort, shutdown: &'a Shutdown) -> PairedPort<'a>
         ensures { result.port ≡ port }
     {
-        Paired { port, ending }
+        PairedPort { port, shutdown }
     }
 }
 
-impl DatagramPort for Paired<'_> {
+impl DatagramPort for PairedPort<'_> {
     ghost numbers = { λ paired. paired.port.numbers };
 
     fn receive(&mut self, buffer: &mut [u8]) -> Result<Option<(usize, Source)>, PortFault> {
-        let received = if self.ending.has_failed() {
+        let received = if self.shutdown.has_failed() {
             Err(PortFault)
         } else {
             self.port.read(buffer)
