@@ -1,3 +1,4 @@
 pub mod Fault
 pub mod Output
 pub mod Plan
+pub mod Socket

@@ -5,15 +5,16 @@
 //! values alone.
 //!
 //! The promise: what the arguments ask for is exactly `specs/Plan.antt`, what is printed
-//! of the receivers `specs/Output.antt`, and the status `specs/Fault.antt`.
+//! of the receivers `specs/Output.antt`, the status `specs/Fault.antt`, and what a read of a socket is
+//! to a port `specs/Socket.antt`.
 #![tactic(auto)]
 
 mod fault;
 mod output;
 mod plan;
-mod port;
+mod udp_port;
 
 pub use fault::ServeFault;
 pub use output::counts_of;
 pub use plan::Plan;
-pub use port::UdpPort;
+pub use udp_port::UdpPort;

@@ -5,8 +5,8 @@ use Rattle.rsl_receive.specs.Told.{CanReceive, CanSend}
 use Rattle.rsl_receive.specs.Turned.{HasCalled, counted, is_down}
 use Rattle.rsl_receive.specs.declared.counts.Counts.{Counts}
 use Rattle.rsl_receive.specs.declared.numbers.Numbers.{Numbers}
-use Rattle.rsl_receive.specs.declared.turn.Turn.{Turn}
-use Rattle.rsl_receive.specs.declared.turn.Turn.TheVariants.{Down, Nothing, Dropped, Refused, Answered, Unsent}
+use Rattle.rsl_receive.specs.declared.counts.Turn.{Turn}
+use Rattle.rsl_receive.specs.declared.counts.Turn.TheVariants.{Down, Nothing, Dropped, Refused, Answered, Unsent}
 
 -- the sum holds after a turn
 pub adds_up : (turn : Turn) (counts : Counts) → AddsUp counts → AddsUp (counted turn counts)

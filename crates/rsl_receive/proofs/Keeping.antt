@@ -1,5 +1,6 @@
 -- What the loop of a receiver keeps from turn to turn.
-use Rattle.std.proofs.Common.{◌≡◌, ℕ, ◌+◌, ◌≤◌, Bool, true, false, refl, sym, ap, subst, ◌∙◌, arith}
+use Rattle.std.proofs.Common.{◌≡◌, ℕ, ◌+◌, ◌≤◌, min, Bool, true, false, refl, sym, ap, subst, ◌∙◌, arith}
+use Rattle.std.proofs.Math.Nat.{le-min, min-le_right}
 use Rattle.rsl_event.specs.declared.meaning.Port.{Port}
 use Rattle.rsl_service.specs.Service.{ServiceSeen}
 use Rattle.rsl_receive.proofs.Calling.{adds_up, none_called, one_received, one_turn, turn_called}
@@ -9,7 +10,7 @@ use Rattle.rsl_receive.specs.Served.{HasServed, State}
 use Rattle.rsl_receive.specs.Turned.{HasCalled, HasTurned, counted, is_down}
 use Rattle.rsl_receive.specs.declared.counts.Counts.{Counts}
 use Rattle.rsl_receive.specs.declared.numbers.Numbers.{Numbers}
-use Rattle.rsl_receive.specs.declared.turn.Turn.{Turn}
+use Rattle.rsl_receive.specs.declared.counts.Turn.{Turn}
 
 -- after so many turns: they are counted, and where the port tells its datagrams, what came is served
 abbrev pub Kept : ServiceSeen → Port → Counts → (turns : ℕ) → (old now : Numbers) → (Tells : Type 0)
@@ -43,3 +44,10 @@ turn_kept service port turn counts after turns old mid new Told Tells start befo
   turn_called turn counts after false old mid new is up calls called,
   λ told. turn_served service port turn counts after start before state is (served (tells told)) (turned told),
 )
+
+-- a receive more with room for 4,096 octets
+pub room_kept : (old mid new len : ℕ) → min old 4096 ≤ mid → len ≡ 4096 → new ≡ min mid len
+    → min old 4096 ≤ new
+room_kept old mid new len kept is then =
+    subst (λ n. min old 4096 ≤ n) (sym then)
+    (le-min kept (subst (λ n. min old 4096 ≤ n) (sym is) (min-le_right old 4096)))

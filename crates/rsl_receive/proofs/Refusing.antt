@@ -1,6 +1,5 @@
--- A datagram for which memory is refused, before it has made a move.
-use Rattle.std.proofs.Common.{◌≡◌, ℕ, ◌<◌, List, Result, Ok, Err, refl, arith}
-use Rattle.rsl_accounts.specs.Limits.{IsConfiguration}
+-- A datagram that is refused, before a moment is read for it or after, and one that is answered.
+use Rattle.std.proofs.Common.{◌≡◌, ℕ, ◌<◌, List, [], ◌∷◌, Option, Result, Ok, Err, refl, inl, inr}
 use Rattle.rsl_event.specs.Copied.{TakesMemory}
 use Rattle.rsl_event.specs.Meaning.{meaning}
 use Rattle.rsl_event.specs.declared.event.Source.{Source}
@@ -8,39 +7,75 @@ use Rattle.rsl_event.specs.declared.meaning.Dropped.{Dropped}
 use Rattle.rsl_event.specs.declared.meaning.Meaning.{Meaning}
 use Rattle.rsl_event.specs.declared.meaning.Meaning.TheVariants.{Bare, Own, Reject, Restart, Stray}
 use Rattle.rsl_event.specs.declared.meaning.Port.{Port}
-use Rattle.rsl_service.specs.Receipts.{AreNoted}
+use Rattle.rsl_service.specs.Applied.{IsStopped, swept_before}
 use Rattle.rsl_service.specs.Service.{ServiceSeen}
+use Rattle.rsl_service.specs.declared.fault.ApplyFault.{ApplyFault}
 use Rattle.rsl_record.specs.declared.receipt.Receipt.{Receipt}
-use Rattle.rsl_receive.specs.Served.{HasStopped, IsRefused}
+use Rattle.rsl_receive.proofs.Showing.{none_shown}
+use Rattle.rsl_receive.specs.Served.{HasStopped, IsAnsweredBy, IsRefused}
+use Rattle.rsl_receive.specs.Shown.{HasShown}
 use Rattle.rsl_receive.specs.Told.{datagram_of}
-
--- nothing has changed yet
-none_stopped : (service : ServiceSeen) (meant : Meaning) (old : List Receipt)
-    → 0 < service.config.settings.shards → HasStopped service 0 meant old old
-unfolding AreNoted
-none_stopped service (Restart nas) old there = (0, there, refl)
-none_stopped service (Own account act) old there = refl
-none_stopped service (Stray note) old there = refl
-none_stopped service Bare old there = refl
-none_stopped service Reject old there = refl
+use Rattle.rsl_receive.specs.Turned.{HasAnswered, HasRefused}
+use Rattle.rsl_receive.specs.declared.datagram_port.Datagram.{Datagram}
 
 -- a meaning of which octets could not be copied
 pub uncopied : (service : ServiceSeen) (port : Port) (source : Source) (datagram : List ℕ)
-    (old : List Receipt) → IsConfiguration service.config
+    (shown : Option (List ℕ)) (old : List Receipt)
     → TakesMemory (meaning service.config service.boot port source datagram)
-    → IsRefused service port (datagram_of source datagram) old old
-uncopied service port source datagram old limits takes =
-    found (meaning service.config service.boot port source datagram) refl takes
+    → HasRefused service port (datagram_of source datagram) shown shown old old
+uncopied service port source datagram shown old takes = record {
+  shown = [];
+  read = none_shown shown;
+  refused = found (meaning service.config service.boot port source datagram) refl takes;
+}
   where
     found : (m : Result Meaning Dropped)
         → meaning service.config service.boot port source datagram ≡ m → TakesMemory m
-        → IsRefused service port (datagram_of source datagram) old old
+        → IsRefused service port (datagram_of source datagram) [] old old
     found (Ok meant) is takes = record {
       meant = meant;
-      moment = 0;
       understood = is;
-      stopped = none_stopped service meant old (omega (arith, limits.settings.a_shard));
+      stopped = inl (refl, refl);
     }
     found (Err dropped) is takes = absurd takes
 
-pub ruleset refusing = (uncopied)
+-- what a fault leaves of the moves of each meaning
+has_stopped : (service : ServiceSeen) (moment : ℕ) (meant : Meaning) (fault : ApplyFault)
+    (old new : List Receipt) → IsStopped service moment meant fault old new
+    → swept_before fault < service.config.settings.shards → HasStopped service moment meant old new
+has_stopped service moment (Restart nas) fault old new stopped fewer = (swept_before fault, fewer, stopped)
+has_stopped service moment (Own account act) fault old new stopped fewer = stopped.1
+has_stopped service moment (Stray note) fault old new stopped fewer = stopped.1
+has_stopped service moment Bare fault old new stopped fewer = stopped.1
+has_stopped service moment Reject fault old new stopped fewer = stopped.1
+
+-- one whose moves met a fault, at the moment that was read for it
+pub stopped_at : (service : ServiceSeen) (port : Port) (one : Datagram) (moment : ℕ) (meant : Meaning)
+    (fault : ApplyFault) (old_shown new_shown : Option (List ℕ)) (old new : List Receipt)
+    → meaning service.config service.boot port one.source one.octets ≡ Ok meant
+    → HasShown (moment ∷ []) old_shown new_shown → IsStopped service moment meant fault old new
+    → swept_before fault < service.config.settings.shards
+    → HasRefused service port one old_shown new_shown old new
+stopped_at service port one moment meant fault old_shown new_shown old new is read stopped fewer = record {
+  shown = moment ∷ [];
+  read = read;
+  refused = record {
+    meant = meant;
+    understood = is;
+    stopped = inr (moment, refl, has_stopped service moment meant fault old new stopped fewer);
+  };
+}
+
+-- one that was answered, at the moment that was read for it
+pub answered_at : (service : ServiceSeen) (port : Port) (one : Datagram) (moment : ℕ)
+    (old_shown new_shown : Option (List ℕ)) (old new : List Receipt) (reply : Datagram)
+    → HasShown (moment ∷ []) old_shown new_shown
+    → IsAnsweredBy service port one moment old new reply
+    → HasAnswered service port one old_shown new_shown old new reply
+answered_at service port one moment old_shown new_shown old new reply read answered = record {
+  moment = moment;
+  read = read;
+  answered = answered;
+}
+
+pub ruleset refusing = (uncopied, answered_at)

@@ -1,5 +1,5 @@
 -- How ticks of every shard count.
-use Rattle.std.proofs.Common.{◌≡◌, ℕ, zero, suc, ◌+◌, ◌<◌, ◌≤◌, Bool, true, false, cond, List, [], ◌∷◌, ◌++◌, refl, sym, ap, ◌∙◌, arith, ◌⊎◌, inl, inr}
+use Rattle.std.proofs.Common.{◌≡◌, ℕ, zero, suc, ◌+◌, ◌<◌, ◌≤◌, Bool, true, false, cond, List, [], ◌∷◌, ◌++◌, Option, IfSome, refl, sym, ap, subst, ◌∙◌, arith, ◌⊎◌, inl, inr}
 use Rattle.std.specs.Prelude.{◌==◌, ◌&&◌, count_by}
 use Rattle.std.proofs.lemmas.Bool.{eq-eqb, ne_eqb, cases_lt}
 use Rattle.std.proofs.Math.Bool.{and-true}
@@ -9,7 +9,9 @@ use Rattle.rsl_service.specs.Receipts.{AreNoted, HasOneMore, count_of}
 use Rattle.rsl_record.specs.declared.receipt.Receipt.{Receipt}
 use Rattle.rsl_shard.specs.declared.moved.Move.{Move}
 use Rattle.rsl_shard.specs.declared.moved.Move.TheVariants as moves
-use Rattle.rsl_receive.specs.Ticked.{AreTicked, is_tick, ticks_of}
+use Rattle.rsl_receive.proofs.Showing.{more_shown, none_shown}
+use Rattle.rsl_receive.specs.Shown.{HasShown}
+use Rattle.rsl_receive.specs.Ticked.{AreTicked, HasWorked, IsTurn, Ticked, NoTurn, ThenAll, ThenSome, is_tick, ticks_of}
 
 -- with one receipt more
 count_more : (counts : Receipt → Bool) (receipts : List Receipt) (more : Receipt) (b : Bool)
@@ -135,6 +137,58 @@ fewer_ticked shards least most turns old new few ticked = record {
   ticks = ticked.ticks;
   receipts = ticked.receipts;
   few = λ shard. omega (arith, few, ticked.few shard);
+}
+
+-- so many turns were taken, at moments that the clock has shown
+pub record Taken (shards done turns : ℕ) (old_shown new_shown : Option (List ℕ))
+    (old new : List Receipt) : Type 0 where
+  pub shown : List ℕ
+  pub read : HasShown shown old_shown new_shown
+  pub ticked : Ticked shards old done turns shown new
+
+-- before the first turn
+pub none_taken : (shards : ℕ) (shown : Option (List ℕ)) (old : List Receipt)
+    → Taken shards 0 0 shown shown old old
+none_taken shards shown old = record {
+  shown = [];
+  read = none_shown shown;
+  ticked = NoTurn;
+}
+
+-- after a turn more
+pub one_taken : (shards done more turns : ℕ) (old_shown mid_shown new_shown : Option (List ℕ))
+    (old mid new : List Receipt) → Taken shards done turns old_shown mid_shown old mid
+    → IsTurn shards more mid_shown new_shown mid new
+    → Taken shards (done + more) (turns + 1) old_shown new_shown old new
+one_taken shards done more turns old_shown mid_shown new_shown old mid new so_far turn = record {
+  shown = so_far.shown ++ turn.moment ∷ [];
+  read = more_shown so_far.shown (turn.moment ∷ []) old_shown mid_shown new_shown so_far.read turn.read;
+  ticked = by turn.ticked;
+}
+  where
+    by : ((more ≡ 1) × AreNoted shards (moves.Tick turn.moment) mid new)
+        ⊎ ((more ≡ 0) × (swept : ℕ) × (swept < shards) × AreNoted swept (moves.Tick turn.moment) mid new)
+        → Ticked shards old (done + more) (turns + 1) (so_far.shown ++ turn.moment ∷ []) new
+    by (inl (all, noted)) =
+        subst (λ n. Ticked shards old (done + n) (turns + 1) (so_far.shown ++ turn.moment ∷ []) new) (sym all)
+        (ThenAll so_far.ticked turn.moment noted)
+    by (inr (none, swept, fewer, noted)) =
+        subst (λ n. Ticked shards old n (turns + 1) (so_far.shown ++ turn.moment ∷ []) new) (omega (arith, none))
+        (ThenSome so_far.ticked turn.moment swept fewer noted)
+
+-- a worker that has taken all its turns, or that a pause has ended
+pub has_worked : (shards done turns most : ℕ) (said : Option Bool)
+    (old_shown new_shown : Option (List ℕ)) (old new : List Receipt) → turns ≤ most
+    → (turns < most → IfSome said (λ said. said ≡ false))
+    → Taken shards done turns old_shown new_shown old new
+    → HasWorked shards done most said old_shown new_shown old new
+has_worked shards done turns most said old_shown new_shown old new few early taken = record {
+  turns = turns;
+  shown = taken.shown;
+  few = few;
+  early = early;
+  read = taken.read;
+  ticked = taken.ticked;
 }
 
 pub ruleset ticking = (all_ticked, some_ticked, none_ticked, more_ticked, fewer_ticked)

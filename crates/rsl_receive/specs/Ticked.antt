@@ -1,9 +1,10 @@
 -- What a worker that makes ticks leaves in its pass.
-use Rattle.std.specs.Prelude.{ℕ, ◌+◌, ◌<◌, ◌≤◌, Bool, true, false, ◌==◌, ◌&&◌, List, count_by}
-use Rattle.rsl_service.specs.Receipts.{count_of}
+use Rattle.std.specs.Prelude.{◌≡◌, ℕ, ◌+◌, ◌<◌, ◌≤◌, ◌⊎◌, Bool, true, false, ◌==◌, ◌&&◌, List, [], ◌∷◌, ◌++◌, Option, IfSome, count_by}
+use Rattle.rsl_service.specs.Receipts.{AreNoted, count_of}
 use Rattle.rsl_record.specs.declared.receipt.Receipt.{Receipt}
 use Rattle.rsl_shard.specs.declared.moved.Move.{Move}
 use Rattle.rsl_shard.specs.declared.moved.Move.TheVariants.{Tick}
+use Rattle.rsl_receive.specs.Shown.{HasShown}
 
 abbrev pub is_tick : Move → Bool
 is_tick (Tick moment) = true
@@ -20,3 +21,36 @@ pub record AreTicked (shards least most : ℕ) (old new : List Receipt) : Type 0
   pub ticks : (shard : ℕ) → shard < shards → ticks_of shard old + least ≤ ticks_of shard new
   pub receipts : (shard : ℕ) → shard < shards → count_of shard old + least ≤ count_of shard new
   pub few : (shard : ℕ) → count_of shard new ≤ count_of shard old + most
+
+-- Turns were taken, each at the moment that the clock showed for it. In so many of them every shard
+-- has its tick of that moment; in each other the first shards have it, fewer than all.
+pub data Ticked (shards : ℕ) (old : List Receipt)
+    : (done turns : ℕ) → (shown : List ℕ) → (new : List Receipt) → Type 0 where
+  NoTurn : Ticked shards old 0 0 [] old
+  ThenAll : {done turns : ℕ} {shown : List ℕ} {before new : List Receipt}
+      → Ticked shards old done turns shown before
+      → (moment : ℕ) → AreNoted shards (Tick moment) before new
+      → Ticked shards old (done + 1) (turns + 1) (shown ++ moment ∷ []) new
+  ThenSome : {done turns : ℕ} {shown : List ℕ} {before new : List Receipt}
+      → Ticked shards old done turns shown before
+      → (moment swept : ℕ) → swept < shards → AreNoted swept (Tick moment) before new
+      → Ticked shards old done (turns + 1) (shown ++ moment ∷ []) new
+
+-- one turn, which is done or not, as a receipt of every shard or of fewer
+pub record IsTurn (shards done : ℕ) (old_shown new_shown : Option (List ℕ))
+    (old new : List Receipt) : Type 0 where
+  pub moment : ℕ
+  pub read : HasShown (moment ∷ []) old_shown new_shown
+  pub ticked : ((done ≡ 1) × AreNoted shards (Tick moment) old new)
+      ⊎ ((done ≡ 0) × (swept : ℕ) × (swept < shards) × AreNoted swept (Tick moment) old new)
+
+-- The turns of a worker: at most so many, and fewer only where a pause, if it reports what it said,
+-- said last that there shall be no more.
+pub record HasWorked (shards : ℕ) (done most : ℕ) (said : Option Bool)
+    (old_shown new_shown : Option (List ℕ)) (old new : List Receipt) : Type 0 where
+  pub turns : ℕ
+  pub shown : List ℕ
+  pub few : turns ≤ most
+  pub early : turns < most → IfSome said (λ said. said ≡ false)
+  pub read : HasShown shown old_shown new_shown
+  pub ticked : Ticked shards old done turns shown new

@@ -3,7 +3,7 @@
 use Rattle.std.specs.Prelude.{ℕ, ◌+◌, ◌^◌, ◌<◌, ◌==◌, Bool, true, false, ◌&&◌, cond, List, [], ◌∷◌, take, Option, Some, None, Result, Ok, Err, is_err}
 use Rattle.rsl_accounts.specs.Configuration.{same_octets}
 use Rattle.rsl_event.specs.declared.event.Source.{Source}
-use Rattle.rsl_receive.specs.declared.datagram.Datagram.{Datagram}
+use Rattle.rsl_receive.specs.declared.datagram_port.Datagram.{Datagram}
 use Rattle.rsl_receive.specs.declared.fault.PortFault.{PortFault}
 use Rattle.rsl_receive.specs.declared.numbers.Numbers.{Numbers}
 

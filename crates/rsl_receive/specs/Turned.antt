@@ -1,17 +1,18 @@
 -- How a turn of a receiver ends, and what it leaves.
-use Rattle.std.specs.Prelude.{◌≡◌, ℕ, ◌+◌, Bool, true, false, List, [], ◌∷◌, ◌++◌}
+use Rattle.std.specs.Prelude.{◌≡◌, ℕ, ◌+◌, Bool, true, false, List, [], ◌∷◌, ◌++◌, Option}
 use Rattle.rsl_event.specs.declared.meaning.Port.{Port}
 use Rattle.rsl_service.specs.Service.{ServiceSeen}
 use Rattle.rsl_record.specs.declared.receipt.Receipt.{Receipt}
 use Rattle.rsl_receive.specs.Counted.{IsCalled}
 use Rattle.rsl_receive.specs.Served.{IsAnsweredBy, IsDropped, IsRefused, State}
+use Rattle.rsl_receive.specs.Shown.{HasShown}
 use Rattle.rsl_receive.specs.declared.counts.Counts.{Counts}
-use Rattle.rsl_receive.specs.declared.datagram.Datagram.{Datagram}
+use Rattle.rsl_receive.specs.declared.datagram_port.Datagram.{Datagram}
 use Rattle.rsl_receive.specs.declared.numbers.Numbers.{Numbers}
-use Rattle.rsl_receive.specs.declared.answering.Unanswered.{Unanswered}
-use Rattle.rsl_receive.specs.declared.answering.Unanswered.TheVariants as unanswered
-use Rattle.rsl_receive.specs.declared.turn.Turn.{Turn}
-use Rattle.rsl_receive.specs.declared.turn.Turn.TheVariants.{Down, Nothing, Dropped, Refused, Answered, Unsent}
+use Rattle.rsl_receive.specs.declared.receiver.Unanswered.{Unanswered}
+use Rattle.rsl_receive.specs.declared.receiver.Unanswered.TheVariants as unanswered
+use Rattle.rsl_receive.specs.declared.counts.Turn.{Turn}
+use Rattle.rsl_receive.specs.declared.counts.Turn.TheVariants.{Down, Nothing, Dropped, Refused, Answered, Unsent}
 
 abbrev pub is_down : Turn → Bool
 is_down Down = true
@@ -59,10 +60,11 @@ HasCalled Unsent old new = IsCalled 1 0 1 1 old new
 abbrev pub TookOne : Datagram → (old new : State) → Type 0
 TookOne one old new = new.taken ≡ old.taken ++ one ∷ []
 
--- nothing was taken, noted or sent
+-- nothing was taken, noted or sent, and the clock was not read
 abbrev pub TookNone : (old new : State) → Type 0
 TookNone old new =
     (new.taken ≡ old.taken) × (new.receipts ≡ old.receipts) × (new.sent ≡ old.sent)
+    × (new.shown ≡ old.shown)
 
 -- a datagram was taken and dropped
 pub record TookDropped (service : ServiceSeen) (port : Port) (old new : State) : Type 0 where
@@ -70,22 +72,27 @@ pub record TookDropped (service : ServiceSeen) (port : Port) (old new : State) :
   pub took : TookOne one old new
   pub unnoted : new.receipts ≡ old.receipts
   pub unsent : new.sent ≡ old.sent
+  pub unread : new.shown ≡ old.shown
   pub dropped : IsDropped service port one
 
 -- a datagram was taken and refused
 pub record TookRefused (service : ServiceSeen) (port : Port) (old new : State) : Type 0 where
   pub one : Datagram
+  pub shown : List ℕ
   pub took : TookOne one old new
   pub unsent : new.sent ≡ old.sent
-  pub refused : IsRefused service port one old.receipts new.receipts
+  pub read : HasShown shown old.shown new.shown
+  pub refused : IsRefused service port one shown old.receipts new.receipts
 
 -- a datagram was taken, and its answer tried to send
 pub record TookAnswered (service : ServiceSeen) (port : Port) (old new : State) : Type 0 where
   pub one : Datagram
   pub reply : Datagram
+  pub moment : ℕ
   pub took : TookOne one old new
   pub sends : new.sent ≡ old.sent ++ reply ∷ []
-  pub answered : IsAnsweredBy service port one old.receipts new.receipts reply
+  pub read : HasShown (moment ∷ []) old.shown new.shown
+  pub answered : IsAnsweredBy service port one moment old.receipts new.receipts reply
 
 -- by how the turn ended
 abbrev pub HasTurned : ServiceSeen → Port → Turn → (old new : State) → Type 0
@@ -96,9 +103,24 @@ HasTurned service port Refused old new = TookRefused service port old new
 HasTurned service port Answered old new = TookAnswered service port old new
 HasTurned service port Unsent old new = TookAnswered service port old new
 
+-- what a datagram leaves that has an answer, and a clock that was read for it
+pub record HasAnswered (service : ServiceSeen) (port : Port) (one : Datagram)
+    (old_shown new_shown : Option (List ℕ)) (old new : List Receipt) (reply : Datagram) : Type 0 where
+  pub moment : ℕ
+  pub read : HasShown (moment ∷ []) old_shown new_shown
+  pub answered : IsAnsweredBy service port one moment old new reply
+
+-- a datagram that was refused, and a clock that was read for it or not
+pub record HasRefused (service : ServiceSeen) (port : Port) (one : Datagram)
+    (old_shown new_shown : Option (List ℕ)) (old new : List Receipt) : Type 0 where
+  pub shown : List ℕ
+  pub read : HasShown shown old_shown new_shown
+  pub refused : IsRefused service port one shown old new
+
 -- what a datagram leaves that has no answer, by why
-abbrev pub IsUnanswered : ServiceSeen → Port → Unanswered → Datagram → (old new : List Receipt)
-    → Type 0
-IsUnanswered service port unanswered.Dropped one old new =
-    IsDropped service port one × (new ≡ old)
-IsUnanswered service port unanswered.Refused one old new = IsRefused service port one old new
+abbrev pub IsUnanswered : ServiceSeen → Port → Unanswered → Datagram
+    → (old_shown new_shown : Option (List ℕ)) → (old new : List Receipt) → Type 0
+IsUnanswered service port unanswered.Dropped one old_shown new_shown old new =
+    IsDropped service port one × (new ≡ old) × (new_shown ≡ old_shown)
+IsUnanswered service port unanswered.Refused one old_shown new_shown old new =
+    HasRefused service port one old_shown new_shown old new

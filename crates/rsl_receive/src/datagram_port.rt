@@ -1,15 +1,26 @@
 use crate::fault::PortFault;
 use rsl_event::Source;
+use rsl_wire::Octets;
+
+/// A datagram, with the source that it came from or that it goes to.
+#[derive(Debug, PartialEq, Eq, Drop)]
+pub struct Datagram {
+    /// The other side's address and port.
+    pub source: Source,
+    /// What it holds.
+    pub octets: Octets,
+}
 
 /// Where datagrams come from and answers go to, as a UDP socket is.
 ///
 /// A contract sees the numbers that the port keeps of its calls: all that a socket has to give,
-/// which holds a `Numbers`. A port over memory also tells which datagrams it gave and which sends
-/// were tried, as long as `tells` is true.
+/// which holds a `Numbers`. A port over memory also reports which datagrams it gave, which sends
+/// were tried, and the least room that a `receive` was given, in octets, as long as `tells` is
+/// true.
 pub trait DatagramPort {
-    ghost use Rattle.std.specs.Prelude.{◌≡◌, ◌≤◌, Bool, true, false, List, [], ◌∷◌, ◌++◌, length, IfOk, IfSome};
+    ghost use Rattle.std.specs.Prelude.{◌≡◌, ◌≤◌, ℕ, min, Bool, true, false, List, [], ◌∷◌, ◌++◌, length, IfOk, IfSome};
     ghost use Rattle.rsl_receive.specs.Told.{CanReceive, CanSend, after_receive, after_send, datagram_of, taken_by};
-    ghost use Rattle.rsl_receive.specs.declared.datagram.Datagram.{Datagram as OneDatagram};
+    ghost use Rattle.rsl_receive.specs.declared.datagram_port.Datagram.{Datagram as OneDatagram};
     ghost use Rattle.rsl_receive.specs.declared.numbers.Numbers.{Numbers as PortNumbers};
 
     ghost numbers: { Self → PortNumbers };
@@ -19,6 +30,8 @@ pub trait DatagramPort {
     ghost taken: { Self → List OneDatagram } = { λ _. [] };
 
     ghost sent: { Self → List OneDatagram } = { λ _. [] };
+
+    ghost room: { Self → ℕ } = { λ _. 0 };
 
     /// Waits for a datagram for a while, and puts its octets at the start of the buffer. Gives how
     /// many they are, with the source, or `None` where none has come. A datagram longer than the
@@ -32,7 +45,8 @@ pub trait DatagramPort {
         ensures telling { tells self.new ≡ true → tells self.old ≡ true }
         ensures taken { tells self.new ≡ true →
             taken self.new ≡ taken self.old ++ taken_by result buffer.new }
-        ensures sent { tells self.new ≡ true → sent self.new ≡ sent self.old };
+        ensures sent { tells self.new ≡ true → sent self.new ≡ sent self.old }
+        ensures room { tells self.new ≡ true → room self.new ≡ min (room self.old) (length buffer.old) };
 
     /// Sends these octets to a source. Where it fails, nothing is known to have been sent. What
     /// the port counts of its calls has to stay under 2^64 with this one.
@@ -42,5 +56,6 @@ pub trait DatagramPort {
         ensures telling { tells self.new ≡ true → tells self.old ≡ true }
         ensures taken { tells self.new ≡ true → taken self.new ≡ taken self.old }
         ensures sent { tells self.new ≡ true →
-            sent self.new ≡ sent self.old ++ datagram_of to octets.now ∷ [] };
+            sent self.new ≡ sent self.old ++ datagram_of to octets.now ∷ [] }
+        ensures room { tells self.new ≡ true → room self.new ≡ room self.old };
 }

@@ -6,24 +6,20 @@
 //! that the port counted (`specs/Counted.antt`, `specs/Told.antt`).
 #![tactic(auto)]
 
-mod answering;
 mod clock;
 mod counts;
-mod datagram;
 mod datagram_port;
-mod expiry;
 mod fault;
-mod memory;
+mod memory_port;
 mod numbers;
 mod receiver;
-mod turn;
+mod ticker;
 
 pub use clock::{Clock, Pause};
 pub use counts::Counts;
-pub use datagram::Datagram;
-pub use datagram_port::DatagramPort;
-pub use expiry::expire_loop;
+pub use datagram_port::{Datagram, DatagramPort};
 pub use fault::{PortFault, ReceiveFault};
-pub use memory::{Coming, MemoryPort};
+pub use memory_port::{Coming, MemoryPort};
 pub use numbers::Numbers;
 pub use receiver::receive;
+pub use ticker::expire_loop;

@@ -1,17 +1,15 @@
-ghost use Rattle.std.specs.Prelude.{◌≡◌, ◌≤◌, IfOk, Err, true, [], ◌∷◌, ◌++◌};
+ghost use Rattle.std.specs.Prelude.{◌≡◌, ◌≤◌, min, IfErr, IfOk, Err, true, [], ◌∷◌, ◌++◌, length};
 ghost use Rattle.rsl_receive.specs.Counted.{AddsUp, AreCounted, IfCounted, failed_in};
 ghost use Rattle.rsl_receive.specs.Served.{HasServed, state_of};
 ghost use Rattle.rsl_receive.specs.Told.{CanReceive, CanSend, after_send, datagram_of};
-ghost use Rattle.rsl_receive.specs.Turned.{HasCalled, HasTurned};
+ghost use Rattle.rsl_receive.specs.Turned.{HasAnswered, HasCalled, HasTurned, IsUnanswered};
 ghost use Rattle.rsl_receive.specs.declared.fault.ReceiveFault.TheVariants as faults;
 
-use crate::answering::{Unanswered, answer};
 use crate::clock::Clock;
-use crate::counts::Counts;
+use crate::counts::{Counts, Turn};
 use crate::datagram_port::DatagramPort;
 use crate::fault::{PortFault, ReceiveFault};
-use crate::turn::Turn;
-use rsl_event::{Port, Source};
+use rsl_event::{Dropped, Port, Source};
 use rsl_service::{Gate, Pass, Service, Tally};
 use rsl_wire::MAX_LEN;
 use std::alloc::Global;
@@ -57,27 +55,26 @@ pub fn receive<
         (P.numbers datagrams.old) (P.numbers datagrams.new)) }
     ensures served { P.tells datagrams.new ≡ true → IfCounted result (λ counts.
         HasServed service.now port counts
-        (state_of (P.taken datagrams.old) pass.old (P.sent datagrams.old))
-        (state_of (P.taken datagrams.new) pass.new (P.sent datagrams.new))) }
+        (state_of (P.taken datagrams.old) pass.old (P.sent datagrams.old) (C.shown clock.old))
+        (state_of (P.taken datagrams.new) pass.new (P.sent datagrams.new) (C.shown clock.new))) }
+    ensures room { P.tells datagrams.new ≡ true →
+        min (P.room datagrams.old) 4096 ≤ P.room datagrams.new }
     ensures unmade { result ≡ Err faults.NoMemory →
-        (datagrams.new ≡ datagrams.old) × (pass.new ≡ pass.old) }
+        (datagrams.new ≡ datagrams.old) × (pass.new ≡ pass.old) × (clock.new ≡ clock.old) }
 {
     let mut buffer = match Vec::from_elem(alloc, 0u8, MAX_LEN) {
         Ok(buffer) => buffer,
         Err(_) => return Err(ReceiveFault::NoMemory),
     };
+    let receiver = Receiver {
+        rt,
+        alloc,
+        service,
+        port,
+    };
     let mut counts = Counts::new();
     for _ in 0..turns {
-        let turn = take_turn(
-            rt,
-            alloc,
-            service,
-            pass,
-            port,
-            datagrams,
-            clock,
-            &mut buffer,
-        );
+        let turn = receiver.turn(pass, datagrams, clock, &mut buffer);
         counts.count(turn);
         if turn.is_down() {
             return Err(ReceiveFault::Down(counts));
@@ -86,55 +83,98 @@ pub fn receive<
     Ok(counts)
 }
 
-/// A turn of a receiver, with a buffer for the datagram.
-fn take_turn<
-    L0: Tally,
-    L1: Tally,
-    L2: Tally,
-    L3: Tally,
-    G: Gate,
-    P: DatagramPort,
-    C: Clock,
-    R: Wait,
->(
-    rt: &R,
+/// What a receiver takes datagrams for: a service, and which of its ports they come to.
+#[derive(Drop)]
+struct Receiver<'a, L0: Tally, L1: Tally, L2: Tally, L3: Tally, G: Gate, R> {
+    rt: &'a R,
     alloc: Global,
-    service: &Service<L0, L1, L2, L3, G>,
-    pass: &mut Pass<L0, L1, L2, L3>,
+    service: &'a Service<L0, L1, L2, L3, G>,
     port: Port,
-    datagrams: &mut P,
-    clock: &mut C,
-    buffer: &mut [u8],
-) -> Turn
-    requires receives { CanReceive 1 (P.numbers datagrams.old) }
-    requires sends { CanSend 1 (P.numbers datagrams.old) }
-    ensures calls { HasCalled result (P.numbers datagrams.old) (P.numbers datagrams.new) }
-    ensures telling { P.tells datagrams.new ≡ true → P.tells datagrams.old ≡ true }
-    ensures turned { P.tells datagrams.new ≡ true → HasTurned service.now port result
-        (state_of (P.taken datagrams.old) pass.old (P.sent datagrams.old))
-        (state_of (P.taken datagrams.new) pass.new (P.sent datagrams.new)) }
-{
-    let (len, source) = match datagrams.receive(buffer) {
-        Ok(Some(received)) => received,
-        Ok(None) => return Turn::Nothing,
-        Err(PortFault) => return Turn::Down,
-    };
-    match answer(
-        rt,
-        alloc,
-        service,
-        pass,
-        port,
-        source,
-        &buffer[..len],
-        clock,
-    ) {
-        Ok(octets) => match send_back(pass, datagrams, octets, source) {
-            Ok(()) => Turn::Answered,
-            Err(PortFault) => Turn::Unsent,
-        },
-        Err(Unanswered::Dropped) => Turn::Dropped,
-        Err(Unanswered::Refused) => Turn::Refused,
+}
+
+/// Why a datagram has no answer.
+#[derive(Clone, Copy, Debug, PartialEq, Eq)]
+pub(crate) enum Unanswered {
+    /// It has no meaning.
+    Dropped,
+    /// It has one, and memory was refused or a shard is spent.
+    Refused,
+}
+
+impl<L0: Tally, L1: Tally, L2: Tally, L3: Tally, G: Gate, R: Wait> Receiver<
+    '_,
+    L0,
+    L1,
+    L2,
+    L3,
+    G,
+    R,
+> {
+    /// Takes a turn, with a buffer for the datagram.
+    fn turn<P: DatagramPort, C: Clock>(
+        &self,
+        pass: &mut Pass<L0, L1, L2, L3>,
+        datagrams: &mut P,
+        clock: &mut C,
+        buffer: &mut [u8],
+    ) -> Turn
+        requires receives { CanReceive 1 (P.numbers datagrams.old) }
+        requires sends { CanSend 1 (P.numbers datagrams.old) }
+        ensures calls { HasCalled result (P.numbers datagrams.old) (P.numbers datagrams.new) }
+        ensures telling { P.tells datagrams.new ≡ true → P.tells datagrams.old ≡ true }
+        ensures turned { P.tells datagrams.new ≡ true → HasTurned self.now.service.now self.now.port result
+            (state_of (P.taken datagrams.old) pass.old (P.sent datagrams.old) (C.shown clock.old))
+            (state_of (P.taken datagrams.new) pass.new (P.sent datagrams.new) (C.shown clock.new)) }
+        ensures room { P.tells datagrams.new ≡ true →
+            P.room datagrams.new ≡ min (P.room datagrams.old) (length buffer.old) }
+    {
+        let (len, source) = match datagrams.receive(buffer) {
+            Ok(Some(received)) => received,
+            Ok(None) => return Turn::Nothing,
+            Err(PortFault) => return Turn::Down,
+        };
+        match self.answer(pass, clock, source, &buffer[..len]) {
+            Ok(octets) => match send_back(pass, datagrams, octets, source) {
+                Ok(()) => Turn::Answered,
+                Err(PortFault) => Turn::Unsent,
+            },
+            Err(Unanswered::Dropped) => Turn::Dropped,
+            Err(Unanswered::Refused) => Turn::Refused,
+        }
+    }
+
+    /// The octets that answer a datagram, which has made its moves in the service.
+    #[tactic(auto, using(crate::proofs::Refusing::refusing))]
+    fn answer<C: Clock>(
+        &self,
+        pass: &mut Pass<L0, L1, L2, L3>,
+        clock: &mut C,
+        source: Source,
+        datagram: &[u8],
+    ) -> Result<Vec<u8>, Unanswered>
+        ensures answered { IfOk result (λ octets. HasAnswered self.now.service.now self.now.port
+            (datagram_of source datagram.now) (C.shown clock.old) (C.shown clock.new)
+            pass.old pass.new (datagram_of source octets.items)) }
+        ensures unanswered { IfErr result (λ why. IsUnanswered self.now.service.now self.now.port why
+            (datagram_of source datagram.now) (C.shown clock.old) (C.shown clock.new)
+            pass.old pass.new) }
+    {
+        let prepared = match self
+            .service
+            .prepare(self.alloc, self.port, source, datagram)
+        {
+            Ok(prepared) => prepared,
+            Err(Dropped::NoMemory) => return Err(Unanswered::Refused),
+            Err(_) => return Err(Unanswered::Dropped),
+        };
+        let moment = clock.now();
+        match self
+            .service
+            .apply(self.rt, self.alloc, pass, moment, prepared)
+        {
+            Ok(answered) => Ok(answered.octets),
+            Err(_) => Err(Unanswered::Refused),
+        }
     }
 }
 
@@ -153,6 +193,8 @@ fn send_back<L0: Tally, L1: Tally, L2: Tally, L3: Tally, P: DatagramPort>(
     ensures telling { P.tells datagrams.new ≡ true → P.tells datagrams.old ≡ true }
     ensures taken { P.tells datagrams.new ≡ true →
         P.taken datagrams.new ≡ P.taken datagrams.old }
+    ensures room { P.tells datagrams.new ≡ true →
+        P.room datagrams.new ≡ P.room datagrams.old }
     ensures sent { P.tells datagrams.new ≡ true → P.sent datagrams.new ≡
         P.sent datagrams.old ++ datagram_of source octets.items ∷ [] }
 {

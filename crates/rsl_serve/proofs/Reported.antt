@@ -1,15 +1,19 @@
 -- What a report's rows and a server's lines come to.
-use Rattle.std.proofs.Common.{◌≡◌, ℕ, ◌<◌, ◌≤◌, ◌⊎◌, inl, inr, List, ◌++◌, length, get_or, Some, None, ap, ◌∙◌, arith}
+use Rattle.std.proofs.Common.{◌≡◌, ℕ, ◌<◌, ◌≤◌, ◌⊎◌, inl, inr, List, [], ◌∷◌, ◌++◌, length, get_or, Some, None, ap, subst, ◌∙◌, arith}
 use Rattle.std.specs.Prelude.{All, codes, slice_get}
 use Rattle.std.proofs.lemmas.Option.{slice_get-get_or, slice_get_cases}
 use Rattle.rsl_accounts.specs.Configuration.{Configuration}
+use Rattle.rsl_accounts.specs.Limits.{IsConfiguration}
 use Rattle.rsl_accounts.specs.declared.entry.Entry.{Entry}
 use Rattle.rsl_receive.specs.declared.counts.Counts.{Counts}
 use Rattle.rsl_report.specs.Table.{table}
 use Rattle.rsl_edges.specs.Output.{counts_line}
-use Rattle.rsl_serve.specs.Served.{HasReceived, HasReported, IsServed}
+use Rattle.rsl_serve.specs.Served.{HasClosed, HasReceived, HasReported, IsEnded, IsServed}
+use Rattle.rsl_service.specs.Closed.{IsClosed}
 use Rattle.rsl_service.specs.Report.{IsReport}
+use Rattle.rsl_record.specs.declared.receipt.Receipt.{Receipt}
 use Rattle.rsl_shard.specs.declared.row.Row.{Row}
+use Rattle.rsl_shard.specs.declared.segment.Segment.{Segment}
 
 -- each row of a report is that of an account
 pub rows_of_accounts : (accounts : List Entry) (rows : List Row) → IsReport accounts rows
@@ -25,9 +29,10 @@ rows_of_accounts accounts rows report k d within = by (slice_get_cases accounts 
     by (inr (past, none)) = absurd (omega (arith, report.one_each, within, past))
 
 -- the octets of a report's rows are a report
-pub has_reported : (config : Configuration) (rows : List Row) (report : List ℕ) → IsReport config.accounts rows → report ≡ table config rows
-    → HasReported config report
-has_reported config rows report reported printed = record {
+pub has_reported : (config : Configuration) (rows : List Row) (report : List ℕ) → IsConfiguration config
+    → IsReport config.accounts rows → report ≡ table config rows → HasReported config report
+has_reported config rows report limits reported printed = record {
+  limits = limits;
   rows = rows;
   reported = reported;
   printed = printed;
@@ -37,16 +42,40 @@ has_reported config rows report reported printed = record {
 pub is_served : (config : Configuration) (turns : ℕ) (auth acct : Counts) (lines report : List ℕ)
     → HasReported config report
     → lines ≡ counts_line (codes "auth") auth ++ counts_line (codes "acct") acct
-    → HasReceived turns auth → HasReceived turns acct
+    → HasReceived turns auth → HasReceived turns acct → IsEnded config
     → IsServed config turns (lines ++ report)
-is_served config turns auth acct lines report reported line first second = record {
+is_served config turns auth acct lines report reported line first second ended = record {
   auth = auth;
   acct = acct;
   report = report;
   auth_received = first;
   acct_received = second;
   reported = reported;
+  ended = ended;
   printed = ap (λ xs. xs ++ report) line;
 }
 
+-- a service that was closed with the passes of a list
+pub has_closed : (config : Configuration) (auth acct ticks : List Receipt)
+    (passes : List (List Receipt)) (given segments : List Segment)
+    → passes ≡ auth ∷ acct ∷ ticks ∷ [] → given ≡ []
+    → IsClosed config passes given segments → HasClosed config auth acct ticks
+has_closed config auth acct ticks passes given segments are none closed = record {
+  segments = segments;
+  closed = subst (λ passes. IsClosed config passes [] segments) are
+      (subst (λ given. IsClosed config passes given segments) none closed);
+}
+
+-- is one that has ended
+pub has_ended : (config : Configuration) (auth acct ticks : List Receipt)
+    → HasClosed config auth acct ticks → IsEnded config
+has_ended config auth acct ticks closed = record {
+  auth = auth;
+  acct = acct;
+  ticks = ticks;
+  closed = closed;
+}
+
 pub ruleset reported = rows_of_accounts
+
+pub ruleset closing = (has_closed, has_ended)

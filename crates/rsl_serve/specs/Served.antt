@@ -1,12 +1,16 @@
--- What a server has done once it has ended well, as far as it prints it.
-use Rattle.std.specs.Prelude.{◌≡◌, ℕ, List, ◌++◌, codes}
+-- What a server has done once it has ended well, as far as it prints it, and how its service ended.
+use Rattle.std.specs.Prelude.{◌≡◌, ℕ, List, [], ◌∷◌, ◌++◌, codes}
 use Rattle.rsl_accounts.specs.Configuration.{Configuration}
+use Rattle.rsl_accounts.specs.Limits.{IsConfiguration}
 use Rattle.rsl_receive.specs.Counted.{AddsUp}
 use Rattle.rsl_receive.specs.declared.counts.Counts.{Counts}
 use Rattle.rsl_report.specs.Table.{table}
 use Rattle.rsl_edges.specs.Output.{counts_line}
+use Rattle.rsl_service.specs.Closed.{IsClosed}
 use Rattle.rsl_service.specs.Report.{IsReport}
+use Rattle.rsl_record.specs.declared.receipt.Receipt.{Receipt}
 use Rattle.rsl_shard.specs.declared.row.Row.{Row}
+use Rattle.rsl_shard.specs.declared.segment.Segment.{Segment}
 
 -- a receiver has taken its turns, and every datagram that came is counted once
 pub record HasReceived (turns : ℕ) (counts : Counts) : Type 0 where
@@ -15,11 +19,26 @@ pub record HasReceived (turns : ℕ) (counts : Counts) : Type 0 where
 
 -- a report with a row for each account in file order, with its places and no more held
 pub record HasReported (config : Configuration) (report : List ℕ) : Type 0 where
+  pub limits : IsConfiguration config
   pub rows : List Row
   pub reported : IsReport config.accounts rows
   pub printed : report ≡ table config rows
 
--- What is printed: what the receivers did, a line for each, and the report.
+-- The service was closed with these passes, those of both receivers and of the worker that makes
+-- ticks: its record is settled.
+pub record HasClosed (config : Configuration) (auth acct ticks : List Receipt) : Type 0 where
+  pub segments : List Segment
+  pub closed : IsClosed config (auth ∷ acct ∷ ticks ∷ []) [] segments
+
+-- the service was closed, with some passes of its three workers
+pub record IsEnded (config : Configuration) : Type 0 where
+  pub auth : List Receipt
+  pub acct : List Receipt
+  pub ticks : List Receipt
+  pub closed : HasClosed config auth acct ticks
+
+-- What is printed: what the receivers did, a line for each, and the report of a configuration, whose
+-- service was then closed.
 pub record IsServed (config : Configuration) (turns : ℕ) (written : List ℕ) : Type 0 where
   pub auth : Counts
   pub acct : Counts
@@ -27,4 +46,5 @@ pub record IsServed (config : Configuration) (turns : ℕ) (written : List ℕ) 
   pub auth_received : HasReceived turns auth
   pub acct_received : HasReceived turns acct
   pub reported : HasReported config report
+  pub ended : IsEnded config
   pub printed : written ≡ counts_line (codes "auth") auth ++ counts_line (codes "acct") acct ++ report

@@ -1,10 +1,48 @@
-use crate::ending::Ending;
+use crate::shutdown::Shutdown;
 use rsl_receive::{Clock, Pause};
 use std::thread;
 use std::time::{self, Duration};
 
 /// How long a pause is, in seconds.
 const PAUSE_SECS: u64 = 1;
+
+const _: () = prove!(PAUSE_SECS == 1);
+
+/// When a server starts, and how long it works.
+#[derive(Clone, Copy)]
+pub(crate) struct RunTime {
+    /// The seconds since 1970 at its start, which are also its service's boot number.
+    pub boot: u64,
+    /// The turns that each receiver takes.
+    pub turns: u64,
+}
+
+impl RunTime {
+    ghost use Rattle.std.specs.Prelude.{◌≡◌, ◌/◌};
+    ghost use Rattle.std.specs.Duration.{as_nanos};
+
+    /// Of a server that starts so long after 1970, and whose receivers take so many turns.
+    pub(crate) fn new(start: Duration, turns: u64) -> RunTime
+        ensures boot { result.boot ≡ as_nanos start / 1_000_000_000 }
+        ensures turns { result.turns ≡ turns }
+    {
+        RunTime {
+            boot: start.as_secs(),
+            turns,
+        }
+    }
+
+    /// Waits until the second of the start is over, so that a server that starts after this one has
+    /// another boot number. Where the clock can't be read it waits for a second.
+    pub(crate) fn await_next_second<C: time::Clock>(&self, clock: &C) {
+        let passed = match clock.since_1970() {
+            Ok(time) if time.as_secs() != self.boot => return,
+            Ok(time) => Duration::from_nanos(u64::from(time.subsec_nanos())),
+            Err(_) => Duration::ZERO,
+        };
+        thread::sleep(clock, Duration::from_secs(1).saturating_sub(passed));
+    }
+}
 
 /// The system's clock, in seconds since 1970. Where it can't be read it shows what it showed last.
 #[derive(Drop)]
@@ -31,23 +69,23 @@ impl<'a, C: time::Clock> Clock for SystemClock<'a, C> {
 
 /// A second between two turns of the worker that makes ticks, until both receivers have ended.
 #[derive(Drop)]
-pub(crate) struct Second<'a, C: time::Clock> {
+pub(crate) struct EverySecond<'a, C: time::Clock> {
     clock: &'a C,
-    ending: &'a Ending,
+    shutdown: &'a Shutdown,
 }
 
-impl<'a, C: time::Clock> Second<'a, C> {
+impl<'a, C: time::Clock> EverySecond<'a, C> {
     /// Pauses by a clock, until the receivers have ended.
-    pub(crate) fn new(clock: &'a C, ending: &'a Ending) -> Second<'a, C> {
-        Second { clock, ending }
+    pub(crate) fn new(clock: &'a C, shutdown: &'a Shutdown) -> EverySecond<'a, C> {
+        EverySecond { clock, shutdown }
     }
 }
 
-impl<'a, C: time::Clock> Pause for Second<'a, C> {
+impl<'a, C: time::Clock> Pause for EverySecond<'a, C> {
     fn pause(&mut self) -> bool {
-        if !self.ending.is_over() {
+        if !self.shutdown.is_over() {
             thread::sleep(self.clock, Duration::from_secs(PAUSE_SECS));
         }
-        !self.ending.is_over()
+        !self.shutdown.is_over()
     }
 }

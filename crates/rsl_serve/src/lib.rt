@@ -6,14 +6,15 @@
 //! what a receiver does that of `rsl_receive`, and arguments, file, sockets and what is printed that
 //! of `rsl_edges`.
 //!
-//! The promise: what `serve` has printed after a success (`specs/Served.antt`).
+//! The promise: what `serve` has printed after a success, and that its service was closed
+//! (`specs/Served.antt`).
 #![tactic(auto)]
 
+mod arguments;
 mod clock;
-mod ending;
-mod paired;
-mod running;
-mod serving;
-mod worker;
+mod paired_port;
+mod server;
+mod shutdown;
+mod workers;
 
-pub use serving::serve;
+pub use server::serve;

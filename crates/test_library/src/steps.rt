@@ -48,6 +48,11 @@ sweeps of a shard each | set shards 2/client C xyzzy5461/account a pw 1/account 
 ticks of a shard each | set shards 2/client C xyzzy5461/account a pw 1/account b pw 1/ \
     | ask 0 C n a pw 1/ask 0 C n b pw 1/time 1 60/time 2 90 \
     | Accept(0) Accept(0) Quiet Quiet
+a tick of a shard that is not there \
+    | set shards 2/client C xyzzy5461/account a pw 1/account b pw 1/ \
+    | ask 0 C n a pw 1/ask 0 C n b pw 1/time 2 60/ask 0 C n a pw 2/ask 0 C n b pw 2/time 0 60/\
+    ask 0 C n a pw 3/ask 0 C n b pw 3 \
+    | Accept(0) Accept(0) Quiet LimitReject LimitReject Quiet Accept(1) LimitReject
 two accounts in one shard | client C xyzzy5461/account a pw 2/account b pw 2/ \
     | ask 0 C n a pw 1/ask 0 C n b pw 1/ask 0 C n a pw 2/ask 0 C n b pw 2/ask 0 C n b pw 3 \
     | Accept(0) Accept(0) Accept(1) Accept(1) LimitReject

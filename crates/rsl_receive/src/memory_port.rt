@@ -1,0 +1,186 @@
+ghost use Rattle.std.specs.Prelude.{◌≡◌, ◌≤◌, ◌++◌, ◌∷◌, [], IfOk, IfSome, length, true};
+ghost use Rattle.rsl_receive.specs.Told.{datagram_of, no_numbers, taken_by};
+
+use crate::datagram_port::{Datagram, DatagramPort};
+use crate::fault::PortFault;
+use crate::numbers::Numbers;
+use rsl_event::Source;
+use rsl_wire::Octets;
+use std::alloc::Global;
+
+/// What a call of `receive` meets at a port over memory.
+#[derive(Debug, PartialEq, Eq, Drop)]
+pub enum Coming {
+    /// This datagram.
+    Datagram(Datagram),
+    /// None came in time.
+    Nothing,
+    /// The call fails.
+    Fault,
+}
+
+/// A port over memory, for tests: it gives what it was made with, one after the other, and then
+/// nothing more, and keeps what it gave and what it was handed to send.
+///
+/// It tells its datagrams, unless it was refused the memory to keep one.
+#[derive(Drop)]
+pub struct MemoryPort {
+    alloc: Global,
+    coming: Vec<Coming>,
+    next: usize,
+    failing: Vec<u64>,
+    taken: Vec<Datagram>,
+    sent: Vec<Datagram>,
+    telling: bool,
+    room: usize,
+    numbers: Numbers,
+}
+
+impl MemoryPort {
+    /// A port to which this comes. The sends of these numbers, counted from 0, fail.
+    pub fn new(alloc: Global, coming: Vec<Coming>, failing: Vec<u64>) -> MemoryPort
+        ensures coming { result.coming ≡ coming }
+        ensures next { result.next ≡ 0 }
+        ensures failing { result.failing ≡ failing }
+        ensures numbers { result.numbers ≡ no_numbers }
+        ensures tells { result.telling ≡ true }
+        ensures taken { result.taken.items ≡ [] }
+        ensures sent { result.sent.items ≡ [] }
+    {
+        MemoryPort {
+            alloc,
+            coming,
+            next: 0,
+            failing,
+            taken: Vec::new(alloc),
+            sent: Vec::new(alloc),
+            telling: true,
+            room: usize::MAX,
+            numbers: Numbers::new(),
+        }
+    }
+
+    /// The datagrams that it gave.
+    pub fn taken(&self) -> &[Datagram]
+        ensures { result.now ≡ self.now.taken.items }
+    {
+        self.taken.as_slice()
+    }
+
+    /// The datagrams that it was handed to send, those that it failed to send among them.
+    pub fn sent(&self) -> &[Datagram]
+        ensures { result.now ≡ self.now.sent.items }
+    {
+        self.sent.as_slice()
+    }
+
+    /// Whether it kept all that it gave and was handed.
+    pub fn is_telling(&self) -> bool
+        ensures { result ≡ self.now.telling }
+    {
+        self.telling
+    }
+
+    /// The least room that a `receive` was given, in octets.
+    pub fn room(&self) -> usize
+        ensures { result ≡ self.now.room }
+    {
+        self.room
+    }
+
+    /// The calls that it counted.
+    pub fn numbers(&self) -> Numbers
+        ensures { result ≡ self.now.numbers }
+    {
+        self.numbers
+    }
+
+    /// Gives what comes next.
+    fn take(&mut self, buffer: &mut [u8]) -> Result<Option<(usize, Source)>, PortFault>
+        ensures within { IfOk result (λ received. IfSome received (λ found.
+            found.0 ≤ length buffer.new)) }
+        ensures numbers { self.new.numbers ≡ self.old.numbers }
+        ensures telling { self.new.telling ≡ true → self.old.telling ≡ true }
+        ensures taken { self.new.telling ≡ true →
+            self.new.taken.items ≡ self.old.taken.items ++ taken_by result buffer.new }
+        ensures sent { self.new.sent ≡ self.old.sent }
+        ensures room { self.new.room ≡ self.old.room }
+    {
+        let MemoryPort {
+            alloc,
+            coming,
+            next,
+            taken,
+            telling,
+            ..
+        } = self;
+        let Some(found) = coming.get(*next) else {
+            return Ok(None);
+        };
+        *next += 1;
+        match found {
+            Coming::Nothing => Ok(None),
+            Coming::Fault => Err(PortFault),
+            Coming::Datagram(datagram) => {
+                let octets = datagram.octets.as_slice();
+                let len = octets.len().min(buffer.len());
+                buffer[..len].copy_from_slice(&octets[..len]);
+                keep(*alloc, taken, telling, datagram.source, &buffer[..len]);
+                Ok(Some((len, datagram.source)))
+            }
+        }
+    }
+}
+
+/// Keeps a datagram, if those before it were kept and there is memory.
+fn keep(alloc: Global, kept: &mut Vec<Datagram>, telling: &mut bool, source: Source, octets: &[u8])
+    ensures telling { telling.new ≡ true → telling.old ≡ true }
+    ensures kept { telling.new ≡ true →
+        kept.new.items ≡ kept.old.items ++ datagram_of source octets.now ∷ [] }
+{
+    let Ok(octets) = Octets::from_slice(alloc, octets) else {
+        *telling = false;
+        return;
+    };
+    if kept.push(Datagram { source, octets }).is_err() {
+        *telling = false;
+    }
+}
+
+impl DatagramPort for MemoryPort {
+    ghost numbers = { λ port. port.numbers };
+
+    ghost tells = { λ port. port.telling };
+
+    ghost taken = { λ port. port.taken.items };
+
+    ghost sent = { λ port. port.sent.items };
+
+    ghost room = { λ port. port.room };
+
+    fn receive(&mut self, buffer: &mut [u8]) -> Result<Option<(usize, Source)>, PortFault> {
+        self.room = self.room.min(buffer.len());
+        let received = self.take(buffer);
+        self.numbers.note_receive(&received);
+        received
+    }
+
+    fn send(&mut self, octets: &[u8], to: Source) -> Result<(), PortFault> {
+        let MemoryPort {
+            alloc,
+            failing,
+            sent,
+            telling,
+            numbers,
+            ..
+        } = self;
+        let tried = if failing.contains(&numbers.sends) {
+            Err(PortFault)
+        } else {
+            Ok(())
+        };
+        keep(*alloc, sent, telling, to, octets);
+        numbers.note_send(to, &tried);
+        tried
+    }
+}

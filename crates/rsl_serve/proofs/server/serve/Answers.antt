@@ -1,0 +1,7 @@
+use Rattle.rsl_report.specs.Output.{output_octets}
+use Rattle.rsl_serve.proofs.server.serve.Goals as goal
+
+pub returns-clause-served : goal.returns-clause-served
+returns-clause-served g c =
+    let served = c.in_ok-output.ensures in
+    (served.0, served.1, output_octets c.in_ok-output.output, served.2, c.in_ok-write.ensures)

@@ -1,0 +1,230 @@
+ghost use Rattle.std.specs.Prelude.{◌≡◌, ◌≢◌, ◌∷◌, ℕ, List, [], IfErr, IfOk, OnOk};
+ghost use Rattle.std.specs.Io.KnownBytes.{Appends, Keeps};
+ghost use Rattle.rsl_accounts.specs.Configuration.{Configuration};
+ghost use Rattle.rsl_receive.specs.Told.{no_numbers};
+ghost use Rattle.rsl_report.specs.Output.{output_octets};
+ghost use Rattle.rsl_serve.specs.Served.{HasClosed, HasReceived, HasReported, IsEnded, IsServed};
+ghost use Rattle.rsl_service.specs.Service.{IsLedgerOf};
+
+use crate::arguments::parse_arguments;
+use crate::clock::RunTime;
+use crate::shutdown::Shutdown;
+use rsl_accounts::Config;
+use rsl_edges::{ServeFault, UdpPort, counts_of};
+use rsl_receive::Counts;
+use rsl_report::{Output, table_of};
+use rsl_service::{Blanks, Open, Pass, Service, Tally};
+use std::alloc::Global;
+use std::env::Env;
+use std::fs::Files;
+use std::io::Write;
+use std::marker::Brand;
+use std::net::Net;
+use std::sync::Wait;
+use std::thread::Threads;
+use std::time;
+
+/// Serves the accounts of a file: takes RADIUS datagrams from two UDP sockets, for so many turns of
+/// each, and answers them. Then it writes what both receivers did, a line for each, and what each
+/// account holds.
+///
+/// The arguments after the program's name and a first word are FILE, ADDRESS, AUTHPORT, ACCTPORT
+/// and TURNS, as `Plan::read` takes the last four. The faults come in this order, and nothing is
+/// written before the last: `Usage` where the arguments are wrong; `InputOutput` where the clock
+/// can't be read; `Unreadable` and `Config` where the account file is; `InputOutput` where a socket
+/// can't be bound or fails, a thread can't be made, or the record is not settled at the end, and
+/// where a write fails. `NoMemory` comes where memory is refused outside of a step.
+///
+/// It takes no datagram in the second of its start, which is its boot number.
+pub fn serve<R, W: Write>(rt: &R, stdout: &mut W) -> Result<(), ServeFault>
+where
+    R: Env + Files + Net + time::Clock + AllocGlobal + Threads + Wait + Sync,
+    // What is written is what the receivers did and what the accounts hold, and nothing else; and
+    // the service was closed.
+    ensures served { OnOk result ((config : Configuration) × (turns : ℕ) × (written : List ℕ)
+        × IsServed config turns written
+        × Appends (W.contents stdout.old) (W.contents stdout.new) written) }
+    // After every other fault than `InputOutput` nothing was written.
+    ensures silent { IfErr result (λ fault.
+        fault ≢ ServeFault.InputOutput → Keeps (W.contents stdout.old) (W.contents stdout.new)) }
+{
+    let output = run_server(rt)?;
+    output.write(stdout)?;
+    Ok(())
+}
+
+/// Runs a server as the arguments ask for, and gives what is then printed.
+fn run_server<R>(rt: &R) -> Result<Output, ServeFault>
+where
+    R: Env + Files + Net + time::Clock + AllocGlobal + Threads + Wait + Sync,
+    ensures { IfOk result (λ output. (config : Configuration) × (turns : ℕ)
+        × IsServed config turns (output_octets output)) }
+{
+    let start = rt.since_1970();
+    let alloc = rt.alloc();
+    let (file, plan) = parse_arguments(rt)?;
+    let run_time = RunTime::new(start?, plan.turns);
+    let config = Config::read_file(rt, alloc, file.as_str())?;
+    let sockets = Sockets {
+        auth: UdpPort::bind(rt, plan.address, plan.auth)?,
+        acct: UdpPort::bind(rt, plan.address, plan.acct)?,
+    };
+    run_time.await_next_second(rt);
+    let blanks = Blanks::new();
+    run::<Brand, Brand, Brand, Brand, R>(rt, alloc, blanks, config, sockets, run_time)
+}
+
+/// The sockets of a server, of which nothing was read yet.
+#[derive(Drop)]
+pub(crate) struct Sockets {
+    pub auth: UdpPort,
+    pub acct: UdpPort,
+}
+
+/// The passes of the workers of a server.
+#[derive(Drop)]
+pub(crate) struct Passes<L0: Tally, L1: Tally, L2: Tally, L3: Tally> {
+    pub auth: Pass<L0, L1, L2, L3>,
+    pub acct: Pass<L0, L1, L2, L3>,
+    pub ticks: Pass<L0, L1, L2, L3>,
+}
+
+/// What the workers of a server have come to: the counts of both receivers, and the passes.
+#[derive(Drop)]
+pub(crate) struct Finished<L0: Tally, L1: Tally, L2: Tally, L3: Tally> {
+    pub auth: Counts,
+    pub acct: Counts,
+    pub passes: Passes<L0, L1, L2, L3>,
+}
+
+/// A running server: its service, and what its workers share.
+#[derive(Drop)]
+pub(crate) struct Server<'a, L0: Tally, L1: Tally, L2: Tally, L3: Tally, R> {
+    pub rt: &'a R,
+    pub alloc: Global,
+    pub service: Service<L0, L1, L2, L3, Open>,
+    pub run_time: RunTime,
+    pub shutdown: Shutdown,
+}
+
+/// Runs a server until both receivers have taken their turns, and closes its service.
+fn run<L0, L1, L2, L3, R>(
+    rt: &R,
+    alloc: Global,
+    blanks: Blanks,
+    config: Config,
+    sockets: Sockets,
+    run_time: RunTime,
+) -> Result<Output, ServeFault>
+where
+    L0: Tally + Send + Sync,
+    L1: Tally + Send + Sync,
+    L2: Tally + Send + Sync,
+    L3: Tally + Send + Sync,
+    R: time::Clock + Threads + Wait + Sync,
+    requires ledger0 { IsLedgerOf config 0
+        blanks.blank0.name blanks.blank0.parts L0.name L0.parts L0.setup L0.books }
+    requires ledger1 { IsLedgerOf config 1
+        blanks.blank1.name blanks.blank1.parts L1.name L1.parts L1.setup L1.books }
+    requires ledger2 { IsLedgerOf config 2
+        blanks.blank2.name blanks.blank2.parts L2.name L2.parts L2.setup L2.books }
+    requires ledger3 { IsLedgerOf config 3
+        blanks.blank3.name blanks.blank3.parts L3.name L3.parts L3.setup L3.books }
+    requires auth { sockets.auth.numbers ≡ no_numbers }
+    requires acct { sockets.acct.numbers ≡ no_numbers }
+    ensures { IfOk result (λ output. IsServed config run_time.turns (output_octets output)) }
+{
+    let service: Service<L0, L1, L2, L3, Open> = Service::new(
+        alloc,
+        blanks,
+        config,
+        run_time.boot,
+        Open,
+    )?;
+    let server = Server {
+        rt,
+        alloc,
+        service,
+        run_time,
+        shutdown: Shutdown::new(),
+    };
+    let passes = server.open_passes()?;
+    let finished = server.run_workers(passes, sockets)?;
+    server.close(finished)
+}
+
+impl<L0: Tally, L1: Tally, L2: Tally, L3: Tally, R: Wait> Server<'_, L0, L1, L2, L3, R> {
+    /// Opens a pass for each worker.
+    fn open_passes(&self) -> Result<Passes<L0, L1, L2, L3>, ServeFault> {
+        Ok(Passes {
+            auth: self.service.open_pass(self.rt, self.alloc)?,
+            acct: self.service.open_pass(self.rt, self.alloc)?,
+            ticks: self.service.open_pass(self.rt, self.alloc)?,
+        })
+    }
+
+    /// The octets of the report of the service, as it stands.
+    #[tactic(auto, using(crate::proofs::Reported::reported))]
+    fn report(&self) -> Result<Vec<u8>, ServeFault>
+        ensures { IfOk result (λ report. HasReported self.now.service.config report.items) }
+    {
+        let rows = self.service.report(self.rt, self.alloc)?;
+        let report = table_of(self.alloc, self.service.config(), rows.as_slice())?;
+        Ok(report)
+    }
+
+    /// What is printed of the service, as it stands, and of its receivers.
+    fn output(&self, auth: &Counts, acct: &Counts) -> Result<Output, ServeFault>
+        ensures { (turns : ℕ) → HasReceived turns auth.now → HasReceived turns acct.now →
+            IsEnded self.now.service.config →
+            IfOk result (λ output. IsServed self.now.service.config turns (output_octets output)) }
+    {
+        let report = self.report()?;
+        let lines = counts_of(self.alloc, auth, acct)?;
+        Ok(Output { lines, report })
+    }
+
+    /// Takes the report of the service, and closes it.
+    #[tactic(auto, using(crate::proofs::Reported::closing))]
+    fn close(self, finished: Finished<L0, L1, L2, L3>) -> Result<Output, ServeFault>
+        ensures { (turns : ℕ) → HasReceived turns finished.auth →
+            HasReceived turns finished.acct →
+            IfOk result (λ output. IsServed self.entry.service.config turns (output_octets output)) }
+    {
+        let output = self.output(&finished.auth, &finished.acct)?;
+        let Server {
+            rt: _,
+            alloc,
+            service,
+            run_time: _,
+            shutdown: _,
+        } = self;
+        close_service(alloc, service, finished.passes)?;
+        Ok(output)
+    }
+}
+
+/// Closes a service with the passes of its workers: its record is settled.
+#[tactic(auto, using(crate::proofs::Reported::closing))]
+fn close_service<L0: Tally, L1: Tally, L2: Tally, L3: Tally>(
+    alloc: Global,
+    service: Service<L0, L1, L2, L3, Open>,
+    passes: Passes<L0, L1, L2, L3>,
+) -> Result<(), ServeFault>
+    ensures { OnOk result
+        (HasClosed service.config passes.auth passes.acct passes.ticks) }
+{
+    let passes = into_vec(alloc, passes)?;
+    service.close(alloc, passes, Vec::new(alloc))?;
+    Ok(())
+}
+
+/// The passes, as a list.
+fn into_vec<L0: Tally, L1: Tally, L2: Tally, L3: Tally>(
+    alloc: Global,
+    passes: Passes<L0, L1, L2, L3>,
+) -> Result<Vec<Pass<L0, L1, L2, L3>>, ServeFault>
+    ensures { IfOk result (λ list. list.items ≡ passes.auth ∷ passes.acct ∷ passes.ticks ∷ []) }
+{
+    Ok(vec![in alloc; passes.auth, passes.acct, passes.ticks]?)
+}

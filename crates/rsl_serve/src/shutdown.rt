@@ -1,0 +1,79 @@
+use std::sync::atomic::{AtomicBool, AtomicU64, Ordering};
+use std::thread;
+use std::time::{self, Duration};
+
+/// How many receivers a server has.
+const RECEIVERS: u64 = 2;
+
+const _: () = prove!(RECEIVERS == 2);
+
+/// How many workers it has: the receivers, and the one that makes ticks.
+const WORKERS: u64 = RECEIVERS + 1;
+
+/// How often a receiver looks whether all workers have started.
+const START_LOOKS: u64 = 5_000;
+
+/// How long it sleeps between two looks, in milliseconds.
+const START_SLEEP_MILLIS: u64 = 1;
+
+/// What the workers of a server tell each other: how many have started, how many receivers have
+/// ended, and whether one has failed.
+#[derive(Drop)]
+pub(crate) struct Shutdown {
+    started: AtomicU64,
+    ended: AtomicU64,
+    has_failed: AtomicBool,
+}
+
+impl Shutdown {
+    /// No worker has started.
+    pub(crate) fn new() -> Shutdown {
+        Shutdown {
+            started: AtomicU64::new(0),
+            ended: AtomicU64::new(0),
+            has_failed: AtomicBool::new(false),
+        }
+    }
+
+    /// A worker has started.
+    pub(crate) fn note_start(&self) {
+        self.started.fetch_add(1, Ordering::SeqCst);
+    }
+
+    /// Waits until all workers have started, for some five seconds at most. Answers whether they
+    /// have, and no receiver has failed. A worker for which no thread can be made starts only once
+    /// another has ended.
+    pub(crate) fn await_start<C: time::Clock>(&self, clock: &C) -> bool {
+        for _ in 0..START_LOOKS {
+            if self.has_failed() {
+                return false;
+            }
+            if self.started.load(Ordering::SeqCst) >= WORKERS {
+                return true;
+            }
+            thread::sleep(clock, Duration::from_millis(START_SLEEP_MILLIS));
+        }
+        false
+    }
+
+    /// A receiver has taken its last turn.
+    pub(crate) fn note_end(&self) {
+        self.ended.fetch_add(1, Ordering::SeqCst);
+    }
+
+    /// A receiver has failed, and so has ended.
+    pub(crate) fn note_failure(&self) {
+        self.has_failed.store(true, Ordering::SeqCst);
+        self.note_end();
+    }
+
+    /// Whether a receiver has failed.
+    pub(crate) fn has_failed(&self) -> bool {
+        self.has_failed.load(Ordering::SeqCst)
+    }
+
+    /// Whether both receivers have ended.
+    pub(crate) fn is_over(&self) -> bool {
+        self.ended.load(Ordering::SeqCst) >= RECEIVERS
+    }
+}
