@@ -209,7 +209,11 @@ impl<'a> Reader<'a> {
         ensures { ReadsSeen (λ _. tt) result self.new (exactly_at cause value self.old) }
     {
         let other = self.fault(cause);
-        if self.number()? == value { Ok(()) } else { Err(other) }
+        if self.number()? == value {
+            Ok(())
+        } else {
+            Err(other)
+        }
     }
 }
 
