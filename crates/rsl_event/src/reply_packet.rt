@@ -24,9 +24,9 @@ use crate::codes::{ACCESS_ACCEPT, ACCESS_REJECT, ACCOUNTING_RESPONSE, MESSAGE_AU
 use crate::event::Decision;
 use crate::meaning::{Meaning, Prepared};
 use crate::meaning_kind::MeaningKind;
+use crate::reply_attributes::{push_accept, push_limit_message, push_proxy_states};
 use crate::signing::Signing;
 use crate::words::Said;
-use crate::reply_attributes::{push_accept, push_limit_message, push_proxy_states};
 use rsl_accounts::Config;
 use rsl_auth::{HmacKey, sealed};
 use rsl_wire::{Attrs, Draft, NoMemory, Packet};
