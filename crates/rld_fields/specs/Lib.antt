@@ -1,0 +1,4 @@
+pub mod Field
+pub mod Lists
+pub mod Numbers
+pub mod Read

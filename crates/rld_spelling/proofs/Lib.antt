@@ -1,0 +1,6 @@
+pub mod BookLaws
+pub mod EraLaws
+pub mod HeaderLaws
+pub mod MoveLaws
+pub mod SeenLoops
+pub mod ServerLaws

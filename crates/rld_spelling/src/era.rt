@@ -1,0 +1,340 @@
+//! Eras: what the numbers of accounts and clients stand for.
+
+ghost use Rattle.std.specs.Prelude.{◌≡◌, ◌++◌, ◌↔◌, IsTrue, IfOk, OnOk, IsErrOf, Ok, All, length};
+ghost use Rattle.rld_fields.specs.Lists.{all_of, values_at};
+ghost use Rattle.rld_fields.specs.Read.{Gives, Reads, ReadsIn, ReadsInto};
+ghost use Rattle.rld_spelling.specs.RulesSpelled.{rules_at, rules_field, rules_octets, times_octets};
+ghost use Rattle.rld_spelling.specs.Eras.{account_at, account_field, account_octets};
+ghost use Rattle.rld_spelling.specs.Eras.{accounts_at, accounts_octets, client_at, client_octets, ClientFits, clients_at, clients_octets};
+
+use crate::fault::SpellFault;
+use crate::server::{id_fits, read_id};
+use rld_fields::{Cause, Fault, ReadFault, Reader, push_number, push_short};
+use rsl_accounts::Rules;
+use rsl_wire::Octets;
+use std::alloc::{AllocError, Global};
+
+/// An account of an era.
+#[derive(Debug, PartialEq, Eq, Drop)]
+pub struct EraAccount {
+    /// Its User-Name.
+    pub name: Octets,
+    /// Its session limit.
+    pub rules: Rules,
+}
+
+/// A client of an era.
+#[derive(Clone, Copy, Debug, PartialEq, Eq)]
+pub struct EraClient {
+    /// Its IPv4 address, its first octet first.
+    pub address: [u8; 4],
+}
+
+/// What holds while an era lasts. Accounts and clients have the numbers of their places here.
+#[derive(Debug, PartialEq, Eq, Drop)]
+pub struct Era {
+    /// The boot number, with which each Class attribute of the era begins.
+    pub boot: u64,
+    /// How many shards the accounts are spread over.
+    pub shards: u64,
+    /// The accounts.
+    pub accounts: Vec<EraAccount>,
+    /// The clients.
+    pub clients: Vec<EraClient>,
+}
+
+/// Every rules have a spelling: this call says so.
+fn rules_have_spelling(rules: Rules)
+    ensures { rules_field.Fits rules }
+{
+    let _rules = rules;
+}
+
+/// Spells the rules of an account.
+#[tactic(auto, unfolding(crate::specs::RulesSpelled::rules_octets))]
+fn push_rules(out: &mut Vec<u8>, rules: &Rules) -> Result<(), AllocError>
+    ensures { OnOk result (out.new.items ≡ out.old.items ++ rules_octets rules.now) }
+{
+    push_number(out, rules.places)?;
+    push_number(out, rules.ports)?;
+    push_times(out, rules)
+}
+
+/// Spells the times of an account.
+#[tactic(auto, unfolding(crate::specs::RulesSpelled::times_octets))]
+fn push_times(out: &mut Vec<u8>, rules: &Rules) -> Result<(), AllocError>
+    ensures { OnOk result (out.new.items ≡ out.old.items ++ times_octets rules.now) }
+{
+    push_number(out, rules.reserve)?;
+    push_number(out, rules.live)?;
+    push_number(out, rules.grace)?;
+    push_number(out, rules.closed)?;
+    push_number(out, rules.keep)
+}
+
+/// Reads the rules of an account.
+#[tactic(auto, unfolding(crate::specs::RulesSpelled::rules_at))]
+fn read_rules(reader: &mut Reader) -> Result<Rules, Fault>
+    ensures { Reads result reader.new (rules_at reader.old) }
+{
+    let places = reader.number()?;
+    let ports = reader.number()?;
+    let reserve = reader.number()?;
+    let live = reader.number()?;
+    let grace = reader.number()?;
+    let closed = reader.number()?;
+    let keep = reader.number()?;
+    Ok(Rules {
+        places,
+        ports,
+        reserve,
+        live,
+        grace,
+        closed,
+        keep,
+    })
+}
+
+/// Whether an account has a spelling.
+#[tactic(auto, unfolding(crate::specs::Eras::AccountFits))]
+fn account_fits(account: &EraAccount) -> bool
+    ensures { IsTrue result ↔ account_field.Fits account.now }
+{
+    rules_have_spelling(account.rules);
+    id_fits(&account.name)
+}
+
+/// Spells an account.
+#[tactic(auto, unfolding(crate::specs::Eras::account_octets, crate::specs::Eras::AccountFits))]
+fn push_account(out: &mut Vec<u8>, account: &EraAccount) -> Result<(), AllocError>
+    requires { account_field.Fits account.now }
+    ensures { OnOk result (out.new.items ≡ out.old.items ++ account_octets account.now) }
+{
+    push_short(out, account.name.as_slice())?;
+    push_rules(out, &account.rules)
+}
+
+/// Reads an account.
+#[tactic(auto, unfolding(crate::specs::Eras::account_at))]
+fn read_account(alloc: Global, reader: &mut Reader) -> Result<EraAccount, ReadFault>
+    ensures { ReadsIn result reader.new (account_at reader.old) }
+{
+    let name = read_id(alloc, reader)?;
+    let rules = read_rules(reader)?;
+    Ok(EraAccount { name, rules })
+}
+
+/// Whether each of some accounts has a spelling.
+fn accounts_fit(accounts: &[EraAccount]) -> bool
+    ensures { IsTrue result ↔ All account_field.Fits accounts.now }
+{
+    for account in accounts {
+        if !account_fits(account) {
+            return false;
+        }
+    }
+    true
+}
+
+/// Every client has a spelling: this call says so.
+#[tactic(auto, unfolding(crate::specs::Eras::ClientFits))]
+fn client_has_spelling(client: &EraClient)
+    ensures { ClientFits client.now }
+{
+    let _address = client.address;
+}
+
+/// Each of some clients has.
+fn clients_have_spelling(clients: &[EraClient])
+    ensures { All ClientFits clients.now }
+{
+    for client in clients {
+        client_has_spelling(client);
+    }
+}
+
+/// Spells a client.
+#[tactic(auto, unfolding(crate::specs::Eras::client_octets))]
+fn push_client(out: &mut Vec<u8>, client: &EraClient) -> Result<(), AllocError>
+    ensures { OnOk result (out.new.items ≡ out.old.items ++ client_octets client.now) }
+{
+    out.extend_from_slice(&client.address)
+}
+
+/// Reads a client.
+#[tactic(auto, unfolding(crate::specs::Eras::client_at))]
+fn read_client(reader: &mut Reader) -> Result<EraClient, Fault>
+    ensures { Reads result reader.new (client_at reader.old) }
+{
+    let address = reader.octets_4()?;
+    Ok(EraClient { address })
+}
+
+/// Spells accounts behind their number.
+#[tactic(auto, unfolding(crate::specs::Eras::accounts_octets))]
+fn push_accounts(out: &mut Vec<u8>, accounts: &[EraAccount]) -> Result<(), AllocError>
+    requires { All account_field.Fits accounts.now }
+    ensures { OnOk result (out.new.items ≡ out.old.items ++ accounts_octets accounts.now) }
+{
+    push_number(out, accounts.len() as u64)?;
+    for account in accounts {
+        push_account(out, account)?;
+    }
+    Ok(())
+}
+
+/// Spells clients behind their number.
+#[tactic(auto, unfolding(crate::specs::Eras::clients_octets))]
+fn push_clients(out: &mut Vec<u8>, clients: &[EraClient]) -> Result<(), AllocError>
+    ensures { OnOk result (out.new.items ≡ out.old.items ++ clients_octets clients.now) }
+{
+    push_number(out, clients.len() as u64)?;
+    for client in clients {
+        push_client(out, client)?;
+    }
+    Ok(())
+}
+
+/// Reads so many accounts.
+#[tactic(auto, using(rld_fields::proofs::Callers::front_steps))]
+fn read_account_count(
+    alloc: Global,
+    reader: &mut Reader,
+    count: u64,
+) -> Result<Vec<EraAccount>, ReadFault>
+    ensures { ReadsInto (λ accounts. accounts.items) result reader.new
+        (values_at account_at count reader.old) }
+{
+    let mut accounts = Vec::new(alloc);
+    for _ in 0..count {
+        let account = read_account(alloc, reader)?;
+        accounts.push(account)?;
+    }
+    Ok(accounts)
+}
+
+/// Reads accounts behind their number.
+#[tactic(auto, unfolding(crate::specs::Eras::accounts_at))]
+fn read_accounts(alloc: Global, reader: &mut Reader) -> Result<Vec<EraAccount>, ReadFault>
+    ensures { ReadsInto (λ accounts. accounts.items) result reader.new (accounts_at reader.old) }
+{
+    let count = reader.number()?;
+    read_account_count(alloc, reader, count)
+}
+
+/// Reads so many clients.
+#[tactic(auto, using(rld_fields::proofs::Callers::front_steps))]
+fn read_client_count(
+    alloc: Global,
+    reader: &mut Reader,
+    count: u64,
+) -> Result<Vec<EraClient>, ReadFault>
+    ensures { ReadsInto (λ clients. clients.items) result reader.new
+        (values_at client_at count reader.old) }
+{
+    let mut clients = Vec::new(alloc);
+    for _ in 0..count {
+        let client = read_client(reader)?;
+        clients.push(client)?;
+    }
+    Ok(clients)
+}
+
+/// Reads clients behind their number.
+#[tactic(auto, unfolding(crate::specs::Eras::clients_at))]
+fn read_clients(alloc: Global, reader: &mut Reader) -> Result<Vec<EraClient>, ReadFault>
+    ensures { ReadsInto (λ clients. clients.items) result reader.new (clients_at reader.old) }
+{
+    let count = reader.number()?;
+    read_client_count(alloc, reader, count)
+}
+
+impl Era {
+    ghost use Rattle.rld_spelling.specs.Eras.{EraSeen, era_seen, era_at, era_field, era_octets};
+
+    /// Whether the table has a spelling: no name has over 253 octets.
+    #[tactic(auto, unfolding(crate::specs::Eras::EraFits))]
+    pub fn fits(&self) -> bool
+        ensures { IsTrue result ↔ era_field.Fits (era_seen self.now) }
+    {
+        let _boot = self.boot;
+        let _shards = self.shards;
+        let _accounts = self.accounts.len();
+        let _clients = self.clients.len();
+        clients_have_spelling(self.clients.as_slice());
+        accounts_fit(self.accounts.as_slice())
+    }
+
+    /// Spells a table that has a spelling.
+    #[tactic(auto, unfolding(crate::specs::Eras::era_octets, crate::specs::Eras::EraFits))]
+    fn push_fitting(&self, out: &mut Vec<u8>) -> Result<(), AllocError>
+        requires { era_field.Fits (era_seen self.now) }
+        ensures { OnOk result (out.new.items ≡ out.old.items ++ era_octets (era_seen self.now)) }
+    {
+        push_number(out, self.boot)?;
+        push_number(out, self.shards)?;
+        push_accounts(out, self.accounts.as_slice())?;
+        push_clients(out, self.clients.as_slice())
+    }
+
+    /// Spells the table behind the octets that are there. `Unfit` comes exactly where a name has over
+    /// 253 octets, and then nothing is written. Where memory is refused, nothing is said of what
+    /// stands behind the earlier octets.
+    pub fn push(&self, out: &mut Vec<u8>) -> Result<(), SpellFault>
+        ensures spelled { OnOk result (out.new.items ≡ out.old.items ++ era_octets (era_seen self.now)) }
+        ensures fits { OnOk result (era_field.Fits (era_seen self.now)) }
+        ensures unfit { IsErrOf result SpellFault.Unfit ↔ (era_field.Fits (era_seen self.now) → ⊥) }
+        ensures unwritten { IsErrOf result SpellFault.Unfit → out.new.items ≡ out.old.items }
+    {
+        if !self.fits() {
+            return Err(SpellFault::Unfit);
+        }
+        self.push_fitting(out)?;
+        Ok(())
+    }
+
+    /// Reads a table.
+    #[tactic(auto, unfolding(crate::specs::Eras::era_at))]
+    fn read_next(alloc: Global, reader: &mut Reader) -> Result<Era, ReadFault>
+        ensures { ReadsInto era_seen result reader.new (era_at reader.old) }
+    {
+        let boot = reader.number()?;
+        let shards = reader.number()?;
+        let accounts = read_accounts(alloc, reader)?;
+        let clients = read_clients(alloc, reader)?;
+        Ok(Era {
+            boot,
+            shards,
+            accounts,
+            clients,
+        })
+    }
+
+    /// Reads the table that all of the octets spell.
+    fn read_all(alloc: Global, octets: &[u8]) -> Result<Era, ReadFault>
+        ensures { Gives era_seen result (all_of (era_at octets.now)) }
+    {
+        let mut reader = Reader::new(octets);
+        let era = Era::read_next(alloc, &mut reader)?;
+        if reader.left() == 0 {
+            Ok(era)
+        } else {
+            Err(ReadFault::Malformed(reader.fault(Cause::Trailing)))
+        }
+    }
+
+    /// The table that all of the octets spell. It fails where memory is refused, and else with the
+    /// first fault.
+    pub fn read(alloc: Global, octets: &[u8]) -> Result<Era, ReadFault>
+        // What is read is spelled so.
+        ensures found { IfOk result (λ era.
+            (octets.now ≡ era_octets (era_seen era)) × era_field.Fits (era_seen era)) }
+        // What is spelled so is read.
+        ensures only { (era : EraSeen) → era_field.Fits era → octets.now ≡ era_octets era →
+            Gives era_seen result (Ok era) }
+        // Which fault it is.
+        ensures exact { Gives era_seen result (all_of (era_at octets.now)) }
+    {
+        Era::read_all(alloc, octets)
+    }
+}

@@ -1,0 +1,41 @@
+//! The laws of spellings: each value is read as it is spelled. Each law is the contract of a function
+//! that does nothing.
+
+ghost use Rattle.std.specs.Prelude.{◌≡◌, ◌++◌, ◌≤◌, ◌<◌, ◌^◌, List, ℕ};
+ghost use Rattle.rld_fields.specs.Field.{IsRead};
+ghost use Rattle.rsl_shard.specs.declared.moved.Move.{Move as OneMove};
+ghost use Rattle.rld_spelling.specs.declared.moves.Counts.{Counts as SomeCounts};
+ghost use Rattle.rld_spelling.specs.Books.{book_field, books_field};
+ghost use Rattle.rld_spelling.specs.Eras.{era_field};
+ghost use Rattle.rld_spelling.specs.Headers.{header_field};
+ghost use Rattle.rld_spelling.specs.Moves.{MoveFits, move_field, move_octets, moves_field};
+ghost use Rattle.rld_spelling.specs.Laws.{FewEnough};
+
+/// Each move is read as it is spelled, whatever follows, and so are the moves of a batch.
+pub fn moves_are_read()
+    ensures moves { (counts : SomeCounts) → FewEnough counts → IsRead (move_field counts) }
+    ensures batches { (counts : SomeCounts) → FewEnough counts → IsRead (moves_field counts) }
+{}
+
+/// Octets begin with one move at most: no spelling of a move begins that of another.
+pub fn one_move()
+    ensures { (counts : SomeCounts) → FewEnough counts → (a b : OneMove) (x y : List ℕ) →
+        MoveFits counts a → MoveFits counts b → move_octets a ++ x ≡ move_octets b ++ y →
+        (a ≡ b) × (x ≡ y) }
+{}
+
+/// Each book is read as it is spelled, and so are those of a snapshot.
+pub fn books_are_read()
+    ensures books { (clients : ℕ) → clients < 2 ^ 32 → IsRead (book_field clients) }
+    ensures snapshots { (clients : ℕ) → clients < 2 ^ 32 → IsRead (books_field clients) }
+{}
+
+/// The table of an era is read as it is spelled.
+pub fn eras_are_read()
+    ensures { IsRead era_field }
+{}
+
+/// The header of a generation is read as it is spelled.
+pub fn headers_are_read()
+    ensures { IsRead header_field }
+{}

@@ -1,0 +1,26 @@
+//! What the durable server writes, as octets: moves, books, an era's table and the header of a
+//! generation.
+//!
+//! The promise: each value has one spelling, what is read is spelled so, and what is spelled so is
+//! read, whatever follows. Octets that spell nothing give the first fault, with its place; nothing is
+//! read that does not fit. `specs/Moves.antt` has the moves, `specs/Books.antt` the books,
+//! `specs/Eras.antt` the table and `specs/Headers.antt` the header. docs/FOLDER.md shows their octets.
+//!
+//! Accounts and clients are numbers below given counts; this crate knows nothing else of the
+//! configuration.
+#![tactic(auto)]
+
+mod book;
+mod era;
+mod fault;
+mod header;
+pub mod laws;
+mod moves;
+mod request;
+mod server;
+
+pub use book::{book_fits, push_book, read_books};
+pub use era::{Era, EraAccount, EraClient};
+pub use fault::SpellFault;
+pub use header::{FORMAT_VERSION, Header, RULE_VERSION};
+pub use moves::Counts;
