@@ -1,0 +1,4 @@
+pub mod Blocks
+pub mod Losing
+pub mod Readings
+pub mod Recordings

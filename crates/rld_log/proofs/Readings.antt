@@ -1,0 +1,78 @@
+-- A file is read in one way.
+use Rattle.std.proofs.Common.{◌≡◌, ℕ, ◌+◌, List, [], ◌∷◌, ◌++◌, length, take, refl, sym, ◌∙◌, ap, subst, arith, append_assoc, length-append}
+use Rattle.std.specs.List.{flat_map, AllByRecursion}
+use Rattle.std.proofs.lemmas.List.{append-nil, take_at}
+use Rattle.std.proofs.lemmas.List.Concat.{flat_map-append}
+use Rattle.rld_log.specs.Frames.{Fits, HasFrame, HasPayloads, IsDamagedAt, IsTorn, NoFrame, digest, first, frame, frames}
+use Rattle.rld_log.specs.Log.{Detects, Shortens}
+use Rattle.rld_log.specs.Passing.{HasPassed}
+use Rattle.rld_log.proofs.Blocks.{AreSame, frame_shape, no_block_has_none, one_block, shortened, too_short}
+
+-- octets in which no frame stands have none at their front
+pub torn_has_none : (tail : List ℕ) → IsTorn tail → NoFrame tail
+torn_has_none tail torn payload rest fits is = torn (first tail payload rest fits is)
+
+-- the rests of two readings are one, too
+pub record AreOne (ps qs : List (List ℕ)) (x y : List ℕ) : Type 0 where
+  pub payloads : ps ≡ qs
+  pub rests : x ≡ y
+
+pub one_reading : (ps qs : List (List ℕ)) (x y : List ℕ) → AllByRecursion Fits ps → AllByRecursion Fits qs → NoFrame x → NoFrame y
+    → frames ps ++ x ≡ frames qs ++ y → AreOne ps qs x y
+one_reading [] [] x y fp fq nx ny same = record { payloads = refl; rests = same }
+one_reading [] (q ∷ qs) x y fp fq nx ny same =
+    absurd (nx q (frames qs ++ y) fq.0 (same ∙ append_assoc (frame q) (frames qs) y))
+one_reading (p ∷ ps) [] x y fp fq nx ny same =
+    absurd (ny p (frames ps ++ x) fp.0 (sym same ∙ append_assoc (frame p) (frames ps) x))
+one_reading (p ∷ ps) (q ∷ qs) x y fp fq nx ny same =
+    let both = one_block (frame p ++ (frames ps ++ x)) (digest p) p (frames ps ++ x) (digest q) q (frames qs ++ y) (frame_shape p fp.0) (frame_shape q fq.0) refl
+    (sym (append_assoc (frame p) (frames ps) x) ∙ same ∙ append_assoc (frame q) (frames qs) y) in
+    let rest = one_reading ps qs x y fp.1 fq.1 nx ny both.rests in
+    record {
+      payloads = ap (λ (l : List (List ℕ)). p ∷ l) rest.payloads ∙ ap (λ (z : List ℕ). z ∷ qs) both.payloads;
+      rests = rest.rests;
+    }
+
+pub have_one_reading : (file : List ℕ) (some other : List (List ℕ)) → HasPayloads file some → HasPayloads file other → some ≡ other
+have_one_reading file some other a b =
+    (one_reading some other a.tail b.tail a.fit b.fit (torn_has_none a.tail a.torn) (torn_has_none b.tail b.torn) (sym a.parts ∙ b.parts)).payloads
+
+pub have_no_reading : (file : List ℕ) (at : ℕ) (payloads : List (List ℕ)) → IsDamagedAt file at → HasPayloads file payloads → ⊥
+have_no_reading file at payloads damaged has =
+    let same = one_reading damaged.payloads payloads damaged.tail has.tail damaged.fit has.fit damaged.spoilt (torn_has_none has.tail has.torn) (sym damaged.parts ∙ has.parts) in
+    has.torn (subst (λ (x : List ℕ). HasFrame x) same.rests damaged.later)
+
+pub have_one_offset : (file : List ℕ) (some other : ℕ) → IsDamagedAt file some → IsDamagedAt file other → some ≡ other
+have_one_offset file some other a b =
+    let same = one_reading a.payloads b.payloads a.tail b.tail a.fit b.fit a.spoilt b.spoilt (sym a.parts ∙ b.parts) in
+    a.offset ∙ ap (λ (l : List (List ℕ)). length (frames l)) same.payloads ∙ sym b.offset
+
+pub kills_are_detected : Detects Shortens
+kills_are_detected payload tail fits cut = no_block_has_none tail (shortened (digest payload) payload tail (frame_shape payload fits) cut)
+
+pub nothing_is_torn : IsTorn []
+nothing_is_torn = no_block_has_none [] (too_short [] (omega arith))
+
+fits_more : (ps : List (List ℕ)) (p : List ℕ) → AllByRecursion Fits ps → Fits p → AllByRecursion Fits (ps ++ p ∷ [])
+fits_more [] p fit fits = (fits, tt)
+fits_more (q ∷ ps) p fit fits = (fit.0, fits_more ps p fit.1 fits)
+
+pub all_fit_more : (ps : List (List ℕ)) (p : List ℕ) → AllByRecursion Fits ps → Fits p → AllByRecursion Fits (ps ++ p ∷ [])
+all_fit_more = fits_more
+
+pub frames_more : (ps : List (List ℕ)) (p : List ℕ) → frames (ps ++ p ∷ []) ≡ frames ps ++ frame p
+frames_more ps p = flat_map-append frame ps (p ∷ []) ∙ ap (λ (l : List ℕ). frames ps ++ l) (append-nil (frame p))
+
+-- before the first frame
+pub passed_none : (octets : List ℕ) → HasPassed octets [] octets
+passed_none octets = record { parts = refl; fit = tt }
+
+-- one frame more was passed
+pub pass_one : (octets rest after payload : List ℕ) (ps : List (List ℕ)) → HasPassed octets ps rest → Fits payload → rest ≡ frame payload ++ after → HasPassed octets (ps ++ payload ∷ []) after
+pass_one octets rest after payload ps passed fits is = record {
+  parts = passed.parts ∙ ap (λ (x : List ℕ). frames ps ++ x) is ∙ sym (append_assoc (frames ps) (frame payload) after) ∙ ap (λ (x : List ℕ). x ++ after) (sym (frames_more ps payload));
+  fit = fits_more ps payload passed.fit fits;
+}
+
+pub passed_size : (octets rest : List ℕ) (ps : List (List ℕ)) (len : ℕ) → HasPassed octets ps rest → len + length rest ≡ length octets → len ≡ length (frames ps)
+passed_size octets rest ps len passed size = omega (arith, size, ap length passed.parts, length-append (frames ps) rest)

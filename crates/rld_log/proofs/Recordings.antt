@@ -1,0 +1,145 @@
+-- What opening and recording leave of a log.
+use Rattle.std.proofs.Common.{◌≡◌, ◌⊎◌, inl, inr, ℕ, ◌+◌, ◌-◌, List, [], ◌∷◌, ◌++◌, length, take, refl, sym, ◌∙◌, ap, subst, arith, append_assoc, length-append}
+use Rattle.std.specs.List.{AllByRecursion}
+use Rattle.std.proofs.lemmas.List.{append-nil, take_at, take-append-drop}
+use Rattle.rld_log.specs.declared.log.Ending.{Ending}
+use Rattle.rld_log.specs.declared.log.Ending.TheVariants.{Kill, PowerLoss}
+use Rattle.rld_log.specs.Frames.{EndsAt, Fits, HasPayloads, IsDamagedAt, IsTorn, frame, frames}
+use Rattle.rld_log.specs.Log.{Appends, Cuts, Detects, Extends, Follows, NoMore, Only, Premise, Tears}
+use Rattle.rld_log.specs.Recording.{HasOpened, IsBeforeOrAfter, IsSettled, LeavesEither}
+use Rattle.rld_log.proofs.Readings.{all_fit_more, frames_more, have_no_reading, have_one_reading, kills_are_detected, nothing_is_torn}
+
+-- whole frames are a file
+pub whole_has : (file : List ℕ) (payloads : List (List ℕ)) → AllByRecursion Fits payloads → file ≡ frames payloads → HasPayloads file payloads
+whole_has file payloads fit is = record {
+  tail = [];
+  parts = is ∙ sym (append-nil (frames payloads));
+  fit = fit;
+  torn = nothing_is_torn;
+}
+
+-- a file ends where the frames of its payloads do
+pub ends_there : (file : List ℕ) (len : ℕ) (payloads : List (List ℕ)) → EndsAt file len → HasPayloads file payloads → len ≡ length (frames payloads)
+ends_there file len payloads ends has = ends.size ∙ ap (λ (l : List (List ℕ)). length (frames l)) (have_one_reading file ends.payloads payloads ends.has has)
+
+pub cut_there : (file : List ℕ) (len : ℕ) (payloads : List (List ℕ)) → EndsAt file len → HasPayloads file payloads → take len file ≡ frames payloads
+cut_there file len payloads ends has =
+    ap (λ (x : List ℕ). take len x) has.parts ∙ take_at (frames payloads) has.tail len (sym (ends_there file len payloads ends has))
+
+-- the outcomes of a call on a file that is the only outcome before it
+follows_only : (file : List ℕ) (step : List ℕ → List ℕ → Type 0) (old new : List ℕ → Type 0) → ((left : List ℕ) → old left → left ≡ file) → Follows step old new
+    → (left : List ℕ) → new left → step file left
+follows_only file step old new only follows left reached =
+    let from = follows left reached in subst (λ (d : List ℕ). step d left) (only from.0 from.1) from.2
+
+-- a crash in the cut of a torn end leaves the payloads
+pub cut_keeps : (file : List ℕ) (len : ℕ) (payloads : List (List ℕ)) → EndsAt file len → HasPayloads file payloads → (left : List ℕ) → Cuts len file left → HasPayloads left payloads
+cut_keeps file len payloads ends has left (inl same) = subst (λ (f : List ℕ). HasPayloads f payloads) (sym same) has
+cut_keeps file len payloads ends has left (inr is) = whole_has left payloads has.fit (is ∙ cut_there file len payloads ends has)
+
+pub open_crash : (file : List ℕ) (len : ℕ) (payloads : List (List ℕ)) (ending : Ending) (old read new : Ending → List ℕ → Type 0) → Only file old → NoMore old read
+    → Follows (Cuts len) (read ending) (new ending) → EndsAt file len → HasPayloads file payloads → (left : List ℕ) → new ending left → HasPayloads left payloads
+open_crash file len payloads ending old read new only fewer follows ends has left reached =
+    cut_keeps file len payloads ends has left (follows_only file (Cuts len) (read ending) (new ending) (λ d l. only ending d (fewer ending d l)) follows left reached)
+
+-- a file that ends somewhere is not damaged
+pub not_damaged : (file : List ℕ) (len at : ℕ) → EndsAt file len → IsDamagedAt file at → ⊥
+not_damaged file len at ends damaged = have_no_reading file at ends.payloads damaged ends.has
+
+-- no torn write of a frame passes for one, at each ending under its premise
+detected : (by_power : List ℕ → List ℕ → Type 0) (ending : Ending) → Premise by_power ending → Detects (Tears by_power ending)
+detected by_power Kill premise = kills_are_detected
+detected by_power PowerLoss premise = premise
+
+-- a crash in an append leaves the payloads from before it, with that of the frame or without
+append_leaves : (tears : List ℕ → List ℕ → Type 0) (file : List ℕ) (before : List (List ℕ)) (payload : List ℕ) → Detects tears → Fits payload → AllByRecursion Fits before → file ≡ frames before
+    → (left : List ℕ) → Appends tears (frame payload) file left → IsBeforeOrAfter before payload left
+append_leaves tears file before payload detects fits fit is left added = by_torn added.torn
+  where
+    by_torn : (added.tail ≡ frame payload) ⊎ tears (frame payload) added.tail → IsBeforeOrAfter before payload left
+    by_torn (inl whole) =
+        inr (whole_has left (before ++ payload ∷ []) (all_fit_more before payload fit fits)
+        (added.added ∙ ap (λ (x : List ℕ). x ++ added.tail) is ∙ ap (λ (x : List ℕ). frames before ++ x) whole ∙ sym (frames_more before payload)))
+    by_torn (inr torn) = inl (record {
+      tail = added.tail;
+      parts = added.added ∙ ap (λ (x : List ℕ). x ++ added.tail) is;
+      fit = fit;
+      torn = detects payload added.tail fits torn;
+    })
+
+pub write_crash : (by_power : List ℕ → List ℕ → Type 0) (seen octets : List ℕ) (old new : Ending → List ℕ → Type 0) (before : List (List ℕ)) (payload : List ℕ) (ending : Ending) → Fits payload → IsSettled seen old before
+    → Premise by_power ending → octets ≡ frame payload → Follows (Appends (Tears by_power ending) octets) (old ending) (new ending) → LeavesEither (new ending) before payload
+write_crash by_power seen octets old new before payload ending fits settled premise is follows left reached =
+    append_leaves (Tears by_power ending) seen before payload (detected by_power ending premise) fits settled.fit settled.whole left
+    (subst (λ (o : List ℕ). Appends (Tears by_power ending) o seen left) is (follows_only seen (Appends (Tears by_power ending) octets) (old ending) (new ending) (settled.durable ending) follows left reached))
+
+-- before any call
+pub still : (seen : List ℕ) (may_leave : Ending → List ℕ → Type 0) (before : List (List ℕ)) (payload : List ℕ) (ending : Ending) → IsSettled seen may_leave before → LeavesEither (may_leave ending) before payload
+still seen may_leave before payload ending settled left reached = inl (whole_has left before settled.fit (settled.durable ending left reached ∙ settled.whole))
+
+-- a frame more is settled
+pub settled_more : (seen new : List ℕ) (old may_leave : Ending → List ℕ → Type 0) (before : List (List ℕ)) (payload : List ℕ) → Fits payload → IsSettled seen old before → new ≡ seen ++ frame payload → Only new may_leave
+    → IsSettled new may_leave (before ++ payload ∷ [])
+settled_more seen new old may_leave before payload fits settled is only = record {
+  whole = is ∙ ap (λ (x : List ℕ). x ++ frame payload) settled.whole ∙ sym (frames_more before payload);
+  fit = all_fit_more before payload settled.fit fits;
+  durable = only;
+}
+
+pub settled_leaves : (seen new : List ℕ) (old may_leave : Ending → List ℕ → Type 0) (before : List (List ℕ)) (payload : List ℕ) (ending : Ending) → Fits payload → IsSettled seen old before → new ≡ seen ++ frame payload
+    → Only new may_leave → LeavesEither (may_leave ending) before payload
+settled_leaves seen new old may_leave before payload ending fits settled is only left reached =
+    let now = settled_more seen new old may_leave before payload fits settled is only in
+    inr (whole_has left (before ++ payload ∷ []) now.fit (now.durable ending left reached ∙ now.whole))
+
+-- cutting what stands behind the frames of some payloads
+pub cut_behind : (seen : List ℕ) (before : List (List ℕ)) (len : ℕ) → len ≡ length (frames before) → Extends (frames before) seen → take len seen ≡ frames before
+cut_behind seen before len is more = ap (λ (x : List ℕ). take len x) more.added ∙ take_at (frames before) more.tail len (sym is)
+
+pub cut_front : (seen new : List ℕ) (before : List (List ℕ)) (len : ℕ) → len ≡ length (frames before) → Extends (frames before) seen → Cuts len seen new → Extends (frames before) new
+cut_front seen new before len is more (inl same) = subst (λ (f : List ℕ). Extends (frames before) f) (sym same) more
+cut_front seen new before len is more (inr cut) = record { tail = []; added = cut ∙ cut_behind seen before len is more ∙ sym (append-nil (frames before)) }
+
+-- a crash in that cut leaves either list of payloads, as before it
+either_extends : (file : List ℕ) (before : List (List ℕ)) (payload : List ℕ) → IsBeforeOrAfter before payload file → Extends (frames before) file
+either_extends file before payload (inl has) = record { tail = has.tail; added = has.parts }
+either_extends file before payload (inr has) = record {
+  tail = frame payload ++ has.tail;
+  added = has.parts ∙ ap (λ (x : List ℕ). x ++ has.tail) (frames_more before payload) ∙ append_assoc (frames before) (frame payload) has.tail;
+}
+
+cut_either : (file left : List ℕ) (before : List (List ℕ)) (payload : List ℕ) (len : ℕ) → AllByRecursion Fits before → len ≡ length (frames before) → IsBeforeOrAfter before payload file → Cuts len file left → IsBeforeOrAfter before payload left
+cut_either file left before payload len fit is either (inl same) = subst (λ (f : List ℕ). IsBeforeOrAfter before payload f) (sym same) either
+cut_either file left before payload len fit is either (inr cut) =
+    inl (whole_has left before fit (cut ∙ cut_behind file before len is (either_extends file before payload either)))
+
+pub mend_crash : (old new : List ℕ → Type 0) (before : List (List ℕ)) (payload : List ℕ) (len : ℕ) → AllByRecursion Fits before → len ≡ length (frames before) → LeavesEither old before payload → Follows (Cuts len) old new
+    → LeavesEither new before payload
+mend_crash old new before payload len fit is either follows left reached =
+    let from = follows left reached in cut_either from.0 left before payload len fit is (either from.0 from.1) from.2
+
+-- what mending leaves once it is on the disk
+pub mended_leaves : (seen cut left : List ℕ) (before : List (List ℕ)) (payload : List ℕ) (len : ℕ) → AllByRecursion Fits before → len ≡ length (frames before) → Extends (frames before) seen
+    → cut ≡ take len seen → left ≡ cut → IsBeforeOrAfter before payload left
+mended_leaves seen cut left before payload len fit is more done same = inl (whole_has left before fit (same ∙ done ∙ cut_behind seen before len is more))
+
+-- and what opening does
+pub opened_leaves : (seen cut left : List ℕ) (len : ℕ) (before : List (List ℕ)) → EndsAt seen len → HasPayloads seen before → cut ≡ take len seen → left ≡ cut → HasPayloads left before
+opened_leaves seen cut left len before ends has done same = whole_has left before has.fit (same ∙ done ∙ cut_there seen len before ends has)
+
+pub opened_settled : (seen cut new : List ℕ) (may_leave : Ending → List ℕ → Type 0) (len : ℕ) (before : List (List ℕ)) → EndsAt seen len → HasPayloads seen before → cut ≡ take len seen → new ≡ cut → Only cut may_leave
+    → IsSettled new may_leave before
+opened_settled seen cut new may_leave len before ends has done same only = record {
+  whole = same ∙ done ∙ cut_there seen len before ends has;
+  fit = has.fit;
+  durable = λ ending left reached. only ending left reached ∙ sym same;
+}
+
+pub has_opened : (seen octets front : List ℕ) (len all : ℕ) (before : List (List ℕ)) → EndsAt seen len → HasPayloads seen before → octets ≡ seen → front ≡ take len octets
+    → all ≡ length octets → HasOpened seen before front (all - len)
+has_opened seen octets front len all before ends has is cut size =
+    let whole : front ≡ frames before = cut ∙ ap (λ (x : List ℕ). take len x) is ∙ cut_there seen len before ends has in
+    record {
+      whole = whole;
+      size = omega (arith, size, ap length is, ap length whole, ap length has.parts, length-append (frames before) has.tail, ends_there seen len before ends has);
+    }

@@ -1,0 +1,95 @@
+use crate::fault::LogFault;
+use crate::log::Log;
+use std::alloc::Global;
+use std::fs::File;
+use std::io::{Read, Seek, SeekFrom};
+use std::os::unix::fs::FileExt;
+
+/// What is known of the end of a file.
+#[derive(Clone, Copy, Debug, PartialEq, Eq)]
+enum End {
+    /// It has this length.
+    At(u64),
+    /// It was not read yet, or a write or a cut failed: it has to be read or cut first.
+    Unknown,
+    /// A sync failed. The system may have dropped what was written, and a later sync would not say
+    /// so: every call fails from now on.
+    Lost,
+}
+
+/// A log in a file of the system.
+///
+/// It tells nothing: that a file does what a `Log` that tells does is trusted, and is argued here.
+/// `read` returns what the process and those before it wrote. `append` makes one write at the end,
+/// and only where the end is known: behind a torn write nothing is added. `cut` sets the length.
+/// `sync` asks the system to put octets and length on the disk, and believes its answer. The file
+/// must have no other writer, and its name has to be synced in its folder by whoever makes it.
+#[derive(Drop)]
+pub struct FileLog {
+    file: File,
+    end: End,
+}
+
+impl FileLog {
+    /// A log in a file that is open for reading and writing. Read it or cut it first.
+    pub fn new(file: File) -> FileLog {
+        FileLog {
+            file,
+            end: End::Unknown,
+        }
+    }
+
+    /// The fault, after which the end of the file is unknown.
+    fn failed(&mut self, fault: LogFault) -> LogFault {
+        self.end = End::Unknown;
+        fault
+    }
+}
+
+impl Log for FileLog {
+    fn read(&mut self, alloc: Global) -> Result<Vec<u8>, LogFault> {
+        if self.end == End::Lost {
+            return Err(LogFault::Unsynced);
+        }
+        let mut octets = Vec::new(alloc);
+        if self.file.seek(SeekFrom::Start(0)).is_err()
+            || self.file.read_to_end(&mut octets).is_err()
+        {
+            return Err(self.failed(LogFault::Unread));
+        }
+        self.end = End::At(octets.len() as u64);
+        Ok(octets)
+    }
+
+    fn append(&mut self, octets: &[u8]) -> Result<(), LogFault> {
+        let at = match self.end {
+            End::At(at) => at,
+            End::Unknown => return Err(LogFault::Unwritten),
+            End::Lost => return Err(LogFault::Unsynced),
+        };
+        if self.file.write_all_at(octets, at).is_err() {
+            return Err(self.failed(LogFault::Unwritten));
+        }
+        self.end = End::At(at.saturating_add(octets.len() as u64));
+        Ok(())
+    }
+
+    fn cut(&mut self, len: usize) -> Result<(), LogFault> {
+        if self.end == End::Lost {
+            return Err(LogFault::Unsynced);
+        }
+        if self.file.set_len(len as u64).is_err() {
+            return Err(self.failed(LogFault::Uncut));
+        }
+        self.end = End::At(len as u64);
+        Ok(())
+    }
+
+    fn sync(&mut self) -> Result<(), LogFault> {
+        if self.end == End::Lost || self.file.sync_data().is_err() {
+            self.end = End::Lost;
+            return Err(LogFault::Unsynced);
+        }
+        Ok(())
+    }
+}

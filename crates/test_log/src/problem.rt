@@ -1,0 +1,45 @@
+use rld_log::{LogFault, OpenFault};
+use std::alloc::AllocError;
+use std::io;
+use thiserror::Error;
+
+/// Why the program ends with status 1.
+#[derive(Clone, Copy, Debug, PartialEq, Eq, Error)]
+pub enum Problem {
+    /// The arguments are not the program's.
+    #[error("usage: test_log FILE [record|write COUNT SIZE]")]
+    Usage,
+    /// The file cannot be opened, or standard output takes nothing.
+    #[error("input or output fault")]
+    InputOutput,
+    /// The log could not be opened.
+    #[error("{0}")]
+    Open(OpenFault),
+    /// A call of the log failed.
+    #[error("{0}")]
+    Log(LogFault),
+}
+
+impl From<io::Error> for Problem {
+    fn from(_failed: io::Error) -> Problem {
+        Problem::InputOutput
+    }
+}
+
+impl From<OpenFault> for Problem {
+    fn from(fault: OpenFault) -> Problem {
+        Problem::Open(fault)
+    }
+}
+
+impl From<LogFault> for Problem {
+    fn from(fault: LogFault) -> Problem {
+        Problem::Log(fault)
+    }
+}
+
+impl From<AllocError> for Problem {
+    fn from(_refused: AllocError) -> Problem {
+        Problem::Log(LogFault::NoMemory)
+    }
+}
