@@ -309,7 +309,7 @@ impl Books {
     }
 
     /// Steps the book of an account by an event of its own.
-    fn own(&mut self, account: u32, event: Event) -> Decision
+    pub fn own(&mut self, account: u32, event: Event) -> Decision
         requires { IsOwn self.old.setup account event }
         ensures setup { self.new.setup ≡ self.old.setup }
         ensures books { self.new.books ≡
@@ -322,7 +322,7 @@ impl Books {
     }
 
     /// Sweeps each book.
-    fn sweep(&mut self, moment: u64, nas: &Nas) -> Decision
+    pub fn sweep(&mut self, moment: u64, nas: &Nas) -> Decision
         ensures setup { self.new.setup ≡ self.old.setup }
         ensures books { self.new.books ≡
             books_after self.old.setup self.old.books (moves.Sweep moment nas.now) }
@@ -333,7 +333,7 @@ impl Books {
     }
 
     /// Ticks each book.
-    fn tick(&mut self, moment: u64) -> Decision
+    pub fn tick(&mut self, moment: u64) -> Decision
         ensures setup { self.new.setup ≡ self.old.setup }
         ensures books { self.new.books ≡
             books_after self.old.setup self.old.books (moves.Tick moment) }

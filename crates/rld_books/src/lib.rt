@@ -1,0 +1,11 @@
+//! The books of a server: those of all its shards, without a journal.
+//!
+//! The promise: a batch of moves is decided as its journal says, and the books are then what the
+//! moves make of them. A batch takes no memory once there is room for its decisions.
+//!
+//! `specs/Server.antt` says what a move makes of the books, and what the journal of moves is.
+#![tactic(auto)]
+
+mod server_books;
+
+pub use server_books::ServerBooks;
