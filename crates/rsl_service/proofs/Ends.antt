@@ -16,7 +16,7 @@ use Rattle.rsl_record.specs.declared.receipt.Receipt.{Receipt}
 use Rattle.rsl_shard.specs.Restep.{new_books, restep}
 use Rattle.rsl_shard.specs.Setup.{Setup, setup_of}
 use Rattle.rsl_shard.specs.declared.segment.Segment.{Segment}
-use Rattle.rsl_service.specs.Closed.{EndedSeen, HasCloseFault, HasEnd, HaveEnds, IsClosedBy, IsEnd, IsEndOf, IsFaultOf, IsRecordSettled, IsUnsettled, count_in, end_of, lines_to, as_list}
+use Rattle.rsl_service.specs.Closed.{EndedSeen, HasEnd, HaveEnds, IsClosedBy, IsEnd, IsEndOf, IsFaultOf, IsRecordSettled, IsUnsettled, count_in, end_of, lines_to, as_list}
 
 -- ---- the journals that shards end with
 

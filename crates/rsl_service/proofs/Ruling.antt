@@ -6,17 +6,16 @@ use Rattle.std.proofs.lemmas.Bool.{cases_eq}
 use Rattle.std.proofs.lemmas.List.Elements.{All-append, All-cons, All-head, All-nil, All-tail, filter-append}
 use Rattle.std.proofs.lemmas.Option.{same_Some}
 use Rattle.rsl_accounts.specs.Configuration.{Configuration}
-use Rattle.rsl_accounts.specs.declared.entry.Entry.{Entry}
 use Rattle.rsl_book.specs.RuledBook.{RuledBook}
 use Rattle.rsl_record.specs.Segments.{AllGoOn, of_shard, shard_lines}
 use Rattle.rsl_record.specs.declared.receipt.Receipt.{Receipt}
 use Rattle.rsl_shard.specs.Journal.{IsJournal}
-use Rattle.rsl_shard.specs.Moves.{IsOfShard, IsTaken}
+use Rattle.rsl_shard.specs.Moves.{IsTaken}
 use Rattle.rsl_shard.specs.Restep.{books_after, decision_by, new_books, restep}
 use Rattle.rsl_shard.specs.Setup.{Setup, setup_of}
 use Rattle.rsl_shard.specs.declared.line.Line.{Line}
 use Rattle.rsl_shard.specs.declared.segment.Segment.{Segment}
-use Rattle.rsl_steps.specs.Laws.{JournalsObeyTheRule, ObeysTheRule}
+use Rattle.rsl_steps.specs.Laws.{JournalsObeyTheRule}
 use Rattle.rsl_service.specs.Closed.{HasEnd, HaveEnds, IsClosed}
 use Rattle.rsl_service.specs.Laws.{ClosedJournalsObeyTheRule, IsHandedOut}
 

@@ -1,4 +1,4 @@
-use Rattle.std.proofs.Common.{◌≡◌, ◌++◌, arith, subst}
+use Rattle.std.proofs.Common.{◌≡◌, arith, subst}
 use Rattle.std.proofs.lemmas.Result.{err_from_is_err_and}
 use Rattle.rsl_service.specs.Closed.{EndedSeen, IsClosedBy, IsFaultOf, IsRecordSettled, count_in, end_of}
 use Rattle.rsl_service.proofs.Ends.{all_counted, closes, faults, same_total, seen_settled}

@@ -1,4 +1,4 @@
-use Rattle.std.proofs.Common.{ℕ, rules}
+use Rattle.std.proofs.Common.{rules}
 use Rattle.rsl_shard.specs.Moves.{IsOfShard}
 use Rattle.rsl_service.proofs.Reported.{shown_by}
 use Rattle.rsl_service.proofs.desk.Desk.show_one.Goals as goal

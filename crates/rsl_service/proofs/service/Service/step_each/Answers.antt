@@ -1,4 +1,4 @@
-use Rattle.std.proofs.Common.{◌≡◌, ap, subst, arith}
+use Rattle.std.proofs.Common.{ap, subst, arith}
 use Rattle.rsl_accounts.specs.Configuration.{Configuration}
 use Rattle.rsl_service.specs.Receipts.{AreNoted}
 use Rattle.rsl_service.proofs.service.Service.step_each.Goals as goal
