@@ -7,3 +7,7 @@ use Rattle.std.specs.declared.env.FillError.TheVariants.{NotPresent}
 abbrev pub is_replay : (first : List ℕ) → (second : Result ℕ FillError) → Bool
 is_replay first (Err NotPresent) = bytes_eq first (codes "replay")
 is_replay first _ = false
+
+-- whether a first argument is the word `serve`
+abbrev pub is_serve : (first : List ℕ) → Bool
+is_serve first = bytes_eq first (codes "serve")

@@ -1,5 +1,5 @@
 ghost use Rattle.std.specs.Prelude.{◌≡◌};
-ghost use Rattle.rsl_app.specs.Arguments.{is_replay};
+ghost use Rattle.rsl_app.specs.Arguments.{is_replay, is_serve};
 
 use std::env::{Env, FillError};
 
@@ -20,9 +20,16 @@ pub(crate) fn ask_for_a_replay<E: Env>(arguments: &E) -> bool {
 pub(crate) fn ask_to_serve<E: Env>(arguments: &E) -> bool {
     let mut word = [0u8; WORD_LEN];
     match arguments.arg(1, &mut word) {
-        Ok(len) => &word[..len] == b"serve".as_slice(),
+        Ok(len) => is_serve(&word[..len]),
         Err(_) => false,
     }
+}
+
+/// Whether the octets of a first argument are `serve`.
+fn is_serve(first: &[u8]) -> bool
+    ensures { result ≡ is_serve first.now }
+{
+    first == b"serve".as_slice()
 }
 
 /// Whether the octets of a first argument are `replay`, and reading a second one found none.

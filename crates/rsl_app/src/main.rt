@@ -3,18 +3,18 @@
 //! takes datagrams from two sockets and answers them.
 //!
 //! This crate has the edges of the process: its first argument, the three streams and the exit
-//! status, which is that of the fault (`ended`). What a script says, what the server answers to it
+//! status, which is that of the fault (`exit_code`). What a script says, what the server answers to it
 //! and what is printed is the business of `rsl_replay`, and the running server that of `rsl_serve`.
 #![tactic(auto)]
 
 mod arguments;
 mod command;
-mod ending;
+mod exit;
 mod fault;
 
 use arguments::ask_to_serve;
 use command::command;
-use ending::ended;
+use exit::exit_code;
 use fault::Fault;
 use rsl_serve::serve;
 use std::process::ExitCode;
@@ -25,5 +25,5 @@ fn main(rt: HostRuntime) -> ExitCode {
     } else {
         command(rt.alloc(), &rt, &mut rt.stdin(), &mut rt.stdout())
     };
-    ended(&mut rt.stderr(), outcome)
+    exit_code(&mut rt.stderr(), outcome)
 }

@@ -9,7 +9,7 @@ use std::process::ExitCode;
 
 /// The status of the process: 0 where all was done, else that of the fault, which is said in one
 /// line on standard error. Where standard error takes nothing, the status still tells.
-pub(crate) fn ended<S: Write>(stderr: &mut S, outcome: Result<(), Fault>) -> ExitCode
+pub(crate) fn exit_code<S: Write>(stderr: &mut S, outcome: Result<(), Fault>) -> ExitCode
     ensures { exit_status result ≡ number_of (status_after outcome) }
 {
     match outcome {
