@@ -1,7 +1,7 @@
 -- Moves are read as they are spelled.
-use Rattle.std.proofs.Common.{◌≡◌, inl, inr, ℕ, ◌^◌, ◌<◌, ◌≤◌, cond, eqb, List, [], ◌∷◌, ◌++◌, Result, Ok, refl, sym, ap, ◌∙◌, arith}
+use Rattle.std.proofs.Common.{◌≡◌, inl, inr, ℕ, ◌^◌, cond, eqb, List, [], ◌∷◌, ◌++◌, Ok, refl, sym, ap, ◌∙◌, arith}
 use Rattle.rld_fields.specs.declared.fault.Cause.TheVariants.{NoAccount, OutOfRange, UnknownTag}
-use Rattle.rld_fields.specs.Field.{Reading, IsRead, AreOctets, fault_at, made_of, both, optional, short}
+use Rattle.rld_fields.specs.Field.{Reading, IsRead, AreOctets, fault_at, made_of, short}
 use Rattle.rld_fields.specs.Numbers.{number}
 use Rattle.rld_fields.proofs.Callers.{ok_is, tag_case, case_spelled, short_read, number_read, below_read, both_read, optional_read, list_read}
 use Rattle.rsl_event.specs.declared.event.Act.{Act}

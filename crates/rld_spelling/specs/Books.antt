@@ -1,5 +1,5 @@
 -- Books as octets: all that the book of an account holds.
-use Rattle.std.specs.Prelude.{◌≡◌, ℕ, List, [], ◌∷◌, ◌++◌, length, Bool, Option, Result, Ok, Err, nat_eq, if◌then◌else◌, map}
+use Rattle.std.specs.Prelude.{ℕ, List, [], ◌∷◌, ◌++◌, length, Bool, Option, Ok, nat_eq, if◌then◌else◌, map}
 use Rattle.std.specs.List.{flat_map}
 use Rattle.rld_fields.specs.declared.fault.Cause.TheVariants.{CutShort, UnknownTag}
 use Rattle.rld_fields.specs.Field.{Field, Reading, fault_at, made_of, both, seen_as, optional, option_spelled, short, short_at, flag, flag_spelled}

@@ -1,6 +1,6 @@
 -- Moves as octets: a tag, the moment, and what the move is of. An account and a client are numbers
 -- below given counts.
-use Rattle.std.specs.Prelude.{◌≡◌, ℕ, ◌^◌, List, [], ◌∷◌, ◌++◌, Option, Result, Ok, Err, nat_eq, if◌then◌else◌}
+use Rattle.std.specs.Prelude.{ℕ, ◌^◌, List, [], ◌∷◌, ◌++◌, Option, nat_eq, if◌then◌else◌}
 use Rattle.rld_fields.specs.declared.fault.Cause.TheVariants.{CutShort, NoAccount, OutOfRange, UnknownTag}
 use Rattle.rld_fields.specs.Field.{Field, Reading, fault_at, made_of, both, optional, option_spelled, short}
 use Rattle.rld_fields.specs.Lists.{list_of}

@@ -1,5 +1,5 @@
 -- Access servers as octets: the client's number, and the name behind a tag of its kind.
-use Rattle.std.specs.Prelude.{◌≡◌, ℕ, ◌≤◌, List, [], ◌∷◌, ◌++◌, length, nat_eq, Result, Ok, Err, if◌then◌else◌}
+use Rattle.std.specs.Prelude.{ℕ, ◌≤◌, List, [], ◌∷◌, ◌++◌, length, nat_eq, Ok, if◌then◌else◌}
 use Rattle.rld_fields.specs.declared.fault.Cause.TheVariants.{CutShort, NoClient, UnknownTag}
 use Rattle.rld_fields.specs.Field.{Field, Reading, fault_at, made_of, both, seen_as, short, short_at}
 use Rattle.rld_fields.specs.Numbers.{number_octets, below}
