@@ -195,7 +195,7 @@ impl LinkList {
         ensures found { IfSome result (λ at. IsFirst (is_held nas id.now) self.now.items at) }
         ensures missed { IfNone result (list_any (is_held nas id.now) self.now.items ≡ false) }
     {
-        self.orders.sessions.first_of(&self.slots, nas as u64, id)
+        self.orders.sessions.first_session(&self.slots, nas, id)
     }
 
     /// The position of the first link that is reserved at the access server of an index, by the
@@ -235,10 +235,7 @@ impl LinkList {
     pub fn members(&self, nas: usize, id: &[u8]) -> usize
         ensures { result ≡ count_by (is_member nas id.now) self.now.items }
     {
-        let order = &self.orders.bundles;
-        let first = order.count_before(&self.slots, nas as u64, id, 0);
-        let end = order.count_before(&self.slots, nas as u64, id, u64::MAX);
-        end - first
+        self.orders.bundles.members(&self.slots, nas, id)
     }
 
     /// Whether a bound link names an index of the table of access servers.

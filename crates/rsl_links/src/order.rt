@@ -2,13 +2,14 @@
 
 ghost use Rattle.std.specs.Prelude.{◌≡◌, ◌<◌, ◌≤◌, ◌∷◌, [], get_or, length, true, false, IfOk};
 ghost use Rattle.std.specs.Prelude.{IfNone, IfSome, ℕ};
+ghost use Rattle.std.specs.Prelude.{count_by};
 ghost use Rattle.std.specs.List.{insert, list_any};
 ghost use Rattle.std.specs.VecDeque.{deque_capacity};
 ghost use Rattle.rsl_accounts.specs.Limits.{RulesFit};
 ghost use Rattle.rsl_session.specs.BookLinks.{lapses_at};
-ghost use Rattle.rsl_links.specs.declared.order.OrderKind.TheVariants.{Reserved};
+ghost use Rattle.rsl_links.specs.declared.order.OrderKind.TheVariants.{Reserved, Sessions, Bundles};
 ghost use Rattle.rsl_links.specs.First.{IsFirst};
-ghost use Rattle.rsl_links.specs.LinkList.{is_for};
+ghost use Rattle.rsl_links.specs.LinkList.{is_for, is_held, is_member};
 ghost use Rattle.rsl_links.specs.Order.{IsSplit, goes_by, is_before, is_by_touch, is_of, link_at};
 ghost use Rattle.rsl_links.specs.Order.{order_key, order_number, order_octets};
 ghost use Rattle.rsl_links.specs.Ranked.{IsRankedBut, IsRankedOf, IsSearchable, slot_key};
@@ -147,7 +148,7 @@ impl Order {
     }
 
     /// The position of its first link that goes by these, if one does.
-    pub(crate) fn first_of(&self, slots: &Slots, number: u64, octets: &[u8]) -> Option<usize>
+    fn first_of(&self, slots: &Slots, number: u64, octets: &[u8]) -> Option<usize>
         requires kept { IsKept slots.now }
         requires order { IsRankedOf slots.now self.now }
         ensures found { IfSome result (λ at.
@@ -165,6 +166,31 @@ impl Order {
         } else {
             None
         }
+    }
+
+    /// The position of the first link of an order of sessions that is bound to the session of this
+    /// id at an access server.
+    pub(crate) fn first_session(&self, slots: &Slots, nas: usize, id: &[u8]) -> Option<usize>
+        requires kept { IsKept slots.now }
+        requires kind { self.now.kind ≡ Sessions }
+        requires order { IsRankedOf slots.now self.now }
+        ensures found { IfSome result (λ at. IsFirst (is_held nas id.now) (links_of slots.now) at) }
+        ensures missed { IfNone result
+            (list_any (is_held nas id.now) (links_of slots.now) ≡ false) }
+    {
+        self.first_of(slots, nas as u64, id)
+    }
+
+    /// How many links of an order of bundles are in that of this id at an access server.
+    pub(crate) fn members(&self, slots: &Slots, nas: usize, id: &[u8]) -> usize
+        requires kept { IsKept slots.now }
+        requires kind { self.now.kind ≡ Bundles }
+        requires order { IsRankedOf slots.now self.now }
+        ensures { result ≡ count_by (is_member nas id.now) (links_of slots.now) }
+    {
+        let first = self.count_before(slots, nas as u64, id, 0);
+        let end = self.count_before(slots, nas as u64, id, u64::MAX);
+        end - first
     }
 
     /// The position of the first link of an order of the reserved ones that an alive at an access
