@@ -1,8 +1,8 @@
 -- Why a server has not started, or has not ended well.
 use Rattle.rsl_accounts.specs.declared.file_fault.FileFault.{FileFault}
 use Rattle.rsl_accounts.specs.declared.file_fault.FileFault.TheVariants.{Unreadable as file_unreadable, TooLong as file_too_long, Config as file_config, NoMemory as file_no_memory}
-use Rattle.rsl_receive.specs.declared.fault.ReceiveFault.{ReceiveFault}
-use Rattle.rsl_receive.specs.declared.fault.ReceiveFault.TheVariants.{NoMemory as receive_no_memory}
+use Rattle.rsl_receive.specs.declared.receiver.ReceiveFault.{ReceiveFault}
+use Rattle.rsl_receive.specs.declared.receiver.ReceiveFault.TheVariants.{NoMemory as receive_no_memory}
 use Rattle.rsl_report.specs.declared.exit_status.ExitStatus.{ExitStatus}
 use Rattle.rsl_report.specs.declared.exit_status.ExitStatus.TheVariants.{WrongInput, InputOutput as input_output_status, NoMemory as no_memory_status}
 use Rattle.rsl_service.specs.declared.fault.PassFault.{PassFault}

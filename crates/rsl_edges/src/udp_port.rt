@@ -1,10 +1,11 @@
-ghost use Rattle.std.specs.Prelude.{◌≡◌, ◌≤◌, ℕ, IfOk, IfSome, Some, length};
-ghost use Rattle.rsl_receive.specs.Told.{no_numbers};
+ghost use Rattle.std.specs.Prelude.{◌≡◌, ◌≤◌, ℕ, IfOk, IfSome, Some, is_err, length, true};
+ghost use Rattle.rsl_receive.specs.Told.{CanReceive, after_receive, no_numbers};
 ghost use Rattle.rsl_edges.specs.Socket.{IsFailed, IsReception, is_passing, source_in};
 
 use rsl_event::Source;
 use rsl_receive::{DatagramPort, Numbers, PortFault};
 use std::io::{self, ErrorKind};
+use std::marker::Model;
 use std::net::{Ipv4Addr, Net, SocketAddr, SocketAddrV4, UdpSocket};
 use std::time::Duration;
 
@@ -15,11 +16,20 @@ const _: () = prove!(WAIT_SECS == 1);
 
 /// A UDP socket on an IPv4 address. Where no datagram comes within a second, its `receive` gives
 /// none.
+///
+/// A contract sees the numbers of its calls, as its `DatagramPort` has them.
 #[derive(Drop)]
 pub struct UdpPort {
     socket: UdpSocket,
-    /// The numbers of its calls, as its `DatagramPort` has them.
-    pub numbers: Numbers,
+    numbers: Numbers,
+}
+
+impl Model for UdpPort {
+    ghost use Rattle.rsl_receive.specs.declared.datagram_port.Numbers.{Numbers as PortNumbers};
+
+    ghost Value = { PortNumbers };
+
+    ghost view = { λ port. port.numbers };
 }
 
 impl UdpPort {
@@ -28,7 +38,7 @@ impl UdpPort {
     /// The error is the system's: it comes where there is no room for a socket, the address is not
     /// this machine's, the port is taken or not allowed, or how long a read waits can't be set.
     pub fn bind<N: Net>(net: &N, address: [u8; 4], port: u16) -> io::Result<UdpPort>
-        ensures { IfOk result (λ port. port.numbers ≡ no_numbers) }
+        ensures { IfOk result (λ port. port ≡ no_numbers) }
     {
         let socket = UdpSocket::bind(net, socket_addr(Source { address, port }))?;
         socket.set_read_timeout(Some(Duration::from_secs(WAIT_SECS)))?;
@@ -38,9 +48,20 @@ impl UdpPort {
         })
     }
 
+    /// A `receive` that fails, and leaves the socket alone: for a port that shall give no more.
+    pub fn fail(&mut self) -> Result<Option<(usize, Source)>, PortFault>
+        requires { CanReceive 1 self.old }
+        ensures failed { is_err result ≡ true }
+        ensures counted { self.new ≡ after_receive result self.old }
+    {
+        let failed = Err(PortFault);
+        self.numbers.note_receive(&failed);
+        failed
+    }
+
     /// What the socket has for a `receive`, which is not counted yet. `PortFault` comes where the
     /// system's read fails; that no datagram comes in time is no failure.
-    pub fn read(&self, buffer: &mut [u8]) -> Result<Option<(usize, Source)>, PortFault>
+    fn read(&self, buffer: &mut [u8]) -> Result<Option<(usize, Source)>, PortFault>
         ensures { IfOk result (λ received. IfSome received (λ found.
             found.0 ≤ length buffer.new)) }
     {
@@ -50,7 +71,7 @@ impl UdpPort {
 }
 
 impl DatagramPort for UdpPort {
-    ghost numbers = { λ port. port.numbers };
+    ghost numbers = { λ port. port };
 
     fn receive(&mut self, buffer: &mut [u8]) -> Result<Option<(usize, Source)>, PortFault> {
         let received = self.read(buffer);

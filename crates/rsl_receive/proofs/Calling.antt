@@ -4,7 +4,7 @@ use Rattle.rsl_receive.specs.Counted.{AddsUp, AreCounted, IsCalled, no_counts}
 use Rattle.rsl_receive.specs.Told.{CanReceive, CanSend}
 use Rattle.rsl_receive.specs.Turned.{HasCalled, counted, is_down}
 use Rattle.rsl_receive.specs.declared.counts.Counts.{Counts}
-use Rattle.rsl_receive.specs.declared.numbers.Numbers.{Numbers}
+use Rattle.rsl_receive.specs.declared.datagram_port.Numbers.{Numbers}
 use Rattle.rsl_receive.specs.declared.counts.Turn.{Turn}
 use Rattle.rsl_receive.specs.declared.counts.Turn.TheVariants.{Down, Nothing, Dropped, Refused, Answered, Unsent}
 

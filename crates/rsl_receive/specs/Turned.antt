@@ -8,7 +8,7 @@ use Rattle.rsl_receive.specs.Served.{IsAnsweredBy, IsDropped, IsRefused, State}
 use Rattle.rsl_receive.specs.Shown.{HasShown}
 use Rattle.rsl_receive.specs.declared.counts.Counts.{Counts}
 use Rattle.rsl_receive.specs.declared.datagram_port.Datagram.{Datagram}
-use Rattle.rsl_receive.specs.declared.numbers.Numbers.{Numbers}
+use Rattle.rsl_receive.specs.declared.datagram_port.Numbers.{Numbers}
 use Rattle.rsl_receive.specs.declared.receiver.Unanswered.{Unanswered}
 use Rattle.rsl_receive.specs.declared.receiver.Unanswered.TheVariants as unanswered
 use Rattle.rsl_receive.specs.declared.counts.Turn.{Turn}

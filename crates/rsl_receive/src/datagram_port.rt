@@ -1,6 +1,16 @@
-use crate::fault::PortFault;
+//! Ports: where datagrams come from and go to, and what is counted of their calls.
+
+ghost use Rattle.std.specs.Prelude.{◌≡◌};
+ghost use Rattle.rsl_receive.specs.Told.{CanReceive, CanSend, after_receive, after_send, no_numbers};
+
 use rsl_event::Source;
 use rsl_wire::Octets;
+use thiserror::Error;
+
+/// A call of a port failed.
+#[derive(Clone, Copy, Debug, PartialEq, Eq, Error)]
+#[error("port failed")]
+pub struct PortFault;
 
 /// A datagram, with the source that it came from or that it goes to.
 #[derive(Debug, PartialEq, Eq, Drop)]
@@ -21,7 +31,7 @@ pub trait DatagramPort {
     ghost use Rattle.std.specs.Prelude.{◌≡◌, ◌≤◌, ℕ, min, Bool, true, false, List, [], ◌∷◌, ◌++◌, length, IfOk, IfSome};
     ghost use Rattle.rsl_receive.specs.Told.{CanReceive, CanSend, after_receive, after_send, datagram_of, taken_by};
     ghost use Rattle.rsl_receive.specs.declared.datagram_port.Datagram.{Datagram as OneDatagram};
-    ghost use Rattle.rsl_receive.specs.declared.numbers.Numbers.{Numbers as PortNumbers};
+    ghost use Rattle.rsl_receive.specs.declared.datagram_port.Numbers.{Numbers as PortNumbers};
 
     ghost numbers: { Self → PortNumbers };
 
@@ -58,4 +68,67 @@ pub trait DatagramPort {
         ensures sent { tells self.new ≡ true →
             sent self.new ≡ sent self.old ++ datagram_of to octets.now ∷ [] }
         ensures room { tells self.new ≡ true → room self.new ≡ room self.old };
+}
+
+/// What a port counts of its own calls.
+///
+/// A port holds one of these, hands its calls' results to `note_receive` and `note_send`, and gives
+/// it as its `numbers`.
+#[derive(Clone, Copy, Debug, PartialEq, Eq)]
+pub struct Numbers {
+    /// The calls of `receive`.
+    pub receives: u64,
+    /// Those that failed.
+    pub failed_receives: u64,
+    /// The calls of `send`.
+    pub sends: u64,
+    /// Those that failed.
+    pub failed_sends: u64,
+    /// The calls of `send` to another source than that of the datagram received last.
+    pub astray: u64,
+    /// The source of the datagram received last.
+    pub last: Option<Source>,
+}
+
+impl Numbers {
+    /// The numbers of a port that was not called yet.
+    pub fn new() -> Numbers
+        ensures { result ≡ no_numbers }
+    {
+        Numbers {
+            receives: 0,
+            failed_receives: 0,
+            sends: 0,
+            failed_sends: 0,
+            astray: 0,
+            last: None,
+        }
+    }
+
+    /// Counts a call of `receive` with this result.
+    pub fn note_receive(&mut self, received: &Result<Option<(usize, Source)>, PortFault>)
+        requires { CanReceive 1 self.old }
+        ensures { self.new ≡ after_receive received.now self.old }
+    {
+        self.receives += 1;
+        match received {
+            Ok(Some((_, source))) => self.last = Some(*source),
+            Ok(None) => {}
+            Err(_) => self.failed_receives += 1,
+        }
+    }
+
+    /// Counts a call of `send` to this source, with this result.
+    pub fn note_send(&mut self, to: Source, sent: &Result<(), PortFault>)
+        requires { CanSend 1 self.old }
+        ensures { self.new ≡ after_send to sent.now self.old }
+    {
+        self.sends += 1;
+        if sent.is_err() {
+            self.failed_sends += 1;
+        }
+        if self.last != Some(to) {
+            self.astray += 1;
+        }
+    }
 }

@@ -9,17 +9,11 @@
 mod clock;
 mod counts;
 mod datagram_port;
-mod fault;
 mod memory_port;
-mod numbers;
 mod receiver;
-mod ticker;
 
-pub use clock::{Clock, Pause};
+pub use clock::{Clock, Pause, expire_loop};
 pub use counts::Counts;
-pub use datagram_port::{Datagram, DatagramPort};
-pub use fault::{PortFault, ReceiveFault};
+pub use datagram_port::{Datagram, DatagramPort, Numbers, PortFault};
 pub use memory_port::{Coming, MemoryPort};
-pub use numbers::Numbers;
-pub use receiver::receive;
-pub use ticker::expire_loop;
+pub use receiver::{ReceiveFault, receive};

@@ -1,9 +1,7 @@
 ghost use Rattle.std.specs.Prelude.{◌≡◌, ◌≤◌, ◌++◌, ◌∷◌, [], IfOk, IfSome, length, true};
 ghost use Rattle.rsl_receive.specs.Told.{datagram_of, no_numbers, taken_by};
 
-use crate::datagram_port::{Datagram, DatagramPort};
-use crate::fault::PortFault;
-use crate::numbers::Numbers;
+use crate::datagram_port::{Datagram, DatagramPort, Numbers, PortFault};
 use rsl_event::Source;
 use rsl_wire::Octets;
 use std::alloc::Global;

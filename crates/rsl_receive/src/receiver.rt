@@ -1,19 +1,30 @@
-ghost use Rattle.std.specs.Prelude.{◌≡◌, ◌≤◌, min, IfErr, IfOk, Err, true, [], ◌∷◌, ◌++◌, length};
+ghost use Rattle.std.specs.Prelude.{◌≡◌, ◌≤◌, min, IfErr, IfOk, Err, true, [], ◌∷◌, ◌++◌, length, vec_capacity};
 ghost use Rattle.rsl_receive.specs.Counted.{AddsUp, AreCounted, IfCounted, failed_in};
 ghost use Rattle.rsl_receive.specs.Served.{HasServed, state_of};
 ghost use Rattle.rsl_receive.specs.Told.{CanReceive, CanSend, after_send, datagram_of};
 ghost use Rattle.rsl_receive.specs.Turned.{HasAnswered, HasCalled, HasTurned, IsUnanswered};
-ghost use Rattle.rsl_receive.specs.declared.fault.ReceiveFault.TheVariants as faults;
+ghost use Rattle.rsl_receive.specs.declared.receiver.ReceiveFault.TheVariants as faults;
 
 use crate::clock::Clock;
 use crate::counts::{Counts, Turn};
-use crate::datagram_port::DatagramPort;
-use crate::fault::{PortFault, ReceiveFault};
+use crate::datagram_port::{DatagramPort, PortFault};
 use rsl_event::{Dropped, Port, Source};
 use rsl_service::{Gate, Pass, Service, Tally};
 use rsl_wire::MAX_LEN;
 use std::alloc::Global;
 use std::sync::Wait;
+use thiserror::Error;
+
+/// Why a receiver ended before its last turn.
+#[derive(Clone, Copy, Debug, PartialEq, Eq, Error)]
+pub enum ReceiveFault {
+    /// The port's `receive` failed. These are the counts up to and with that turn.
+    #[error("port failed")]
+    Down(Counts),
+    /// Memory for the buffer was refused. Nothing was received.
+    #[error("no memory")]
+    NoMemory,
+}
 
 /// Takes datagrams from a port, and sends the service's answers to where they came from, for so
 /// many turns (RFC 2865 section 3, RFC 2866 section 3).
@@ -55,8 +66,8 @@ pub fn receive<
         (P.numbers datagrams.old) (P.numbers datagrams.new)) }
     ensures served { P.tells datagrams.new ≡ true → IfCounted result (λ counts.
         HasServed service.now port counts
-        (state_of (P.taken datagrams.old) pass.old (P.sent datagrams.old) (C.shown clock.old))
-        (state_of (P.taken datagrams.new) pass.new (P.sent datagrams.new) (C.shown clock.new))) }
+        (state_of (P.taken datagrams.old) pass.old.receipts (P.sent datagrams.old) (C.shown clock.old))
+        (state_of (P.taken datagrams.new) pass.new.receipts (P.sent datagrams.new) (C.shown clock.new))) }
     ensures room { P.tells datagrams.new ≡ true →
         min (P.room datagrams.old) 4096 ≤ P.room datagrams.new }
     ensures unmade { result ≡ Err faults.NoMemory →
@@ -123,8 +134,8 @@ impl<L0: Tally, L1: Tally, L2: Tally, L3: Tally, G: Gate, R: Wait> Receiver<
         ensures calls { HasCalled result (P.numbers datagrams.old) (P.numbers datagrams.new) }
         ensures telling { P.tells datagrams.new ≡ true → P.tells datagrams.old ≡ true }
         ensures turned { P.tells datagrams.new ≡ true → HasTurned self.now.service.now self.now.port result
-            (state_of (P.taken datagrams.old) pass.old (P.sent datagrams.old) (C.shown clock.old))
-            (state_of (P.taken datagrams.new) pass.new (P.sent datagrams.new) (C.shown clock.new)) }
+            (state_of (P.taken datagrams.old) pass.old.receipts (P.sent datagrams.old) (C.shown clock.old))
+            (state_of (P.taken datagrams.new) pass.new.receipts (P.sent datagrams.new) (C.shown clock.new)) }
         ensures room { P.tells datagrams.new ≡ true →
             P.room datagrams.new ≡ min (P.room datagrams.old) (length buffer.old) }
     {
@@ -154,10 +165,10 @@ impl<L0: Tally, L1: Tally, L2: Tally, L3: Tally, G: Gate, R: Wait> Receiver<
     ) -> Result<Vec<u8>, Unanswered>
         ensures answered { IfOk result (λ octets. HasAnswered self.now.service.now self.now.port
             (datagram_of source datagram.now) (C.shown clock.old) (C.shown clock.new)
-            pass.old pass.new (datagram_of source octets.items)) }
+            pass.old.receipts pass.new.receipts (datagram_of source octets.items)) }
         ensures unanswered { IfErr result (λ why. IsUnanswered self.now.service.now self.now.port why
             (datagram_of source datagram.now) (C.shown clock.old) (C.shown clock.new)
-            pass.old pass.new) }
+            pass.old.receipts pass.new.receipts) }
     {
         let prepared = match self
             .service
@@ -187,7 +198,8 @@ fn send_back<L0: Tally, L1: Tally, L2: Tally, L3: Tally, P: DatagramPort>(
     source: Source,
 ) -> Result<(), PortFault>
     requires sends { CanSend 1 (P.numbers datagrams.old) }
-    ensures pass { pass.new ≡ pass.old }
+    ensures pass { pass.new.receipts ≡ pass.old.receipts }
+    ensures taken_back { pass.new.room ≡ vec_capacity octets }
     ensures numbers { P.numbers datagrams.new ≡
         after_send source result (P.numbers datagrams.old) }
     ensures telling { P.tells datagrams.new ≡ true → P.tells datagrams.old ≡ true }

@@ -10,6 +10,7 @@ use Rattle.rsl_report.specs.Table.{table}
 use Rattle.rsl_edges.specs.Output.{counts_line}
 use Rattle.rsl_serve.specs.Served.{HasClosed, HasReceived, HasReported, IsEnded, IsServed}
 use Rattle.rsl_service.specs.Closed.{IsClosed}
+use Rattle.rsl_service.specs.Receipts.{PassSeen, receipts_of}
 use Rattle.rsl_service.specs.Report.{IsReport}
 use Rattle.rsl_record.specs.declared.receipt.Receipt.{Receipt}
 use Rattle.rsl_shard.specs.declared.row.Row.{Row}
@@ -56,14 +57,15 @@ is_served config turns auth acct lines report reported line first second ended =
 }
 
 -- a service that was closed with the passes of a list
-pub has_closed : (config : Configuration) (auth acct ticks : List Receipt)
-    (passes : List (List Receipt)) (given segments : List Segment)
+pub has_closed : (config : Configuration) (auth acct ticks : PassSeen)
+    (passes : List PassSeen) (given segments : List Segment)
     → passes ≡ auth ∷ acct ∷ ticks ∷ [] → given ≡ []
-    → IsClosed config passes given segments → HasClosed config auth acct ticks
+    → IsClosed config (receipts_of passes) given segments
+    → HasClosed config auth.receipts acct.receipts ticks.receipts
 has_closed config auth acct ticks passes given segments are none closed = record {
   segments = segments;
-  closed = subst (λ passes. IsClosed config passes [] segments) are
-      (subst (λ given. IsClosed config passes given segments) none closed);
+  closed = subst (λ (passes : List PassSeen). IsClosed config (receipts_of passes) [] segments) are
+      (subst (λ given. IsClosed config (receipts_of passes) given segments) none closed);
 }
 
 -- is one that has ended

@@ -10,9 +10,7 @@
 //! (`specs/Served.antt`).
 #![tactic(auto)]
 
-mod arguments;
 mod clock;
-mod paired_port;
 mod server;
 mod shutdown;
 mod workers;

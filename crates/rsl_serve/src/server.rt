@@ -6,18 +6,17 @@ ghost use Rattle.rsl_report.specs.Output.{output_octets};
 ghost use Rattle.rsl_serve.specs.Served.{HasClosed, HasReceived, HasReported, IsEnded, IsServed};
 ghost use Rattle.rsl_service.specs.Service.{IsLedgerOf};
 
-use crate::arguments::parse_arguments;
 use crate::clock::RunTime;
 use crate::shutdown::Shutdown;
 use rsl_accounts::Config;
-use rsl_edges::{ServeFault, UdpPort, counts_of};
+use rsl_edges::{Plan, ServeFault, UdpPort, counts_of};
 use rsl_receive::Counts;
 use rsl_report::{Output, table_of};
 use rsl_service::{Blanks, Open, Pass, Service, Tally};
 use std::alloc::Global;
-use std::env::Env;
+use std::env::{self, Env};
 use std::fs::Files;
-use std::io::Write;
+use std::io::{ErrorKind, Write};
 use std::marker::Brand;
 use std::net::Net;
 use std::sync::Wait;
@@ -72,6 +71,32 @@ where
     run_time.await_next_second(rt);
     let blanks = Blanks::new();
     run::<Brand, Brand, Brand, Brand, R>(rt, alloc, blanks, config, sockets, run_time)
+}
+
+/// The name of the account file and the plan that the arguments have: the program's name, a first
+/// word, FILE, ADDRESS, AUTHPORT, ACCTPORT and TURNS.
+///
+/// `Usage` comes where they are not that, and `NoMemory` where memory is refused for them.
+fn parse_arguments<R: Env + AllocGlobal>(rt: &R) -> Result<(String, Plan), ServeFault> {
+    let alloc = rt.alloc();
+    let words = match env::args(rt) {
+        Ok(words) => words,
+        Err(error) if error.kind() == ErrorKind::OutOfMemory => return Err(ServeFault::NoMemory),
+        Err(_) => return Err(ServeFault::Usage),
+    };
+    let words: Vec<String> = words.collect(alloc)?;
+    let [_program, _serve, file, address, auth, acct, turns] = words.as_slice() else {
+        return Err(ServeFault::Usage);
+    };
+    match Plan::read(
+        address.as_str(),
+        auth.as_str(),
+        acct.as_str(),
+        turns.as_str(),
+    ) {
+        Some(plan) => Ok((file.clone()?, plan)),
+        None => Err(ServeFault::Usage),
+    }
 }
 
 /// The sockets of a server, of which nothing was read yet.
@@ -130,8 +155,8 @@ where
         blanks.blank2.name blanks.blank2.parts L2.name L2.parts L2.setup L2.books }
     requires ledger3 { IsLedgerOf config 3
         blanks.blank3.name blanks.blank3.parts L3.name L3.parts L3.setup L3.books }
-    requires auth { sockets.auth.numbers ≡ no_numbers }
-    requires acct { sockets.acct.numbers ≡ no_numbers }
+    requires auth { sockets.auth ≡ no_numbers }
+    requires acct { sockets.acct ≡ no_numbers }
     ensures { IfOk result (λ output. IsServed config run_time.turns (output_octets output)) }
 {
     let service: Service<L0, L1, L2, L3, Open> = Service::new(
@@ -212,7 +237,8 @@ fn close_service<L0: Tally, L1: Tally, L2: Tally, L3: Tally>(
     passes: Passes<L0, L1, L2, L3>,
 ) -> Result<(), ServeFault>
     ensures { OnOk result
-        (HasClosed service.config passes.auth passes.acct passes.ticks) }
+        (HasClosed service.config
+        passes.auth.receipts passes.acct.receipts passes.ticks.receipts) }
 {
     let passes = into_vec(alloc, passes)?;
     service.close(alloc, passes, Vec::new(alloc))?;

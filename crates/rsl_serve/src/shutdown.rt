@@ -1,3 +1,8 @@
+//! How the workers of a server end: what they tell each other, and a port that fails with the other.
+
+use rsl_edges::UdpPort;
+use rsl_event::Source;
+use rsl_receive::{DatagramPort, PortFault};
 use std::sync::atomic::{AtomicBool, AtomicU64, Ordering};
 use std::thread;
 use std::time::{self, Duration};
@@ -75,5 +80,39 @@ impl Shutdown {
     /// Whether both receivers have ended.
     pub(crate) fn is_over(&self) -> bool {
         self.ended.load(Ordering::SeqCst) >= RECEIVERS
+    }
+}
+
+/// One of the two ports of a server. It fails once the other's receiver has failed, so that no
+/// receiver goes on alone.
+#[derive(Drop)]
+pub(crate) struct PairedPort<'a> {
+    port: UdpPort,
+    shutdown: &'a Shutdown,
+}
+
+impl<'a> PairedPort<'a> {
+    ghost use Rattle.std.specs.Prelude.{◌≡◌};
+
+    /// The port, in a server whose receivers tell each other of their end here.
+    pub(crate) fn new(port: UdpPort, shutdown: &'a Shutdown) -> PairedPort<'a>
+        ensures { result.port ≡ port }
+    {
+        PairedPort { port, shutdown }
+    }
+}
+
+impl DatagramPort for PairedPort<'_> {
+    ghost numbers = { λ paired. paired.port };
+
+    fn receive(&mut self, buffer: &mut [u8]) -> Result<Option<(usize, Source)>, PortFault> {
+        if self.shutdown.has_failed() {
+            return self.port.fail();
+        }
+        self.port.receive(buffer)
+    }
+
+    fn send(&mut self, octets: &[u8], to: Source) -> Result<(), PortFault> {
+        self.port.send(octets, to)
     }
 }

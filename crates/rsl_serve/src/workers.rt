@@ -3,8 +3,8 @@ ghost use Rattle.rsl_receive.specs.Told.{no_numbers};
 ghost use Rattle.rsl_serve.specs.Served.{HasReceived};
 
 use crate::clock::{EverySecond, SystemClock};
-use crate::paired_port::PairedPort;
 use crate::server::{Finished, Passes, Server, Sockets};
+use crate::shutdown::PairedPort;
 use rsl_edges::{ServeFault, UdpPort};
 use rsl_event::Port;
 use rsl_receive::{Counts, expire_loop, receive};
@@ -41,8 +41,8 @@ where
         passes: Passes<L0, L1, L2, L3>,
         sockets: Sockets,
     ) -> Result<Finished<L0, L1, L2, L3>, ServeFault>
-        requires auth { sockets.auth.numbers ≡ no_numbers }
-        requires acct { sockets.acct.numbers ≡ no_numbers }
+        requires auth { sockets.auth ≡ no_numbers }
+        requires acct { sockets.acct ≡ no_numbers }
         ensures auth { IfOk result (λ finished. HasReceived self.now.run_time.turns finished.auth) }
         ensures acct { IfOk result (λ finished. HasReceived self.now.run_time.turns finished.acct) }
     {
@@ -66,8 +66,8 @@ where
         acct: Receiver<L0, L1, L2, L3>,
         ticks: Pass<L0, L1, L2, L3>,
     ) -> Result<Finished<L0, L1, L2, L3>, ServeFault>
-        requires auth { auth.datagrams.numbers ≡ no_numbers }
-        requires acct { acct.datagrams.numbers ≡ no_numbers }
+        requires auth { auth.datagrams ≡ no_numbers }
+        requires acct { acct.datagrams ≡ no_numbers }
         ensures auth { IfOk result (λ finished. HasReceived self.now.run_time.turns finished.auth) }
         ensures acct { IfOk result (λ finished. HasReceived self.now.run_time.turns finished.acct) }
     {
@@ -78,8 +78,8 @@ where
             self.rt,
             move || server.run_ticker(ticks),
             move || -> Outcomes<L0, L1, L2, L3>
-                requires auth { auth.datagrams.numbers ≡ no_numbers }
-                requires acct { acct.datagrams.numbers ≡ no_numbers }
+                requires auth { auth.datagrams ≡ no_numbers }
+                requires acct { acct.datagrams ≡ no_numbers }
                 ensures auth { IfOk result.0 (λ received. HasReceived server.entry.now.run_time.turns received.0) }
                 ensures acct { IfOk result.1 (λ received. HasReceived server.entry.now.run_time.turns received.0) }
             { server.run_receivers(auth, acct) },
@@ -107,8 +107,8 @@ where
         auth: Receiver<L0, L1, L2, L3>,
         acct: Receiver<L0, L1, L2, L3>,
     ) -> Outcomes<L0, L1, L2, L3>
-        requires auth { auth.datagrams.numbers ≡ no_numbers }
-        requires acct { acct.datagrams.numbers ≡ no_numbers }
+        requires auth { auth.datagrams ≡ no_numbers }
+        requires acct { acct.datagrams ≡ no_numbers }
         ensures auth { IfOk result.0 (λ received. HasReceived self.now.run_time.turns received.0) }
         ensures acct { IfOk result.1 (λ received. HasReceived self.now.run_time.turns received.0) }
     {
@@ -116,11 +116,11 @@ where
         thread::join(
             self.rt,
             move || -> Outcome<L0, L1, L2, L3>
-                requires { auth.datagrams.numbers ≡ no_numbers }
+                requires { auth.datagrams ≡ no_numbers }
                 ensures { IfOk result (λ received. HasReceived server.entry.now.run_time.turns received.0) }
             { server.run_receiver(auth) },
             move || -> Outcome<L0, L1, L2, L3>
-                requires { acct.datagrams.numbers ≡ no_numbers }
+                requires { acct.datagrams ≡ no_numbers }
                 ensures { IfOk result (λ received. HasReceived server.entry.now.run_time.turns received.0) }
             { server.run_receiver(acct) },
         )
@@ -128,7 +128,7 @@ where
 
     /// Runs a receiver. It fails also where the other one has failed, or a worker has not started.
     fn run_receiver(&self, receiver: Receiver<L0, L1, L2, L3>) -> Outcome<L0, L1, L2, L3>
-        requires { receiver.datagrams.numbers ≡ no_numbers }
+        requires { receiver.datagrams ≡ no_numbers }
         ensures { IfOk result (λ received. HasReceived self.now.run_time.turns received.0) }
     {
         let Receiver {
@@ -154,7 +154,7 @@ where
         datagrams: UdpPort,
         pass: &mut Pass<L0, L1, L2, L3>,
     ) -> Result<Counts, ServeFault>
-        requires { datagrams.numbers ≡ no_numbers }
+        requires { datagrams ≡ no_numbers }
         ensures { IfOk result (λ counts. HasReceived self.now.run_time.turns counts) }
     {
         let mut datagrams = PairedPort::new(datagrams, &self.shutdown);

@@ -16,6 +16,8 @@ use Rattle.rsl_record.specs.declared.receipt.Receipt.{Receipt}
 use Rattle.rsl_shard.specs.Restep.{new_books, restep}
 use Rattle.rsl_shard.specs.Setup.{Setup, setup_of}
 use Rattle.rsl_shard.specs.declared.segment.Segment.{Segment}
+use Rattle.std.proofs.lemmas.List.{length-map}
+use Rattle.rsl_service.specs.Receipts.{PassSeen, receipts_of}
 use Rattle.rsl_service.specs.Closed.{EndedSeen, HasEnd, HaveEnds, IsClosedBy, IsEnd, IsEndOf, IsFaultOf, IsRecordSettled, IsUnsettled, count_in, end_of, lines_to, as_list}
 
 -- ---- the journals that shards end with
@@ -118,18 +120,14 @@ lines_told config shard given present end joined =
 
 -- ---- the record
 
-same_passes : (passes : List (List Receipt)) → map (λ (pass : List Receipt). pass) passes ≡ passes
-same_passes [] = refl
-same_passes (pass ∷ passes) = ap (λ (rest : List (List Receipt)). pass ∷ rest) (same_passes passes)
-
 -- what is told of a record, by what was seen of its parts
-pub seen_settled : (config : Configuration) (opened : ℕ) (passes passes_seen : List (List Receipt)) (given given_seen present present_seen : List Segment)
+pub seen_settled : (config : Configuration) (opened : ℕ) (passes passes_seen : List PassSeen) (given given_seen present present_seen : List Segment)
     → passes_seen ≡ passes → given_seen ≡ given → present_seen ≡ present
-    → IsSettled config opened (map (λ (pass : List Receipt). pass) passes_seen) (given_seen ++ present_seen) → IsSettled config opened passes (given ++ present)
+    → IsSettled config opened (receipts_of passes_seen) (given_seen ++ present_seen) → IsSettled config opened (receipts_of passes) (given ++ present)
 seen_settled config opened passes passes_seen given given_seen present present_seen is_passes is_given is_present settled =
-    subst (λ (all : List Segment). IsSettled config opened passes (given ++ all)) is_present
-    (subst (λ (all : List Segment). IsSettled config opened passes (all ++ present_seen)) is_given
-    (subst (λ (all : List (List Receipt)). IsSettled config opened all (given_seen ++ present_seen)) (same_passes passes_seen ∙ is_passes) settled))
+    subst (λ (all : List Segment). IsSettled config opened (receipts_of passes) (given ++ all)) is_present
+    (subst (λ (all : List Segment). IsSettled config opened (receipts_of passes) (all ++ present_seen)) is_given
+    (subst (λ (all : List PassSeen). IsSettled config opened (receipts_of all) (given_seen ++ present_seen)) is_passes settled))
 
 -- an ended service is closed where its record is settled
 pub closes : (ended : EndedSeen) (passes : List (List Receipt)) (given sorted : List Segment) → HaveEnds ended.config ended.present
@@ -145,25 +143,22 @@ closes ended passes given sorted ends told settled same by_shard = record {
 }
 
 -- and why it is not, by what was seen of the parts of its record
-pub faults : (ended : EndedSeen) (passes passes_seen : List (List Receipt)) (given given_seen present_seen : List Segment) (fault : CloseFault)
+pub faults : (ended : EndedSeen) (passes passes_seen : List PassSeen) (given given_seen present_seen : List Segment) (fault : CloseFault)
     → passes_seen ≡ passes → given_seen ≡ given → present_seen ≡ ended.present
-    → IsCloseFault ended.config ended.opened (map (λ (pass : List Receipt). pass) passes_seen) (given_seen ++ present_seen) fault
+    → IsCloseFault ended.config ended.opened (receipts_of passes_seen) (given_seen ++ present_seen) fault
     → (length passes_seen ≢ ended.opened → fault ≡ MissingPass)
-    → (fault ≢ NoMemory → IsSettled ended.config ended.opened (map (λ (pass : List Receipt). pass) passes_seen) (given_seen ++ present_seen) → ⊥)
-    → IsFaultOf ended passes given fault
+    → (fault ≢ NoMemory → IsSettled ended.config ended.opened (receipts_of passes_seen) (given_seen ++ present_seen) → ⊥)
+    → IsFaultOf ended (receipts_of passes) given fault
 faults ended passes passes_seen given given_seen present_seen fault is_passes is_given is_present first missing unsettled =
-    subst (λ (some : List (List Receipt)). IsFaultOf ended some given fault) is_passes
-    (subst (λ (some : List Segment). IsFaultOf ended passes_seen some fault) is_given (record {
-      first = is (λ (all : List (List Receipt)) (some : List Segment). IsCloseFault ended.config ended.opened all some fault) first;
-      missing = missing;
-      unsettled = is (λ (all : List (List Receipt)) (some : List Segment). fault ≢ NoMemory → IsSettled ended.config ended.opened all some → ⊥) unsettled;
+    subst (λ (some : List PassSeen). IsFaultOf ended (receipts_of some) given fault) is_passes
+    (subst (λ (some : List Segment). IsFaultOf ended (receipts_of passes_seen) some fault) is_given (record {
+      first = is (λ (some : List Segment). IsCloseFault ended.config ended.opened (receipts_of passes_seen) some fault) first;
+      missing = λ apart. missing (λ same. apart (length-map passes_seen (λ (pass : PassSeen). pass.receipts) ∙ same));
+      unsettled = is (λ (some : List Segment). fault ≢ NoMemory → IsSettled ended.config ended.opened (receipts_of passes_seen) some → ⊥) unsettled;
     }))
   where
-    is : (said : List (List Receipt) → List Segment → Type 0) → said (map (λ (pass : List Receipt). pass) passes_seen) (given_seen ++ present_seen)
-        → said passes_seen (given_seen ++ ended.present)
-    is said at =
-        subst (λ (all : List Segment). said passes_seen (given_seen ++ all)) is_present
-        (subst (λ (all : List (List Receipt)). said all (given_seen ++ present_seen)) (same_passes passes_seen) at)
+    is : (said : List Segment → Type 0) → said (given_seen ++ present_seen) → said (given_seen ++ ended.present)
+    is said at = subst (λ (all : List Segment). said (given_seen ++ all)) is_present at
 
 -- where its record is settled, memory alone is refused
 pub refused : (ended : EndedSeen) (passes : List (List Receipt)) (given : List Segment) → IsRecordSettled ended passes given → IsFaultOf ended passes given NoMemory

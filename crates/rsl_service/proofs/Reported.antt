@@ -1,10 +1,11 @@
 -- The rows of a report, one by one.
 use Rattle.std.proofs.Common.{◌≡◌, ℕ, zero, suc, ◌+◌, ◌*◌, ◌/◌, ◌%◌, ◌<◌, ◌≤◌, ◌⊎◌, inl, inr, List, [], ◌∷◌, ◌++◌, length, map, set, Option, Some, None, refl, sym, ap, subst, ◌∙◌, arith, length-set, length-append}
-use Rattle.std.specs.Prelude.{All, slice_get}
+use Rattle.std.specs.Prelude.{All, Bool, if◌then◌else◌, slice_get}
 use Rattle.std.specs.Option.{option_map}
-use Rattle.std.proofs.lemmas.Bool.{cases_eq}
+use Rattle.std.proofs.Math.Nat.{mul-le-mul_left}
+use Rattle.std.proofs.lemmas.Bool.{cases_eq, cases_lt, ne_eqb}
 use Rattle.std.proofs.lemmas.List.Elements.{All-get_or}
-use Rattle.std.proofs.lemmas.Option.{get_or_from_slice_get, slice_get-map, slice_get_within, same_Some}
+use Rattle.std.proofs.lemmas.Option.{get_or_from_slice_get, slice_get-map, slice_get_past, slice_get_within, same_Some}
 use Rattle.rsl_accounts.specs.Configuration.{Configuration}
 use Rattle.rsl_accounts.specs.declared.entry.Entry.{Entry}
 use Rattle.rsl_accounts.specs.declared.rules.Rules.{Rules}
@@ -12,7 +13,7 @@ use Rattle.rsl_book.specs.RuledBook.{IsWithinLimit, RuledBook}
 use Rattle.rsl_session.specs.Book.{places_in}
 use Rattle.rsl_shard.specs.Moves.{IsOfShard}
 use Rattle.rsl_shard.specs.Opening.{as_new}
-use Rattle.rsl_shard.specs.Restep.{book_at, book_of_entry, new_books}
+use Rattle.rsl_shard.specs.Restep.{book_at, book_from, book_of_entry, new_books}
 use Rattle.rsl_shard.specs.Rows.{row_of}
 use Rattle.rsl_shard.specs.Seen.{IsShard, ShardSeen, books_of}
 use Rattle.rsl_shard.specs.Setup.{Setup, setup_of}
@@ -188,8 +189,60 @@ one_shown account shard old now new there so_far is = subst (AreShown (account +
     other at none (inl same) =
         ap (λ (book : Option RuledBook). slice_get (with_book account book now) at) (ap (shown_book shard) (sym same) ∙ none) ∙ so_far.others at none
 
--- up to the last
-pub all_shown : (many : ℕ) (shard : ShardSeen) (old new : List Row) → many ≡ length old → AreShown many shard old new → AreShown (length old) shard old new
-all_shown many shard old new all shown = subst (λ (n : ℕ). AreShown n shard old new) all shown
+-- the accounts up to the next one of the shard are passed over
+passed_over : (many next : ℕ) (shard : ShardSeen) (old new : List Row) → many ≤ next
+    → ((at : ℕ) → many ≤ at → at < next → shown_book shard at ≡ None) → AreShown many shard old new → AreShown next shard old new
+passed_over many next shard old new more none so_far = record {
+  shown = λ at ruled before found. by at ruled before found (cases_lt at many);
+  others = so_far.others;
+  later = λ at past. so_far.later at (omega (arith, past, more));
+}
+  where
+    by : (at : ℕ) (ruled : RuledBook) → at < next → shown_book shard at ≡ Some ruled → (at < many) ⊎ (many ≤ at)
+        → slice_get new at ≡ Some (row_of at ruled)
+    by at ruled before found (inl less) = so_far.shown at ruled less found
+    by at ruled before found (inr past) = let none_found = sym (none at past before) ∙ found in cc
 
-pub ruleset showing = (none_shown, one_shown, all_shown)
+-- an account between those of a shard has no book there
+none_from : (first shards : ℕ) (books : List RuledBook) (at : ℕ) → ((k : ℕ) → first + k * shards ≡ at → ⊥)
+    → book_from first shards books at ≡ None
+unfolding book_from
+none_from first shards [] at apart = refl
+none_from first shards (ruled ∷ books) at apart =
+    subst (λ (here : Bool). (if here then Some ruled else book_from (first + shards) shards books at) ≡ None)
+    (sym (ne_eqb first at (λ same. apart 0 (omega (arith, same)))))
+    (none_from (first + shards) shards books at (λ k same. apart (k + 1) (omega (arith, same))))
+
+between : (first shards i at k : ℕ) → first + i * shards < at → at < first + i * shards + shards → first + k * shards ≡ at → ⊥
+between first shards i at k above below same = by (cases_lt k (i + 1))
+  where
+    by : (k < i + 1) ⊎ (i + 1 ≤ k) → ⊥
+    by (inl less) = let few : k ≤ i = omega (arith, less) in omega (arith, above, same, mul-le-mul_left shards few)
+    by (inr more) = omega (arith, below, same, mul-le-mul_left shards more)
+
+-- before the first account of a shard there is none
+pub begun_shown : (number : ℕ) (shard : ShardSeen) (rows : List Row) → number ≡ shard.setup.shard → AreShown number shard rows rows
+begun_shown number shard rows is =
+    passed_over 0 number shard rows rows (omega arith)
+    (λ at past before. none_from shard.setup.shard shard.setup.shards (books_of shard) at (λ k same. omega (arith, same, before, is)))
+    (none_shown shard rows)
+
+-- with the row of one account of a shard more, up to its next account
+pub step_shown : (i account next shards : ℕ) (shard : ShardSeen) (old now new : List Row) → shards ≡ shard.setup.shards → 0 < shards
+    → account ≡ shard.setup.shard + i * shards → next ≡ account + shards
+    → account < length now → AreShown account shard old now → new ≡ with_book account (shown_book shard account) now → AreShown next shard old new
+step_shown i account next shards shard old now new are some at_index is there so_far more =
+    passed_over (account + 1) next shard old new (omega (arith, some, is))
+    (λ at past before. none_from shard.setup.shard shard.setup.shards (books_of shard) at
+    (subst (λ (n : ℕ). (k : ℕ) → shard.setup.shard + k * n ≡ at → ⊥) are
+    (λ k. between shard.setup.shard shards i at k (omega (arith, at_index, past)) (omega (arith, at_index, is, before)))))
+    (one_shown account shard old now new there so_far more)
+
+-- up to the last
+pub all_shown : (many : ℕ) (shard : ShardSeen) (old new : List Row) → length old ≤ many → length new ≡ length old
+    → AreShown many shard old new → AreShown (length old) shard old new
+all_shown many shard old new all long so_far = record {
+  shown = λ at ruled before found. so_far.shown at ruled (omega (arith, before, all)) found;
+  others = so_far.others;
+  later = λ at past. slice_get_past new at (omega (arith, past, long)) ∙ sym (slice_get_past old at past);
+}

@@ -1,9 +1,22 @@
 -- The receipts of a pass: one for each move that its holder made, in the order of the calls.
-use Rattle.std.specs.Prelude.{◌≡◌, ℕ, ◌==◌, List, [], ◌∷◌, ◌++◌, zero, suc, count_by}
+use Rattle.std.specs.Prelude.{◌≡◌, ℕ, ◌==◌, List, [], ◌∷◌, ◌++◌, zero, suc, count_by, map}
 use Rattle.rsl_event.specs.declared.event.Decision.{Decision}
 use Rattle.rsl_event.specs.declared.event.Decision.TheVariants.{Done}
 use Rattle.rsl_shard.specs.declared.moved.Move.{Move}
 use Rattle.rsl_record.specs.declared.receipt.Receipt.{Receipt}
+
+-- what a contract sees of a pass: its receipts, and for how many octets of a reply it has room
+pub record PassSeen : Type 0 where
+  pub receipts : List Receipt
+  pub room : ℕ
+
+-- a pass of which nothing was made yet
+abbrev pub new_pass : PassSeen
+new_pass = record { receipts = []; room = 0 }
+
+-- the receipts of passes
+abbrev pub receipts_of : List PassSeen → List (List Receipt)
+receipts_of passes = map (λ (pass : PassSeen). pass.receipts) passes
 
 -- how many of the receipts are of a shard
 unfoldable pub count_of : (shard : ℕ) → List Receipt → ℕ

@@ -60,9 +60,9 @@ impl<L0: Tally, L1: Tally, L2: Tally, L3: Tally, G: Gate> Service<L0, L1, L2, L3
         requires prepared { IsPrepared self.now.config prepared }
         requires act { HasOwnAct prepared.meaning }
         ensures applied { IfOk result (λ answered.
-            IsApplied self.now moment prepared.entry answered pass.old pass.new) }
+            IsApplied self.now moment prepared.entry answered pass.old.receipts pass.new.receipts) }
         ensures err { IfErr result (λ fault.
-            IsStopped self.now moment prepared.entry.meaning fault pass.old pass.new) }
+            IsStopped self.now moment prepared.entry.meaning fault pass.old.receipts pass.new.receipts) }
         ensures fewer { IfErr result (λ fault.
             swept_before fault < self.now.config.settings.shards) }
     {
@@ -97,9 +97,9 @@ impl<L0: Tally, L1: Tally, L2: Tally, L3: Tally, G: Gate> Service<L0, L1, L2, L3
         moment: u64,
     ) -> Result<(), ApplyFault>
         ensures ticked { IfOk result (λ _.
-            AreNoted self.now.config.settings.shards (moves.Tick moment) pass.old pass.new) }
+            AreNoted self.now.config.settings.shards (moves.Tick moment) pass.old.receipts pass.new.receipts) }
         ensures err { IfErr result (λ fault.
-            AreNoted (swept_before fault) (moves.Tick moment) pass.old pass.new) }
+            AreNoted (swept_before fault) (moves.Tick moment) pass.old.receipts pass.new.receipts) }
         ensures fewer { IfErr result (λ fault.
             swept_before fault < self.now.config.settings.shards) }
     {
@@ -119,9 +119,9 @@ impl<L0: Tally, L1: Tally, L2: Tally, L3: Tally, G: Gate> Service<L0, L1, L2, L3
         requires account { HasAccount self.now.config meaning }
         requires act { HasOwnAct meaning }
         ensures decided { IfOk result (λ decision.
-            HasDecided self.now moment meaning decision pass.old pass.new) }
+            HasDecided self.now moment meaning decision pass.old.receipts pass.new.receipts) }
         ensures err { IfErr result (λ fault.
-            IsStopped self.now moment meaning fault pass.old pass.new) }
+            IsStopped self.now moment meaning fault pass.old.receipts pass.new.receipts) }
         ensures fewer { IfErr result (λ fault.
             swept_before fault < self.now.config.settings.shards) }
     {
@@ -152,9 +152,9 @@ impl<L0: Tally, L1: Tally, L2: Tally, L3: Tally, G: Gate> Service<L0, L1, L2, L3
     ) -> Result<(), ApplyFault>
         requires takes { IsOfAll moved.now }
         ensures noted { IfOk result (λ _.
-            AreNoted self.now.config.settings.shards moved.now pass.old pass.new) }
+            AreNoted self.now.config.settings.shards moved.now pass.old.receipts pass.new.receipts) }
         ensures err { IfErr result (λ fault.
-            AreNoted (swept_before fault) moved.now pass.old pass.new) }
+            AreNoted (swept_before fault) moved.now pass.old.receipts pass.new.receipts) }
         ensures fewer { IfErr result (λ fault.
             swept_before fault < self.now.config.settings.shards) }
     {
@@ -175,9 +175,9 @@ impl<L0: Tally, L1: Tally, L2: Tally, L3: Tally, G: Gate> Service<L0, L1, L2, L3
     ) -> Result<(), ApplyFault>
         requires there { shard < self.now.config.settings.shards }
         requires takes { IsOfAll moved.now }
-        ensures noted { IfOk result (λ _. HasOneMore shard moved.now pass.old pass.new) }
+        ensures noted { IfOk result (λ _. HasOneMore shard moved.now pass.old.receipts pass.new.receipts) }
         ensures err { IfErr result (λ fault.
-            (swept_before fault ≡ shard) × (pass.new ≡ pass.old)) }
+            (swept_before fault ≡ shard) × (pass.new.receipts ≡ pass.old.receipts)) }
     {
         let copy = match moved.try_copy(alloc) {
             Ok(copy) => copy,
@@ -204,7 +204,7 @@ impl<L0: Tally, L1: Tally, L2: Tally, L3: Tally> Desks<L0, L1, L2, L3> {
     ) -> Result<Decision, StepFault>
         requires there { shard < self.now.settings.shards }
         requires takes { IsTaken (setup_of self.now shard) moved }
-        ensures noted { IfOk result (λ decision. IsNoted shard moved decision pass.old pass.new) }
+        ensures noted { IfOk result (λ decision. IsNoted shard moved decision pass.old.receipts pass.new.receipts) }
         ensures done { IfOk result (λ decision. IsOfAll moved → decision ≡ Decision.Done) }
         ensures err { OnErr result (pass.new ≡ pass.old) }
     {

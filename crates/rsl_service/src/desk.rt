@@ -178,7 +178,6 @@ impl<L: Tally> Desk<L> {
     }
 
     /// Puts what each account of the shard holds into its row. The other rows are as they were.
-    #[tactic(auto, using(crate::proofs::Reported::showing))]
     pub(crate) fn show(&self, config: &Config, number: u32, rows: &mut [Row])
         requires setup { L.setup ≡ setup_of config.now number }
         requires books { L.books ≡ new_books config.now number }
@@ -186,8 +185,11 @@ impl<L: Tally> Desk<L> {
         ensures shown { AreShown (length rows.old) self.now.shard rows.old rows.new }
         ensures report { IsReport config.now.accounts rows.new }
     {
-        for account in 0..rows.len() {
+        let shards = config.shards() as usize;
+        let mut account = number as usize;
+        while account < rows.len() {
             self.show_one(config, number, account, rows);
+            account += shards;
         }
     }
 

@@ -8,20 +8,18 @@
 #![tactic(auto)]
 
 mod apply;
-mod close;
-mod cut;
 mod desk;
 mod fault;
+mod journals;
 pub mod laws;
 mod ledger;
 mod pass;
 mod report;
 mod service;
-mod shares;
 
 pub use apply::Answered;
-pub use close::Closed;
 pub use fault::{ApplyFault, CutFault, PassFault};
+pub use journals::Closed;
 pub use ledger::{Blanks, Tally};
 pub use pass::Pass;
 pub use rsl_record::{CloseFault, HasReceipts, Receipt, settle};

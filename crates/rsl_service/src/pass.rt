@@ -15,11 +15,10 @@ ghost use Rattle.std.specs.Prelude.{
   vec_capacity,
   vec_len,
 };
-ghost use Rattle.rsl_service.specs.Receipts.{count_of};
+ghost use Rattle.rsl_service.specs.Receipts.{count_of, new_pass};
 
 use crate::fault::PassFault;
-use crate::ledger::Tally;
-use crate::shares::Shares;
+use crate::ledger::{Shares, Tally};
 use rsl_record::{HasReceipts, Receipt};
 use rsl_shard::Spare;
 use rsl_wire::NoMemory;
@@ -58,7 +57,9 @@ impl Model for ReplyRoom {
 
 impl ReplyRoom {
     /// No room yet.
-    fn new(alloc: Global) -> ReplyRoom {
+    fn new(alloc: Global) -> ReplyRoom
+        ensures { result ≡ 0 }
+    {
         ReplyRoom {
             octets: Vec::new(alloc),
         }
@@ -81,9 +82,10 @@ impl ReplyRoom {
 
 /// What a caller of the service holds: a receipt for each move that it made.
 ///
-/// A contract sees the receipts, in the order of the calls. Its type keeps that, for each shard, as
-/// many of its receipts are of that shard as its share in the ledger there counts. Beside them it
-/// has the room for lines that its next step may need, and for the octets of its next reply.
+/// A contract sees the receipts, in the order of the calls, and for how many octets of its next
+/// reply it has room. Its type keeps that, for each shard, as many of its receipts are of that shard
+/// as its share in the ledger there counts. Beside them it has the room for lines that its next step
+/// may need.
 #[derive(Drop)]
 pub struct Pass<L0: Tally, L1: Tally, L2: Tally, L3: Tally> {
     pub(crate) shares: Shares<L0, L1, L2, L3>,
@@ -92,13 +94,15 @@ pub struct Pass<L0: Tally, L1: Tally, L2: Tally, L3: Tally> {
 }
 
 impl<L0: Tally, L1: Tally, L2: Tally, L3: Tally> Model for Pass<L0, L1, L2, L3> {
-    ghost use Rattle.std.specs.Prelude.{◌≡◌, List};
-    ghost use Rattle.rsl_record.specs.declared.receipt.Receipt.{Receipt};
-    ghost use Rattle.rsl_service.specs.Receipts.{count_of};
+    ghost use Rattle.std.specs.Prelude.{◌≡◌};
+    ghost use Rattle.rsl_service.specs.Receipts.{PassSeen, count_of};
 
-    ghost Value = { List Receipt };
+    ghost Value = { PassSeen };
 
-    ghost view = { λ pass. pass.notes.receipts.items };
+    ghost view = { λ pass. record {
+      receipts = pass.notes.receipts.items;
+      room = pass.reply_room;
+    } };
 
     ghost invariant = { λ pass.
         (pass.shares.parts ≡ 1)
@@ -152,7 +156,8 @@ impl<L0: Tally, L1: Tally, L2: Tally, L3: Tally> Pass<L0, L1, L2, L3> {
     /// their room, and takes no memory where that is of 4,096 octets, as each reply's is. The
     /// receipts are as they were.
     pub fn take_back(&mut self, octets: Vec<u8>)
-        ensures { self.new ≡ self.old }
+        ensures receipts { self.new.receipts ≡ self.old.receipts }
+        ensures room { self.new.room ≡ vec_capacity octets }
     {
         self.reply_room.put(octets);
     }
@@ -160,17 +165,17 @@ impl<L0: Tally, L1: Tally, L2: Tally, L3: Tally> Pass<L0, L1, L2, L3> {
     /// The shares alone.
     pub(crate) fn into_shares(self) -> Shares<L0, L1, L2, L3>
         ensures parts { result.parts ≡ 1 }
-        ensures amount0 { result.amount0 ≡ count_of 0 self }
-        ensures amount1 { result.amount1 ≡ count_of 1 self }
-        ensures amount2 { result.amount2 ≡ count_of 2 self }
-        ensures amount3 { result.amount3 ≡ count_of 3 self }
+        ensures amount0 { result.amount0 ≡ count_of 0 self.receipts }
+        ensures amount1 { result.amount1 ≡ count_of 1 self.receipts }
+        ensures amount2 { result.amount2 ≡ count_of 2 self.receipts }
+        ensures amount3 { result.amount3 ≡ count_of 3 self.receipts }
     {
         self.shares
     }
 }
 
 impl<L0: Tally, L1: Tally, L2: Tally, L3: Tally> HasReceipts for Pass<L0, L1, L2, L3> {
-    ghost receipts = { λ pass. pass };
+    ghost receipts = { λ pass. pass.receipts };
 
     fn receipts(&self) -> &[Receipt] {
         self.notes.receipts.as_slice()
@@ -208,7 +213,7 @@ impl<L0: Tally, L1: Tally, L2: Tally, L3: Tally> PassBook<L0, L1, L2, L3> {
     /// Where it fails, nothing has changed.
     #[tactic(auto, using(crate::proofs::Counting::none_counted))]
     pub(crate) fn open(&mut self, alloc: Global) -> Result<Pass<L0, L1, L2, L3>, PassFault>
-        ensures pass { IfOk result (λ pass. pass ≡ []) }
+        ensures pass { IfOk result (λ pass. pass ≡ new_pass) }
         ensures opened { OnOk result (self.new.opened ≡ self.old.opened + 1) }
         ensures full { IfErr result (λ fault.
             fault ≡ PassFault.TooMany ↔ (self.old.opened ≡ 1024)) }

@@ -1,10 +1,11 @@
-ghost use Rattle.std.specs.Prelude.{◌≡◌, ◌<◌, [], IfOk, Ok, Some, is_some, nat_lt};
+ghost use Rattle.std.specs.Prelude.{◌≡◌, ◌<◌, IfOk, Ok, Some, is_some, nat_lt};
 ghost use Rattle.rsl_accounts.specs.Configuration.{client_number};
 ghost use Rattle.rsl_accounts.specs.Limits.{IsConfiguration};
 ghost use Rattle.rsl_event.specs.Meaning.{meaning};
 ghost use Rattle.rsl_event.specs.Prepared.{GivesPrepared, HasOwnAct, IsPrepared};
 ghost use Rattle.rsl_shard.specs.Restep.{new_books};
 ghost use Rattle.rsl_shard.specs.Setup.{setup_of};
+ghost use Rattle.rsl_service.specs.Receipts.{new_pass};
 ghost use Rattle.rsl_service.specs.Service.{IsLedgerOf};
 ghost use Rattle.rsl_service.specs.Shares.{whole};
 ghost use Rattle.rsl_wire.specs.Packet.{packet_of};
@@ -12,9 +13,8 @@ ghost use Rattle.rsl_wire.specs.Seen.{fields_of};
 
 use crate::desk::Desk;
 use crate::fault::PassFault;
-use crate::ledger::{Blanks, Tally};
+use crate::ledger::{Blanks, Shares, Tally};
 use crate::pass::{Pass, PassBook};
-use crate::shares::Shares;
 use rsl_accounts::Config;
 use rsl_event::{Dropped, Port, Prepared, Source, prepare};
 use rsl_wire::NoMemory;
@@ -102,13 +102,12 @@ impl<L0: Tally, L1: Tally, L2: Tally, L3: Tally> Desks<L0, L1, L2, L3> {
             blank2,
             blank3,
         } = blanks;
-        // A call for its clause: a configuration has 1 to 4 shards.
-        let _shards = config.shards();
-        // Fewer ways out: all four are looked at together.
-        let first = Desk::new(alloc, &config, 0, blank0);
+        // Fewer ways out: all four are looked at together. Shard 0 comes last, since every
+        // configuration has it, as a clause of the others says.
         let second = desk_if_there(alloc, &config, 1, blank1);
         let third = desk_if_there(alloc, &config, 2, blank2);
         let fourth = desk_if_there(alloc, &config, 3, blank3);
+        let first = Desk::new(alloc, &config, 0, blank0);
         let (Ok((desk0, share0)), Ok((desk1, share1)), Ok((desk2, share2)), Ok((desk3, share3))) = (
             first, second, third, fourth,
         ) else {
@@ -154,6 +153,7 @@ fn desk_if_there<L: Tally>(
         is_some made.0 ≡ nat_lt number config.now.settings.shards) }
     ensures parts { IfOk result (λ made. made.1.parts ≡ L.parts) }
     ensures amount { IfOk result (λ made. made.1.amount ≡ 0) }
+    ensures limits { IsConfiguration config.now }
 {
     if number >= config.shards() {
         let (_ledger, share) = blank.open::<L>();
@@ -248,14 +248,14 @@ impl<L0: Tally, L1: Tally, L2: Tally, L3: Tally, G: Gate> Service<L0, L1, L2, L3
         prepare(alloc, self.config(), self.boot, port, source, datagram)
     }
 
-    /// A new pass, with no receipts. `TooMany` comes where 1,024 were opened, and else `NoMemory`
+    /// A new pass, with no receipts and no room. `TooMany` comes where 1,024 were opened, and else `NoMemory`
     /// where memory is refused.
     pub fn open_pass<R: Wait>(
         &self,
         rt: &R,
         alloc: Global,
     ) -> Result<Pass<L0, L1, L2, L3>, PassFault>
-        ensures { IfOk result (λ pass. pass ≡ []) }
+        ensures { IfOk result (λ pass. pass ≡ new_pass) }
     {
         self.passes.lock(rt).open(alloc)
     }

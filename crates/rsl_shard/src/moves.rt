@@ -33,8 +33,6 @@ impl Moves {
         ensures moves { result ≡ moves_of config.now moment meaning }
         ensures taken { AreTaken config.now result }
     {
-        // A configuration has 1 to 4 shards: this call tells it.
-        let _shards = config.shards();
         match meaning {
             Meaning::Own { account, act } => Moves::One {
                 shard: config.shard_of(account),
@@ -43,8 +41,9 @@ impl Moves {
                     event: Event { moment, act },
                 },
             },
+            // Account 0 is one of shard 0, which every configuration has.
             Meaning::Stray(note) => Moves::One {
-                shard: 0,
+                shard: config.shard_of(0),
                 moved: Move::Stray { moment, note },
             },
             Meaning::Restart { nas } => Moves::Each(Move::Sweep { moment, nas }),

@@ -1,4 +1,5 @@
 ghost use Rattle.std.specs.Prelude.{◌≡◌, ℕ, ◌<◌, List, [], length, Some, slice_get, IfOk};
+ghost use Rattle.rsl_accounts.specs.Limits.{IsConfiguration};
 ghost use Rattle.rsl_accounts.specs.declared.entry.Entry.{Entry};
 ghost use Rattle.rsl_shard.specs.Moves.{IsTaken};
 ghost use Rattle.rsl_shard.specs.Setup.{Setup};
@@ -46,11 +47,9 @@ pub fn run(alloc: Global, config: &Config, boot: u64, steps: &[Step]) -> Result<
         (own config.now boot account (steps_taken [] steps.now ran.answers.items))
         ran.shards.items) }
 {
-    // What books answer and hold is what looking back finds, and every configuration is within its
-    // limits.
+    // What books answer and hold is what looking back finds.
     books_answer_as_looking_back();
     shards_obey_the_rule();
-    let _accounts = config.accounts();
     let mut shards = new_shards(alloc, config)?;
     let mut answers = Vec::with_capacity(alloc, steps.len())?;
     for step in steps {
@@ -62,7 +61,8 @@ pub fn run(alloc: Global, config: &Config, boot: u64, steps: &[Step]) -> Result<
 
 /// The shards of a configuration, none of which has made a move.
 fn new_shards(alloc: Global, config: &Config) -> Result<Vec<Shard>, NoMemory>
-    ensures { IfOk result (λ shards. (boot : ℕ) → AreShards config.now boot [] shards.items) }
+    ensures new { IfOk result (λ shards. (boot : ℕ) → AreShards config.now boot [] shards.items) }
+    ensures limits { IfOk result (λ _. IsConfiguration config.now) }
 {
     let mut shards = Vec::new(alloc);
     for number in 0..config.shards() {

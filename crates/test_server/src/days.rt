@@ -103,8 +103,9 @@ fn told<L0: Tally, L1: Tally, L2: Tally, L3: Tally, R: Wait>(
     let mut text = String::new(alloc);
     let service: Service<L0, L1, L2, L3, Open> = Service::new(alloc, blanks, config, 1, Open)?;
     let mut served = opened(rt, alloc, service)?;
-    served.work(rt, alloc, day, Steady { now, step }, &mut text)?;
-    served.close(alloc, &mut text)?;
+    let mut clock = Steady::new(alloc, now, step);
+    served.work(rt, alloc, day, &mut clock, &mut text)?;
+    served.close(alloc, &clock, &mut text)?;
     Ok(text)
 }
 
@@ -139,11 +140,11 @@ impl<L0: Tally, L1: Tally, L2: Tally, L3: Tally> Served<L0, L1, L2, L3> {
         rt: &R,
         alloc: Global,
         day: Day<'_>,
-        mut clock: Steady,
+        clock: &mut Steady,
         text: &mut String,
     ) -> Result<(), Fail> {
-        self.receive(rt, alloc, day, &mut clock, text)?;
-        self.tick(rt, alloc, day, &mut clock, text)
+        self.receive(rt, alloc, day, clock, text)?;
+        self.tick(rt, alloc, day, clock, text)
     }
 
     /// Takes the receiver's turns.
@@ -184,7 +185,7 @@ impl<L0: Tally, L1: Tally, L2: Tally, L3: Tally> Served<L0, L1, L2, L3> {
         text: &mut String,
     ) -> Result<(), Fail> {
         let (turns, left) = pair_of(day.worker)?;
-        let mut pauses = Pauses { left };
+        let mut pauses = Pauses::new(left);
         let done = expire_loop(
             rt,
             alloc,
@@ -208,7 +209,7 @@ impl<L0: Tally, L1: Tally, L2: Tally, L3: Tally> Served<L0, L1, L2, L3> {
     }
 
     /// Closes the service, and tells its lines.
-    fn close(self, alloc: Global, text: &mut String) -> Result<(), Fail> {
+    fn close(self, alloc: Global, clock: &Steady, text: &mut String) -> Result<(), Fail> {
         let Served {
             service,
             pass,
@@ -218,7 +219,7 @@ impl<L0: Tally, L1: Tally, L2: Tally, L3: Tally> Served<L0, L1, L2, L3> {
         passes.push(pass)?;
         passes.push(ticks)?;
         let closed = service.close(alloc, passes, Vec::new(alloc))?;
-        push_lines(text, &closed.segments)
+        push_lines(text, clock, &closed.segments)
     }
 }
 
@@ -264,11 +265,15 @@ fn push_port(text: &mut String, alloc: Global, datagrams: &MemoryPort) -> Result
     push_sent(text, alloc, datagrams.sent())
 }
 
-/// Tells the lines of segments.
-fn push_lines(text: &mut String, segments: &[Segment]) -> Result<(), Fail> {
+/// Tells the lines of segments. Each has a moment that the clock showed.
+fn push_lines(text: &mut String, clock: &Steady, segments: &[Segment]) -> Result<(), Fail> {
     for segment in segments {
         for line in &segment.lines {
-            let told = (segment.shard, moment_of(&line.moved), line.decision);
+            let moment = moment_of(&line.moved);
+            if !clock.has_shown(moment) {
+                return Err("a moment that the clock did not show")?;
+            }
+            let told = (segment.shard, moment, line.decision);
             push_printed(text, &told)?;
         }
     }

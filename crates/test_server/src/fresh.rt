@@ -12,7 +12,7 @@ use std::net::{Net, UdpSocket};
 pub(crate) struct Fresh {
     port: UdpPort,
     pub(crate) number: u16,
-    ghost uncalled: { port.numbers ≡ no_numbers },
+    ghost uncalled: { port ≡ no_numbers },
 }
 
 impl Fresh {
@@ -25,7 +25,7 @@ impl Fresh {
 
     /// The port.
     pub(crate) fn into_port(self) -> UdpPort
-        ensures { result.numbers ≡ no_numbers }
+        ensures { result ≡ no_numbers }
     {
         self.port
     }

@@ -117,7 +117,7 @@ fn receive_all<L0: Tally, L1: Tally, L2: Tally, L3: Tally, R: Wait>(
         pass,
         port,
         &mut datagrams,
-        &mut Steady { now: 0, step: 0 },
+        &mut Steady::new(alloc, 0, 0),
         turns,
     );
     push_counts(text, answer)?;

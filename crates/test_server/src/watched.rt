@@ -19,12 +19,12 @@ pub(crate) struct Watched<'a> {
     scene: &'a Scene,
     idle: u64,
     numbers: Numbers,
-    ghost receives: { port.numbers.receives ≤ numbers.receives },
-    ghost failed_receives: { port.numbers.failed_receives ≤ numbers.failed_receives },
-    ghost sends: { port.numbers.sends ≡ numbers.sends },
-    ghost failed_sends: { port.numbers.failed_sends ≡ numbers.failed_sends },
-    ghost astray: { port.numbers.astray ≡ numbers.astray },
-    ghost last: { port.numbers.last ≡ numbers.last },
+    ghost receives: { port.receives ≤ numbers.receives },
+    ghost failed_receives: { port.failed_receives ≤ numbers.failed_receives },
+    ghost sends: { port.sends ≡ numbers.sends },
+    ghost failed_sends: { port.failed_sends ≡ numbers.failed_sends },
+    ghost astray: { port.astray ≡ numbers.astray },
+    ghost last: { port.last ≡ numbers.last },
 }
 
 impl<'a> Watched<'a> {

@@ -1,34 +1,78 @@
-//! Clocks and pauses.
+//! Clocks and pauses that report what they showed and said.
 
 use rsl_receive::{Clock, Pause};
+use std::alloc::Global;
 
-/// A clock that goes on by so much at each look.
+/// A clock that goes on by so much at each look, and keeps the moments that it showed.
+///
+/// It reports these moments, unless it was refused the memory to keep one.
 #[derive(Drop)]
 pub(crate) struct Steady {
-    pub(crate) now: u64,
-    pub(crate) step: u64,
+    now: u64,
+    step: u64,
+    shown: Vec<u64>,
+    is_telling: bool,
+}
+
+impl Steady {
+    /// A clock that shows this moment first, and goes on by so much.
+    pub(crate) fn new(alloc: Global, now: u64, step: u64) -> Steady {
+        Steady {
+            now,
+            step,
+            shown: Vec::new(alloc),
+            is_telling: true,
+        }
+    }
+
+    /// Whether it showed this moment.
+    pub(crate) fn has_shown(&self, moment: u64) -> bool {
+        self.is_telling && self.shown.contains(&moment)
+    }
 }
 
 impl Clock for Steady {
+    ghost use Rattle.std.specs.Prelude.{Some, None, if◌then◌else◌};
+
+    ghost shown = { λ clock. if clock.is_telling then Some clock.shown.items else None };
+
     fn now(&mut self) -> u64 {
         let now = self.now;
         self.now = now.saturating_add(self.step);
+        if self.shown.push(now).is_err() {
+            self.is_telling = false;
+        }
         now
     }
 }
 
 /// So many pauses after which there is a turn more.
+///
+/// It reports what it said last.
 #[derive(Drop)]
 pub(crate) struct Pauses {
-    pub(crate) left: u64,
+    left: u64,
+    goes_on: bool,
+}
+
+impl Pauses {
+    /// So many pauses that say yes. Those after them say no.
+    pub(crate) fn new(left: u64) -> Pauses {
+        Pauses {
+            left,
+            goes_on: true,
+        }
+    }
 }
 
 impl Pause for Pauses {
+    ghost use Rattle.std.specs.Prelude.{Some};
+
+    ghost said = { λ pauses. Some pauses.goes_on };
+
     fn pause(&mut self) -> bool {
-        if self.left == 0 {
-            return false;
-        }
-        self.left -= 1;
-        true
+        self.goes_on = self.left > 0;
+        self.left = self.left.saturating_sub(1);
+        self.goes_on
     }
 }

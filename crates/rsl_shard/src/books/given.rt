@@ -25,9 +25,10 @@ fn are_same_rules(one: Rules, other: Rules) -> bool
 
 /// Whether a book has the rules of an account.
 fn is_book_of(config: &Config, account: u32, book: &Book) -> bool
-    ensures { IsTrue result ↔
+    ensures own { IsTrue result ↔
         (option_map book_of_entry (slice_get config.now.accounts account) ≡
         Some (as_new book.now)) }
+    ensures limit { IsTrue result → IsWithinLimit book.now }
 {
     if account < config.accounts() {
         return are_same_rules(book.rules(), config.entry(account).rules);
@@ -39,7 +40,8 @@ fn is_book_of(config: &Config, account: u32, book: &Book) -> bool
 /// with the account's rules.
 fn are_of_shard(config: &Config, shard: u32, books: &[Book]) -> bool
     requires { shard < config.now.settings.shards }
-    ensures { IsTrue result ↔ (map as_new books.now ≡ new_books config.now shard) }
+    ensures own { IsTrue result ↔ (map as_new books.now ≡ new_books config.now shard) }
+    ensures limit { IsTrue result → All IsWithinLimit books.now }
 {
     let shards = config.shards();
     let accounts = config.accounts();
@@ -56,15 +58,6 @@ fn are_of_shard(config: &Config, shard: u32, books: &[Book]) -> bool
     true
 }
 
-/// Tells the prover that each book is within its limit.
-fn open_limits(books: &[Book])
-    ensures { All IsWithinLimit books.now }
-{
-    for book in books {
-        let _held = book.held();
-    }
-}
-
 impl Books {
     /// The books of the accounts of a shard, as they are given: one of each, in the order of the
     /// accounts' numbers, with the account's rules. Others are handed back.
@@ -79,7 +72,6 @@ impl Books {
         if !are_of_shard(config, shard, books.as_slice()) {
             return Err(books);
         }
-        open_limits(books.as_slice());
         Ok(Books {
             shard,
             shards: config.shards(),

@@ -9,8 +9,8 @@ invariant-loop g l =
     Kept l.receiver.service.now l.receiver.port l.counts l.counter
     (g.P.DatagramPort.numbers l.fn.datagrams) (g.P.DatagramPort.numbers l.datagrams)
     (g.P.DatagramPort.tells l.datagrams ≡ true)
-    (state_of (g.P.DatagramPort.taken l.fn.datagrams) l.fn.pass (g.P.DatagramPort.sent l.fn.datagrams) (g.C.Clock.shown l.fn.clock))
-    (state_of (g.P.DatagramPort.taken l.datagrams) l.pass (g.P.DatagramPort.sent l.datagrams) (g.C.Clock.shown l.clock))
+    (state_of (g.P.DatagramPort.taken l.fn.datagrams) l.fn.pass.receipts (g.P.DatagramPort.sent l.fn.datagrams) (g.C.Clock.shown l.fn.clock))
+    (state_of (g.P.DatagramPort.taken l.datagrams) l.pass.receipts (g.P.DatagramPort.sent l.datagrams) (g.C.Clock.shown l.clock))
     × (g.P.DatagramPort.tells l.datagrams ≡ true
     → min (g.P.DatagramPort.room l.fn.datagrams) 4096 ≤ g.P.DatagramPort.room l.datagrams)
     × (vec_len l.buffer ≡ 4096)

@@ -9,5 +9,5 @@ pub loop-number-preserved : goal.loop-number-preserved
 loop-number-preserved c =
     rw c.in_ok-push.ensures.items (first_more c.args.config.now c.loop-number.number c.loop-number.shards.items c.in_ok-new.field-0 c.loop-number.invariant c.in_ok-new.ensures)
 
-pub returns : goal.returns
-returns c = λ boot. first_all c.args.config.now boot c.loop-number.number c.loop-number.shards.items c.loop-number.invariant (omega arith)
+pub returns-clause-new : goal.returns-clause-new
+returns-clause-new c = λ boot. first_all c.args.config.now boot c.loop-number.number c.loop-number.shards.items c.loop-number.invariant (omega arith)

@@ -12,7 +12,7 @@ pub loop-step-init : goal.loop-step-init
 loop-step-init c = record {
   room = omega (arith, c.in_ok-answers.ensures.exact);
   len = c.in_ok-answers.ensures.len;
-  so_far = rw c.in_ok-answers.ensures.items (run_start c.args.config.now c.args.boot c.in_ok-shards.shards.items (c.in_ok-shards.ensures c.args.boot));
+  so_far = rw c.in_ok-answers.ensures.items (run_start c.args.config.now c.args.boot c.in_ok-shards.shards.items (c.in_ok-shards.ensures.new c.args.boot));
 }
 
 pub take_step-answer-requires : goal.take_step-answer-requires
@@ -53,7 +53,7 @@ returns-clause-answers c =
 pub returns-clause-books : goal.returns-clause-books
 returns-clause-books c =
     let run = rw (take_all c.loop-step.step-index c.args.steps.now c.loop-step-test.false) at c.loop-step.invariant.so_far in
-    λ account entry there. c.shards_obey_the_rule.ensures c.args.config.now c.args.boot account entry _ _ c.accounts-accounts.ensures.limits run.shards there
+    λ account entry there. c.shards_obey_the_rule.ensures c.args.config.now c.args.boot account entry _ _ c.in_ok-shards.ensures.limits run.shards there
 
 pub returns-clause-by_books : goal.returns-clause-by_books
 returns-clause-by_books c =

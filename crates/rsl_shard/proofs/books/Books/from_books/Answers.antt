@@ -15,8 +15,8 @@ invariant_of-result c =
       accounts = c.shards.ensures.limits.accounts;
     } in
     let are : map as_new c.args.books.items ≡ new_books c.args.config.now c.args.shard =
-    rw (← c.as_slice.ensures.value) (c.are_of_shard.ensures.0 c.if-not-are_of_shard.false) in
-    let limit : All IsWithinLimit c.args.books.items = rw (← c.as_slice-2.ensures.value) c.open_limits.ensures in
+    rw (← c.as_slice.ensures.value) (c.are_of_shard.ensures.own.0 c.if-not-are_of_shard.false) in
+    let limit : All IsWithinLimit c.args.books.items = rw (← c.as_slice.ensures.value) (c.are_of_shard.ensures.limit c.if-not-are_of_shard.false) in
     subst (λ (setup : Setup). AreBooks setup c.args.books.items) same
     (given_are_books c.args.config.now c.args.shard c.args.books.items within are limit)
 

@@ -1,6 +1,6 @@
 use Rattle.std.proofs.Common.{◌+◌, refl, arith}
 use Rattle.rsl_receive.proofs.Ticking.{has_worked, more_ticked, none_taken, none_ticked, one_taken}
-use Rattle.rsl_receive.proofs.ticker.expire_loop.Goals as goal
+use Rattle.rsl_receive.proofs.clock.expire_loop.Goals as goal
 
 pub loop-init : goal.loop-init
 loop-init g c = (omega arith, none_ticked _ _, none_taken _ _ _)

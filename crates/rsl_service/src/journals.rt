@@ -1,5 +1,10 @@
+//! The journals of a service: one that is handed out while the service goes on, and all of them, once
+//! it is closed.
+
 ghost use Rattle.std.specs.Prelude.{
   ◌≡◌,
+  ◌<◌,
+  ◌≤◌,
   ◌++◌,
   ℕ,
   IfErr,
@@ -8,11 +13,17 @@ ghost use Rattle.std.specs.Prelude.{
   OnOk,
   Some,
   is_some,
+  map,
   nat_lt,
 };
 ghost use Rattle.std.specs.List.{sum_by};
 ghost use Rattle.std.specs.List.Sorted.{IsNonDecreasingBy};
 ghost use Rattle.rsl_accounts.specs.Limits.{IsConfiguration};
+ghost use Rattle.rsl_record.specs.Segments.{of_shard};
+ghost use Rattle.rsl_shard.specs.Journal.{IsJournal};
+ghost use Rattle.rsl_shard.specs.Opening.{as_new};
+ghost use Rattle.rsl_shard.specs.Restep.{new_books};
+ghost use Rattle.rsl_shard.specs.Setup.{setup_of};
 ghost use Rattle.rsl_service.specs.Closed.{
   HaveEnds,
   IsClosed,
@@ -25,21 +36,97 @@ ghost use Rattle.rsl_service.specs.Closed.{
   end_of,
   lines_to,
 };
-ghost use Rattle.rsl_record.specs.Segments.{of_shard};
+ghost use Rattle.rsl_service.specs.Receipts.{receipts_of};
+ghost use Rattle.rsl_service.specs.declared.fault.CutFault.TheVariants as faults;
 
 use crate::desk::Desk;
-use crate::ledger::Tally;
+use crate::fault::CutFault;
+use crate::ledger::{Ledgers, Shares, Tally};
 use crate::pass::{Pass, PassBook};
 use crate::service::{Desks, Gate, Service};
-use crate::shares::Shares;
 use rsl_accounts::Config;
 use rsl_record::{CloseFault, settle};
-use rsl_shard::Segment;
+use rsl_shard::{CutRoom, Segment};
 use rsl_wire::NoMemory;
 use std::alloc::Global;
 use std::marker::Model;
-use std::sync::Mutex;
-use std::sync::ledger::{Book as LineLedger, Share};
+use std::sync::ledger::Book as LineLedger;
+use std::sync::{Mutex, Wait};
+
+/// How many lines more a cut takes room for than there are, since others may come before its lock.
+const LATER_LINES: usize = 1024;
+
+impl<L0: Tally, L1: Tally, L2: Tally, L3: Tally, G: Gate> Service<L0, L1, L2, L3, G> {
+    /// Hands out the journal of a shard, which goes on from equal books. `NoShard` comes where the
+    /// configuration has no shard of this number, and `NoMemory` where memory is refused; then the
+    /// journal is as it was.
+    pub fn cut<R: Wait>(&self, rt: &R, alloc: Global, shard: u32) -> Result<Segment, CutFault>
+        ensures shard { IfOk result (λ segment. segment.shard ≡ shard) }
+        ensures journal { IfOk result (λ segment.
+            IsJournal (setup_of self.now.config shard) segment.opening.items segment.lines.items) }
+        ensures opening { IfOk result (λ segment.
+            map as_new segment.opening.items ≡ new_books self.now.config shard) }
+        ensures known { IfOk result (λ _. shard < self.now.config.settings.shards) }
+        ensures missing { IfErr result (λ fault.
+            fault ≡ faults.NoShard → self.now.config.settings.shards ≤ shard) }
+        ensures there { IfErr result (λ fault.
+            fault ≡ faults.NoMemory → shard < self.now.config.settings.shards) }
+    {
+        self.desks.cut(rt, alloc, shard)
+    }
+}
+
+impl<L0: Tally, L1: Tally, L2: Tally, L3: Tally> Desks<L0, L1, L2, L3> {
+    /// Hands out the journal of a shard.
+    fn cut<R: Wait>(&self, rt: &R, alloc: Global, shard: u32) -> Result<Segment, CutFault>
+        ensures shard { IfOk result (λ segment. segment.shard ≡ shard) }
+        ensures journal { IfOk result (λ segment.
+            IsJournal (setup_of self.now shard) segment.opening.items segment.lines.items) }
+        ensures opening { IfOk result (λ segment.
+            map as_new segment.opening.items ≡ new_books self.now shard) }
+        ensures known { IfOk result (λ _. shard < self.now.settings.shards) }
+        ensures missing { IfErr result (λ fault.
+            fault ≡ faults.NoShard → self.now.settings.shards ≤ shard) }
+        ensures there { IfErr result (λ fault.
+            fault ≡ faults.NoMemory → shard < self.now.settings.shards) }
+    {
+        match shard {
+            0 => cut_under_lock(rt, alloc, &self.desk0),
+            1 => match &self.desk1 {
+                Some(desk) => cut_under_lock(rt, alloc, desk),
+                None => Err(CutFault::NoShard),
+            },
+            2 => match &self.desk2 {
+                Some(desk) => cut_under_lock(rt, alloc, desk),
+                None => Err(CutFault::NoShard),
+            },
+            3 => match &self.desk3 {
+                Some(desk) => cut_under_lock(rt, alloc, desk),
+                None => Err(CutFault::NoShard),
+            },
+            _ => Err(CutFault::NoShard),
+        }
+    }
+}
+
+/// Hands out the journal of a shard, under its lock as it stands. Room for its lines is taken before
+/// the lock, and they are joined after it.
+fn cut_under_lock<L: Tally, R: Wait>(
+    rt: &R,
+    alloc: Global,
+    desk: &Mutex<Desk<L>>,
+) -> Result<Segment, CutFault>
+    ensures shard { IfOk result (λ segment. segment.shard ≡ L.setup.shard) }
+    ensures journal { IfOk result (λ segment.
+        IsJournal L.setup segment.opening.items segment.lines.items) }
+    ensures opening { IfOk result (λ segment. map as_new segment.opening.items ≡ L.books) }
+    ensures err { IfErr result (λ fault. fault ≡ faults.NoMemory) }
+{
+    let lines = desk.lock(rt).moves();
+    let room = CutRoom::new(alloc, lines.saturating_add(LATER_LINES))?;
+    let loose = desk.lock(rt).cut(alloc, room)?;
+    Ok(loose.join())
+}
 
 /// The journals of a service that was closed.
 #[derive(Drop)]
@@ -70,8 +157,8 @@ impl<L0: Tally, L1: Tally, L2: Tally, L3: Tally, G: Gate + Drop> Service<L0, L1,
         segments: Vec<Segment>,
     ) -> Result<Closed, CloseFault>
         ensures closed { IfOk result (λ closed.
-            IsClosed self.config passes.items segments.items closed.segments.items) }
-        ensures err { IfErr result (IsUnsettled self.config passes.items segments.items) }
+            IsClosed self.config (receipts_of passes.items) segments.items closed.segments.items) }
+        ensures err { IfErr result (IsUnsettled self.config (receipts_of passes.items) segments.items) }
     {
         let ended = self.end(alloc)?;
         ended.close(alloc, passes, segments)
@@ -206,8 +293,8 @@ impl<L0: Tally, L1: Tally, L2: Tally, L3: Tally> EndedService<L0, L1, L2, L3> {
         segments: Vec<Segment>,
     ) -> Result<Closed, CloseFault>
         ensures closed { IfOk result (λ closed.
-            IsClosedBy self passes.items segments.items closed.segments.items) }
-        ensures err { IfErr result (IsFaultOf self passes.items segments.items) }
+            IsClosedBy self (receipts_of passes.items) segments.items closed.segments.items) }
+        ensures err { IfErr result (IsFaultOf self (receipts_of passes.items) segments.items) }
     {
         let EndedService {
             config,
@@ -228,54 +315,6 @@ impl<L0: Tally, L1: Tally, L2: Tally, L3: Tally> EndedService<L0, L1, L2, L3> {
         ledgers.audit(shares);
         let segments = by_shard(segments, present)?;
         Ok(Closed { segments })
-    }
-}
-
-/// The ledgers of all shards, out of their locks.
-#[derive(Drop)]
-pub(crate) struct Ledgers<L0: Tally, L1: Tally, L2: Tally, L3: Tally> {
-    pub(crate) ledger0: LineLedger<L0>,
-    pub(crate) ledger1: Option<LineLedger<L1>>,
-    pub(crate) ledger2: Option<LineLedger<L2>>,
-    pub(crate) ledger3: Option<LineLedger<L3>>,
-}
-
-impl<L0: Tally, L1: Tally, L2: Tally, L3: Tally> Ledgers<L0, L1, L2, L3> {
-    /// The total of each ledger, all of whose parts are in the shares, is its amount there.
-    fn audit(self, all: Shares<L0, L1, L2, L3>)
-        requires { all.parts ≡ 1025 }
-        ensures ledger0 { self.ledger0.total ≡ all.amount0 }
-        ensures ledger1 { IfSome self.ledger1 (λ ledger. ledger.total ≡ all.amount1) }
-        ensures ledger2 { IfSome self.ledger2 (λ ledger. ledger.total ≡ all.amount2) }
-        ensures ledger3 { IfSome self.ledger3 (λ ledger. ledger.total ≡ all.amount3) }
-    {
-        let Ledgers {
-            mut ledger0,
-            ledger1,
-            ledger2,
-            ledger3,
-        } = self;
-        let Shares {
-            mut share0,
-            share1,
-            share2,
-            share3,
-        } = all;
-        ledger0.audit(&mut share0);
-        audit_if_there(ledger1, share1);
-        audit_if_there(ledger2, share2);
-        audit_if_there(ledger3, share3);
-    }
-}
-
-/// The total of a ledger, all of whose parts are in a share, is the share's amount.
-fn audit_if_there<L: Tally>(ledger: Option<LineLedger<L>>, all: Share<L>)
-    requires { all.parts ≡ L.parts }
-    ensures { IfSome ledger (λ ledger. ledger.total ≡ all.amount) }
-{
-    let mut all = all;
-    if let Some(mut ledger) = ledger {
-        ledger.audit(&mut all);
     }
 }
 

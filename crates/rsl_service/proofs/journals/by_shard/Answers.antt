@@ -2,7 +2,7 @@ use Rattle.std.proofs.Common.{rules, ap, ◌∙◌}
 use Rattle.std.proofs.lemmas.List.Sorted.{IsNonDecreasingBy-from_sort_by_key, answers_always}
 use Rattle.rsl_record.specs.Segments.{of_shard}
 use Rattle.rsl_service.proofs.Ends.{sorted_same}
-use Rattle.rsl_service.proofs.close.by_shard.Goals as goal
+use Rattle.rsl_service.proofs.journals.by_shard.Goals as goal
 
 pub returns-clause-same : goal.returns-clause-same
 returns-clause-same c shard =

@@ -1,14 +1,15 @@
 use Rattle.std.proofs.Common.{◌≡◌, arith, subst}
 use Rattle.std.proofs.lemmas.Result.{err_from_is_err_and}
 use Rattle.rsl_service.specs.Closed.{EndedSeen, IsClosedBy, IsFaultOf, IsRecordSettled, count_in, end_of}
+use Rattle.rsl_service.specs.Receipts.{receipts_of}
 use Rattle.rsl_service.proofs.Ends.{all_counted, closes, faults, same_total, seen_settled}
-use Rattle.rsl_service.proofs.close.EndedService.close.Goals as goal
+use Rattle.rsl_service.proofs.journals.EndedService.close.Goals as goal
 
 pub returns-in_err-settle-clause-err : goal.returns-in_err-settle-clause-err
 returns-in_err-settle-clause-err g c =
     let p = err_from_is_err_and c.from_residual.result c.from_residual.ensures.1 in
     rw (p.1, p.2)
-    (subst (λ (ended : EndedSeen). IsFaultOf ended c.args.passes.items c.args.segments.items c.in_err-settle.field-0.0) c.self.view_is
+    (subst (λ (ended : EndedSeen). IsFaultOf ended (receipts_of c.args.passes.items) c.args.segments.items c.in_err-settle.field-0.0) c.self.view_is
     (faults (record { config = c.self.inside.config; opened = c.self.inside.opened; present = c.self.inside.present.items })
     c.args.passes.items c.as_slice.result.now c.args.segments.items c.as_slice-2.result.now
     c.as_slice-3.result.now c.in_err-settle.field-0.0 c.as_slice.ensures.value c.as_slice-2.ensures.value
@@ -17,14 +18,14 @@ returns-in_err-settle-clause-err g c =
 pub returns-clause-closed : goal.returns-clause-closed
 returns-clause-closed g c =
     let config = c.self.inside.config in
-    let passes = c.args.passes.items in
+    let passes = receipts_of c.args.passes.items in
     let given = c.args.segments.items in
     let present = c.self.inside.present.items in
     let ended : EndedSeen = record { config = config; opened = c.self.inside.opened; present = present } in
     let kept = c.self.invariant in
     let ledgers = c.self.inside.ledgers in
     let settled : IsRecordSettled ended passes given =
-    seen_settled config c.self.inside.opened passes c.as_slice.result.now given c.as_slice-2.result.now present c.as_slice-3.result.now
+    seen_settled config c.self.inside.opened c.args.passes.items c.as_slice.result.now given c.as_slice-2.result.now present c.as_slice-3.result.now
     c.as_slice.ensures.value c.as_slice-2.ensures.value c.as_slice-3.ensures.value c.in_ok-settle.ensures.settled in
     let told0 : end_of 0 present ≡ count_in passes 0 =
     omega (arith, kept.10, c.audit.ensures.ledger0, c.gather.ensures.amount0, kept.3) in
