@@ -210,6 +210,27 @@ pub open_not : (rules : Rules) (book : Book) (session : Session) (bundle : Optio
 unfolding open_link
 open_not rules book session bundle full = rw (lt-leb (places_of rules.ports (bundles_in book.links ++ bundle ∷ [])) rules.places full) refl
 
+-- a book in which a link was opened, and one in which there was no place for it
+pub has_opened : (value new : RuledBook) (clock : ℕ) (nas : Nas) (id : List ℕ) (bundle : Option Bundle) → clock ≡ value.book.clock
+    → places_of value.rules.ports (bundles_in value.book.links ++ bundle ∷ []) ≤ value.rules.places
+    → new ≡ record value { book = record value.book { links = value.book.links ++ record { nas = nas; holder = Bound (record { nas = nas; id = id }); bundle = bundle; touched = clock } ∷ [] } }
+    → new ≡ record value { book = open_link value.rules value.book (record { nas = nas; id = id }) bundle }
+has_opened value new clock nas id bundle same fits is =
+    is
+    ∙ ap (λ (now : ℕ). let made : RuledBook = record value { book = record value.book { links = value.book.links ++ record { nas = nas; holder = Bound (record { nas = nas; id = id }); bundle = bundle; touched = now } ∷ [] } } in made) same
+    ∙ ap (λ (book : Book). let made : RuledBook = record value { book = book } in made)
+    (sym (open_yes value.rules value.book (record { nas = nas; id = id }) bundle fits))
+
+pub has_not_opened : (value new : RuledBook) (over : ℕ) (session : Session) (bundle : Option Bundle) → over ≡ min (value.book.over + 1) (2 ^ 64 - 1)
+    → value.rules.places < places_of value.rules.ports (bundles_in value.book.links ++ bundle ∷ [])
+    → new ≡ record value { book = record value.book { over = over } }
+    → new ≡ record value { book = open_link value.rules value.book session bundle }
+has_not_opened value new over session bundle counted full is =
+    is
+    ∙ ap (λ (count : ℕ). let made : RuledBook = record value { book = record value.book { over = count } } in made) counted
+    ∙ ap (λ (book : Book). let made : RuledBook = record value { book = book } in made)
+    (sym (open_not value.rules value.book session bundle full))
+
 pub length-asks : (servers : List Nas) (asks : List (Kept DecidedAsk)) → length (asks_seen servers asks) ≡ length asks
 unfolding asks_seen
 length-asks servers asks = length-map asks (ask_seen servers)

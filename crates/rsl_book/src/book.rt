@@ -1,5 +1,5 @@
 ghost use Rattle.std.specs.Prelude.{◌≡◌, ◌↔◌, ◌+◌, ◌-◌, ◌*◌, ◌^◌, ◌<◌, ◌≤◌};
-ghost use Rattle.std.specs.Prelude.{Option, Some, None, find, IfOk, IfSome, IfNone, IsTrue, OnErr, length};
+ghost use Rattle.std.specs.Prelude.{Option, Some, None, [], ◌∷◌, ◌++◌, find, IfOk, IfSome, IfNone, IsTrue, IsFalse, OnErr, length};
 ghost use Rattle.std.specs.Prelude.{if◌then◌else◌};
 ghost use Rattle.std.specs.List.{list_any};
 ghost use Rattle.std.specs.Option.{option_map};
@@ -19,7 +19,7 @@ ghost use Rattle.rsl_session.specs.BookStep.{come_to, refuse, accept_beside, fre
 ghost use Rattle.rsl_session.specs.BookStep.{open_link, bind, alive, stop, sweep, act_on, step};
 ghost use Rattle.rsl_book.specs.RuledBook.{RuledBook, IsWithinLimit};
 ghost use Rattle.rsl_links.specs.First.{IsFirst, change_at};
-ghost use Rattle.rsl_links.specs.Seen.{bundle_with};
+ghost use Rattle.rsl_links.specs.Seen.{bundle_with, holder_at};
 ghost use Rattle.rsl_links.specs.Steps.{touch_here, take_here, without_at};
 
 mod restoring;
@@ -321,10 +321,12 @@ impl Book {
         self.over
     }
 
-    /// The rules of the account. They are within the limits of an account's rules.
+    /// The rules of the account. They are within the limits of an account's rules, and the places
+    /// that are held are within theirs.
     pub fn rules(&self) -> Rules
         ensures rules { result ≡ self.now.rules }
         ensures fit { RulesFit result }
+        ensures limit { IsWithinLimit self.now }
     {
         self.rules
     }
@@ -575,12 +577,32 @@ impl Book {
             .take_at(&self.servers, at, self.clock, id, bundle);
     }
 
-    /// Opens a link for a session, if the places then are within the limit.
-    fn open_link(&mut self, nas: Nas, id: Octets, bundle: Option<Octets>)
-        ensures { self.new ≡ record self.old {
-          book = open_link self.old.rules self.old.book
-              (record { nas = nas; id = id }) (bundle_with nas bundle);
+    /// Opens a link with this last touch, if the places then are within the limit, and says whether
+    /// they are. Where they are not, nothing has changed.
+    fn open_touched(
+        &mut self,
+        nas: Nas,
+        holder: Holder,
+        bundle: Option<Octets>,
+        touched: u64,
+    ) -> bool
+        ensures put { IsTrue result → self.new ≡ record self.old {
+          book = record self.old.book {
+            links = self.old.book.links ++ record {
+              nas = nas;
+              holder = holder_at nas holder;
+              bundle = bundle_with nas bundle;
+              touched = touched;
+            } ∷ [];
+          };
         } }
+        ensures fits { IsTrue result →
+            places_of self.old.rules.ports
+            (bundles_in self.old.book.links ++ bundle_with nas bundle ∷ []) ≤ self.old.rules.places }
+        ensures full { IsFalse result → self.old.rules.places <
+            places_of self.old.rules.ports
+            (bundles_in self.old.book.links ++ bundle_with nas bundle ∷ []) }
+        ensures same { IsFalse result → self.new ≡ self.old }
     {
         let nas = index_for(
             &mut self.servers,
@@ -595,12 +617,27 @@ impl Book {
                 &self.servers,
                 Link {
                     nas,
-                    holder: Holder::Bound(id),
+                    holder,
                     bundle,
-                    touched: self.clock,
+                    touched,
                 },
             );
+            true
         } else {
+            drop((holder, bundle));
+            false
+        }
+    }
+
+    /// Opens a link for a session, if the places then are within the limit.
+    fn open_link(&mut self, nas: Nas, id: Octets, bundle: Option<Octets>)
+        ensures { self.new ≡ record self.old {
+          book = open_link self.old.rules self.old.book
+              (record { nas = nas; id = id }) (bundle_with nas bundle);
+        } }
+    {
+        let now = self.clock;
+        if !self.open_touched(nas, Holder::Bound(id), bundle, now) {
             self.over = self.over.saturating_add(1);
         }
     }

@@ -18,7 +18,9 @@ pub mod laws;
 mod link;
 mod standing;
 mod sweep;
+mod version;
 mod yielding;
 
 pub use count::places_held;
 pub use decisions::{decide, decision, outcome, places};
+pub use version::SESSION_RULE_VERSION;

@@ -5,7 +5,7 @@ ghost use Rattle.rsl_accounts.specs.Limits.{RulesFit};
 ghost use Rattle.rsl_event.specs.declared.nas.Nas.{Nas};
 ghost use Rattle.rsl_session.specs.Places.{places_of};
 ghost use Rattle.rsl_session.specs.Book.{bundles_in};
-ghost use Rattle.rsl_links.specs.Seen.{bundle_with, holder_at};
+ghost use Rattle.rsl_links.specs.Seen.{holder_at};
 ghost use Rattle.rsl_saved.specs.Saved.{saved_book, saved_holder, saved_link, saved_links};
 ghost use Rattle.rsl_book.specs.RuledBook.{IsWithinLimit};
 ghost use Rattle.rsl_book.specs.Restored.{misfit, restored, saved};
@@ -17,7 +17,7 @@ use crate::saving::{saved_asks, saved_links, saved_stops};
 use crate::table::index_for;
 use rsl_accounts::Rules;
 use rsl_event::Nas;
-use rsl_links::{Holder, Link};
+use rsl_links::Holder;
 use rsl_saved::{SavedBook, SavedHolder, SavedLink};
 use rsl_session::{KEPT_ASKS, KEPT_STOPS, KeptAsk, KeptStop};
 use rsl_wire::{NoMemory, Octets};
@@ -116,54 +116,7 @@ impl Book {
         let nas = saved.nas.try_copy(alloc)?;
         let holder = holder_of(alloc, &saved.holder)?;
         let bundle = Octets::try_copy_option(alloc, &saved.bundle)?;
-        Ok(self.open_as_saved(nas, holder, bundle, saved.touched))
-    }
-
-    /// Opens a link with this last touch, if the places then are within the limit, and says whether
-    /// they are.
-    fn open_as_saved(
-        &mut self,
-        nas: Nas,
-        holder: Holder,
-        bundle: Option<Octets>,
-        touched: u64,
-    ) -> bool
-        ensures put { IsTrue result → self.new ≡ record self.old {
-          book = record self.old.book {
-            links = self.old.book.links ++ record {
-              nas = nas;
-              holder = holder_at nas holder;
-              bundle = bundle_with nas bundle;
-              touched = touched;
-            } ∷ [];
-          };
-        } }
-        ensures full { IsFalse result → self.old.rules.places <
-            places_of self.old.rules.ports
-            (bundles_in self.old.book.links ++ bundle_with nas bundle ∷ []) }
-    {
-        let nas = index_for(
-            &mut self.servers,
-            &self.links.list,
-            &self.asks,
-            &self.stops,
-            nas,
-        );
-        let more = u64::from(self.links.adds_a_place(&self.servers, nas, &bundle));
-        if self.links.places + more <= self.rules.places {
-            self.links.open(
-                &self.servers,
-                Link {
-                    nas,
-                    holder,
-                    bundle,
-                    touched,
-                },
-            );
-            true
-        } else {
-            false
-        }
+        Ok(self.open_touched(nas, holder, bundle, saved.touched))
     }
 
     /// Opens links as they were saved, if the places then are within the limit, and says whether

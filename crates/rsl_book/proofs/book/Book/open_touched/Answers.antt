@@ -1,8 +1,8 @@
 use Rattle.std.proofs.Common.{◌≡◌, ◌∙◌, arith, cond}
 use Rattle.rsl_links.specs.Seen.{links_seen, bundle_with, server_at}
-use Rattle.rsl_book.proofs.Insides.{same_value, room_in_table, room_for_one, counted_again, opened_within, opened_seen, as_saved_seen}
+use Rattle.rsl_book.proofs.Insides.{same_value, room_in_table, room_for_one, counted_again, opened_within, opened_seen, as_saved_seen, open_sum}
 use Rattle.rsl_links.proofs.Callers.{one_of}
-use Rattle.rsl_book.proofs.book.Book.open_as_saved.Goals as goal
+use Rattle.rsl_book.proofs.book.Book.open_touched.Goals as goal
 
 pub index_for-nas-requires : goal.index_for-nas-requires
 index_for-nas-requires c =
@@ -52,3 +52,13 @@ returns-then-self-more-clause-put c fits =
     (opened_seen inside.servers place.new.servers (record { nas = place.result; holder = c.args.holder; bundle = c.args.bundle; touched = c.args.touched }) inside.links.list.items c.open.new.self.list.items _
     c.open.ensures.links links (as_saved_seen place.new.servers place.result c.args.touched c.args.holder c.args.bundle c.args.nas place.ensures.stands))
     place.ensures.asks place.ensures.stops)
+
+pub returns-then-self-more-clause-fits : goal.returns-then-self-more-clause-fits
+returns-then-self-more-clause-fits c taken =
+    let inside = c.self.inside in
+    let sound = c.self.invariant in
+    let place = c.index_for-nas in
+    let sum = open_sum inside.servers place.new.servers inside.links inside.rules.ports place.result (cond c.adds_a_place.result 1 0) c.args.nas c.args.bundle place.ensures.links place.ensures.stands sound.ports sound.counted c.adds_a_place.ensures in
+    let fits = c.if-self-more.true in
+    let same = one_of c.adds_a_place.result c.from-more.result c.from-more.ensures in
+    rw (← c.self.view_is) (omega arith)
