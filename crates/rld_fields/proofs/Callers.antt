@@ -5,9 +5,9 @@
 pub use Rattle.rld_fields.proofs.Smallest.{ok_is, then_ok, made_ok, chosen, octets_rest, octets_behind}
 -- each of the smallest fields is read as it is spelled
 pub use Rattle.rld_fields.proofs.Smallest.{nothing_read, octet_read, fixed_read, short_read, flag_read}
-pub use Rattle.rld_fields.proofs.Numbered.{pair_read, number_read, below_read, exactly_read}
+pub use Rattle.rld_fields.proofs.Numbered.{pair_read, number_read, below_read, between_read, exactly_read}
 -- and so is what is made of such fields
-pub use Rattle.rld_fields.proofs.Made.{behind_read, both_read, seen_as_read, optional_read, list_read}
+pub use Rattle.rld_fields.proofs.Made.{behind_read, both_read, seen_as_read, optional_read, listed_read, list_read, checked_read}
 -- what was read as one of several cases is spelled so
 pub use Rattle.rld_fields.proofs.Made.{tag_case, case_spelled}
 -- a value that takes all of the octets

@@ -1,11 +1,12 @@
 -- Fields that are made of others are read as they are spelled, if those are.
-use Rattle.std.proofs.Common.{◌≡◌, ◌⊎◌, inl, inr, ℕ, zero, suc, Bool, true, false, cond, eqb, List, [], ◌∷◌, ◌++◌, length, Option, Some, None, Ok, refl, sym, ap, subst, ◌∙◌, append_assoc, arith}
+use Rattle.std.proofs.Common.{◌≡◌, ◌⊎◌, inl, inr, ℕ, zero, suc, Bool, true, false, cond, eqb, List, [], ◌∷◌, ◌++◌, length, Option, Some, None, Ok, refl, sym, ap, subst, ◌∙◌, append_assoc}
 use Rattle.std.specs.List.{flat_map, AllByRecursion}
 use Rattle.std.proofs.lemmas.Bool.{eqb-true}
 use Rattle.std.proofs.lemmas.List.Elements.{All-from_recursion, recursion_from_All}
-use Rattle.rld_fields.specs.Field.{Field, Reading, IsRead, AreOctets, fault_at, then_read, made_of, both, seen_as, flag, flag_at, optional, option_behind}
-use Rattle.rld_fields.specs.Numbers.{number_at, number_octets}
-use Rattle.rld_fields.specs.Lists.{values_at, list_of}
+use Rattle.rld_fields.specs.Field.{Field, Reading, IsRead, AreOctets, fault_at, then_read, made_of, both, seen_as, passing, checked, flag, flag_at, optional, option_behind}
+use Rattle.rld_fields.specs.declared.fault.Cause.{Cause}
+use Rattle.rld_fields.specs.Numbers.{number}
+use Rattle.rld_fields.specs.Lists.{values_at, listed, list_of}
 use Rattle.rld_fields.proofs.Smallest.{ok_is, then_ok, made_ok, chosen, octets_rest, octets_behind, flag_read}
 use Rattle.rld_fields.proofs.Numbered.{number_read}
 
@@ -90,19 +91,37 @@ values_again {A = A} a ra (x ∷ xs) rest fits =
     ∙ ap (λ (r : Reading A). then_read r (λ y rest. made_of (λ ys. y ∷ ys) (values_at a.read (length xs) rest))) (ra.again x (flat_map a.spell xs ++ rest) fits.0)
     ∙ ap (λ (r : Reading (List A)). made_of (λ ys. x ∷ ys) r) (values_again a ra xs rest fits.1)
 
-pub list_read : {A : Type 0} (a : Field A) → IsRead a → IsRead (list_of a)
-list_read {A = A} a ra = record {
+pub listed_read : {A : Type 0} (count : Field ℕ) (a : Field A) → IsRead count → IsRead a → IsRead (listed count a)
+listed_read {A = A} count a rn ra = record {
   spelled = λ octets xs rest are e.
-      let p = then_ok (number_at octets) (values_at a.read) (xs, rest) e in
-      let s = number_read.spelled octets p.0.0 p.0.1 are p.1 in
-      let t = values_spelled a ra p.0.0 p.0.1 xs rest (octets_behind (number_octets p.0.0) p.0.1 (subst AreOctets s.0 are)) p.2 in (
-        s.0 ∙ ap (λ (n : ℕ). number_octets n ++ p.0.1) (sym t.1) ∙ ap (λ (l : List ℕ). number_octets (length xs) ++ l) t.0 ∙ sym (append_assoc (number_octets (length xs)) (flat_map a.spell xs) rest),
-        (omega (arith, t.1, s.1), All-from_recursion a.Fits xs t.2),
+      let p = then_ok (count.read octets) (values_at a.read) (xs, rest) e in
+      let s = rn.spelled octets p.0.0 p.0.1 are p.1 in
+      let t = values_spelled a ra p.0.0 p.0.1 xs rest (behind_read count rn octets p.0.0 p.0.1 are p.1) p.2 in (
+        s.0 ∙ ap (λ (n : ℕ). count.spell n ++ p.0.1) (sym t.1) ∙ ap (λ (l : List ℕ). count.spell (length xs) ++ l) t.0 ∙ sym (append_assoc (count.spell (length xs)) (flat_map a.spell xs) rest),
+        (subst count.Fits (sym t.1) s.1, All-from_recursion a.Fits xs t.2),
       );
   again = λ xs rest fits.
-      ap (λ (l : List ℕ). then_read (number_at l) (values_at a.read)) (append_assoc (number_octets (length xs)) (flat_map a.spell xs) rest)
-      ∙ ap (λ (r : Reading ℕ). then_read r (values_at a.read)) (number_read.again (length xs) (flat_map a.spell xs ++ rest) fits.0)
+      ap (λ (l : List ℕ). then_read (count.read l) (values_at a.read)) (append_assoc (count.spell (length xs)) (flat_map a.spell xs) rest)
+      ∙ ap (λ (r : Reading ℕ). then_read r (values_at a.read)) (rn.again (length xs) (flat_map a.spell xs ++ rest) fits.0)
       ∙ values_again a ra xs rest (recursion_from_All a.Fits xs fits.1);
+}
+
+pub list_read : {A : Type 0} (a : Field A) → IsRead a → IsRead (list_of a)
+list_read a ra = listed_read number a number_read ra
+
+-- ---- values that pass a check
+
+pub checked_read : {A : Type 0} (cause : Cause) (check : A → Bool) (a : Field A) → IsRead a → IsRead (checked cause check a)
+checked_read {A = A} cause check a ra = record {
+  spelled = λ octets x rest are e.
+      let p = then_ok (a.read octets) (passing cause check octets) (x, rest) e in
+      let one : Reading A = Ok p.0 in
+      let s = ra.spelled octets p.0.0 p.0.1 are p.1 in
+      elim (chosen (check p.0.0) one (fault_at cause octets) (Ok (x, rest)) p.2) [
+        | inl q ↦ subst (λ (y : A × List ℕ). (octets ≡ a.spell y.0 ++ y.1) × (a.Fits y.0 × (check y.0 ≡ true))) (ok_is p.0 (x, rest) q.1) (s.0, (s.1, q.0))
+        | inr q ↦ absurd cc
+      ];
+  again = λ x rest fits. rw (ra.again x rest fits.0, fits.1) refl;
 }
 
 -- ---- values of several cases, each behind its tag

@@ -1,13 +1,13 @@
 -- Numbers are read as they are spelled: each has one form.
-use Rattle.std.proofs.Common.{◌≡◌, inl, inr, ℕ, ◌^◌, ◌<◌, ◌≤◌, false, cond, ltb, eqb, List, [], ◌∷◌, ◌++◌, length, take, drop, Ok, Err, refl, sym, ap, subst, ◌∙◌, arith}
+use Rattle.std.proofs.Common.{◌≡◌, inl, inr, ℕ, ◌^◌, ◌<◌, ◌≤◌, false, cond, ltb, leb, eqb, List, [], ◌∷◌, ◌++◌, length, take, drop, Ok, Err, refl, sym, ap, subst, ◌∙◌, arith}
 use Rattle.std.specs.Int.{Width, w16, w32, w64, byte_len, from_be_bytes, to_be_bytes}
-use Rattle.std.proofs.lemmas.Bool.{cases_lt, ltb-true, ltb-false, lt-ltb, le-ltb, eqb-true, eqb-false, eq-eqb, ne_eqb}
+use Rattle.std.proofs.lemmas.Bool.{cases_lt, ltb-true, ltb-false, lt-ltb, le-ltb, leb-true, le-leb, and_parts, eqb-true, eqb-false, eq-eqb, ne_eqb}
 use Rattle.std.proofs.lemmas.List.{take_at, drop_at, take-append-drop, length-append, length-take, length-take-le, get_or-take, get_or_past}
 use Rattle.std.proofs.lemmas.Nat.{be_bytes_2, be_bytes_4, be_bytes_8, from_be_bytes-to_be_bytes_2, from_be_bytes-to_be_bytes_4, from_be_bytes-to_be_bytes_8}
 use Rattle.rld_fields.specs.declared.fault.Cause.{Cause}
 use Rattle.rld_fields.specs.declared.fault.Cause.TheVariants.{CutShort, LongNumber}
-use Rattle.rld_fields.specs.Field.{Reading, IsRead, AreOctets, fault_at}
-use Rattle.rld_fields.specs.Numbers.{wide_at, pair, number, number_at, number_octets, at_least, below, below_at, within, exactly, exactly_at, exact}
+use Rattle.rld_fields.specs.Field.{Reading, IsRead, AreOctets, fault_at, passing}
+use Rattle.rld_fields.specs.Numbers.{wide_at, pair, number, number_at, number_octets, at_least, below, below_at, within, is_between, between, between_at, exactly, exactly_at, exact}
 use Rattle.rld_fields.proofs.Smallest.{ok_is, then_ok, chosen, passed, octets_rest}
 
 octets_in_front : (n : ℕ) (octets : List ℕ) → AreOctets octets → AreOctets (take n octets)
@@ -181,6 +181,29 @@ below_again cause limit most x rest fits = rw (number_again x rest (omega arith)
 
 pub below_read : (cause : Cause) (limit : ℕ) → limit ≤ 2 ^ 64 → IsRead (below cause limit)
 below_read cause limit most = record { spelled = below_spelled cause limit; again = below_again cause limit most }
+
+-- ---- a number from the least to the most
+
+between_spelled : (cause : Cause) (least most : ℕ) (octets : List ℕ) (x : ℕ) (rest : List ℕ) → AreOctets octets → between_at cause least most octets ≡ Ok (x, rest)
+    → (octets ≡ number_octets x ++ rest) × ((least ≤ x) × (x ≤ most))
+unfolding between_at
+between_spelled cause least most octets x rest are e =
+    let p = then_ok (number_at octets) (passing cause (is_between least most) octets) (x, rest) e in
+    let one : Reading ℕ = Ok p.0 in
+    let s = number_spelled octets p.0.0 p.0.1 are p.1 in
+    elim (chosen (is_between least most p.0.0) one (fault_at cause octets) (Ok (x, rest)) p.2) [
+      | inl q ↦
+          let sides = and_parts (leb least p.0.0) (leb p.0.0 most) q.0 in
+          subst (λ (y : ℕ × List ℕ). (octets ≡ number_octets y.0 ++ y.1) × ((least ≤ y.0) × (y.0 ≤ most))) (ok_is p.0 (x, rest) q.1) (s.0, (leb-true least p.0.0 sides.0, leb-true p.0.0 most sides.1))
+      | inr q ↦ absurd cc
+    ]
+
+between_again : (cause : Cause) (least most : ℕ) → most < 2 ^ 64 → (x : ℕ) (rest : List ℕ) → (least ≤ x) × (x ≤ most) → between_at cause least most (number_octets x ++ rest) ≡ Ok (x, rest)
+unfolding between_at
+between_again cause least most few x rest fits = rw (number_again x rest (omega (arith, fits.1)), le-leb least x fits.0, le-leb x most fits.1) refl
+
+pub between_read : (cause : Cause) (least most : ℕ) → most < 2 ^ 64 → IsRead (between cause least most)
+between_read cause least most few = record { spelled = between_spelled cause least most; again = between_again cause least most few }
 
 -- ---- a number that is always the same
 

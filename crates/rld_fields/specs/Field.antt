@@ -103,6 +103,17 @@ flag = record { spell = flag_spelled; read = flag_at; Fits = λ x. Unit {0} }
 
 -- ---- fields that are made of others
 
+-- a value that passes a check: one that does not is refused for this cause, where it begins
+abbrev pub passing : {A : Type 0} → Cause → (check : A → Bool) → (place : List ℕ) → A → List ℕ → Reading A
+passing cause check place x rest = if check x then Ok (x, rest) else fault_at cause place
+
+abbrev pub checked : {A : Type 0} → Cause → (check : A → Bool) → Field A → Field A
+checked cause check field = record {
+  spell = field.spell;
+  read = λ octets. then_read (field.read octets) (passing cause check octets);
+  Fits = λ x. field.Fits x × (check x ≡ true);
+}
+
 -- one behind the other
 abbrev pub both : {A B : Type 0} → Field A → Field B → Field (A × B)
 both a b = record {

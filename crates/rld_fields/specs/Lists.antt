@@ -1,8 +1,8 @@
 -- Lists: how many values there are, and each of them.
-use Rattle.std.specs.Prelude.{ℕ, zero, suc, ◌<◌, ◌^◌, List, [], ◌∷◌, ◌++◌, length, Result, Ok, Err}
+use Rattle.std.specs.Prelude.{ℕ, zero, suc, List, [], ◌∷◌, ◌++◌, length, Result, Ok, Err}
 use Rattle.std.specs.List.{flat_map, All}
 use Rattle.rld_fields.specs.Field.{Field, Reading, then_read, made_of, fault_at}
-use Rattle.rld_fields.specs.Numbers.{number_at, number_octets}
+use Rattle.rld_fields.specs.Numbers.{number}
 use Rattle.rld_fields.specs.declared.fault.Cause.TheVariants.{Trailing}
 use Rattle.rld_fields.specs.declared.fault.Fault.{Fault}
 
@@ -12,13 +12,17 @@ values_at read zero octets = Ok ([], octets)
 values_at read (suc count) octets =
     then_read (read octets) (λ x rest. made_of (λ xs. x ∷ xs) (values_at read count rest))
 
--- the values that a list has, behind their number
-abbrev pub list_of : {A : Type 0} → Field A → Field (List A)
-list_of field = record {
-  spell = λ xs. number_octets (length xs) ++ flat_map field.spell xs;
-  read = λ octets. then_read (number_at octets) (values_at field.read);
-  Fits = λ xs. (length xs < 2 ^ 64) × All field.Fits xs;
+-- the values that a list has, behind their number, which a field of its own spells
+abbrev pub listed : {A : Type 0} → (count : Field ℕ) → Field A → Field (List A)
+listed count field = record {
+  spell = λ xs. count.spell (length xs) ++ flat_map field.spell xs;
+  read = λ octets. then_read (count.read octets) (values_at field.read);
+  Fits = λ xs. count.Fits (length xs) × All field.Fits xs;
 }
+
+-- the same with any number of values
+abbrev pub list_of : {A : Type 0} → Field A → Field (List A)
+list_of field = listed number field
 
 -- a value that takes all of the octets
 abbrev pub all_of : {A : Type 0} → Reading A → Result A Fault

@@ -1,11 +1,11 @@
 -- Numbers, each in its one form: below 253 an octet with the number, else an octet 253, 254 or 255
 -- and the number in 2, 4 or 8 octets, the highest first. A number that has a shorter form is refused
 -- in a longer one.
-use Rattle.std.specs.Prelude.{ℕ, ◌<◌, ◌^◌, List, [], ◌∷◌, length, take, drop, nat_lt, nat_eq, Ok, Err, if◌then◌else◌}
+use Rattle.std.specs.Prelude.{ℕ, ◌<◌, ◌≤◌, ◌^◌, Bool, ◌&&◌, List, [], ◌∷◌, length, take, drop, nat_lt, nat_le, nat_eq, Ok, Err, if◌then◌else◌}
 use Rattle.std.specs.Int.{Width, w16, w32, w64, byte_len, from_be_bytes, to_be_bytes}
 use Rattle.rld_fields.specs.declared.fault.Cause.{Cause}
 use Rattle.rld_fields.specs.declared.fault.Cause.TheVariants.{CutShort, LongNumber}
-use Rattle.rld_fields.specs.Field.{Field, Reading, fault_at, then_read}
+use Rattle.rld_fields.specs.Field.{Field, Reading, fault_at, then_read, passing}
 
 -- a number in as many octets as its width has, the highest first
 unfoldable pub wide_at : Width → List ℕ → Reading ℕ
@@ -55,6 +55,21 @@ below_at cause limit octets = then_read (number_at octets) (within cause limit o
 abbrev pub below : Cause → (limit : ℕ) → Field ℕ
 below cause limit =
     record { spell = number_octets; read = below_at cause limit; Fits = λ n. n < limit }
+
+-- a number from the least to the most: another is refused for this cause
+abbrev pub is_between : (least most : ℕ) → ℕ → Bool
+is_between least most n = nat_le least n && nat_le n most
+
+unfoldable pub between_at : Cause → (least most : ℕ) → List ℕ → Reading ℕ
+between_at cause least most octets =
+    then_read (number_at octets) (passing cause (is_between least most) octets)
+
+abbrev pub between : Cause → (least most : ℕ) → Field ℕ
+between cause least most = record {
+  spell = number_octets;
+  read = between_at cause least most;
+  Fits = λ n. (least ≤ n) × (n ≤ most);
+}
 
 -- a number that is always the same: another is refused for this cause
 abbrev pub exact : Cause → (value : ℕ) → (place : List ℕ) → ℕ → List ℕ → Reading (Unit {0})

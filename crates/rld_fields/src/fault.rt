@@ -22,6 +22,12 @@ pub enum Cause {
     /// A client has a number that none has.
     #[error("a client that is not there")]
     NoClient,
+    /// A name is none that an account can have.
+    #[error("a name that no account can have")]
+    BadName,
+    /// An answer is kept for longer than a place is reserved.
+    #[error("an answer kept for longer than a place")]
+    KeepTooLong,
     /// A name or an id has over 253 octets.
     #[error("a name of over 253 octets")]
     TooLong,

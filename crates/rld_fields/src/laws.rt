@@ -4,7 +4,7 @@
 ghost use Rattle.std.specs.Prelude.{ℕ, ◌<◌, ◌≤◌, ◌^◌};
 ghost use Rattle.rld_fields.specs.declared.fault.Cause.{Cause};
 ghost use Rattle.rld_fields.specs.Field.{IsRead, octet, fixed, short, flag, nothing};
-ghost use Rattle.rld_fields.specs.Numbers.{number, below, exactly, pair};
+ghost use Rattle.rld_fields.specs.Numbers.{number, below, between, exactly, pair};
 
 /// Numbers are read as they are spelled: in one form, whatever follows.
 pub fn numbers_are_read()
@@ -14,6 +14,11 @@ pub fn numbers_are_read()
 /// Numbers below a limit are, and no others.
 pub fn numbers_below_are_read()
     ensures { (cause : Cause) (limit : ℕ) → limit ≤ 2 ^ 64 → IsRead (below cause limit) }
+{}
+
+/// Numbers from a least to a most are, and no others.
+pub fn numbers_between_are_read()
+    ensures { (cause : Cause) (least most : ℕ) → most < 2 ^ 64 → IsRead (between cause least most) }
 {}
 
 /// A number that is always the same is, and no other is read.

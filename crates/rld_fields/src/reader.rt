@@ -1,7 +1,7 @@
-ghost use Rattle.std.specs.Prelude.{◌≡◌, ◌<◌, IfOk, length, nat_lt, if◌then◌else◌};
+ghost use Rattle.std.specs.Prelude.{◌≡◌, ◌<◌, ◌≤◌, IfOk, length, nat_lt, if◌then◌else◌};
 ghost use Rattle.std.specs.Int.{w16, w32, w64};
 ghost use Rattle.rld_fields.specs.Field.{octet_at, fixed_at, short_at, flag_at};
-ghost use Rattle.rld_fields.specs.Numbers.{number_at, below_at, exactly_at, wide_at};
+ghost use Rattle.rld_fields.specs.Numbers.{number_at, below_at, between_at, exactly_at, wide_at};
 ghost use Rattle.rld_fields.specs.Read.{Reads, ReadsSeen};
 
 use crate::fault::{Cause, Fault};
@@ -200,6 +200,22 @@ impl<'a> Reader<'a> {
         let out = self.fault(cause);
         let number = self.number()?;
         if number < limit { Ok(number) } else { Err(out) }
+    }
+
+    /// A number from the least to the most. The given cause comes where it is another, and the faults
+    /// of `number` before that.
+    #[tactic(auto, unfolding(crate::specs::Numbers::between_at))]
+    pub fn between(&mut self, cause: Cause, least: u64, most: u64) -> Result<u64, Fault>
+        ensures read { Reads result self.new (between_at cause least most self.old) }
+        ensures between { IfOk result (λ n. (least ≤ n) × (n ≤ most)) }
+    {
+        let out = self.fault(cause);
+        let number = self.number()?;
+        if least <= number && number <= most {
+            Ok(number)
+        } else {
+            Err(out)
+        }
     }
 
     /// A number that is always this. The given cause comes where it is another, and the faults of

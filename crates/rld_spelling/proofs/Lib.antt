@@ -4,3 +4,4 @@ pub mod HeaderLaws
 pub mod MoveLaws
 pub mod SeenLoops
 pub mod ServerLaws
+pub mod TableLaws

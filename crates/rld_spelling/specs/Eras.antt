@@ -1,9 +1,12 @@
--- An era's table as octets: what numbers stand for while it lasts.
+-- An era's table as octets: what numbers stand for while it lasts. Its names, rules and counts are
+-- within the limits of an account file, as `rsl_accounts` has them.
 use Rattle.std.specs.Prelude.{ℕ, List, ◌++◌, length}
 use Rattle.std.specs.List.{flat_map}
-use Rattle.rld_fields.specs.Field.{Field, Reading, both, seen_as, short, fixed}
-use Rattle.rld_fields.specs.Lists.{list_of}
-use Rattle.rld_fields.specs.Numbers.{number, number_octets}
+use Rattle.rld_fields.specs.declared.fault.Cause.TheVariants.{BadName, OutOfRange}
+use Rattle.rld_fields.specs.Field.{Field, Reading, both, seen_as, short, fixed, checked}
+use Rattle.rld_fields.specs.Lists.{listed}
+use Rattle.rld_fields.specs.Numbers.{number, number_octets, between}
+use Rattle.rsl_accounts.specs.Field.{is_name}
 use Rattle.rsl_accounts.specs.declared.rules.Rules.{Rules}
 use Rattle.rld_spelling.specs.RulesSpelled.{rules_field, rules_octets}
 use Rattle.rld_spelling.specs.declared.era.Era.{Era}
@@ -11,6 +14,16 @@ use Rattle.rld_spelling.specs.declared.era.EraAccount.{EraAccount}
 use Rattle.rld_spelling.specs.declared.era.EraClient.{EraClient}
 
 -- ---- an account: its name and its rules
+
+-- a name that an account can have
+abbrev pub user_name_as : Field (List ℕ)
+user_name_as = checked BadName is_name short
+
+unfoldable pub user_name_at : List ℕ → Reading (List ℕ)
+user_name_at octets = user_name_as.read octets
+
+abbrev pub user_name_field : Field (List ℕ)
+user_name_field = record { spell = short.spell; read = user_name_at; Fits = user_name_as.Fits }
 
 abbrev pub account_of : List ℕ × Rules → EraAccount
 account_of parts = record { name = parts.0; rules = parts.1 }
@@ -22,7 +35,7 @@ unfoldable pub account_octets : EraAccount → List ℕ
 account_octets account = short.spell account.name ++ rules_octets account.rules
 
 abbrev pub account_as : Field EraAccount
-account_as = seen_as account_of account_parts (both short rules_field)
+account_as = seen_as account_of account_parts (both user_name_field rules_field)
 
 unfoldable pub account_at : List ℕ → Reading EraAccount
 account_at octets = account_as.read octets
@@ -87,26 +100,32 @@ era_of parts = record {
 abbrev pub era_parts : EraSeen → EraParts
 era_parts era = (era.boot, (era.shards, (era.accounts, era.clients)))
 
--- each list behind its number
+-- each list behind its number: 1 to 16,384 accounts, and 1 to 256 clients
 unfoldable pub accounts_octets : List EraAccount → List ℕ
 accounts_octets accounts = number_octets (length accounts) ++ flat_map account_octets accounts
 
 unfoldable pub accounts_at : List ℕ → Reading (List EraAccount)
-accounts_at octets = (list_of account_field).read octets
+accounts_at octets = (listed (between OutOfRange 1 16384) account_field).read octets
 
 abbrev pub accounts_field : Field (List EraAccount)
-accounts_field =
-    record { spell = accounts_octets; read = accounts_at; Fits = (list_of account_field).Fits }
+accounts_field = record {
+  spell = accounts_octets;
+  read = accounts_at;
+  Fits = (listed (between OutOfRange 1 16384) account_field).Fits;
+}
 
 unfoldable pub clients_octets : List EraClient → List ℕ
 clients_octets clients = number_octets (length clients) ++ flat_map client_octets clients
 
 unfoldable pub clients_at : List ℕ → Reading (List EraClient)
-clients_at octets = (list_of client_field).read octets
+clients_at octets = (listed (between OutOfRange 1 256) client_field).read octets
 
 abbrev pub clients_field : Field (List EraClient)
-clients_field =
-    record { spell = clients_octets; read = clients_at; Fits = (list_of client_field).Fits }
+clients_field = record {
+  spell = clients_octets;
+  read = clients_at;
+  Fits = (listed (between OutOfRange 1 256) client_field).Fits;
+}
 
 unfoldable pub era_octets : EraSeen → List ℕ
 era_octets era =
@@ -115,7 +134,8 @@ era_octets era =
 
 abbrev pub era_as : Field EraSeen
 era_as =
-    seen_as era_of era_parts (both number (both number (both accounts_field clients_field)))
+    seen_as era_of era_parts
+    (both number (both (between OutOfRange 1 4) (both accounts_field clients_field)))
 
 unfoldable pub era_at : List ℕ → Reading EraSeen
 era_at octets = era_as.read octets

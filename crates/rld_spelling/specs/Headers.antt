@@ -5,7 +5,8 @@ use Rattle.rld_fields.specs.declared.fault.Cause.TheVariants.{OtherFormat, Other
 use Rattle.rld_fields.specs.Field.{Field, Reading, both, seen_as, fixed}
 use Rattle.rld_fields.specs.Numbers.{number, number_octets, exactly}
 use Rattle.rld_spelling.specs.declared.header.Header.{Header}
-use Rattle.rld_spelling.specs.declared.header.TheConstants.{FORMAT_VERSION, RULE_VERSION}
+use Rattle.rsl_rule.specs.declared.version.TheConstants.{SESSION_RULE_VERSION}
+use Rattle.rld_spelling.specs.declared.header.TheConstants.{FORMAT_VERSION}
 
 abbrev pub HeaderParts : Type 0
 HeaderParts = Unit {0} × (Unit {0} × (ℕ × (ℕ × (List ℕ × ℕ))))
@@ -23,13 +24,13 @@ header_parts header = (tt, (tt, (header.era, (header.generation, (header.digest,
 
 unfoldable pub header_octets : Header → List ℕ
 header_octets header =
-    number_octets FORMAT_VERSION ++ (number_octets RULE_VERSION ++ (number_octets header.era
+    number_octets FORMAT_VERSION ++ (number_octets SESSION_RULE_VERSION ++ (number_octets header.era
     ++ (number_octets header.generation ++ (header.digest ++ number_octets header.lines))))
 
 abbrev pub header_as : Field Header
 header_as =
     seen_as header_of header_parts
-    (both (exactly OtherFormat FORMAT_VERSION) (both (exactly OtherRule RULE_VERSION)
+    (both (exactly OtherFormat FORMAT_VERSION) (both (exactly OtherRule SESSION_RULE_VERSION)
     (both number (both number (both (fixed 16) number)))))
 
 unfoldable pub header_at : List ℕ → Reading Header

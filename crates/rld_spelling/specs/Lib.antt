@@ -6,3 +6,4 @@ pub mod Moves
 pub mod Requests
 pub mod RulesSpelled
 pub mod Servers
+pub mod Tables

@@ -1,8 +1,10 @@
--- The rules of an account as octets.
-use Rattle.std.specs.Prelude.{ℕ, List, ◌++◌}
-use Rattle.rld_fields.specs.Field.{Field, Reading, both, seen_as}
-use Rattle.rld_fields.specs.Numbers.{number, number_octets}
+-- The rules of an account as octets: each number within the limits of an account file.
+use Rattle.std.specs.Prelude.{ℕ, List, ◌++◌, Bool, nat_le}
+use Rattle.rld_fields.specs.declared.fault.Cause.TheVariants.{OutOfRange, KeepTooLong}
+use Rattle.rld_fields.specs.Field.{Field, Reading, both, seen_as, checked}
+use Rattle.rld_fields.specs.Numbers.{number_octets, between}
 use Rattle.rsl_accounts.specs.declared.rules.Rules.{Rules}
+use Rattle.rsl_accounts.specs.Limits.{RulesFit}
 
 abbrev pub RulesParts : Type 0
 RulesParts = ℕ × (ℕ × (ℕ × (ℕ × (ℕ × (ℕ × ℕ)))))
@@ -31,13 +33,24 @@ unfoldable pub rules_octets : Rules → List ℕ
 rules_octets rules =
     number_octets rules.places ++ (number_octets rules.ports ++ times_octets rules)
 
+-- a number of seconds, at most a day
+abbrev pub time : Field ℕ
+time = between OutOfRange 1 86400
+
+-- each number within its limits
 abbrev pub rules_as : Field Rules
 rules_as =
     seen_as rules_of rules_parts
-    (both number (both number (both number (both number (both number (both number number))))))
+    (both (between OutOfRange 0 64) (both (between OutOfRange 1 16)
+    (both time (both time (both time (both time time))))))
+
+-- an answer is kept for no longer than a place is reserved
+abbrev pub keeps : Rules → Bool
+keeps rules = nat_le rules.keep rules.reserve
 
 unfoldable pub rules_at : List ℕ → Reading Rules
-rules_at octets = rules_as.read octets
+rules_at octets = (checked KeepTooLong keeps rules_as).read octets
 
+-- the rules that an account can have, and no others
 abbrev pub rules_field : Field Rules
-rules_field = record { spell = rules_octets; read = rules_at; Fits = rules_as.Fits }
+rules_field = record { spell = rules_octets; read = rules_at; Fits = RulesFit }

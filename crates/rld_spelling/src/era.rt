@@ -1,23 +1,47 @@
 //! Eras: what the numbers of accounts and clients stand for.
 
-ghost use Rattle.std.specs.Prelude.{◌≡◌, ◌++◌, ◌↔◌, IsTrue, IfOk, OnOk, IsErrOf, Ok, All, length};
+ghost use Rattle.std.specs.Prelude.{◌≡◌, ◌++◌, ◌↔◌, IsTrue, IfOk, OnOk, IsErrOf, Ok, All, length, ◌≤◌};
 ghost use Rattle.rld_fields.specs.Lists.{all_of, values_at};
 ghost use Rattle.rld_fields.specs.Read.{Gives, Reads, ReadsIn, ReadsInto};
-ghost use Rattle.rld_spelling.specs.RulesSpelled.{rules_at, rules_field, rules_octets, times_octets};
-ghost use Rattle.rld_spelling.specs.Eras.{account_at, account_field, account_octets};
+ghost use Rattle.rld_fields.specs.declared.fault.Cause.TheVariants.{OutOfRange};
+ghost use Rattle.rld_fields.specs.Numbers.{between_at};
+ghost use Rattle.rsl_accounts.specs.Field.{is_between, is_name, is_visible};
+ghost use Rattle.rld_spelling.specs.RulesSpelled.{rules_as, rules_at, rules_octets, times_octets};
+ghost use Rattle.rld_spelling.specs.Eras.{account_at, account_field, account_octets, user_name_at};
 ghost use Rattle.rld_spelling.specs.Eras.{accounts_at, accounts_octets, client_at, client_octets, ClientFits, clients_at, clients_octets};
 
 use crate::fault::SpellFault;
-use crate::server::{id_fits, read_id};
+use crate::server::id_fits;
 use rld_fields::{Cause, Fault, ReadFault, Reader, push_number, push_short};
 use rsl_accounts::Rules;
 use rsl_wire::Octets;
 use std::alloc::{AllocError, Global};
 
+/// The most shards of a server.
+const MAX_SHARDS: u64 = 4;
+
+/// The most accounts.
+const MAX_ACCOUNTS: u64 = 16_384;
+
+/// The most clients.
+const MAX_CLIENTS: u64 = 256;
+
+/// The most octets of an account's name.
+const MAX_NAME_LEN: usize = 64;
+
+/// The most places that an account can have.
+const MAX_PLACES: u64 = 64;
+
+/// The most links that a place can have.
+const MAX_PORTS: u64 = 16;
+
+/// The most seconds that a time can have: a day.
+const MAX_TIME: u64 = 86_400;
+
 /// An account of an era.
 #[derive(Debug, PartialEq, Eq, Drop)]
 pub struct EraAccount {
-    /// Its User-Name.
+    /// Its User-Name: 1 to 64 visible characters of ASCII, an octet each.
     pub name: Octets,
     /// Its session limit.
     pub rules: Rules,
@@ -35,19 +59,34 @@ pub struct EraClient {
 pub struct Era {
     /// The boot number, with which each Class attribute of the era begins.
     pub boot: u64,
-    /// How many shards the accounts are spread over.
+    /// How many shards the accounts are spread over: 1 to 4.
     pub shards: u64,
-    /// The accounts.
+    /// The accounts: 1 to 16,384.
     pub accounts: Vec<EraAccount>,
-    /// The clients.
+    /// The clients: 1 to 256.
     pub clients: Vec<EraClient>,
 }
 
-/// Every rules have a spelling: this call says so.
-fn rules_have_spelling(rules: Rules)
-    ensures { rules_field.Fits rules }
+/// Whether a name is one that an account can have: 1 to 64 octets, each a visible character of ASCII.
+fn is_name(name: &[u8]) -> bool
+    ensures { result ≡ is_name name.now }
 {
-    let _rules = rules;
+    is_between(1, MAX_NAME_LEN, name.len()) && is_visible(name)
+}
+
+/// Whether each octet is a visible character of ASCII.
+fn is_visible(text: &[u8]) -> bool
+    ensures { result ≡ is_visible text.now }
+{
+    text.iter()
+        .all(|octet| is_between(0x21, 0x7e, usize::from(*octet)))
+}
+
+/// Whether a number is from the least to the most.
+fn is_between(least: usize, most: usize, number: usize) -> bool
+    ensures { result ≡ is_between least most number }
+{
+    least <= number && number <= most
 }
 
 /// Spells the rules of an account.
@@ -72,18 +111,24 @@ fn push_times(out: &mut Vec<u8>, rules: &Rules) -> Result<(), AllocError>
     push_number(out, rules.keep)
 }
 
-/// Reads the rules of an account.
-#[tactic(auto, unfolding(crate::specs::RulesSpelled::rules_at))]
-fn read_rules(reader: &mut Reader) -> Result<Rules, Fault>
-    ensures { Reads result reader.new (rules_at reader.old) }
+/// Reads a number of seconds.
+fn read_time(reader: &mut Reader) -> Result<u64, Fault>
+    ensures { Reads result reader.new (between_at OutOfRange 1 86400 reader.old) }
 {
-    let places = reader.number()?;
-    let ports = reader.number()?;
-    let reserve = reader.number()?;
-    let live = reader.number()?;
-    let grace = reader.number()?;
-    let closed = reader.number()?;
-    let keep = reader.number()?;
+    reader.between(Cause::OutOfRange, 1, MAX_TIME)
+}
+
+/// Reads the rules of an account, whose times may disagree.
+fn read_numbers(reader: &mut Reader) -> Result<Rules, Fault>
+    ensures { Reads result reader.new (rules_as.read reader.old) }
+{
+    let places = reader.between(Cause::OutOfRange, 0, MAX_PLACES)?;
+    let ports = reader.between(Cause::OutOfRange, 1, MAX_PORTS)?;
+    let reserve = read_time(reader)?;
+    let live = read_time(reader)?;
+    let grace = read_time(reader)?;
+    let closed = read_time(reader)?;
+    let keep = read_time(reader)?;
     Ok(Rules {
         places,
         ports,
@@ -95,13 +140,26 @@ fn read_rules(reader: &mut Reader) -> Result<Rules, Fault>
     })
 }
 
+/// Reads the rules of an account.
+#[tactic(auto, unfolding(crate::specs::RulesSpelled::rules_at))]
+fn read_rules(reader: &mut Reader) -> Result<Rules, Fault>
+    ensures { Reads result reader.new (rules_at reader.old) }
+{
+    let too_long = reader.fault(Cause::KeepTooLong);
+    let rules = read_numbers(reader)?;
+    if rules.keep <= rules.reserve {
+        Ok(rules)
+    } else {
+        Err(too_long)
+    }
+}
+
 /// Whether an account has a spelling.
 #[tactic(auto, unfolding(crate::specs::Eras::AccountFits))]
 fn account_fits(account: &EraAccount) -> bool
     ensures { IsTrue result ↔ account_field.Fits account.now }
 {
-    rules_have_spelling(account.rules);
-    id_fits(&account.name)
+    id_fits(&account.name) && is_name(account.name.as_slice()) && account.rules.fits()
 }
 
 /// Spells an account.
@@ -114,14 +172,37 @@ fn push_account(out: &mut Vec<u8>, account: &EraAccount) -> Result<(), AllocErro
     push_rules(out, &account.rules)
 }
 
+/// Reads the name of an account.
+#[tactic(auto, unfolding(crate::specs::Eras::user_name_at))]
+fn read_name(alloc: Global, reader: &mut Reader) -> Result<Octets, ReadFault>
+    ensures { ReadsIn result reader.new (user_name_at reader.old) }
+{
+    let bad = reader.fault(Cause::BadName);
+    let name = reader.short()?;
+    if !is_name(name) {
+        return Err(ReadFault::Malformed(bad));
+    }
+    match Octets::from_slice(alloc, name) {
+        Ok(name) => Ok(name),
+        Err(_) => Err(ReadFault::NoMemory),
+    }
+}
+
 /// Reads an account.
 #[tactic(auto, unfolding(crate::specs::Eras::account_at))]
 fn read_account(alloc: Global, reader: &mut Reader) -> Result<EraAccount, ReadFault>
     ensures { ReadsIn result reader.new (account_at reader.old) }
 {
-    let name = read_id(alloc, reader)?;
+    let name = read_name(alloc, reader)?;
     let rules = read_rules(reader)?;
     Ok(EraAccount { name, rules })
+}
+
+/// Whether there is at least one, and at most so many.
+fn is_count(count: u64, most: u64) -> bool
+    ensures { IsTrue result ↔ ((1 ≤ count) × (count ≤ most)) }
+{
+    1 <= count && count <= most
 }
 
 /// Whether each of some accounts has a spelling.
@@ -218,7 +299,7 @@ fn read_account_count(
 fn read_accounts(alloc: Global, reader: &mut Reader) -> Result<Vec<EraAccount>, ReadFault>
     ensures { ReadsInto (λ accounts. accounts.items) result reader.new (accounts_at reader.old) }
 {
-    let count = reader.number()?;
+    let count = reader.between(Cause::OutOfRange, 1, MAX_ACCOUNTS)?;
     read_account_count(alloc, reader, count)
 }
 
@@ -245,24 +326,25 @@ fn read_client_count(
 fn read_clients(alloc: Global, reader: &mut Reader) -> Result<Vec<EraClient>, ReadFault>
     ensures { ReadsInto (λ clients. clients.items) result reader.new (clients_at reader.old) }
 {
-    let count = reader.number()?;
+    let count = reader.between(Cause::OutOfRange, 1, MAX_CLIENTS)?;
     read_client_count(alloc, reader, count)
 }
 
 impl Era {
     ghost use Rattle.rld_spelling.specs.Eras.{EraSeen, era_seen, era_at, era_field, era_octets};
 
-    /// Whether the table has a spelling: no name has over 253 octets.
+    /// Whether the table has a spelling: 1 to 4 shards, 1 to 16,384 accounts with names and rules as
+    /// an account file may have, and 1 to 256 clients.
     #[tactic(auto, unfolding(crate::specs::Eras::EraFits))]
     pub fn fits(&self) -> bool
         ensures { IsTrue result ↔ era_field.Fits (era_seen self.now) }
     {
         let _boot = self.boot;
-        let _shards = self.shards;
-        let _accounts = self.accounts.len();
-        let _clients = self.clients.len();
         clients_have_spelling(self.clients.as_slice());
-        accounts_fit(self.accounts.as_slice())
+        is_count(self.shards, MAX_SHARDS)
+            && is_count(self.accounts.len() as u64, MAX_ACCOUNTS)
+            && is_count(self.clients.len() as u64, MAX_CLIENTS)
+            && accounts_fit(self.accounts.as_slice())
     }
 
     /// Spells a table that has a spelling.
@@ -277,8 +359,8 @@ impl Era {
         push_clients(out, self.clients.as_slice())
     }
 
-    /// Spells the table behind the octets that are there. `Unfit` comes exactly where a name has over
-    /// 253 octets, and then nothing is written. Where memory is refused, nothing is said of what
+    /// Spells the table behind the octets that are there. `Unfit` comes exactly where it has no
+    /// spelling, and then nothing is written. Where memory is refused, nothing is said of what
     /// stands behind the earlier octets.
     pub fn push(&self, out: &mut Vec<u8>) -> Result<(), SpellFault>
         ensures spelled { OnOk result (out.new.items ≡ out.old.items ++ era_octets (era_seen self.now)) }
@@ -299,7 +381,7 @@ impl Era {
         ensures { ReadsInto era_seen result reader.new (era_at reader.old) }
     {
         let boot = reader.number()?;
-        let shards = reader.number()?;
+        let shards = reader.between(Cause::OutOfRange, 1, MAX_SHARDS)?;
         let accounts = read_accounts(alloc, reader)?;
         let clients = read_clients(alloc, reader)?;
         Ok(Era {

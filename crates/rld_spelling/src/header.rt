@@ -5,14 +5,11 @@ ghost use Rattle.rld_fields.specs.Lists.{all_of};
 ghost use Rattle.rld_fields.specs.Read.{Reads};
 
 use rld_fields::{Cause, Fault, Reader, push_number};
+use rsl_rule::SESSION_RULE_VERSION;
 use std::alloc::AllocError;
 
 /// The version of the format: of every spelling of this crate.
 pub const FORMAT_VERSION: u64 = 1;
-
-/// The version of the session rule: books and moves that were written under another cannot be gone on
-/// from.
-pub const RULE_VERSION: u64 = 1;
 
 /// What stands at the beginning of a generation.
 #[derive(Clone, Copy, Debug, PartialEq, Eq)]
@@ -39,7 +36,7 @@ impl Header {
         ensures { OnOk result (out.new.items ≡ out.old.items ++ header_octets self.now) }
     {
         push_number(out, FORMAT_VERSION)?;
-        push_number(out, RULE_VERSION)?;
+        push_number(out, SESSION_RULE_VERSION)?;
         push_number(out, self.era)?;
         push_number(out, self.generation)?;
         out.extend_from_slice(&self.digest)?;
@@ -59,7 +56,7 @@ impl Header {
         ensures { Reads result reader.new (header_at reader.old) }
     {
         reader.exactly(Cause::OtherFormat, FORMAT_VERSION)?;
-        reader.exactly(Cause::OtherRule, RULE_VERSION)?;
+        reader.exactly(Cause::OtherRule, SESSION_RULE_VERSION)?;
         let era = reader.number()?;
         let generation = reader.number()?;
         let digest = reader.octets_16()?;

@@ -10,6 +10,7 @@ ghost use Rattle.rld_spelling.specs.Eras.{era_field};
 ghost use Rattle.rld_spelling.specs.Headers.{header_field};
 ghost use Rattle.rld_spelling.specs.Moves.{MoveFits, move_field, move_octets, moves_field};
 ghost use Rattle.rld_spelling.specs.Laws.{FewEnough};
+ghost use Rattle.rld_spelling.specs.Tables.{TablesFit};
 
 /// Each move is read as it is spelled, whatever follows, and so are the moves of a batch.
 pub fn moves_are_read()
@@ -38,4 +39,9 @@ pub fn eras_are_read()
 /// The header of a generation is read as it is spelled.
 pub fn headers_are_read()
     ensures { IsRead header_field }
+{}
+
+/// The table of an era that begins with a configuration fits, so it is never refused.
+pub fn tables_of_configurations_fit()
+    ensures { TablesFit }
 {}

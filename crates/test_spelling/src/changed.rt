@@ -1,14 +1,20 @@
-//! A snapshot of which one octet is changed: it is refused by name, or it is another well-formed one.
+//! A snapshot, a table or a header of which one octet is changed: it is refused by name, or it is
+//! another well-formed one.
 
 use crate::draw::{COUNTS, Draw};
+use crate::lived::lived;
 use rld_fields::{ReadFault, push_number};
-use rld_spelling::{Header, push_book, read_books};
+use rld_spelling::{Era, Header, push_book, read_books};
 use rsl_saved::SavedBook;
 use std::alloc::Global;
 use std::test::Fail;
+use test_rows::octets_of;
 
 /// The books of the snapshot.
 const BOOKS: u64 = 3;
+
+/// Each octet of a book that lived is changed to so many others.
+const CHANGES: u8 = 255; // quick: 3
 
 fn push_books(octets: &mut Vec<u8>, books: &[SavedBook]) -> Result<(), Fail> {
     push_number(octets, books.len() as u64)?;
@@ -66,6 +72,13 @@ struct Counted {
 }
 
 impl Counted {
+    fn new() -> Counted {
+        Counted {
+            read: 0,
+            refused: 0,
+        }
+    }
+
     fn count(&mut self, is_read: bool) {
         if is_read {
             self.read = self.read.saturating_add(1);
@@ -75,35 +88,58 @@ impl Counted {
     }
 }
 
-/// What comes of a snapshot whose octet at a place is changed in several ways.
+/// What comes of a snapshot whose octet at a place is changed.
 fn count_at(
     alloc: Global,
     octets: &mut Vec<u8>,
     place: usize,
+    bits: u8,
     counted: &mut Counted,
 ) -> Result<(), Fail> {
-    for bits in [1, 2, 4, 64, 128, 255] {
-        change(octets, place, bits);
-        counted.count(is_read(alloc, octets.as_slice())?);
-        change(octets, place, bits);
-    }
+    change(octets, place, bits);
+    counted.count(is_read(alloc, octets.as_slice())?);
+    change(octets, place, bits);
     Ok(())
 }
 
 #[test]
 fn each_octet_of_a_snapshot_changed(rt: HostRuntime) -> Result<(), Fail> {
     let mut octets = snapshot(rt.alloc())?;
-    let mut counted = Counted {
-        read: 0,
-        refused: 0,
-    };
+    let mut counted = Counted::new();
     for place in 0..octets.len() {
-        count_at(rt.alloc(), &mut octets, place, &mut counted)?;
+        for bits in [1, 2, 4, 64, 128, 255] {
+            count_at(rt.alloc(), &mut octets, place, bits, &mut counted)?;
+        }
     }
     assert!(rt; counted.read > 500, "{counted:?}");
     assert!(rt; counted.refused > 500, "{counted:?}");
     let is_whole = is_read(rt.alloc(), octets.as_slice())?;
     assert!(rt; is_whole);
+    Ok(())
+}
+
+/// A snapshot of a book that lived.
+fn lived_snapshot(alloc: Global) -> Result<Vec<u8>, Fail> {
+    let mut draw = Draw::new(5);
+    let book = lived(alloc, &mut draw)?;
+    let books = vec![in alloc; book.save(alloc)?]?;
+    let mut octets = Vec::new(alloc);
+    push_books(&mut octets, &books)?;
+    Ok(octets)
+}
+
+#[test]
+fn each_octet_of_a_book_that_lived_changed(rt: HostRuntime) -> Result<(), Fail> {
+    let mut octets = lived_snapshot(rt.alloc())?;
+    let mut counted = Counted::new();
+    for place in 0..octets.len() {
+        for bits in 1..=CHANGES {
+            count_at(rt.alloc(), &mut octets, place, bits, &mut counted)?;
+        }
+    }
+    assert!(rt; octets.len() > 100);
+    assert!(rt; counted.read > octets.len() as u64, "{counted:?}");
+    assert!(rt; counted.refused > 100, "{counted:?}");
     Ok(())
 }
 
@@ -115,6 +151,67 @@ fn each_front_of_a_snapshot_is_refused(rt: HostRuntime) -> Result<(), Fail> {
         let found = is_read(rt.alloc(), front)?;
         assert!(rt; !found, "{len} octets");
     }
+    Ok(())
+}
+
+/// Whether octets are those of a table, which is then written so.
+fn is_table(alloc: Global, octets: &[u8]) -> Result<bool, Fail> {
+    match Era::read(alloc, octets) {
+        Ok(era) => {
+            let mut again = Vec::new(alloc);
+            era.push(&mut again)?;
+            if again.as_slice() != octets {
+                return Err("written otherwise than it was read")?;
+            }
+            Ok(true)
+        }
+        Err(ReadFault::NoMemory) => return Err("no memory")?,
+        Err(ReadFault::Malformed(_)) => Ok(false),
+    }
+}
+
+/// How many changes of an octet of a table are refused.
+fn refused_tables(alloc: Global, octets: &mut Vec<u8>, place: usize) -> Result<u64, Fail> {
+    let mut refused = 0u64;
+    for value in 1..=255 {
+        change(octets, place, value);
+        if !is_table(alloc, octets.as_slice())? {
+            refused = refused.saturating_add(1);
+        }
+        change(octets, place, value);
+    }
+    Ok(refused)
+}
+
+#[test]
+fn each_octet_of_a_table_changed(rt: HostRuntime) -> Result<(), Fail> {
+    // boot 7, 2 shards, the account a of 2 places and 1 port, times of 60, 60, 60, 60 and 5 seconds,
+    // and a client
+    let mut octets = octets_of(
+        rt.alloc(),
+        "07 02 01 01 61 02 01 3c 3c 3c 3c 05 01 c0a80110",
+    )?;
+    // How many of the 255 other values of an octet are refused: all but 3 of the shards, all numbers
+    // of accounts, all but 93 characters, all but 64 of the places and 15 of the ports, a reserve of
+    // under 5 seconds or of more than one octet, and all numbers of clients.
+    let refused = [
+        (1, 252),
+        (2, 255),
+        (4, 162),
+        (5, 191),
+        (6, 240),
+        (7, 8),
+        (12, 255),
+    ];
+    for (place, count) in refused {
+        assert_eq!(rt;
+            refused_tables(rt.alloc(), &mut octets, place)?,
+            count,
+            "{place}"
+        );
+    }
+    let is_whole = is_table(rt.alloc(), octets.as_slice())?;
+    assert!(rt; is_whole);
     Ok(())
 }
 

@@ -261,4 +261,85 @@ impl Draw {
             over,
         })
     }
+
+    // ---- events of one account: access servers, sessions and bundles are few
+
+    /// How many events an account has.
+    pub(crate) fn count(&mut self) -> u32 {
+        self.below(40)
+    }
+
+    /// How many seconds pass before an event.
+    pub(crate) fn pause(&mut self) -> u64 {
+        u64::from(self.below(30))
+    }
+
+    /// One of four ids. The first takes memory of its own.
+    fn few(&mut self, alloc: Global) -> Result<Octets, NoMemory> {
+        match self.below(4) {
+            0 => Octets::from_slice(alloc, &OCTETS[..30]),
+            1 => Octets::from_slice(alloc, b"1"),
+            2 => Octets::from_slice(alloc, b"2"),
+            _ => Octets::from_slice(alloc, b"3"),
+        }
+    }
+
+    fn few_nas(&mut self, alloc: Global) -> Result<Nas, NoMemory> {
+        let client = self.below(2);
+        let name = if self.is_so() {
+            NasName::Identifier(self.few(alloc)?)
+        } else {
+            NasName::Unnamed
+        };
+        Ok(Nas { client, name })
+    }
+
+    fn few_alive(&mut self, alloc: Global) -> Result<Act, NoMemory> {
+        let class = if self.is_so() {
+            None
+        } else {
+            Some(u64::from(self.below(8)))
+        };
+        let bundled = self.is_so();
+        let nas = self.few_nas(alloc)?;
+        let session = self.few(alloc)?;
+        let bundle = if bundled {
+            Some(self.few(alloc)?)
+        } else {
+            None
+        };
+        Ok(Act::Alive {
+            nas,
+            session,
+            bundle,
+            class,
+        })
+    }
+
+    fn act(&mut self, alloc: Global) -> Result<Act, NoMemory> {
+        match self.below(16) {
+            0..=4 => {
+                let key = self.key();
+                let nas = self.few_nas(alloc)?;
+                Ok(Act::Ask { key, nas })
+            }
+            5..=11 => self.few_alive(alloc),
+            12..=13 => {
+                let nas = self.few_nas(alloc)?;
+                let session = self.few(alloc)?;
+                Ok(Act::Stop { nas, session })
+            }
+            14 => {
+                let nas = self.few_nas(alloc)?;
+                Ok(Act::Sweep { nas })
+            }
+            _ => Ok(Act::Tick),
+        }
+    }
+
+    /// What happens to an account at a moment.
+    pub(crate) fn event(&mut self, alloc: Global, moment: u64) -> Result<Event, NoMemory> {
+        let act = self.act(alloc)?;
+        Ok(Event { moment, act })
+    }
 }

@@ -1,5 +1,5 @@
 //! Tests of `rld_fields` and `rld_spelling`: worked rows of octets, random moves and books there and
-//! back, and snapshots of which an octet is changed. Octets of rows are written by hand from the
+//! back, books that lived put back, and snapshots and tables of which an octet is changed. Octets of rows are written by hand from the
 //! tables of docs/FOLDER.md.
 #![tactic(auto)]
 
@@ -11,6 +11,8 @@ mod changed;
 mod draw;
 #[cfg(test)]
 mod lengths;
+#[cfg(test)]
+mod lived;
 #[cfg(test)]
 mod moves;
 #[cfg(test)]
