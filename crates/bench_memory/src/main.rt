@@ -5,6 +5,7 @@
 //! | WORK | What it does |
 //! |---|---|
 //! | `calls` | makes each call that takes memory and that no other work makes |
+//! | `saved` | writes the moves and the book of the first account, reads them again, and puts the book back |
 //! | `steps` | has `run` of `rsl_steps` answer the script's steps, and then those that were not refused |
 //! | `shard` | gives the events of the first account to a shard, and cuts it |
 //! | `service` | gives the script's datagrams and ticks to a service, and closes it |
@@ -24,6 +25,7 @@ mod given;
 mod life;
 mod printed;
 mod receiving;
+mod saved;
 mod served;
 mod shard;
 mod steps;
@@ -49,8 +51,8 @@ const TRIES: u32 = 3;
 const BOOT: u64 = 1;
 
 /// The works, in the order in which they are done where none is named.
-const WORKS: [&str; 7] = [
-    "calls", "steps", "shard", "service", "cuts", "receive", "expire",
+const WORKS: [&str; 8] = [
+    "calls", "saved", "steps", "shard", "service", "cuts", "receive", "expire",
 ];
 
 fn main(rt: HostRuntime) -> ExitCode {
@@ -103,6 +105,7 @@ fn do_work<R: Print + Wait>(
 ) -> Result<(), Stop> {
     match work {
         "calls" => calls::tell(rt, alloc, text),
+        "saved" => saved::tell(rt, alloc, text),
         "steps" => steps::tell(rt, alloc, text),
         "shard" => shard::tell(rt, alloc, text),
         "service" => life::tell(rt, alloc, text, left_out, Way::Uncut),

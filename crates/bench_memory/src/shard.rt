@@ -18,7 +18,7 @@ pub(crate) fn tell<R: Print>(rt: &R, alloc: Global, text: &[u8]) -> Result<(), S
 }
 
 /// The own events of a script's first account.
-fn first_events(alloc: Global, given: &Given) -> Result<Vec<Event>, Stop> {
+pub(crate) fn first_events(alloc: Global, given: &Given) -> Result<Vec<Event>, Stop> {
     let _accounts = given.config.accounts();
     Ok(own(alloc, &given.config, BOOT, 0, &given.steps)?)
 }
@@ -89,7 +89,7 @@ fn step<R: Print>(rt: &R, alloc: Global, shard: &mut Shard, event: &Event) -> Re
 }
 
 /// The move of an event of the first account.
-fn move_of(event: Event) -> Move {
+pub(crate) fn move_of(event: Event) -> Move {
     let Event { moment, act } = event;
     match act {
         Act::Sweep { nas } => Move::Sweep { moment, nas },

@@ -1,4 +1,7 @@
+use rld_fields::ReadFault;
+use rld_spelling::SpellFault;
 use rsl_accounts::ConfigFault;
+use rsl_book::RestoreFault;
 use rsl_receive::ReceiveFault;
 use rsl_report::ExitStatus;
 use rsl_script::ScriptFault;
@@ -11,7 +14,7 @@ use thiserror::Error;
 #[derive(Clone, Copy, Debug, PartialEq, Eq, Error)]
 pub(crate) enum Stop {
     /// The arguments are wrong.
-    #[error("usage: bench_memory [calls | steps | shard | service | cuts | receive NUMBER.. | expire NUMBER..]")]
+    #[error("usage: bench_memory [calls | saved | steps | shard | service | cuts | receive NUMBER.. | expire NUMBER..]")]
     Usage,
     /// The script is wrong.
     #[error("bad script: {0}")]
@@ -19,6 +22,9 @@ pub(crate) enum Stop {
     /// The configuration of the script is refused.
     #[error("bad script: {0}")]
     Config(ConfigFault),
+    /// What was written is not read, or not put back.
+    #[error("not as it was written")]
+    Unread,
     /// A read or a write failed.
     #[error("input or output fault")]
     InputOutput,
@@ -31,7 +37,8 @@ impl Stop {
     /// The status with which the process ends.
     pub(crate) fn status(self) -> ExitStatus {
         match self {
-            Stop::Usage | Stop::Script(_) | Stop::Config(_) => ExitStatus::WrongInput,
+            Stop::Usage | Stop::Script(_) | Stop::Config(_) | Stop::Unread =>
+                ExitStatus::WrongInput,
             Stop::InputOutput => ExitStatus::InputOutput,
             Stop::NoMemory => ExitStatus::NoMemory,
         }
@@ -70,6 +77,33 @@ impl From<ConfigFault> for Stop {
         match fault {
             ConfigFault::NoMemory => Stop::NoMemory,
             _ => Stop::Config(fault),
+        }
+    }
+}
+
+impl From<SpellFault> for Stop {
+    fn from(fault: SpellFault) -> Stop {
+        match fault {
+            SpellFault::NoMemory => Stop::NoMemory,
+            SpellFault::Unfit => Stop::Unread,
+        }
+    }
+}
+
+impl From<ReadFault> for Stop {
+    fn from(fault: ReadFault) -> Stop {
+        match fault {
+            ReadFault::NoMemory => Stop::NoMemory,
+            ReadFault::Malformed(_) => Stop::Unread,
+        }
+    }
+}
+
+impl From<RestoreFault> for Stop {
+    fn from(fault: RestoreFault) -> Stop {
+        match fault {
+            RestoreFault::NoMemory => Stop::NoMemory,
+            _ => Stop::Unread,
         }
     }
 }
