@@ -1,4 +1,5 @@
 pub mod Blocks
+pub mod Callers
 pub mod Losing
 pub mod Readings
 pub mod Recordings

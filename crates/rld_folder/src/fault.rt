@@ -1,0 +1,49 @@
+use std::alloc::{AllocError, AllocFailed};
+use thiserror::Error;
+
+/// Why a call on a server's folder failed.
+#[derive(Clone, Copy, Debug, PartialEq, Eq, Error)]
+pub enum FolderFault {
+    /// Memory was refused.
+    #[error("no memory")]
+    NoMemory,
+    /// The folder is not there and could not be made.
+    #[error("cannot be made")]
+    Unmade,
+    /// The folder, or its list of files, could not be read.
+    #[error("cannot be read")]
+    Unread,
+    /// What has its name is no folder.
+    #[error("is no folder")]
+    NoFolder,
+    /// Others than its owner may write to the folder.
+    #[error("others may write to it")]
+    Exposed,
+    /// Another process holds the folder's lock.
+    #[error("busy")]
+    Busy,
+    /// The lock could not be taken.
+    #[error("cannot be locked")]
+    Unlocked,
+    /// A file could not be opened or made.
+    #[error("a file cannot be opened")]
+    Unopened,
+    /// A file could not be written.
+    #[error("a file cannot be written")]
+    Unwritten,
+    /// The folder could not be synced: a new file may be lost with a loss of power.
+    #[error("cannot be synced")]
+    Unsynced,
+}
+
+impl From<AllocError> for FolderFault {
+    fn from(_refused: AllocError) -> FolderFault {
+        FolderFault::NoMemory
+    }
+}
+
+impl<T: Drop> From<AllocFailed<T>> for FolderFault {
+    fn from(_refused: AllocFailed<T>) -> FolderFault {
+        FolderFault::NoMemory
+    }
+}

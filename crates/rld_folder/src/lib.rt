@@ -1,0 +1,13 @@
+//! The folder of a server: which file is which, which generation is the newest, and the one process
+//! that may write there.
+#![tactic(auto)]
+
+mod fault;
+mod folder;
+mod name;
+mod newest;
+
+pub use fault::FolderFault;
+pub use folder::Folder;
+pub use name::{FileName, Generation};
+pub use newest::newest_generation;

@@ -1,0 +1,53 @@
+ghost use Rattle.std.specs.Prelude.{◌≡◌, List, [], ◌∷◌, ◌++◌, ◌↔◌, IsTrue, None};
+ghost use Rattle.rld_folder.specs.Newest.{IsBelow, IsNewest, Precedes};
+ghost use Rattle.rld_folder.specs.declared.name.FileName.{FileName as OneName};
+
+use crate::name::{FileName, Generation};
+
+impl Generation {
+    /// Whether this one is of an earlier era, or has an earlier number in the same.
+    pub fn precedes(self, other: Generation) -> bool
+        ensures { IsTrue result ↔ Precedes self other }
+    {
+        self.era < other.era || (self.era == other.era && self.number < other.number)
+    }
+
+    /// Whether this one is before a limit, if there is one.
+    fn is_below(self, limit: Option<Generation>) -> bool
+        ensures { IsTrue result ↔ IsBelow limit self }
+    {
+        match limit {
+            Some(limit) => self.precedes(limit),
+            None => true,
+        }
+    }
+}
+
+/// The newest generation with one file more.
+fn newer(limit: Option<Generation>, best: Option<Generation>, file: FileName) -> Option<Generation>
+    ensures { (files : List OneName) → IsNewest limit files best →
+        IsNewest limit (files ++ file ∷ []) result }
+{
+    let FileName::Log(generation) = file else {
+        return best;
+    };
+    if !generation.is_below(limit) {
+        return best;
+    }
+    match best {
+        Some(newest) if !newest.precedes(generation) => best,
+        _ => Some(generation),
+    }
+}
+
+/// The newest generation among files; with a limit the newest of those before it. `None` where there
+/// is none.
+pub fn newest_generation(files: &[FileName], limit: Option<Generation>) -> Option<Generation>
+    ensures { IsNewest limit files.now result }
+{
+    let mut best = None;
+    for file in files {
+        best = newer(limit, best, *file);
+    }
+    best
+}
