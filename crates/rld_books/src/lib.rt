@@ -3,9 +3,14 @@
 //! The promise: a batch of moves is decided as its journal says, and the books are then what the
 //! moves make of them. A batch takes no memory once there is room for its decisions.
 //!
-//! `specs/Server.antt` says what a move makes of the books, and what the journal of moves is.
+//! They are saved as values, and put back from these as the same books.
+//!
+//! `specs/Server.antt` says what a move makes of the books, and what the journal of moves is;
+//! `specs/Saved.antt` what is saved of the books.
 #![tactic(auto)]
 
+mod fault;
 mod server_books;
 
+pub use fault::ServerFault;
 pub use server_books::ServerBooks;

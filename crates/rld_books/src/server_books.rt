@@ -14,6 +14,9 @@ ghost use Rattle.rld_books.specs.Server.{
 ghost use Rattle.rsl_shard.specs.declared.moved.Move.TheVariants as moves;
 ghost use Rattle.rsl_event.specs.declared.event.Decision.TheVariants.{Done as done};
 
+mod looking;
+mod saving;
+
 use rsl_accounts::Config;
 use rsl_event::{Decision, Event, Nas};
 use rsl_shard::{Books, Move};
@@ -43,7 +46,8 @@ impl Model for ServerBooks {
 
 /// The new books of each shard.
 fn new_shards(alloc: Global, config: &Config) -> Result<Vec<Books>, NoMemory>
-    ensures { IfOk result (λ shards. shards.items ≡ new_server config.now) }
+    ensures new { IfOk result (λ shards. shards.items ≡ new_server config.now) }
+    ensures server { IfOk result (λ shards. IsServer shards.items) }
 {
     let mut shards = Vec::new(alloc);
     for number in 0..config.shards() {
@@ -78,8 +82,6 @@ impl ServerBooks {
     pub fn new(alloc: Global, config: &Config) -> Result<ServerBooks, NoMemory>
         ensures { IfOk result (λ server. server ≡ new_server config.now) }
     {
-        // A configuration has 1 to 4 shards: this call tells it.
-        let _shards = config.shards();
         let shards = new_shards(alloc, config)?;
         Ok(ServerBooks { shards })
     }
@@ -101,6 +103,18 @@ impl ServerBooks {
             Move::Own { account, .. } => self.shards[self.index_of(*account)].takes(moved),
             Move::Sweep { .. } | Move::Tick { .. } | Move::Stray { .. } => true,
         }
+    }
+
+    /// Whether each of some moves can be made, in their order.
+    pub fn takes_all(&self, moves: &[Move]) -> bool
+        ensures { IsTrue result ↔ AreTakenIn self.now moves.now }
+    {
+        for moved in moves {
+            if !self.takes(moved) {
+                return false;
+            }
+        }
+        true
     }
 
     /// Makes a move, which it takes over: what is one account's own steps its book and no other, a

@@ -1,0 +1,47 @@
+ghost use Rattle.std.specs.Prelude.{◌≡◌};
+ghost use Rattle.rld_books.specs.declared.fault.ServerFault.TheVariants.{NoMemory as no_memory};
+
+use rsl_book::RestoreFault;
+use rsl_wire::NoMemory;
+use std::alloc::AllocFailed;
+use thiserror::Error;
+
+/// Why saved books are not those of a configuration, or that memory was refused.
+#[derive(Clone, Copy, Debug, PartialEq, Eq, Error)]
+pub enum ServerFault {
+    /// There is not one book of each account.
+    #[error("not one book for each account")]
+    WrongCount,
+    /// A book is none of its account.
+    #[error("{0}")]
+    Misfit(RestoreFault),
+    /// Memory was refused.
+    #[error("no memory")]
+    NoMemory,
+}
+
+impl From<NoMemory> for ServerFault {
+    ghost from_gives = { λ _ fault. fault ≡ no_memory };
+
+    fn from(_refused: NoMemory) -> ServerFault {
+        ServerFault::NoMemory
+    }
+}
+
+impl<T: Drop> From<AllocFailed<T>> for ServerFault {
+    ghost from_gives = { λ _ fault. fault ≡ no_memory };
+
+    fn from(_refused: AllocFailed<T>) -> ServerFault {
+        ServerFault::NoMemory
+    }
+}
+
+impl From<RestoreFault> for ServerFault {
+    fn from(fault: RestoreFault) -> ServerFault {
+        match fault {
+            RestoreFault::NoMemory => ServerFault::NoMemory,
+            RestoreFault::TooManyAsks | RestoreFault::TooManyStops | RestoreFault::TooManyPlaces =>
+                { ServerFault::Misfit(fault) }
+        }
+    }
+}

@@ -1,0 +1,118 @@
+//! The books as they are saved, and put back.
+
+ghost use Rattle.std.specs.Prelude.{◌≡◌, ◌++◌, ◌<◌, IfOk, map};
+ghost use Rattle.rld_books.specs.Saved.{IsServerOf, saved_server, seen_as_new};
+ghost use Rattle.rld_books.specs.Server.{new_server};
+ghost use Rattle.rsl_accounts.specs.Limits.{RulesFit};
+ghost use Rattle.rsl_book.specs.Restored.{saved};
+ghost use Rattle.rsl_saved.specs.Saved.{saved_book};
+ghost use Rattle.rsl_shard.specs.Opening.{as_new};
+ghost use Rattle.rsl_shard.specs.Restep.{new_books};
+ghost use Rattle.rsl_shard.specs.Setup.{setup_of};
+
+use crate::fault::ServerFault;
+use crate::server_books::ServerBooks;
+use rsl_accounts::{Config, Rules};
+use rsl_book::Book;
+use rsl_book::laws::put_back_is_saved;
+use rsl_saved::SavedBook;
+use rsl_shard::Books;
+use rsl_wire::NoMemory;
+use std::alloc::Global;
+
+/// What is saved of the books of shards, one shard after another.
+fn saved_of(alloc: Global, shards: &[Books]) -> Result<Vec<SavedBook>, NoMemory>
+    ensures { IfOk result (λ kept. map saved_book kept.items ≡ saved_server shards.now) }
+{
+    let mut kept = Vec::new(alloc);
+    for shard in shards {
+        let mut books = shard.save(alloc)?;
+        kept.append(&mut books)?;
+    }
+    Ok(kept)
+}
+
+/// The book of an account with these rules, put back.
+fn restored_book(alloc: Global, rules: Rules, kept: &SavedBook) -> Result<Book, ServerFault>
+    requires { RulesFit rules }
+    ensures { IfOk result (λ book. saved book ≡ saved_book kept.now) }
+{
+    put_back_is_saved();
+    Ok(Book::restore(alloc, rules, kept)?)
+}
+
+/// The books of a shard's accounts, put back from the first of these, and those that are left.
+fn restored_list<'a>(
+    alloc: Global,
+    config: &Config,
+    shard: u32,
+    kept: &'a [SavedBook],
+) -> Result<(Vec<Book>, &'a [SavedBook]), ServerFault>
+    ensures { IfOk result (λ found.
+        map saved found.0.items ++ map saved_book found.1.now ≡ map saved_book kept.now) }
+{
+    let mut books = Vec::new(alloc);
+    let mut left = kept;
+    for account in 0..config.accounts() {
+        if config.shard_of(account) == shard {
+            let Some((first, rest)) = left.split_first() else {
+                return Err(ServerFault::WrongCount);
+            };
+            books.push(restored_book(alloc, config.entry(account).rules, first)?)?;
+            left = rest;
+        }
+    }
+    Ok((books, left))
+}
+
+/// The books of each shard, put back from all of these.
+fn restored_shards(
+    alloc: Global,
+    config: &Config,
+    kept: &[SavedBook],
+) -> Result<Vec<Books>, ServerFault>
+    ensures server { IfOk result (λ shards. IsServerOf config.now shards.items) }
+    ensures saved { IfOk result (λ shards. saved_server shards.items ≡ map saved_book kept.now) }
+{
+    let mut shards = Vec::new(alloc);
+    let mut left = kept;
+    for shard in 0..config.shards() {
+        let (books, rest) = restored_list(alloc, config, shard, left)?;
+        let Ok(books) = Books::from_books(config, shard, books) else {
+            return Err(ServerFault::WrongCount);
+        };
+        shards.push(books)?;
+        left = rest;
+    }
+    if !left.is_empty() {
+        return Err(ServerFault::WrongCount);
+    }
+    Ok(shards)
+}
+
+impl ServerBooks {
+    /// What is saved of each book, shard after shard, and in each in the order of the accounts'
+    /// numbers. It fails only where memory is refused.
+    pub fn save(&self, alloc: Global) -> Result<Vec<SavedBook>, NoMemory>
+        ensures { IfOk result (λ kept. map saved_book kept.items ≡ saved_server self.now) }
+    {
+        saved_of(alloc, &self.shards)
+    }
+
+    /// The books of a configuration that were saved, with all the room that they will ever use.
+    /// Where there is not one book of each account, or one that its account cannot have, none is
+    /// put back.
+    pub fn restore(
+        alloc: Global,
+        config: &Config,
+        kept: &[SavedBook],
+    ) -> Result<ServerBooks, ServerFault>
+        ensures server { IfOk result (λ server. IsServerOf config.now server) }
+        ensures saved { IfOk result (λ server. saved_server server ≡ map saved_book kept.now) }
+    {
+        // A configuration has 1 to 4 shards: this call tells it.
+        let _shards = config.shards();
+        let shards = restored_shards(alloc, config, kept)?;
+        Ok(ServerBooks { shards })
+    }
+}
