@@ -1,0 +1,95 @@
+-- What the opening of a log leaves of it.
+use Rattle.std.proofs.Common.{◌≡◌, ◌⊎◌, inl, inr, ℕ, ◌+◌, ◌<◌, ◌≤◌, List, [], ◌∷◌, ◌++◌, length, map, refl, sym, ap, subst, ◌∙◌, arith}
+use Rattle.std.specs.List.{AllByRecursion}
+use Rattle.rsl_accounts.specs.Configuration.{Configuration}
+use Rattle.rsl_shard.specs.Restep.{BooksSeen}
+use Rattle.rsl_shard.specs.declared.moved.Move.{Move}
+use Rattle.rld_books.specs.Saved.{IsServerOf}
+use Rattle.rld_books.specs.Server.{new_server, replay}
+use Rattle.rld_log.specs.Frames.{EndsAt, Fits, HasPayloads, IsDamagedAt, frames}
+use Rattle.rld_log.specs.Log.{Extends, NoMore, Only}
+use Rattle.rld_log.specs.Recording.{IsBeforeOrAfter, IsSettled, LeavesEither}
+use Rattle.rld_log.specs.declared.log.Ending.{Ending}
+use Rattle.rld_log.proofs.Callers.{ends_there, have_one_reading}
+use Rattle.rld_spelling.specs.declared.header.Header.{Header}
+use Rattle.rld_spelling.specs.declared.moves.Counts.{Counts}
+use Rattle.rld_store.specs.Generations.{AreOfHistory, HasHistory, IsUnbegun, counts_of}
+use Rattle.rld_store.specs.Opening.{IsFound, IsFoundIn, IsOfNoLog, IsWhy, IsWhyUnread, LeavesAsItWas}
+use Rattle.rld_store.specs.Standing.{StandsFor}
+use Rattle.rld_store.specs.declared.fault.StoreFault.{StoreFault}
+use Rattle.rld_store.specs.declared.fault.StoreFault.TheVariants as faults
+use Rattle.rld_store.specs.declared.store.End.TheVariants.{Settled}
+use Rattle.rld_store.proofs.Batches.{size_more}
+use Rattle.rld_store.proofs.Fronts.{no_moves_fit}
+use Rattle.rld_store.proofs.States.{begun_is_of, made_of_begun}
+
+-- ---- what a crash leaves
+
+-- a crash that leaves the payloads, with one or another more or with none, leaves the payloads
+one_way : (file : List ℕ) (before : List (List ℕ)) → IsBeforeOrAfter before [] file → IsBeforeOrAfter before (0 ∷ []) file → HasPayloads file before
+one_way file before (inl has) other = has
+one_way file before (inr some) (inl has) = has
+one_way file before (inr some) (inr other) =
+    let same : before ++ [] ∷ [] ≡ before ++ (0 ∷ []) ∷ [] = have_one_reading file (before ++ [] ∷ []) (before ++ (0 ∷ []) ∷ []) some other in
+    absurd (omega (arith, ap (λ (l : List (List ℕ)). length (frames l)) same, size_more before [] (omega arith), size_more before (0 ∷ []) (omega arith)))
+
+pub only_the_payloads : (old new : Ending → List ℕ → Type 0) (before : List (List ℕ))
+    → ((payload : List ℕ) (ending : Ending) → LeavesEither (old ending) before payload → LeavesEither (new ending) before payload)
+    → ((ending : Ending) (left : List ℕ) → old ending left → HasPayloads left before)
+    → (ending : Ending) (left : List ℕ) → new ending left → HasPayloads left before
+only_the_payloads old new before leaves has ending left reached =
+    one_way left before (leaves [] ending (λ l r. inl (has ending l r)) left reached) (leaves (0 ∷ []) ending (λ l r. inl (has ending l r)) left reached)
+
+pub has_before : (file : List ℕ) (old new : Ending → List ℕ → Type 0) (before : List (List ℕ)) → Only file old → NoMore old new → HasPayloads file before
+    → (ending : Ending) (left : List ℕ) → new ending left → HasPayloads left before
+has_before file old new before only fewer has ending left reached = subst (λ (f : List ℕ). HasPayloads f before) (sym (only ending left (fewer ending left reached))) has
+
+pub extends_whole : (file same : List ℕ) (before : List (List ℕ)) → same ≡ file → HasPayloads file before → Extends (frames before) same
+extends_whole file same before is has = record { tail = has.tail; added = is ∙ has.parts }
+
+pub ends_whole : (file octets : List ℕ) (len : ℕ) (before : List (List ℕ)) → octets ≡ file → EndsAt octets len → HasPayloads file before → len ≡ length (frames before)
+ends_whole file octets len before is ends has = ends_there file len before (subst (λ (f : List ℕ). EndsAt f len) is ends) has
+
+-- ---- faults
+
+pub left_as_it_was : (fault : StoreFault) (old new : List ℕ) (old_outcomes new_outcomes : Ending → List ℕ → Type 0) → IsOfNoLog fault → new ≡ old → NoMore old_outcomes new_outcomes
+    → LeavesAsItWas fault old new old_outcomes new_outcomes
+left_as_it_was (faults.Log fault) old new old_outcomes new_outcomes other same fewer = tt
+left_as_it_was _ old new old_outcomes new_outcomes other same fewer = (same, fewer)
+
+-- why a log was refused, by why its payloads were not read
+pub why_refused : (counts : Counts) (file : List ℕ) (payloads : List (List ℕ)) (fault : StoreFault) → HasPayloads file payloads → IsWhyUnread counts payloads fault → IsWhy counts file fault
+why_refused counts file payloads faults.Unbegun has why = record { payloads = payloads; has = has; few = why }
+why_refused counts file payloads (faults.Malformed malformed) has why = (payloads, (has, why))
+why_refused counts file payloads (faults.Damaged damage) has why = absurd why
+why_refused counts file payloads (faults.Log fault) has why = absurd why
+why_refused counts file payloads _ has why = tt
+
+pub of_no_log : (counts : Counts) (payloads : List (List ℕ)) (fault : StoreFault) → IsWhyUnread counts payloads fault → IsOfNoLog fault
+of_no_log counts payloads (faults.Log fault) why = absurd why
+of_no_log counts payloads _ why = tt
+
+-- ---- the history of a log that was opened
+
+pub opened_stands : (config : Configuration) (counts : Counts) (tears : List ℕ → List ℕ → Type 0) (file seen : List ℕ) (may_leave : Ending → List ℕ → Type 0) (whole : ℕ) (header : Header) (books : List BooksSeen) (count : ℕ) (history : List Move)
+    → counts ≡ counts_of config → (has : HasHistory config history file) → IsFoundIn config has.payloads header books count → whole ≡ length (frames has.payloads) → IsSettled seen may_leave has.payloads
+    → StandsFor config counts tears Settled seen may_leave whole books history []
+opened_stands config counts tears file seen may_leave whole header books count history counted has found size settled = record {
+  counts_are = counted;
+  payloads = has.payloads;
+  are = has.are;
+  unanswered_fits = no_moves_fit counts;
+  size = size;
+  ends = settled;
+  replayed = (found has.are.header (replay (new_server config) has.are.earlier) has.are.moves (begun_is_of config has.are.earlier) has.are.generation).books_are
+      ∙ sym (made_of_begun config history has.payloads has.are);
+}
+
+pub opened_found : (config : Configuration) (file : List ℕ) (header : Header) (books : List BooksSeen) (count : ℕ) (history : List Move)
+    → (has : HasHistory config history file) → IsFoundIn config has.payloads header books count → (header ≡ has.are.header) × (count ≡ length has.are.moves)
+opened_found config file header books count history has found =
+    let is = found has.are.header (replay (new_server config) has.are.earlier) has.are.moves (begun_is_of config has.are.earlier) has.are.generation in
+    (is.header_is, is.count_is)
+
+pub still_history : (config : Configuration) (history : List Move) (file left : List ℕ) → (has : HasHistory config history file) → HasPayloads left has.payloads → HasHistory config history left
+still_history config history file left has there = record { payloads = has.payloads; has = there; are = has.are }

@@ -1,0 +1,7 @@
+pub mod Batches
+pub mod Callers
+pub mod Fronts
+pub mod Histories
+pub mod Replaying
+pub mod Standing
+pub mod States

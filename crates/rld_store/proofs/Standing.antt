@@ -1,0 +1,108 @@
+-- A store stands for a history, before and after each call.
+use Rattle.std.proofs.Common.{◌≡◌, ◌⊎◌, inl, inr, ℕ, ◌+◌, ◌<◌, List, [], ◌∷◌, ◌++◌, length, refl, sym, ap, subst, ◌∙◌, arith}
+use Rattle.rsl_accounts.specs.Configuration.{Configuration}
+use Rattle.rsl_shard.specs.Restep.{BooksSeen}
+use Rattle.rsl_shard.specs.declared.moved.Move.{Move}
+use Rattle.rld_books.specs.Server.{new_server, replay}
+use Rattle.rld_log.specs.Frames.{Fits, HasPayloads, frames}
+use Rattle.rld_log.specs.Log.{Extends, Premise}
+use Rattle.rld_log.specs.Recording.{IsBeforeOrAfter, IsSettled, LeavesEither}
+use Rattle.rld_log.specs.declared.log.Ending.{Ending}
+use Rattle.rld_log.proofs.Callers.{whole_has}
+use Rattle.rld_spelling.specs.Moves.{moves_field}
+use Rattle.rld_spelling.specs.declared.moves.Counts.{Counts}
+use Rattle.rld_store.specs.Generations.{AreOfHistory, HasHistory, HasHistoryOr, counts_of}
+use Rattle.rld_store.specs.Standing.{EndsSo, IsUnsettled, LosesNothing, StandsFor}
+use Rattle.rld_store.specs.declared.store.End.{End}
+use Rattle.rld_store.specs.declared.store.End.TheVariants.{Settled, Unsettled}
+use Rattle.rld_store.proofs.Batches.{history_more, replay_more, size_more}
+
+-- ---- the end of a log
+
+-- mending that failed
+pub still_unsettled : (tears : List ℕ → List ℕ → Type 0) (seen new : List ℕ) (old may_leave : Ending → List ℕ → Type 0) (payloads : List (List ℕ)) (unanswered : List ℕ)
+    → IsUnsettled tears seen old payloads unanswered → Extends (frames payloads) new
+    → ((ending : Ending) → LeavesEither (old ending) payloads unanswered → LeavesEither (may_leave ending) payloads unanswered) → IsUnsettled tears new may_leave payloads unanswered
+still_unsettled tears seen new old may_leave payloads unanswered so front leaves = record {
+  fit = so.fit;
+  front = front;
+  left = λ ending premise. leaves ending (so.left ending premise);
+}
+
+-- recording that failed
+pub now_unsettled : (tears : List ℕ → List ℕ → Type 0) (seen new : List ℕ) (old may_leave : Ending → List ℕ → Type 0) (payloads : List (List ℕ)) (payload : List ℕ)
+    → IsSettled seen old payloads → Extends seen new → ((ending : Ending) → Premise tears ending → LeavesEither (may_leave ending) payloads payload) → IsUnsettled tears new may_leave payloads payload
+now_unsettled tears seen new old may_leave payloads payload settled front leaves = record {
+  fit = settled.fit;
+  front = subst (λ (f : List ℕ). Extends f new) settled.whole front;
+  left = leaves;
+}
+
+-- ---- what a store stands for
+
+module _ (config : Configuration) (tears : List ℕ → List ℕ → Type 0) where
+  -- a call that kept the history and what was not answered
+  pub stands_still : (counts same_counts : Counts) (end now : End) (seen new : List ℕ) (old may_leave : Ending → List ℕ → Type 0) (whole size : ℕ) (books made : List BooksSeen) (history unanswered : List Move)
+      → StandsFor config counts tears end seen old whole books history unanswered → same_counts ≡ counts → size ≡ whole → made ≡ books
+      → ((before : List (List ℕ)) (payload : List ℕ) → whole ≡ length (frames before) → EndsSo end tears seen old before payload → EndsSo now tears new may_leave before payload)
+      → StandsFor config same_counts tears now new may_leave size made history unanswered
+  stands_still counts same_counts end now seen new old may_leave whole size books made history unanswered so counted same made_is ends =
+      subst (λ (c : Counts). StandsFor config c tears now new may_leave size made history unanswered) (sym counted) (record {
+        counts_are = so.counts_are;
+        payloads = so.payloads;
+        are = so.are;
+        unanswered_fits = so.unanswered_fits;
+        size = same ∙ so.size;
+        ends = ends so.payloads ((moves_field counts).spell unanswered) so.size so.ends;
+        replayed = made_is ∙ so.replayed;
+      })
+
+  -- a call that failed as it recorded a batch
+  pub stands_unanswered : (counts same_counts : Counts) (end : End) (seen new : List ℕ) (old may_leave : Ending → List ℕ → Type 0) (whole size : ℕ) (books made : List BooksSeen) (history unanswered batch : List Move) (payload : List ℕ)
+      → StandsFor config counts tears end seen old whole books history unanswered → same_counts ≡ counts → size ≡ whole → made ≡ books → payload ≡ (moves_field counts).spell batch → (moves_field counts).Fits batch
+      → ((before : List (List ℕ)) (other : List ℕ) → whole ≡ length (frames before) → EndsSo end tears seen old before other → EndsSo Unsettled tears new may_leave before payload)
+      → StandsFor config same_counts tears Unsettled new may_leave size made history batch
+  stands_unanswered counts same_counts end seen new old may_leave whole size books made history unanswered batch payload so counted same made_is is fit ends =
+      subst (λ (c : Counts). StandsFor config c tears Unsettled new may_leave size made history batch) (sym counted) (record {
+        counts_are = so.counts_are;
+        payloads = so.payloads;
+        are = so.are;
+        unanswered_fits = fit;
+        size = same ∙ so.size;
+        ends = subst (λ (p : List ℕ). EndsSo Unsettled tears new may_leave so.payloads p) is (ends so.payloads ((moves_field counts).spell unanswered) so.size so.ends);
+        replayed = made_is ∙ so.replayed;
+      })
+
+  -- a call that recorded a batch and made it
+  pub stands_more : (counts same_counts : Counts) (end : End) (seen new : List ℕ) (old may_leave : Ending → List ℕ → Type 0) (whole size : ℕ) (books made : List BooksSeen) (history unanswered batch : List Move) (payload : List ℕ)
+      → StandsFor config counts tears end seen old whole books history unanswered → same_counts ≡ counts → Fits payload → size ≡ whole + (20 + length payload) → made ≡ replay books batch
+      → payload ≡ (moves_field counts).spell batch → (moves_field counts).Fits batch
+      → ((before : List (List ℕ)) (other : List ℕ) → whole ≡ length (frames before) → EndsSo end tears seen old before other → EndsSo Settled tears new may_leave (before ++ payload ∷ []) payload)
+      → StandsFor config same_counts tears Settled new may_leave size made (history ++ batch) batch
+  stands_more counts same_counts end seen new old may_leave whole size books made history unanswered batch payload so counted short size_is made_is is fit ends =
+      subst (λ (c : Counts). StandsFor config c tears Settled new may_leave size made (history ++ batch) batch) (sym counted) (record {
+        counts_are = so.counts_are;
+        payloads = so.payloads ++ payload ∷ [];
+        are = history_more config history batch so.payloads payload so.are (subst (λ (c : Counts). (moves_field c).Fits batch) so.counts_are fit) (is ∙ ap (λ (c : Counts). (moves_field c).spell batch) so.counts_are);
+        unanswered_fits = fit;
+        size = omega (arith, size_is, so.size, size_more so.payloads payload short);
+        ends = ends so.payloads ((moves_field counts).spell unanswered) so.size so.ends;
+        replayed = made_is ∙ ap (λ (b : List BooksSeen). replay b batch) so.replayed ∙ sym (replay_more (new_server config) history batch);
+      })
+
+-- what a crash leaves
+pub crashes_lose : (config : Configuration) (counts : Counts) (tears : List ℕ → List ℕ → Type 0) (end : End) (seen : List ℕ) (may_leave : Ending → List ℕ → Type 0) (whole : ℕ) (books : List BooksSeen) (history unanswered : List Move)
+    → StandsFor config counts tears end seen may_leave whole books history unanswered → LosesNothing config tears may_leave history unanswered
+crashes_lose config counts tears Settled seen may_leave whole books history unanswered so ending premise left reached =
+    inl (record { payloads = so.payloads; has = whole_has left so.payloads so.ends.fit (so.ends.durable ending left reached ∙ so.ends.whole); are = so.are })
+crashes_lose config counts tears Unsettled seen may_leave whole books history unanswered so ending premise left reached =
+    by (so.ends.left ending premise left reached)
+  where
+    by : IsBeforeOrAfter so.payloads ((moves_field counts).spell unanswered) left → HasHistoryOr config history unanswered left
+    by (inl has) = inl (record { payloads = so.payloads; has = has; are = so.are })
+    by (inr has) = inr (record {
+      payloads = so.payloads ++ (moves_field counts).spell unanswered ∷ [];
+      has = has;
+      are = history_more config history unanswered so.payloads ((moves_field counts).spell unanswered) so.are
+          (subst (λ (c : Counts). (moves_field c).Fits unanswered) so.counts_are so.unanswered_fits) (ap (λ (c : Counts). (moves_field c).spell unanswered) so.counts_are);
+    })

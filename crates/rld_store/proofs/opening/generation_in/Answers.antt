@@ -1,0 +1,11 @@
+use Rattle.std.proofs.Common.{◌∙◌, ℕ, List, Bor, map, sym, ap, subst}
+use Rattle.rld_log.proofs.Callers.{have_one_reading}
+use Rattle.rld_store.specs.Generations.{IsGeneration, counts_of}
+use Rattle.rld_store.proofs.opening.generation_in.Goals as goal
+
+pub returns-clause-found : goal.returns-clause-found
+returns-clause-found c = λ before has header begun moves is of.
+    c.in_ok-reading.ensures.found header begun moves is
+    (subst (λ (l : List (List ℕ)). IsGeneration (counts_of c.args.config.now) header begun moves l)
+    (have_one_reading c.args.octets.now before (map (λ (payload : Bor (List ℕ)). payload.now) c.in-Ok.found.items) has c.in-Ok.ensures.found
+    ∙ ap (λ (l : List (Bor (List ℕ))). map (λ (payload : Bor (List ℕ)). payload.now) l) (sym c.deref.ensures.value)) of)

@@ -1,0 +1,31 @@
+use Rattle.std.proofs.Common.{◌≡◌, ◌+◌, ℕ, List, ◌∙◌, length, sym, ap, subst}
+use Rattle.rsl_shard.specs.Restep.{BooksSeen}
+use Rattle.rsl_shard.specs.declared.moved.Move.{Move}
+use Rattle.rld_books.specs.Server.{replay}
+use Rattle.rld_log.specs.Frames.{Fits}
+use Rattle.rld_spelling.specs.Moves.{moves_field}
+use Rattle.rld_spelling.specs.declared.moves.Counts.{Counts}
+use Rattle.rld_store.specs.Standing.{EndsSo}
+use Rattle.rld_store.specs.declared.store.End.{End}
+use Rattle.rld_store.proofs.Standing.{stands_more}
+use Rattle.rld_store.proofs.store.Store.commit.Goals as goal
+
+pub returns-clause-recorded : goal.returns-clause-recorded
+returns-clause-recorded g c = λ told config history unanswered so.
+    let batch : List Move = c.args.batch.items in
+    let counts : Counts = c.args.self.now.counts in
+    let payload : List ℕ = c.deref-2.result.now in
+    let given : c.deref.result.now ≡ batch = c.deref.ensures.value in
+    let spelled : payload ≡ (moves_field counts).spell batch = c.deref-2.ensures.value ∙ c.in_ok-payload.ensures.spelled ∙ ap (λ (l : List Move). (moves_field counts).spell l) given in
+    let fit : (moves_field counts).Fits batch = subst (λ (l : List Move). (moves_field counts).Fits l) given c.in_ok-payload.ensures.fit in
+    let told_settle = c.add.ensures.told told in
+    let short : Fits payload = subst (λ (p : List ℕ). Fits p) (sym c.deref-2.ensures.value) c.in_ok-payload.ensures.short in
+    let size_is : c.add.new.self.whole ≡ c.args.self.now.whole + (20 + length payload) =
+    c.in_ok-add.ensures.whole ∙ c.in_ok-payload.ensures.whole ∙ ap (λ (p : List ℕ). c.args.self.now.whole + (20 + length p)) (sym c.deref-2.ensures.value) in
+    stands_more config g.L.Log.tears counts c.add.new.self.counts c.args.self.now.end
+    (g.L.Log.seen c.args.self.now.log) (g.L.Log.seen c.add.new.self.log) (g.L.Log.may_leave c.args.self.now.log) (g.L.Log.may_leave c.add.new.self.log)
+    c.args.self.now.whole c.add.new.self.whole c.args.self.now.books c.make_all.new.self history unanswered batch payload so
+    (c.add.ensures.counts ∙ c.settle.ensures.counts) short size_is
+    (c.make_all.ensures.books ∙ ap (λ (b : List BooksSeen). replay b batch) (c.add.ensures.books ∙ c.settle.ensures.books)) spelled fit
+    (λ before other size ends. c.in_ok-add.ensures.added told before (subst (λ (e : End). EndsSo e g.L.Log.tears (g.L.Log.seen c.settle.new.self.log) (g.L.Log.may_leave c.settle.new.self.log) before other)
+    c.in_ok-settle.ensures.settled (c.settle.ensures.ends told_settle before other size ends)))

@@ -1,0 +1,103 @@
+-- A generation of the log: a header, a snapshot of the books that it begins with, and the moves that
+-- followed, batch by batch. Each of these is the payload of a frame.
+use Rattle.std.specs.Prelude.{◌≡◌, ◌⊎◌, ℕ, ◌<◌, List, ◌∷◌, ◌++◌, length, map}
+use Rattle.std.specs.List.{flat_map, AllByRecursion}
+use Rattle.rsl_accounts.specs.Configuration.{Configuration}
+use Rattle.rsl_saved.specs.Saved.{saved_links}
+use Rattle.rsl_session.specs.Book.{Book}
+use Rattle.rsl_shard.specs.Restep.{BooksSeen}
+use Rattle.rsl_shard.specs.declared.moved.Move.{Move}
+use Rattle.rld_books.specs.Saved.{saved_server}
+use Rattle.rld_books.specs.Server.{new_server, replay}
+use Rattle.rld_log.specs.Frames.{HasPayloads}
+use Rattle.rld_spelling.specs.Books.{BookSeen, books_field}
+use Rattle.rld_spelling.specs.Headers.{header_field, header_octets}
+use Rattle.rld_spelling.specs.Moves.{moves_field}
+use Rattle.rld_spelling.specs.declared.header.Header.{Header}
+use Rattle.rld_spelling.specs.declared.moves.Counts.{Counts}
+
+-- how many accounts and clients there are
+abbrev pub counts_of : Configuration → Counts
+counts_of config = record { accounts = length config.accounts; clients = length config.clients }
+
+-- the running book that a book of a snapshot stands for
+abbrev pub running : BookSeen → Book
+running book = record {
+  clock = book.clock;
+  links = saved_links book.links;
+  accepts = book.accepts;
+  asks = book.asks;
+  stops = book.stops;
+  over = book.over;
+}
+
+-- a snapshot of the books of a server, as octets
+pub record IsSnapshot (counts : Counts) (server : List BooksSeen) (octets : List ℕ) : Type 0 where
+  pub books : List BookSeen
+  pub are : map running books ≡ saved_server server
+  pub fit : (books_field counts.clients).Fits books
+  pub spelled : octets ≡ (books_field counts.clients).spell books
+
+-- the moves of batches, one batch after another
+abbrev pub moves_in : List (List Move) → List Move
+moves_in batches = flat_map (λ (batch : List Move). batch) batches
+
+-- moves in batches, as octets
+pub record AreBatches (counts : Counts) (moves : List Move) (payloads : List (List ℕ)) : Type 0 where
+  pub batches : List (List Move)
+  pub are : moves ≡ moves_in batches
+  pub fit : AllByRecursion (moves_field counts).Fits batches
+  pub spelled : payloads ≡ map (moves_field counts).spell batches
+
+-- the payloads of a generation that began with these books, with the moves that followed
+pub record IsGeneration (counts : Counts) (header : Header) (begun : List BooksSeen)
+    (moves : List Move) (payloads : List (List ℕ)) : Type 0 where
+  pub header_fits : header_field.Fits header
+  pub snapshot : List ℕ
+  pub snapshot_is : IsSnapshot counts begun snapshot
+  pub batches : List (List ℕ)
+  pub batches_are : AreBatches counts moves batches
+  pub payloads_are : payloads ≡ header_octets header ∷ snapshot ∷ batches
+
+-- The payloads of a generation of a history: the books that it begins with are what the moves before
+-- it make of new books.
+pub record AreOfHistory (config : Configuration) (history : List Move) (payloads : List (List ℕ))
+    : Type 0 where
+  pub header : Header
+  pub earlier : List Move
+  pub moves : List Move
+  pub are : history ≡ earlier ++ moves
+  pub generation : IsGeneration (counts_of config) header (replay (new_server config) earlier) moves payloads
+
+-- a file of a generation
+pub record HasGeneration (counts : Counts) (header : Header) (begun : List BooksSeen)
+    (moves : List Move) (file : List ℕ) : Type 0 where
+  pub payloads : List (List ℕ)
+  pub has : HasPayloads file payloads
+  pub generation : IsGeneration counts header begun moves payloads
+
+-- a file that stands for a history
+pub record HasHistory (config : Configuration) (history : List Move) (file : List ℕ)
+    : Type 0 where
+  pub payloads : List (List ℕ)
+  pub has : HasPayloads file payloads
+  pub are : AreOfHistory config history payloads
+
+-- a file whose snapshot is not whole: it is no generation yet
+pub record IsUnbegun (file : List ℕ) : Type 0 where
+  pub payloads : List (List ℕ)
+  pub has : HasPayloads file payloads
+  pub few : length payloads < 2
+
+-- a file that stands for a history, or for that and a batch that was not answered, whole
+abbrev pub HasHistoryOr : (config : Configuration) → (history unanswered : List Move)
+    → (file : List ℕ) → Type 0
+HasHistoryOr config history unanswered file =
+    HasHistory config history file ⊎ HasHistory config (history ++ unanswered) file
+
+-- Two files of which the newer counts where its snapshot is whole, and else the older: they stand
+-- for a history, or for that and a batch that was not answered.
+abbrev pub StandForHistory : (config : Configuration) → (history unanswered : List Move)
+    → (older newer : List ℕ) → Type 0
+StandForHistory config history unanswered older newer =
+    HasHistory config history newer ⊎ (IsUnbegun newer × HasHistoryOr config history unanswered older)

@@ -1,0 +1,6 @@
+pub mod Beginning
+pub mod Generations
+pub mod Laws
+pub mod Opening
+pub mod Premises
+pub mod Standing

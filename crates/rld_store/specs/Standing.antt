@@ -1,0 +1,56 @@
+-- What a store stands for: a history, which its log has, and which makes its books of new ones.
+use Rattle.std.specs.Prelude.{◌≡◌, ◌⊎◌, ℕ, List, ◌++◌, length}
+use Rattle.std.specs.List.{AllByRecursion}
+use Rattle.rsl_accounts.specs.Configuration.{Configuration}
+use Rattle.rsl_shard.specs.Restep.{BooksSeen}
+use Rattle.rsl_shard.specs.declared.moved.Move.{Move}
+use Rattle.rld_books.specs.Server.{new_server, replay}
+use Rattle.rld_log.specs.Frames.{Fits, frames}
+use Rattle.rld_log.specs.Log.{Extends}
+use Rattle.rld_store.specs.Premises.{Premise}
+use Rattle.rld_log.specs.Recording.{IsSettled, LeavesEither}
+use Rattle.rld_log.specs.declared.log.Ending.{Ending}
+use Rattle.rld_spelling.specs.Moves.{moves_field}
+use Rattle.rld_spelling.specs.declared.moves.Counts.{Counts}
+use Rattle.rld_store.specs.Generations.{AreOfHistory, HasHistory, HasHistoryOr, counts_of}
+use Rattle.rld_store.specs.declared.store.End.{End}
+use Rattle.rld_store.specs.declared.store.End.TheVariants.{Settled, Unsettled}
+
+-- a log at whose end an append may have left something: a crash leaves the payloads, or those and the
+-- one of that append
+pub record IsUnsettled (tears : List ℕ → List ℕ → Type 0) (seen : List ℕ)
+    (may_leave : Ending → List ℕ → Type 0) (payloads : List (List ℕ)) (unanswered : List ℕ)
+    : Type 0 where
+  pub fit : AllByRecursion Fits payloads
+  pub front : Extends (frames payloads) seen
+  pub left : (ending : Ending) → Premise tears ending
+      → LeavesEither (may_leave ending) payloads unanswered
+
+-- how the log of a store ends
+abbrev pub EndsSo : End → (tears : List ℕ → List ℕ → Type 0) → (seen : List ℕ)
+    → (may_leave : Ending → List ℕ → Type 0) → (payloads : List (List ℕ))
+    → (unanswered : List ℕ) → Type 0
+EndsSo Settled tears seen may_leave payloads unanswered = IsSettled seen may_leave payloads
+EndsSo Unsettled tears seen may_leave payloads unanswered =
+    IsUnsettled tears seen may_leave payloads unanswered
+
+-- The log has a history, and at its end perhaps a batch that was not answered; the books are what
+-- the history makes of new books.
+pub record StandsFor (config : Configuration) (counts : Counts)
+    (tears : List ℕ → List ℕ → Type 0) (end : End) (seen : List ℕ)
+    (may_leave : Ending → List ℕ → Type 0) (whole : ℕ) (books : List BooksSeen)
+    (history unanswered : List Move) : Type 0 where
+  pub counts_are : counts ≡ counts_of config
+  pub payloads : List (List ℕ)
+  pub are : AreOfHistory config history payloads
+  pub unanswered_fits : (moves_field counts).Fits unanswered
+  pub size : whole ≡ length (frames payloads)
+  pub ends : EndsSo end tears seen may_leave payloads ((moves_field counts).spell unanswered)
+  pub replayed : books ≡ replay (new_server config) history
+
+-- a crash leaves the history, or that and the batch that was not answered, whole
+abbrev pub LosesNothing : (config : Configuration) → (tears : List ℕ → List ℕ → Type 0)
+    → (may_leave : Ending → List ℕ → Type 0) → (history unanswered : List Move) → Type 0
+LosesNothing config tears may_leave history unanswered =
+    (ending : Ending) → Premise tears ending → (left : List ℕ) → may_leave ending left
+    → HasHistoryOr config history unanswered left

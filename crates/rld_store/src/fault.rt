@@ -1,0 +1,108 @@
+ghost use Rattle.std.specs.Prelude.{◌≡◌};
+ghost use Rattle.rld_store.specs.declared.fault.StoreFault.TheVariants.{Damaged as damaged, Log as log_failed, NoMemory as no_memory};
+
+use rld_books::ServerFault;
+use rld_fields::Cause;
+use rld_log::{Damage, Log, LogFault};
+use rld_spelling::SpellFault;
+use rsl_wire::NoMemory;
+use std::alloc::AllocError;
+use thiserror::Error;
+
+/// The payload of a whole frame spells nothing that can stand there.
+#[derive(Clone, Copy, Debug, PartialEq, Eq, Error)]
+#[error("frame {frame}, octet {offset}: {cause}")]
+pub struct Malformed {
+    /// The number of the frame: 0 has the header, 1 the snapshot, each other a batch.
+    pub frame: usize,
+    /// Where the fault stands in the payload, in octets from its front.
+    pub offset: usize,
+    /// What is wrong.
+    pub cause: Cause,
+}
+
+/// Why a call of the store failed.
+#[derive(Clone, Copy, Debug, PartialEq, Eq, Error)]
+pub enum StoreFault {
+    /// Memory was refused.
+    #[error("no memory")]
+    NoMemory,
+    /// A call of the log failed.
+    #[error("{0}")]
+    Log(LogFault),
+    /// The log is damaged.
+    #[error("{0}")]
+    Damaged(Damage),
+    /// The log has no whole snapshot: it is no generation yet.
+    #[error("no whole snapshot")]
+    Unbegun,
+    /// A payload is malformed. That the log is of another version of the format or of the session
+    /// rule is such a fault of its header.
+    #[error("{0}")]
+    Malformed(Malformed),
+    /// The snapshot is not of the configuration's accounts.
+    #[error("{0}")]
+    Misfit(ServerFault),
+    /// A move is of no account of the configuration.
+    #[error("a move of no account")]
+    Foreign,
+    /// The log that a generation was to begin in is not empty.
+    #[error("not empty")]
+    Occupied,
+    /// A batch or a snapshot has something that cannot be written, as a name of over 253 octets.
+    #[error("nothing that can be written")]
+    Unfit,
+    /// A payload is longer than a frame can be, or the log than memory.
+    #[error("too long")]
+    TooLong,
+}
+
+/// A log that was not taken over is handed back.
+#[derive(Drop)]
+pub struct Refused<L: Log> {
+    /// The log.
+    pub log: L,
+    /// Why.
+    pub fault: StoreFault,
+}
+
+impl From<AllocError> for StoreFault {
+    ghost from_gives = { λ _ fault. fault ≡ no_memory };
+
+    fn from(_refused: AllocError) -> StoreFault {
+        StoreFault::NoMemory
+    }
+}
+
+impl From<NoMemory> for StoreFault {
+    ghost from_gives = { λ _ fault. fault ≡ no_memory };
+
+    fn from(_refused: NoMemory) -> StoreFault {
+        StoreFault::NoMemory
+    }
+}
+
+impl From<SpellFault> for StoreFault {
+    fn from(fault: SpellFault) -> StoreFault {
+        match fault {
+            SpellFault::NoMemory => StoreFault::NoMemory,
+            SpellFault::Unfit => StoreFault::Unfit,
+        }
+    }
+}
+
+impl From<LogFault> for StoreFault {
+    ghost from_gives = { λ failed fault. fault ≡ log_failed failed };
+
+    fn from(fault: LogFault) -> StoreFault {
+        StoreFault::Log(fault)
+    }
+}
+
+impl From<Damage> for StoreFault {
+    ghost from_gives = { λ damage fault. fault ≡ damaged damage };
+
+    fn from(damage: Damage) -> StoreFault {
+        StoreFault::Damaged(damage)
+    }
+}

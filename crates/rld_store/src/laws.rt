@@ -1,0 +1,31 @@
+//! Laws of generations. Each is the contract of a function that does nothing.
+
+ghost use Rattle.std.specs.Prelude.{List};
+ghost use Rattle.rld_store.specs.Laws.{FilesHaveOneState};
+ghost use Rattle.rld_store.specs.Standing.{LosesNothing, StandsFor};
+ghost use Rattle.rsl_accounts.specs.Configuration.{Configuration};
+ghost use Rattle.rsl_shard.specs.declared.moved.Move.{Move as OneMove};
+
+use crate::store::Store;
+use rld_log::Log;
+
+/// A crash loses nothing that was answered: what it leaves of a store's log has the history, or that
+/// and the batch that was not answered, whole. Of a loss of power it is the premise that no torn
+/// write passes for a frame by chance; of a kill that is proved.
+pub fn crashes_lose_nothing<L: Log>(store: &Store<L>)
+    ensures { (config : Configuration) (history unanswered : List OneMove) →
+        StandsFor config store.now.counts L.tears store.now.end (L.seen store.now.log) (L.may_leave store.now.log)
+        store.now.whole store.now.books history unanswered →
+        LosesNothing config L.tears (L.may_leave store.now.log) history unanswered }
+{
+    let _store = store;
+}
+
+/// A file stands for one state: whatever histories are found in it, the books that they make are the
+/// same.
+pub fn files_have_one_state()
+    ensures { FilesHaveOneState }
+{
+    rld_spelling::laws::moves_are_read();
+    rld_spelling::laws::books_are_read();
+}

@@ -1,0 +1,371 @@
+ghost use Rattle.std.specs.Prelude.{◌≡◌, ◌⊎◌, ◌+◌, ℕ, List, [], ◌∷◌, ◌++◌, length, IsTrue, IsErrOf, IfErr, IfOk, OnErr, OnOk};
+ghost use Rattle.std.specs.List.{All};
+ghost use Rattle.std.specs.Option.{option_map};
+ghost use Rattle.rld_books.specs.Saved.{links_in, rows_in};
+ghost use Rattle.rld_books.specs.Server.{AreTakenIn, decisions_of, replay};
+ghost use Rattle.rld_log.specs.Frames.{Fits, frames};
+ghost use Rattle.rld_store.specs.Premises.{Only, Premise};
+ghost use Rattle.rld_log.specs.Recording.{IsSettled};
+ghost use Rattle.rld_log.specs.declared.log.Ending.{Ending as OneEnding};
+ghost use Rattle.rld_spelling.specs.Moves.{MoveFits, moves_field};
+ghost use Rattle.rld_store.specs.Generations.{HasHistory, IsUnbegun, StandForHistory, counts_of};
+ghost use Rattle.rld_store.specs.Opening.{IsWhy, LeavesAsItWas};
+ghost use Rattle.rld_store.specs.Standing.{EndsSo, StandsFor};
+ghost use Rattle.rld_store.specs.declared.store.End.TheVariants.{Settled as settled, Unsettled as unsettled};
+ghost use Rattle.rsl_accounts.specs.Configuration.{Configuration};
+ghost use Rattle.rsl_saved.specs.Saved.{saved_links};
+ghost use Rattle.rsl_shard.specs.declared.moved.Move.{Move as OneMove};
+
+use crate::beginning::{begin_log, counts_in, whole_with};
+use crate::fault::{Refused, StoreFault};
+use crate::opening::{Restored, restore};
+use crate::reading::Reading;
+use crate::recorded::Recorded;
+use rld_books::ServerBooks;
+use rld_log::{Log, mend, record};
+use rld_spelling::{Counts, Header, SpellFault};
+use rsl_accounts::Config;
+use rsl_saved::SavedLink;
+use rsl_shard::{Move, Row};
+use rsl_wire::NoMemory;
+use std::alloc::Global;
+use std::mem;
+
+/// What stands behind the whole frames of a log.
+#[derive(Clone, Copy, Debug, PartialEq, Eq)]
+pub enum End {
+    /// Nothing: what a read gives is on the disk.
+    Settled,
+    /// Perhaps what an append that failed has left.
+    Unsettled,
+}
+
+/// The books of a server and the log that has their moves.
+#[derive(Drop)]
+pub struct Store<L: Log> {
+    pub(crate) log: L,
+    pub(crate) counts: Counts,
+    pub(crate) books: ServerBooks,
+    pub(crate) whole: usize,
+    pub(crate) end: End,
+}
+
+/// A store whose log was opened, and what was found there.
+#[derive(Drop)]
+pub struct Opened<L: Log> {
+    /// The store.
+    pub store: Store<L>,
+    /// The header of the generation.
+    pub header: Header,
+    /// How many moves the generation had.
+    pub moves: usize,
+    /// How many octets of a torn end were cut off.
+    pub torn: usize,
+}
+
+impl<L: Log> Store<L> {
+    // ---- how a store comes to be
+
+    /// Begins the first generation of a configuration, in an empty log: writes its header and a
+    /// snapshot of new books, and syncs each. A log that has anything is refused as `Occupied`.
+    pub fn begin(
+        alloc: Global,
+        config: &Config,
+        header: Header,
+        log: L,
+    ) -> Result<Store<L>, Refused<L>>
+        ensures told { IfOk result (λ store. IsTrue (L.tells store.log) → IsTrue (L.tells log)) }
+        ensures refused { IfErr result (λ refused. IsTrue (L.tells refused.log) → IsTrue (L.tells log)) }
+
+        // The store stands for a history of no moves.
+        ensures stands { IfOk result (λ store. IsTrue (L.tells store.log) →
+            Only (L.seen log) (L.may_leave log) →
+            StandsFor config.now store.counts L.tears store.end (L.seen store.log) (L.may_leave store.log)
+            store.whole store.books [] []) }
+
+        // Where it fails, a crash leaves no generation, or one that stands for no moves.
+        ensures crash { IfErr result (λ refused. IsTrue (L.tells refused.log) →
+            Only (L.seen log) (L.may_leave log) → L.seen log ≡ [] →
+            (ending : OneEnding) → Premise L.tears ending →
+            (left : List ℕ) → L.may_leave refused.log ending left →
+            IsUnbegun left ⊎ HasHistory config.now [] left) }
+    {
+        let counts = counts_in(config);
+        let mut log = log;
+        let Ok(books) = ServerBooks::new(alloc, config) else {
+            return Err(Refused {
+                log,
+                fault: StoreFault::NoMemory,
+            });
+        };
+        match begin_log(alloc, &mut log, header, counts, &books) {
+            Ok(whole) => Ok(Store {
+                log,
+                counts,
+                books,
+                whole,
+                end: End::Settled,
+            }),
+            Err(fault) => Err(Refused { log, fault }),
+        }
+    }
+
+    /// Opens a log that a crash may have left: the books are those of its snapshot after the moves
+    /// that it has. Its torn end is cut off and the log is synced.
+    ///
+    /// A log that is damaged, has no whole snapshot, is of another version, or whose snapshot or
+    /// moves do not fit the configuration, is refused by name and left as it was.
+    pub fn open(alloc: Global, config: &Config, log: L) -> Result<Opened<L>, Refused<L>>
+        ensures told { IfOk result (λ opened. IsTrue (L.tells opened.store.log) → IsTrue (L.tells log)) }
+        ensures refused { IfErr result (λ refused. IsTrue (L.tells refused.log) → IsTrue (L.tells log)) }
+
+        // The store stands for the history that the log has.
+        ensures stands { IfOk result (λ opened. IsTrue (L.tells opened.store.log) →
+            (history : List OneMove) → HasHistory config.now history (L.seen log) →
+            StandsFor config.now opened.store.counts L.tears opened.store.end
+            (L.seen opened.store.log) (L.may_leave opened.store.log)
+            opened.store.whole opened.store.books history []) }
+
+        // What was found: the generation's own header and moves, and how long the torn end was.
+        ensures found { IfOk result (λ opened. IsTrue (L.tells opened.store.log) →
+            (history : List OneMove) → (has : HasHistory config.now history (L.seen log)) →
+            (opened.header ≡ has.are.header) × (opened.moves ≡ length has.are.moves)) }
+        ensures torn { IfOk result (λ opened. IsTrue (L.tells opened.store.log) →
+            length (L.seen log) ≡ opened.store.whole + opened.torn) }
+
+        // Where it fails, a crash leaves the same history; and it says why.
+        ensures crash { IfErr result (λ refused. IsTrue (L.tells refused.log) →
+            Only (L.seen log) (L.may_leave log) →
+            (history : List OneMove) → HasHistory config.now history (L.seen log) →
+            (ending : OneEnding) (left : List ℕ) → L.may_leave refused.log ending left →
+            HasHistory config.now history left) }
+        ensures why { IfErr result (λ refused. IsTrue (L.tells refused.log) →
+            IsWhy (counts_of config.now) (L.seen log) refused.fault) }
+        ensures untouched { IfErr result (λ refused. IsTrue (L.tells refused.log) →
+            LeavesAsItWas refused.fault (L.seen log) (L.seen refused.log)
+            (L.may_leave log) (L.may_leave refused.log)) }
+    {
+        let counts = counts_in(config);
+        let mut log = log;
+        match restore(alloc, config, &mut log) {
+            Ok(restored) => {
+                let Restored {
+                    reading,
+                    whole,
+                    torn,
+                } = restored;
+                let Reading {
+                    header,
+                    books,
+                    moves,
+                } = reading;
+                let store = Store {
+                    log,
+                    counts,
+                    books,
+                    whole,
+                    end: End::Settled,
+                };
+                Ok(Opened {
+                    store,
+                    header,
+                    moves,
+                    torn,
+                })
+            }
+            Err(fault) => Err(Refused { log, fault }),
+        }
+    }
+
+    // ---- how a batch is recorded
+
+    /// Cuts off what a failed append may have left. Where it fails it may be tried again, but not
+    /// after a sync that failed.
+    fn settle(&mut self) -> Result<(), StoreFault>
+        ensures told { IsTrue (L.tells self.new.log) → IsTrue (L.tells self.old.log) }
+        ensures books { self.new.books ≡ self.old.books }
+        ensures counts { self.new.counts ≡ self.old.counts }
+        ensures whole { self.new.whole ≡ self.old.whole }
+        ensures settled { OnOk result (self.new.end ≡ settled) }
+        ensures fitting { IsErrOf result StoreFault.Unfit → ⊥ }
+        ensures ends { IsTrue (L.tells self.new.log) → (before : List (List ℕ)) (unanswered : List ℕ) →
+            self.old.whole ≡ length (frames before) →
+            EndsSo self.old.end L.tears (L.seen self.old.log) (L.may_leave self.old.log) before unanswered →
+            EndsSo self.new.end L.tears (L.seen self.new.log) (L.may_leave self.new.log) before unanswered }
+    {
+        match self.end {
+            End::Settled => Ok(()),
+            End::Unsettled => {
+                mend(&mut self.log, self.whole)?;
+                self.end = End::Settled;
+                Ok(())
+            }
+        }
+    }
+
+    /// Records a payload at the end of a settled log, whose frames then have this length.
+    fn add(&mut self, alloc: Global, payload: &[u8], whole: usize) -> Result<(), StoreFault>
+        requires end { self.old.end ≡ settled }
+        requires fits { Fits payload.now }
+        ensures told { IsTrue (L.tells self.new.log) → IsTrue (L.tells self.old.log) }
+        ensures books { self.new.books ≡ self.old.books }
+        ensures counts { self.new.counts ≡ self.old.counts }
+        ensures whole { OnOk result (self.new.whole ≡ whole) }
+        ensures unadded { OnErr result (self.new.whole ≡ self.old.whole) }
+        ensures settled { OnOk result (self.new.end ≡ settled) }
+        ensures unsettled { OnErr result (self.new.end ≡ unsettled) }
+        ensures fitting { IsErrOf result StoreFault.Unfit → ⊥ }
+        ensures added { IsTrue (L.tells self.new.log) → (before : List (List ℕ)) →
+            IsSettled (L.seen self.old.log) (L.may_leave self.old.log) before → OnOk result
+            (EndsSo settled L.tears (L.seen self.new.log) (L.may_leave self.new.log) (before ++ payload.now ∷ []) payload.now) }
+        ensures left { IsTrue (L.tells self.new.log) → (before : List (List ℕ)) →
+            IsSettled (L.seen self.old.log) (L.may_leave self.old.log) before → OnErr result
+            (EndsSo unsettled L.tears (L.seen self.new.log) (L.may_leave self.new.log) before payload.now) }
+    {
+        self.end = End::Unsettled;
+        record(alloc, &mut self.log, payload)?;
+        self.end = End::Settled;
+        self.whole = whole;
+        Ok(())
+    }
+
+    /// The payload of a batch that can be made and written, and the length of the log's frames with
+    /// it.
+    fn payload_of(&self, alloc: Global, batch: &[Move]) -> Result<(Vec<u8>, usize), StoreFault>
+        ensures taken { OnOk result (AreTakenIn self.now.books batch.now) }
+        ensures fit { OnOk result ((moves_field self.now.counts).Fits batch.now) }
+        ensures spelled { IfOk result (λ found. found.0.items ≡ (moves_field self.now.counts).spell batch.now) }
+        ensures short { IfOk result (λ found. Fits found.0.items) }
+        ensures whole { IfOk result (λ found. found.1 ≡ self.now.whole + (20 + length found.0.items)) }
+        ensures unfit { IsErrOf result StoreFault.Unfit →
+            (AreTakenIn self.now.books batch.now → All (MoveFits self.now.counts) batch.now → ⊥) }
+    {
+        if !self.books.takes_all(batch) {
+            return Err(StoreFault::Unfit);
+        }
+        let mut payload = Vec::new(alloc);
+        match self.counts.push_moves(&mut payload, batch) {
+            Ok(()) => {}
+            Err(SpellFault::NoMemory) => return Err(StoreFault::NoMemory),
+            Err(SpellFault::Unfit) => return Err(StoreFault::Unfit),
+        }
+        let Some(whole) = whole_with(self.whole, payload.len()) else {
+            return Err(StoreFault::TooLong);
+        };
+        Ok((payload, whole))
+    }
+
+    /// Records a batch of moves, and then makes them. All memory is taken first; the batch is one
+    /// frame, which is synced before a move is made.
+    ///
+    /// A batch with a move of no account, or that cannot be written, is `Unfit`. Where it fails the
+    /// books are as they were, and nothing may be answered: what a crash leaves has the batch whole
+    /// or not at all. What a failed append left is cut off by the next call. After a sync that
+    /// failed, which is `LogFault::Unsynced`, the store is to be given up.
+    pub fn commit(&mut self, alloc: Global, batch: Vec<Move>) -> Result<Recorded, StoreFault>
+        ensures told { IsTrue (L.tells self.new.log) → IsTrue (L.tells self.old.log) }
+        ensures counts { self.new.counts ≡ self.old.counts }
+
+        // The decisions are those of the books at that point, and the books make the moves.
+        ensures decisions { IfOk result (λ recorded. recorded ≡ decisions_of self.old.books batch.items) }
+        ensures books { OnOk result (self.new.books ≡ replay self.old.books batch.items) }
+        ensures taken { OnOk result (AreTakenIn self.old.books batch.items) }
+        ensures err { OnErr result (self.new.books ≡ self.old.books) }
+        ensures unfit { IsErrOf result StoreFault.Unfit →
+            (AreTakenIn self.old.books batch.items → All (MoveFits self.old.counts) batch.items → ⊥) }
+
+        // The log then has the history and the batch, synced.
+        ensures recorded { IsTrue (L.tells self.new.log) → (config : Configuration) (history unanswered : List OneMove) →
+            StandsFor config self.old.counts L.tears self.old.end (L.seen self.old.log) (L.may_leave self.old.log)
+            self.old.whole self.old.books history unanswered → OnOk result
+            (StandsFor config self.new.counts L.tears settled (L.seen self.new.log) (L.may_leave self.new.log)
+            self.new.whole self.new.books (history ++ batch.items) batch.items) }
+        ensures settled { OnOk result (self.new.end ≡ settled) }
+
+        // Where it fails the log has the history, and at its end perhaps a batch that was not
+        // answered: this one, or one from before it.
+        ensures left { IsTrue (L.tells self.new.log) → (config : Configuration) (history unanswered : List OneMove) →
+            StandsFor config self.old.counts L.tears self.old.end (L.seen self.old.log) (L.may_leave self.old.log)
+            self.old.whole self.old.books history unanswered → OnErr result
+            (StandsFor config self.new.counts L.tears self.new.end (L.seen self.new.log) (L.may_leave self.new.log)
+            self.new.whole self.new.books history unanswered
+            ⊎ StandsFor config self.new.counts L.tears self.new.end (L.seen self.new.log) (L.may_leave self.new.log)
+            self.new.whole self.new.books history batch.items) }
+    {
+        let decisions = Vec::with_capacity(alloc, batch.len())?;
+        let (payload, whole) = self.payload_of(alloc, &batch)?;
+        self.settle()?;
+        self.add(alloc, &payload, whole)?;
+        Ok(Recorded::new(self.books.make_all(batch, decisions)))
+    }
+
+    // ---- how a generation follows another
+
+    /// Begins the next generation with the books as they are, in an empty log, and goes on with it;
+    /// the log of the old one is handed out. Where it fails the store is as it was, and the next log
+    /// is handed back.
+    ///
+    /// After a crash the newer log counts where its snapshot is whole, and else the older.
+    pub fn roll(&mut self, alloc: Global, header: Header, next: L) -> Result<L, Refused<L>>
+        ensures told { IsTrue (L.tells self.new.log) → OnOk result (IsTrue (L.tells next)) }
+        ensures refused { IfErr result (λ refused. IsTrue (L.tells refused.log) → IsTrue (L.tells next)) }
+        ensures books { self.new.books ≡ self.old.books }
+        ensures counts { self.new.counts ≡ self.old.counts }
+        ensures older { IfOk result (λ older. older ≡ self.old.log) }
+        ensures err { OnErr result (self.new ≡ self.old) }
+
+        // The store stands for the same history, by the next log alone.
+        ensures stands { IsTrue (L.tells self.new.log) → Only (L.seen next) (L.may_leave next) →
+            (config : Configuration) (history unanswered : List OneMove) →
+            StandsFor config self.old.counts L.tears self.old.end (L.seen self.old.log) (L.may_leave self.old.log)
+            self.old.whole self.old.books history unanswered → OnOk result
+            (StandsFor config self.new.counts L.tears self.new.end (L.seen self.new.log) (L.may_leave self.new.log)
+            self.new.whole self.new.books history []) }
+
+        // And at a crash at any call the two logs do.
+        ensures crash { IfErr result (λ refused. IsTrue (L.tells refused.log) → IsTrue (L.tells self.new.log) →
+            Only (L.seen next) (L.may_leave next) → L.seen next ≡ [] →
+            (config : Configuration) (history unanswered : List OneMove) →
+            StandsFor config self.old.counts L.tears self.old.end (L.seen self.old.log) (L.may_leave self.old.log)
+            self.old.whole self.old.books history unanswered →
+            (ending : OneEnding) → Premise L.tears ending → (older newer : List ℕ) →
+            L.may_leave self.new.log ending older → L.may_leave refused.log ending newer →
+            StandForHistory config history unanswered older newer) }
+    {
+        let mut next = next;
+        match begin_log(alloc, &mut next, header, self.counts, &self.books) {
+            Ok(whole) => {
+                self.whole = whole;
+                self.end = End::Settled;
+                Ok(mem::replace(&mut self.log, next))
+            }
+            Err(fault) => Err(Refused { log: next, fault }),
+        }
+    }
+
+    // ---- what is asked of a store
+
+    /// What each account holds, shard after shard. It fails only where memory is refused.
+    pub fn rows(&self, alloc: Global) -> Result<Vec<Row>, NoMemory>
+        ensures { IfOk result (λ rows. rows.items ≡ rows_in self.now.books) }
+    {
+        self.books.rows(alloc)
+    }
+
+    /// The links of an account, in the order in which they opened; none where there is no such
+    /// account. It fails only where memory is refused.
+    pub fn links(&self, alloc: Global, account: u32) -> Result<Option<Vec<SavedLink>>, NoMemory>
+        ensures { IfOk result (λ links.
+            option_map (λ some. saved_links some.items) links ≡ links_in self.now.books account) }
+    {
+        self.books.links(alloc, account)
+    }
+
+    /// The log.
+    pub fn into_log(self) -> L
+        ensures { result ≡ self.log }
+    {
+        let Store { log, .. } = self;
+        log
+    }
+}
