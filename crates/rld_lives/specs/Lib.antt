@@ -1,0 +1,6 @@
+pub mod Counted
+pub mod Leaving
+pub mod Life
+pub mod Lives
+pub mod Planned
+pub mod Shards

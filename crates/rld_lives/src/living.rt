@@ -1,0 +1,132 @@
+//! Lives over a log: what they answer, and what they leave.
+
+ghost use Rattle.std.specs.Prelude.{◌≡◌, ℕ, List, [], IfOk, IsTrue};
+ghost use Rattle.std.specs.Prelude.{All};
+ghost use Rattle.rld_books.specs.Server.{replay};
+ghost use Rattle.rld_lives.specs.Leaving.{HaveLived, LeavesLife, batches_of};
+ghost use Rattle.rld_lives.specs.Life.{AreAnswersTo};
+ghost use Rattle.rld_lives.specs.Planned.{plans_of, told_of};
+ghost use Rattle.rld_store.specs.Premises.{Only, Premise};
+ghost use Rattle.rld_store.specs.Generations.{HasHistory};
+ghost use Rattle.rld_store.specs.Standing.{StandsFor};
+ghost use Rattle.rsl_accounts.specs.Configuration.{Configuration};
+ghost use Rattle.rsl_shard.specs.declared.moved.Move.{Move as OneMove};
+
+use rld_log::{Crash, Ending, Log};
+use rld_store::{Opened, Recorded, Refused, Store};
+use rsl_accounts::Config;
+use rsl_shard::Move;
+use std::alloc::Global;
+
+/// What a life is to answer, and how it ends.
+#[derive(Drop)]
+pub struct Plan {
+    /// The batches, one after another.
+    pub batches: Vec<Vec<Move>>,
+    /// How it ends, after the last of them or where one could not be recorded.
+    pub ending: Ending,
+}
+
+/// What lives have answered and left.
+#[derive(Drop)]
+pub struct Lived<L: Crash> {
+    /// For each life the decisions on the batches that it answered.
+    pub told: Vec<Vec<Recorded>>,
+    /// The log, as the last of them left it.
+    pub log: L,
+}
+
+/// What a life has answered and left.
+#[derive(Drop)]
+struct OneLife<L: Log> {
+    answers: Vec<Recorded>,
+    log: L,
+}
+
+/// A life: answers batches one after another, until one cannot be recorded, and gives the decisions
+/// on those that it answered. Where memory for these is refused it answers none.
+pub fn live<L: Log>(alloc: Global, store: &mut Store<L>, batches: Vec<Vec<Move>>) -> Vec<Recorded>
+    ensures told { IsTrue (L.tells store.new.log) → IsTrue (L.tells store.old.log) }
+    ensures answers { AreAnswersTo store.old.books (batches_of batches.items) result.items }
+
+    // A crash leaves what was answered, and perhaps the batch after it, whole.
+    ensures lived { IsTrue (L.tells store.new.log) → (config : Configuration) (history : List OneMove) →
+        StandsFor config store.old.counts L.tears store.old.end (L.seen store.old.log) (L.may_leave store.old.log)
+        store.old.whole store.old.books history [] →
+        LeavesLife config L.tears history (batches_of batches.items) result.items (L.may_leave store.new.log) }
+{
+    let Ok(mut answers) = Vec::with_capacity(alloc, batches.len()) else {
+        return Vec::new(alloc);
+    };
+    for batch in batches {
+        match store.commit(alloc, batch) {
+            Ok(recorded) => answers.push_reserved(recorded),
+            Err(_) => return answers,
+        }
+    }
+    answers
+}
+
+/// A life over a log that the one before it left. Where the log cannot be opened nothing is answered.
+fn live_over<L: Log>(alloc: Global, config: &Config, log: L, batches: Vec<Vec<Move>>) -> OneLife<L>
+    ensures told { IsTrue (L.tells result.log) → IsTrue (L.tells log) }
+    ensures lived { IsTrue (L.tells result.log) → Only (L.seen log) (L.may_leave log) →
+        (history : List OneMove) → HasHistory config.now history (L.seen log) →
+        LeavesLife config.now L.tears history (batches_of batches.items) result.answers.items (L.may_leave result.log) }
+{
+    match Store::open(alloc, config, log) {
+        Ok(opened) => {
+            let Opened { mut store, .. } = opened;
+            let answers = live(alloc, &mut store, batches);
+            OneLife {
+                answers,
+                log: store.into_log(),
+            }
+        }
+        Err(refused) => {
+            let Refused { log, .. } = refused;
+            OneLife {
+                answers: Vec::new(alloc),
+                log,
+            }
+        }
+    }
+}
+
+/// Lives one after another, each over what the one before it left, and each ended by a crash of the
+/// kind that its plan says. The log is handed back where memory for what is told is refused.
+///
+/// The premises: the log tells what it holds, and of a loss of power, that no torn write of a frame
+/// passes for one.
+pub fn lives<L: Crash>(
+    alloc: Global,
+    config: &Config,
+    log: L,
+    plans: Vec<Plan>,
+) -> Result<Lived<L>, L>
+    ensures told { IfOk result (λ lived. IsTrue (L.Log.tells lived.log) → IsTrue (L.Log.tells log)) }
+    ensures settled { IfOk result (λ lived. IsTrue (L.Log.tells lived.log) →
+        Only (L.Log.seen log) (L.Log.may_leave log) →
+        Only (L.Log.seen lived.log) (L.Log.may_leave lived.log)) }
+    ensures lived { IfOk result (λ lived. IsTrue (L.Log.tells lived.log) →
+        Only (L.Log.seen log) (L.Log.may_leave log) →
+        All (λ plan. Premise L.Log.tears plan.ending) plans.items →
+        (history : List OneMove) → HasHistory config.now history (L.Log.seen log) →
+        HaveLived config.now history (plans_of plans.items) (told_of lived.told.items) (L.Log.seen lived.log)) }
+{
+    let Ok(mut told) = Vec::with_capacity(alloc, plans.len()) else {
+        return Err(log);
+    };
+    let mut log = log;
+    for plan in plans {
+        let Plan { batches, ending } = plan;
+        let OneLife {
+            answers,
+            log: mut left,
+        } = live_over(alloc, config, log, batches);
+        left.restart(ending);
+        told.push_reserved(answers);
+        log = left;
+    }
+    Ok(Lived { told, log })
+}
