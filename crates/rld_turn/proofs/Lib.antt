@@ -1,0 +1,6 @@
+pub mod Calling
+pub mod Deciding
+pub mod Entering
+pub mod Replying
+pub mod Serving
+pub mod Showing

@@ -1,0 +1,9 @@
+pub mod Answered
+pub mod Counted
+pub mod Ended
+pub mod Entered
+pub mod Moves
+pub mod Recorded
+pub mod Served
+pub mod Ticked
+pub mod Turned

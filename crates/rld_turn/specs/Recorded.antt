@@ -1,0 +1,51 @@
+-- What became of a batch, and what that makes of the books.
+use Rattle.std.specs.Prelude.{◌≡◌, List, [], length, Bool, true, false, Option, Some, None}
+use Rattle.rsl_event.specs.declared.event.Decision.{Decision}
+use Rattle.rsl_shard.specs.Restep.{BooksSeen}
+use Rattle.rsl_shard.specs.declared.moved.Move.{Move}
+use Rattle.rld_books.specs.Server.{decisions_of, replay}
+use Rattle.rld_turn.specs.declared.ends.Ending.{Ending}
+use Rattle.rld_turn.specs.declared.ends.Ending.TheVariants as endings
+use Rattle.rld_turn.specs.declared.outcome.Outcome.{Outcome}
+use Rattle.rld_turn.specs.declared.outcome.Outcome.TheVariants as outcomes
+
+-- the decisions on it, if it is recorded
+abbrev pub decisions_in : Outcome → Option (List Decision)
+decisions_in outcomes.Nothing = None
+decisions_in (outcomes.Recorded decisions) = Some decisions
+decisions_in outcomes.Failed = None
+decisions_in outcomes.Ended = None
+
+-- whether it is recorded
+abbrev pub is_recorded : Option (List Decision) → Bool
+is_recorded None = false
+is_recorded (Some decisions) = true
+
+-- the moves that were recorded of it: all or none
+abbrev pub made : (recorded : Bool) → (batch : List Move) → List Move
+made true batch = batch
+made false batch = []
+
+-- there is a decision on each of its moves, if it is recorded
+abbrev pub HasCount : Option (List Decision) → (batch : List Move) → Type 0
+HasCount None batch = Unit {0}
+HasCount (Some decisions) batch = length decisions ≡ length batch
+
+-- which are those of the books
+abbrev pub HasDecided : (begun : List BooksSeen) → (batch : List Move) → Option (List Decision) → Type 0
+HasDecided begun batch None = Unit {0}
+HasDecided begun batch (Some decisions) = decisions ≡ decisions_of begun batch
+
+-- a batch that became this: the books decided on its moves and made them, or are as they were
+pub record IsRecordedAs (outcome : Outcome) (batch : List Move) (old new : List BooksSeen) : Type 0 where
+  pub decided : HasDecided old batch (decisions_in outcome)
+  pub books : new ≡ replay old (made (is_recorded (decisions_in outcome)) batch)
+
+-- what comes after a turn with this outcome whose taking ended so
+abbrev pub ending_by : Outcome → Ending → Ending
+ending_by outcome endings.Down = endings.Down
+ending_by outcome endings.Ended = endings.Ended
+ending_by outcomes.Ended endings.Open = endings.Ended
+ending_by outcomes.Nothing endings.Open = endings.Open
+ending_by (outcomes.Recorded decisions) endings.Open = endings.Open
+ending_by outcomes.Failed endings.Open = endings.Open

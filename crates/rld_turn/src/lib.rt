@@ -1,0 +1,29 @@
+//! A server's turns: what waits at a port is taken as one batch, recorded, and only then answered.
+//!
+//! The promise: over a port and a recorder that tell, each datagram of a turn is dropped, refused,
+//! unrecorded or answered, in the order in which they were taken; an answer has the decision of the
+//! books at that point of the batch, goes to where its datagram came from, and is sent only once the
+//! batch is recorded; the counts are of that (`specs/Turned.antt`, `specs/Served.antt`). Over any port
+//! the counts agree with the calls that the port counted (`specs/Counted.antt`).
+#![tactic(auto)]
+
+mod answering;
+mod batch_port;
+mod counts;
+mod ends;
+mod entry;
+mod fault;
+mod gathering;
+mod outcome;
+mod receiver;
+mod recorded;
+mod recorder;
+mod ticking;
+
+pub use batch_port::BatchPort;
+pub use counts::Counts;
+pub use fault::{ReceiveFault, RecordFault};
+pub use receiver::{MAX_BATCH, receive};
+pub use recorded::Recorded;
+pub use recorder::Recorder;
+pub use ticking::tick;

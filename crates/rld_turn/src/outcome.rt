@@ -1,0 +1,55 @@
+ghost use Rattle.std.specs.Prelude.{◌≡◌, ◌++◌, List, true};
+ghost use Rattle.rld_turn.specs.Recorded.{HasCount, HasDecided, IsRecordedAs, decisions_in, ending_by, is_recorded, made};
+ghost use Rattle.rsl_shard.specs.declared.moved.Move.{Move as OneMove};
+
+use crate::ends::Ending;
+use crate::fault::RecordFault;
+use crate::recorded::Recorded;
+use crate::recorder::Recorder;
+use rsl_shard::Move;
+use std::alloc::Global;
+
+/// What became of a batch.
+#[derive(Drop)]
+pub(crate) enum Outcome {
+    /// It has no move, and was not recorded.
+    Nothing,
+    /// It is recorded.
+    Recorded(Recorded),
+    /// It was not recorded; another may be.
+    Failed,
+    /// It was not recorded, and nothing more can be.
+    Ended,
+}
+
+impl Outcome {
+    /// How a turn ends with this outcome whose taking ended so.
+    pub(crate) fn ending(&self, taking: Ending) -> Ending
+        ensures { result ≡ ending_by self.now taking }
+    {
+        match (self, taking) {
+            (Outcome::Ended, Ending::Open) => Ending::Ended,
+            _ => taking,
+        }
+    }
+}
+
+/// Records a batch, if it has a move.
+pub(crate) fn record<R: Recorder>(alloc: Global, recorder: &mut R, batch: Vec<Move>) -> Outcome
+    ensures count { HasCount (decisions_in result) batch.items }
+    ensures telling { R.tells recorder.new ≡ true → R.tells recorder.old ≡ true }
+    ensures recorded { R.tells recorder.new ≡ true → IsRecordedAs result batch.items
+        (R.books recorder.old) (R.books recorder.new) }
+    ensures stands { R.tells recorder.new ≡ true → (history : List OneMove) →
+        R.stands recorder.old history →
+        R.stands recorder.new (history ++ made (is_recorded (decisions_in result)) batch.items) }
+{
+    if batch.is_empty() {
+        return Outcome::Nothing;
+    }
+    match recorder.record(alloc, batch) {
+        Ok(recorded) => Outcome::Recorded(recorded),
+        Err(RecordFault::Failed) => Outcome::Failed,
+        Err(RecordFault::Ended) => Outcome::Ended,
+    }
+}

@@ -1,0 +1,39 @@
+use crate::fault::RecordFault;
+use crate::recorded::Recorded;
+use rsl_shard::Move;
+use std::alloc::Global;
+
+/// What records a batch of moves, and decides on them.
+///
+/// A contract sees the books and the histories that it stands for, as long as `tells` is true. A store
+/// that is owned tells them; one that others use too, behind a lock, tells nothing.
+pub trait Recorder {
+    ghost use Rattle.std.specs.Prelude.{◌≡◌, Bool, true, false, List, [], ◌++◌, length, IfOk, OnOk, OnErr};
+    ghost use Rattle.rld_books.specs.Server.{decisions_of, replay};
+    ghost use Rattle.rsl_shard.specs.Restep.{BooksSeen};
+    ghost use Rattle.rsl_shard.specs.declared.moved.Move.{Move as OneMove};
+
+    /// Whether it tells its books and its histories.
+    ghost tells: { Self → Bool } = { λ _. false };
+
+    /// The books after all that was recorded.
+    ghost books: { Self → List BooksSeen } = { λ _. [] };
+
+    /// Whether these are the moves that it has recorded, in their order.
+    ghost stands: { Self → List OneMove → Type 0 } = { λ _ _. Unit {0} };
+
+    /// Records a batch whole, and decides on each of its moves by the books at that point of the
+    /// batch. Where it fails nothing may be answered, and the books are as they were.
+    fn record(&mut self, alloc: Global, batch: Vec<Move>) -> Result<Recorded, RecordFault>
+        ensures count { IfOk result (λ recorded. length recorded ≡ length batch.items) }
+        ensures telling { tells self.new ≡ true → tells self.old ≡ true }
+        ensures decisions { tells self.new ≡ true → IfOk result (λ recorded.
+            recorded ≡ decisions_of (books self.old) batch.items) }
+        ensures books { tells self.new ≡ true →
+            OnOk result (books self.new ≡ replay (books self.old) batch.items) }
+        ensures same { tells self.new ≡ true → OnErr result (books self.new ≡ books self.old) }
+        ensures recorded { tells self.new ≡ true → (history : List OneMove) →
+            stands self.old history → OnOk result (stands self.new (history ++ batch.items)) }
+        ensures unrecorded { tells self.new ≡ true → (history : List OneMove) →
+            stands self.old history → OnErr result (stands self.new history) };
+}
