@@ -1,0 +1,43 @@
+use rld_config::{Place, ServerFault};
+use rsl_accounts::ConfigFault;
+use std::fmt;
+use thiserror::Error;
+
+/// What is wrong with a file. It prints in the words of `radlimit serve`.
+#[derive(Debug, Drop, Error)]
+pub(crate) enum Wrong {
+    /// The file is not there, or a read of it failed.
+    #[error("unreadable")]
+    Unreadable,
+    /// It has over 16,777,216 octets.
+    #[error("too long")]
+    TooLong,
+    /// A server's file is refused.
+    #[error("{0}")]
+    Server(ServerFault),
+    /// An account file is refused.
+    #[error("{0}")]
+    Accounts(ConfigFault),
+}
+
+/// A file that is wrong. It prints as its name, the place where it stops being TOML if that is the
+/// fault, and what is wrong with it: `radlimitd.toml:3:9: bad file: NotToml`.
+#[derive(Debug, Drop)]
+pub(crate) struct BadFile {
+    /// The name of the file.
+    pub(crate) name: String,
+    /// Where it stops being TOML.
+    pub(crate) place: Option<Place>,
+    /// What is wrong with it.
+    pub(crate) wrong: Wrong,
+}
+
+impl fmt::Display for BadFile {
+    fn fmt<W: fmt::Write>(&self, f: &mut fmt::Formatter<W>) -> fmt::Result {
+        f.write_str(self.name.as_str())?;
+        if let Some(place) = self.place {
+            write!(f, ":{}:{}", place.line, place.column)?;
+        }
+        write!(f, ": bad file: {}", self.wrong)
+    }
+}

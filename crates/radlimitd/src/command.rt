@@ -1,0 +1,47 @@
+ghost use Rattle.std.specs.Prelude.{◌≡◌, map, string_bytes};
+ghost use Rattle.radlimitd.specs.Arguments.{command_of, command_of_file, command_of_word};
+
+/// What the program is asked to do.
+#[derive(Clone, Copy, Debug, PartialEq, Eq)]
+pub(crate) enum Command {
+    /// To check a server's file, which the second word names.
+    Check,
+    /// To print its version.
+    Version,
+    /// To print what it can be asked.
+    Help,
+}
+
+impl Command {
+    /// What the words behind the name of the program ask for.
+    pub(crate) fn of_words(words: &[String]) -> Option<Command>
+        ensures { result ≡ command_of (map string_bytes words.now) }
+    {
+        match words {
+            [word] => Command::of_word(word.as_str()),
+            [word, _file] => Command::of_file(word.as_str()),
+            _ => None,
+        }
+    }
+
+    /// What a word alone asks for.
+    fn of_word(word: &str) -> Option<Command>
+        ensures { result ≡ command_of_word word.now }
+    {
+        match word {
+            "version" => Some(Command::Version),
+            "help" => Some(Command::Help),
+            _ => None,
+        }
+    }
+
+    /// What a word asks for with the name of a file behind it.
+    fn of_file(word: &str) -> Option<Command>
+        ensures { result ≡ command_of_file word.now }
+    {
+        match word {
+            "check" => Some(Command::Check),
+            _ => None,
+        }
+    }
+}

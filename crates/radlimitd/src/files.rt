@@ -1,0 +1,82 @@
+//! The files that a server is started with: its own, and the account file that it names.
+//!
+//! What a file of the system gives stands in no clause; what its text says is the business of
+//! `ServerFile::read` and `Config::read`.
+
+use crate::bad_file::{BadFile, Wrong};
+use crate::fault::Fault;
+use rld_config::{Place, ServerFault, ServerFile, TextFault, break_of, text_of_file};
+use rsl_accounts::{Config, ConfigFault};
+use std::alloc::Global;
+use std::fs::{self, Files};
+use std::os::unix::fs::PermissionsExt;
+
+/// An account file that is right.
+#[derive(Drop)]
+pub(crate) struct AccountFile {
+    /// Its configuration.
+    pub(crate) config: Config,
+    /// Its mode, as the system tells it.
+    pub(crate) mode: u32,
+}
+
+/// What the server's file of this name says.
+pub(crate) fn server_file<F: Files>(
+    files: &F,
+    alloc: Global,
+    name: &str,
+) -> Result<ServerFile, Fault> {
+    let text = file_text(files, alloc, name)?;
+    match ServerFile::read(alloc, text.as_slice()) {
+        Ok(server) => Ok(server),
+        Err(ServerFault::NoMemory) => Err(Fault::NoMemory),
+        Err(ServerFault::NotToml) => {
+            let place = break_of(alloc, text.as_slice())?;
+            bad_file(alloc, name, place, Wrong::Server(ServerFault::NotToml))
+        }
+        Err(fault) => bad_file(alloc, name, None, Wrong::Server(fault)),
+    }
+}
+
+/// What the account file of this name says, and its mode.
+pub(crate) fn account_file<F: Files>(
+    files: &F,
+    alloc: Global,
+    name: &str,
+) -> Result<AccountFile, Fault> {
+    let text = file_text(files, alloc, name)?;
+    let config = match Config::read(alloc, text.as_slice()) {
+        Ok(config) => config,
+        Err(ConfigFault::NoMemory) => return Err(Fault::NoMemory),
+        Err(ConfigFault::NotToml) => {
+            let place = break_of(alloc, text.as_slice())?;
+            return bad_file(alloc, name, place, Wrong::Accounts(ConfigFault::NotToml));
+        }
+        Err(fault) => return bad_file(alloc, name, None, Wrong::Accounts(fault)),
+    };
+    match fs::metadata(files, name) {
+        Ok(found) => Ok(AccountFile {
+            config,
+            mode: found.permissions().mode(),
+        }),
+        Err(_) => bad_file(alloc, name, None, Wrong::Unreadable),
+    }
+}
+
+/// The text of the file of this name.
+fn file_text<F: Files>(files: &F, alloc: Global, name: &str) -> Result<Vec<u8>, Fault> {
+    match text_of_file(files, alloc, name) {
+        Ok(text) => Ok(text),
+        Err(TextFault::Unreadable) => bad_file(alloc, name, None, Wrong::Unreadable),
+        Err(TextFault::TooLong) => bad_file(alloc, name, None, Wrong::TooLong),
+        Err(TextFault::NoMemory) => Err(Fault::NoMemory),
+    }
+}
+
+/// The fault of a file that is wrong.
+fn bad_file<T>(alloc: Global, name: &str, place: Option<Place>, wrong: Wrong) -> Result<T, Fault> {
+    match String::from_str(alloc, name) {
+        Ok(name) => Err(Fault::BadFile(BadFile { name, place, wrong })),
+        Err(_) => Err(Fault::NoMemory),
+    }
+}

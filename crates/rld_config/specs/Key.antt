@@ -1,0 +1,53 @@
+-- The keys of a server's file, the tables that they stand in, and which values each may have.
+use Rattle.std.specs.Prelude.{ℕ, List, [], ◌∷◌, Bool, false, not, ◌==◌, ◌&&◌, nat_le, length, codes, bytes_eq}
+use Rattle.std.specs.List.{list_all, list_any}
+use Rattle.rld_config.specs.declared.key.Key.{Key}
+use Rattle.rld_config.specs.declared.key.Key.TheVariants.{Accounts, State, Sync, Archive, Listen, Control, Web, Address, Auth, Acct, Receivers, Socket, Port}
+use Rattle.rld_config.specs.declared.part.Part.{Part}
+use Rattle.rld_config.specs.declared.part.Part.TheVariants.{Head, Listen as OfListen, Control as OfControl, Web as OfWeb}
+
+-- the key as it stands in the file
+abbrev pub key_name : Key → List ℕ
+key_name Accounts = codes "accounts"
+key_name State = codes "state"
+key_name Sync = codes "sync"
+key_name Archive = codes "archive"
+key_name Listen = codes "listen"
+key_name Control = codes "control"
+key_name Web = codes "web"
+key_name Address = codes "address"
+key_name Auth = codes "auth"
+key_name Acct = codes "acct"
+key_name Receivers = codes "receivers"
+key_name Socket = codes "socket"
+key_name Port = codes "port"
+
+-- the keys that a table may have
+abbrev pub keys_of : Part → List Key
+keys_of Head = Accounts ∷ State ∷ Sync ∷ Archive ∷ Listen ∷ Control ∷ Web ∷ []
+keys_of (OfListen number) = Address ∷ Auth ∷ Acct ∷ Receivers ∷ []
+keys_of OfControl = Socket ∷ []
+keys_of OfWeb = Address ∷ Port ∷ []
+
+-- whether a table may have a key of this name
+abbrev pub knows : Part → (name : List ℕ) → Bool
+knows part name = list_any (λ key. bytes_eq name (key_name key)) (keys_of part)
+
+abbrev pub is_between : ℕ → ℕ → ℕ → Bool
+is_between least most number = nat_le least number && nat_le number most
+
+-- a number that the key may have: days of an archive, a port, how many receivers
+abbrev pub takes_number : Key → ℕ → Bool
+takes_number Archive number = is_between 1 36500 number
+takes_number Auth number = is_between 1 65535 number
+takes_number Acct number = is_between 1 65535 number
+takes_number Port number = is_between 1 65535 number
+takes_number Receivers number = is_between 1 16 number
+takes_number _ number = false
+
+abbrev pub has_no_nul : List ℕ → Bool
+has_no_nul text = list_all (λ octet. not (octet == 0)) text
+
+-- 1 to 4,095 octets without NUL, as a path may have
+abbrev pub is_path : List ℕ → Bool
+is_path text = is_between 1 4095 (length text) && has_no_nul text

@@ -1,0 +1,206 @@
+-- The server's file: what it says, or its first fault.
+use Rattle.std.specs.Prelude.{ℕ, ◌+◌, Bool, ◌==◌, ◌&&◌, ◌||◌, if◌then◌else◌, List, [], ◌∷◌, ◌++◌, length, Option, None, Some, option_map, ok_or, Result, Ok, Err}
+use Rattle.std.specs.List.{list_any}
+use Rattle.std.specs.Str.{is_utf8}
+use Rattle.std.specs.Cmp.Lexicographic.{pointwise}
+use Rattle.std.specs.Prelude.{nat_eq}
+use Rattle.toml.specs.Data.{Data, table}
+use Rattle.toml.specs.Parse.{parse_document}
+use Rattle.rld_config.specs.declared.archive.Archive.{Archive}
+use Rattle.rld_config.specs.declared.archive.Archive.TheVariants.{Days}
+use Rattle.rld_config.specs.declared.fault.ServerFault.{ServerFault}
+use Rattle.rld_config.specs.declared.fault.ServerFault.TheVariants.{NotToml, BadValue, TakenPort}
+use Rattle.rld_config.specs.declared.head.Head.{Head}
+use Rattle.rld_config.specs.declared.key.Key.{Key}
+use Rattle.rld_config.specs.declared.key.Key.TheVariants as key
+use Rattle.rld_config.specs.declared.listen.Listen.{Listen}
+use Rattle.rld_config.specs.declared.part.Part.{Part}
+use Rattle.rld_config.specs.declared.part.Part.TheVariants as part
+use Rattle.rld_config.specs.declared.server.ServerFile.{ServerFile}
+use Rattle.rld_config.specs.declared.sync.SyncPolicy.{SyncPolicy}
+use Rattle.rld_config.specs.declared.sync.SyncPolicy.TheVariants.{Always}
+use Rattle.rld_config.specs.declared.web.Web.{Web}
+use Rattle.rld_config.specs.Value.{member_in, number_of, path_of, address_value, sync_value, archive_value, tables_of, required, or_default, unknown_in, and_then, fault_or}
+
+-- what a server's file says
+pub record Server : Type 0 where
+  pub accounts : List ℕ
+  pub state : List ℕ
+  pub sync : SyncPolicy
+  pub archive : Archive
+  pub listens : List Listen
+  pub control : Option (List ℕ)
+  pub web : Option Web
+
+abbrev pub server_in : ServerFile → Server
+server_in file = record {
+  accounts = file.accounts;
+  state = file.state;
+  sync = file.sync;
+  archive = file.archive;
+  listens = file.listens.items;
+  control = file.control;
+  web = file.web;
+}
+
+-- the address that means every address of the machine, and that of the machine itself
+abbrev pub any_address : List ℕ
+any_address = 0 ∷ 0 ∷ 0 ∷ 0 ∷ []
+
+abbrev pub own_address : List ℕ
+own_address = 127 ∷ 0 ∷ 0 ∷ 1 ∷ []
+
+-- where a server listens that does not say it
+abbrev pub default_listen : Listen
+default_listen = record { address = any_address; auth = 1812; acct = 1813; receivers = 1 }
+
+-- what each key of a table says
+unfoldable pub path_in : Part → Data → Key → Result (List ℕ) ServerFault
+path_in part value key = required part key path_of (member_in value key)
+
+unfoldable pub port_in : Part → Data → Key → (default : ℕ) → Result ℕ ServerFault
+port_in part value key default = or_default part key (number_of key) default (member_in value key)
+
+unfoldable pub needed_port_in : Part → Data → Key → Result ℕ ServerFault
+needed_port_in part value key = required part key (number_of key) (member_in value key)
+
+unfoldable pub address_in : Part → Data → (default : List ℕ) → Result (List ℕ) ServerFault
+address_in part value default =
+    or_default part key.Address address_value default (member_in value key.Address)
+
+-- each answer is synced if the file does not say otherwise
+unfoldable pub sync_in : Data → Result SyncPolicy ServerFault
+sync_in file = or_default part.Head key.Sync sync_value Always (member_in file key.Sync)
+
+-- a week is kept if the file does not say otherwise
+unfoldable pub archive_in : Data → Result Archive ServerFault
+archive_in file =
+    or_default part.Head key.Archive archive_value (Days 7) (member_in file key.Archive)
+
+unfoldable pub head_in : Data → Result Head ServerFault
+head_in file =
+    fault_or (unknown_in part.Head file)
+    (and_then (path_in part.Head file key.Accounts) (λ accounts.
+    and_then (path_in part.Head file key.State) (λ state.
+    and_then (sync_in file) (λ sync.
+    and_then (archive_in file) (λ archive.
+    Ok (record { accounts = accounts; state = state; sync = sync; archive = archive }))))))
+
+unfoldable pub listen_in : (number : ℕ) → Data → Result Listen ServerFault
+listen_in number value =
+    fault_or (unknown_in (part.Listen number) value)
+    (and_then (address_in (part.Listen number) value any_address) (λ address.
+    and_then (port_in (part.Listen number) value key.Auth 1812) (λ auth.
+    and_then (port_in (part.Listen number) value key.Acct 1813) (λ acct.
+    and_then (port_in (part.Listen number) value key.Receivers 1) (λ receivers.
+    Ok (record { address = address; auth = auth; acct = acct; receivers = receivers }))))))
+
+-- what each table says, in the file's order, numbered from this number, or the first fault
+abbrev pub each_listen : (number : ℕ) → List Data → Result (List Listen) ServerFault
+each_listen number [] = Ok []
+each_listen number (value ∷ values) =
+    and_then (listen_in number value) (λ listen.
+    and_then (each_listen (number + 1) values) (λ listens.
+    Ok (listen ∷ listens)))
+
+abbrev pub same_address : List ℕ → List ℕ → Bool
+same_address = pointwise nat_eq
+
+-- whether two sockets cannot both be had: one address and port, where every address means each
+abbrev pub addresses_meet : List ℕ → List ℕ → Bool
+addresses_meet one other =
+    same_address one other || same_address one any_address || same_address other any_address
+
+abbrev pub takes_port : (address : List ℕ) → (port : ℕ) → Listen → Bool
+takes_port address port listen =
+    addresses_meet address listen.address && (port == listen.auth || port == listen.acct)
+
+-- the first port of a table that a table before it has, or that it has itself
+abbrev pub taken_port : (before : List Listen) → Listen → Option ServerFault
+taken_port before listen =
+    if list_any (takes_port listen.address listen.auth) before
+    then Some (TakenPort (part.Listen (length before + 1)) key.Auth)
+    else if list_any (takes_port listen.address listen.acct) before || listen.acct == listen.auth
+    then Some (TakenPort (part.Listen (length before + 1)) key.Acct)
+    else None
+
+abbrev pub first_of : Option ServerFault → Option ServerFault → Option ServerFault
+first_of None other = other
+first_of (Some fault) other = Some fault
+
+abbrev pub first_taken : (before listens : List Listen) → Option ServerFault
+first_taken before [] = None
+first_taken before (listen ∷ listens) =
+    first_of (taken_port before listen) (first_taken (before ++ listen ∷ []) listens)
+
+unfoldable pub listens_of : List Data → Result (List Listen) ServerFault
+listens_of tables =
+    and_then (each_listen 1 tables) (λ listens.
+    fault_or (first_taken [] listens) (Ok listens))
+
+abbrev pub listens_at : Option Data → Result (List Listen) ServerFault
+listens_at None = Ok (default_listen ∷ [])
+listens_at (Some value) =
+    and_then (ok_or (tables_of value) (BadValue part.Head key.Listen)) listens_of
+
+unfoldable pub listens_in : Data → Result (List Listen) ServerFault
+listens_in file = listens_at (member_in file key.Listen)
+
+-- the table that the file may have under a key
+abbrev pub table_of : Data → Option Data
+table_of (table members) = Some (table members)
+table_of _ = None
+
+abbrev pub option_at : {T : Type 0} → Key → (Data → Result T ServerFault) → Option Data
+    → Result (Option T) ServerFault
+option_at key part_in None = Ok None
+option_at key part_in (Some value) =
+    and_then (ok_or (table_of value) (BadValue part.Head key)) (λ found.
+    and_then (part_in found) (λ found. Ok (Some found)))
+
+unfoldable pub socket_in : Data → Result (List ℕ) ServerFault
+socket_in value =
+    fault_or (unknown_in part.Control value) (path_in part.Control value key.Socket)
+
+unfoldable pub control_in : Data → Result (Option (List ℕ)) ServerFault
+control_in file = option_at key.Control socket_in (member_in file key.Control)
+
+unfoldable pub page_in : Data → Result Web ServerFault
+page_in value =
+    fault_or (unknown_in part.Web value)
+    (and_then (address_in part.Web value own_address) (λ address.
+    and_then (needed_port_in part.Web value key.Port) (λ port.
+    Ok (record { address = address; port = port }))))
+
+unfoldable pub web_in : Data → Result (Option Web) ServerFault
+web_in file = option_at key.Web page_in (member_in file key.Web)
+
+-- what the file says, or its first fault: of the head, of the tables `listen` in their order, of
+-- `control`, of `web`
+unfoldable pub server_of_file : Data → Result Server ServerFault
+server_of_file file =
+    and_then (head_in file) (λ head.
+    and_then (listens_in file) (λ listens.
+    and_then (control_in file) (λ control.
+    and_then (web_in file) (λ web.
+    Ok (record {
+      accounts = head.accounts;
+      state = head.state;
+      sync = head.sync;
+      archive = head.archive;
+      listens = listens;
+      control = control;
+      web = web;
+    })))))
+
+-- the table that the text is, if it is UTF-8 and TOML
+unfoldable pub file_of : List ℕ → Option Data
+file_of text = if is_utf8 text then option_map table (parse_document text) else None
+
+abbrev pub server_of_parsed : Option Data → Result Server ServerFault
+server_of_parsed None = Err NotToml
+server_of_parsed (Some file) = server_of_file file
+
+-- what the text of a server's file says
+abbrev pub server_of_text : List ℕ → Result Server ServerFault
+server_of_text text = server_of_parsed (file_of text)

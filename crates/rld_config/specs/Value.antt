@@ -1,0 +1,105 @@
+-- What a value of TOML is under a key of the server's file, or the fault of that key.
+use Rattle.std.specs.Prelude.{ℕ, pos, Bool, ◌&&◌, if◌then◌else◌, List, [], ◌∷◌, length, codes, bytes_eq, Option, None, Some, ok_or, is_some, Result, Ok, Err}
+use Rattle.std.specs.List.{list_all}
+use Rattle.toml.specs.Data.{Data, string, integer, array, table, Items, no_items, item, Members, no_members, member, get, as_table}
+use Rattle.rsl_accounts.specs.Address.{address_of}
+use Rattle.rld_config.specs.declared.archive.Archive.{Archive}
+use Rattle.rld_config.specs.declared.archive.Archive.TheVariants.{Keep, Nothing, Days}
+use Rattle.rld_config.specs.declared.fault.ServerFault.{ServerFault}
+use Rattle.rld_config.specs.declared.fault.ServerFault.TheVariants.{Unknown, Missing, BadValue}
+use Rattle.rld_config.specs.declared.key.Key.{Key}
+use Rattle.rld_config.specs.declared.key.Key.TheVariants as key
+use Rattle.rld_config.specs.declared.part.Part.{Part}
+use Rattle.rld_config.specs.declared.sync.SyncPolicy.{SyncPolicy}
+use Rattle.rld_config.specs.declared.sync.SyncPolicy.TheVariants.{Always, Second, Never}
+use Rattle.rld_config.specs.Key.{key_name, knows, takes_number, is_between, is_path}
+
+-- what a table has under a key
+abbrev pub member_in : Data → Key → Option Data
+member_in value key = get (key_name key) value
+
+-- the number, the path, the address, the word and the table that a value is, if the key may have it
+abbrev pub number_of : Key → Data → Option ℕ
+number_of key (integer (pos number)) = if takes_number key number then Some number else None
+number_of key _ = None
+
+abbrev pub path_of : Data → Option (List ℕ)
+path_of (string text) = if is_path text then Some text else None
+path_of _ = None
+
+abbrev pub address_value : Data → Option (List ℕ)
+address_value (string text) = address_of text
+address_value _ = None
+
+abbrev pub sync_word : List ℕ → Option SyncPolicy
+sync_word text =
+    if bytes_eq text (codes "always") then Some Always
+    else if bytes_eq text (codes "second") then Some Second
+    else if bytes_eq text (codes "never") then Some Never
+    else None
+
+abbrev pub sync_value : Data → Option SyncPolicy
+sync_value (string text) = sync_word text
+sync_value _ = None
+
+abbrev pub archive_word : List ℕ → Option Archive
+archive_word text =
+    if bytes_eq text (codes "keep") then Some Keep
+    else if bytes_eq text (codes "none") then Some Nothing
+    else None
+
+-- a word, or a number of days
+abbrev pub archive_value : Data → Option Archive
+archive_value (string text) = archive_word text
+archive_value (integer (pos number)) =
+    if takes_number key.Archive number then Some (Days number) else None
+archive_value _ = None
+
+abbrev pub list_of : Items → List Data
+list_of no_items = []
+list_of (item value rest) = value ∷ list_of rest
+
+abbrev pub are_tables : List Data → Bool
+are_tables items = list_all (λ value. is_some (as_table value)) items
+
+-- 1 to 16 tables
+abbrev pub tables_of_list : List Data → Option (List Data)
+tables_of_list items =
+    if are_tables items && is_between 1 16 (length items) then Some items else None
+
+abbrev pub tables_of : Data → Option (List Data)
+tables_of (array items) = tables_of_list (list_of items)
+tables_of _ = None
+
+-- the value of a key that a table must have, and of one that it may leave out, or the fault
+abbrev pub required : {T : Type 0} → Part → Key → (Data → Option T) → Option Data
+    → Result T ServerFault
+required part key value_of None = Err (Missing part key)
+required part key value_of (Some value) = ok_or (value_of value) (BadValue part key)
+
+abbrev pub or_default : {T : Type 0} → Part → Key → (Data → Option T) → T → Option Data
+    → Result T ServerFault
+or_default part key value_of default None = Ok default
+or_default part key value_of default (Some value) = ok_or (value_of value) (BadValue part key)
+
+-- the first key that the table may not have; keys are in the order of their octets
+abbrev pub unknown_of : Part → Members → Option ServerFault
+unknown_of part no_members = None
+unknown_of part (member name value rest) =
+    if knows part name then unknown_of part rest else Some (Unknown part name)
+
+abbrev pub unknown_in : Part → Data → Option ServerFault
+unknown_in part (table members) = unknown_of part members
+unknown_in part _ = None
+
+-- what goes on with a value, or its fault
+abbrev pub and_then : {T U : Type 0} → Result T ServerFault → (T → Result U ServerFault)
+    → Result U ServerFault
+and_then (Ok value) next = next value
+and_then (Err fault) next = Err fault
+
+-- the fault, if there is one
+abbrev pub fault_or : {T : Type 0} → Option ServerFault → Result T ServerFault
+    → Result T ServerFault
+fault_or None result = result
+fault_or (Some fault) result = Err fault

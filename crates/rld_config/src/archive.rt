@@ -1,0 +1,26 @@
+ghost use Rattle.std.specs.Prelude.{◌≡◌};
+ghost use Rattle.rld_config.specs.Value.{archive_word};
+
+/// How long the files of the state folder are kept that no start needs any more.
+#[derive(Clone, Copy, Debug, PartialEq, Eq)]
+pub enum Archive {
+    /// For ever.
+    Keep,
+    /// Not at all.
+    Nothing,
+    /// So many days: 1 to 36,500.
+    Days(u16),
+}
+
+impl Archive {
+    /// What a word of the file says: `keep` or `none`.
+    pub(crate) fn of_word(word: &str) -> Option<Archive>
+        ensures { result ≡ archive_word word.now }
+    {
+        match word {
+            "keep" => Some(Archive::Keep),
+            "none" => Some(Archive::Nothing),
+            _ => None,
+        }
+    }
+}

@@ -1,0 +1,57 @@
+ghost use Rattle.std.specs.Prelude.{◌≡◌};
+ghost use Rattle.rld_config.specs.declared.fault.ServerFault.TheVariants.{NoMemory as no_memory};
+
+use crate::key::Key;
+use crate::part::Part;
+use rsl_accounts::Text;
+use rsl_wire::NoMemory;
+use std::alloc::{AllocError, AllocFailed};
+use thiserror::Error;
+
+/// Why a server's file says nothing. It prints as its name, the table but for the head, and the
+/// key: `BadValue listen 2 auth`.
+#[derive(Debug, Drop, Error)]
+pub enum ServerFault {
+    /// The file is not UTF-8 or not TOML.
+    #[error("NotToml")]
+    NotToml,
+    /// The table may not have a key of this name.
+    #[error("Unknown {0}{1:?}")]
+    Unknown(Part, Text),
+    /// The key is absent.
+    #[error("Missing {0}{1}")]
+    Missing(Part, Key),
+    /// The value of the key is of another type, or outside its limits.
+    #[error("BadValue {0}{1}")]
+    BadValue(Part, Key),
+    /// The port is one that stands before it in the file, at an address that meets its own.
+    #[error("TakenPort {0}{1}")]
+    TakenPort(Part, Key),
+    /// Memory was refused.
+    #[error("NoMemory")]
+    NoMemory,
+}
+
+impl From<AllocError> for ServerFault {
+    ghost from_gives = { λ _ fault. fault ≡ no_memory };
+
+    fn from(_refused: AllocError) -> ServerFault {
+        ServerFault::NoMemory
+    }
+}
+
+impl<T: Drop> From<AllocFailed<T>> for ServerFault {
+    ghost from_gives = { λ _ fault. fault ≡ no_memory };
+
+    fn from(_refused: AllocFailed<T>) -> ServerFault {
+        ServerFault::NoMemory
+    }
+}
+
+impl From<NoMemory> for ServerFault {
+    ghost from_gives = { λ _ fault. fault ≡ no_memory };
+
+    fn from(_refused: NoMemory) -> ServerFault {
+        ServerFault::NoMemory
+    }
+}

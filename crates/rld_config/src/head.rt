@@ -1,0 +1,12 @@
+use crate::archive::Archive;
+use crate::sync::SyncPolicy;
+use rsl_accounts::Text;
+
+/// What stands at the head of the file.
+#[derive(Drop)]
+pub(crate) struct Head {
+    pub(crate) accounts: Text,
+    pub(crate) state: Text,
+    pub(crate) sync: SyncPolicy,
+    pub(crate) archive: Archive,
+}

@@ -1,0 +1,112 @@
+ghost use Rattle.std.specs.Prelude.{◌≡◌, ◌<◌, ◌^◌, IsTrue, Some};
+ghost use Rattle.rld_config.specs.Key.{key_name, has_no_nul, is_between, is_path, takes_number};
+
+use std::fmt;
+
+/// The most days that an archive may be kept: a hundred years.
+const MAX_DAYS: u64 = 36_500;
+
+/// The most that a UDP or TCP port can be.
+const MAX_PORT: u64 = 65_535;
+
+/// The most receivers on each socket of a table.
+const MAX_RECEIVERS: u64 = 16;
+
+/// The most octets of a path.
+const MAX_PATH_LEN: u64 = 4_095;
+
+/// A key of the server's file.
+#[derive(Clone, Copy, Debug, PartialEq, Eq)]
+pub enum Key {
+    /// The path of the account file.
+    Accounts,
+    /// The path of the folder that the server keeps its history in.
+    State,
+    /// When the system has to write what was recorded to the disk.
+    Sync,
+    /// How long files that are no longer needed for a start are kept.
+    Archive,
+    /// Where packets come to, as an array of tables.
+    Listen,
+    /// Where the running server is asked, as a table.
+    Control,
+    /// Where its page is served, as a table.
+    Web,
+    /// The IPv4 address of a `listen` or of `web`.
+    Address,
+    /// The UDP port for Access-Requests.
+    Auth,
+    /// The UDP port for Accounting-Requests.
+    Acct,
+    /// How many receivers take from each of both ports.
+    Receivers,
+    /// The path of the control's socket.
+    Socket,
+    /// The TCP port of the page.
+    Port,
+}
+
+impl Key {
+    /// The key as it stands in the file, as `receivers`.
+    pub fn name(&self) -> &'static str
+        ensures { result.now ≡ key_name self.now }
+    {
+        match self {
+            Key::Accounts => "accounts",
+            Key::State => "state",
+            Key::Sync => "sync",
+            Key::Archive => "archive",
+            Key::Listen => "listen",
+            Key::Control => "control",
+            Key::Web => "web",
+            Key::Address => "address",
+            Key::Auth => "auth",
+            Key::Acct => "acct",
+            Key::Receivers => "receivers",
+            Key::Socket => "socket",
+            Key::Port => "port",
+        }
+    }
+
+    /// Whether the key may have the number. Each such number has 16 bits.
+    pub(crate) fn takes_number(self, number: u64) -> bool
+        ensures value { result ≡ takes_number self number }
+        ensures small { IsTrue result → number < 2 ^ 16 }
+    {
+        match self {
+            Key::Archive => is_between(1, MAX_DAYS, number),
+            Key::Auth | Key::Acct | Key::Port => is_between(1, MAX_PORT, number),
+            Key::Receivers => is_between(1, MAX_RECEIVERS, number),
+            _ => false,
+        }
+    }
+}
+
+impl fmt::Display for Key {
+    ghost output = { λ key. Some (key_name key) };
+
+    fn fmt<W: fmt::Write>(&self, f: &mut fmt::Formatter<W>) -> fmt::Result {
+        f.write_str(self.name())
+    }
+}
+
+/// Whether a number is from the least to the most.
+pub(crate) fn is_between(least: u64, most: u64, number: u64) -> bool
+    ensures { result ≡ is_between least most number }
+{
+    least <= number && number <= most
+}
+
+/// Whether the text has 1 to 4,095 octets, none of them NUL.
+pub(crate) fn is_path(text: &[u8]) -> bool
+    ensures { result ≡ is_path text.now }
+{
+    is_between(1, MAX_PATH_LEN, text.len() as u64) && has_no_nul(text)
+}
+
+/// Whether no octet is NUL.
+fn has_no_nul(text: &[u8]) -> bool
+    ensures { result ≡ has_no_nul text.now }
+{
+    text.iter().all(|octet| *octet != 0)
+}

@@ -1,0 +1,38 @@
+//! The file of a server that an operator keeps, and what he should know of the account file that
+//! it names.
+//!
+//! `ServerFile::read` answers exactly what `server_of_text` of `specs/Server.antt` says: what the
+//! text says, or its first fault, or that memory was refused. The keys of each table, and the
+//! values that they may have, stand in `specs/Key.antt`, and in `specs/Value.antt` what a value of
+//! TOML is under a key. `Paths::of` says where the file's paths lead to (`specs/Paths.antt`),
+//! `break_of` where a text stops being TOML (`specs/Place.antt`), and `warnings` what is worth
+//! knowing of a configuration (`specs/Warning.antt`).
+#![tactic(auto)]
+
+mod archive;
+mod fault;
+mod head;
+mod key;
+mod listen;
+mod part;
+mod paths;
+mod place;
+mod server;
+mod sync;
+mod text;
+mod value;
+mod warning;
+mod web;
+
+pub use archive::Archive;
+pub use fault::ServerFault;
+pub use key::Key;
+pub use listen::Listen;
+pub use part::Part;
+pub use paths::Paths;
+pub use place::{Place, break_of};
+pub use server::ServerFile;
+pub use sync::SyncPolicy;
+pub use text::{TextFault, text_from, text_of_file};
+pub use warning::{Warning, warnings};
+pub use web::Web;

@@ -1,0 +1,61 @@
+ghost use Rattle.std.specs.Prelude.{◌≡◌, ℕ, Some, List, codes, ◌++◌, decimal};
+ghost use Rattle.std.specs.List.{list_any};
+ghost use Rattle.std.specs.Prelude.{bytes_eq};
+ghost use Rattle.rld_config.specs.Key.{key_name, keys_of, knows};
+
+use crate::key::Key;
+use std::fmt;
+
+/// A table of the server's file. It prints as what stands before one of its keys in a fault: the
+/// head as nothing, and the second `listen` as `listen 2` and a blank.
+#[derive(Clone, Copy, Debug, PartialEq, Eq)]
+pub enum Part {
+    /// The head of the file.
+    Head,
+    /// The table `listen` of this number, from 1 in the order of the file.
+    Listen(u64),
+    /// The table `control`.
+    Control,
+    /// The table `web`.
+    Web,
+}
+
+impl Part {
+    /// The keys that the table may have.
+    fn keys(self) -> &'static [Key]
+        ensures { result.now ≡ keys_of self }
+    {
+        match self {
+            Part::Head => &[
+                Key::Accounts,
+                Key::State,
+                Key::Sync,
+                Key::Archive,
+                Key::Listen,
+                Key::Control,
+                Key::Web,
+            ],
+            Part::Listen(_) => &[Key::Address, Key::Auth, Key::Acct, Key::Receivers],
+            Part::Control => &[Key::Socket],
+            Part::Web => &[Key::Address, Key::Port],
+        }
+    }
+
+    /// Whether the table may have a key of this name.
+    pub(crate) fn knows(self, name: &str) -> bool
+        ensures { result ≡ knows self name.now }
+    {
+        self.keys().iter().any(|key| name == key.name())
+    }
+}
+
+impl fmt::Display for Part {
+    fn fmt<W: fmt::Write>(&self, f: &mut fmt::Formatter<W>) -> fmt::Result {
+        match self {
+            Part::Head => Ok(()),
+            Part::Listen(number) => write!(f, "listen {number} "),
+            Part::Control => f.write_str("control "),
+            Part::Web => f.write_str("web "),
+        }
+    }
+}

@@ -1,0 +1,61 @@
+ghost use Rattle.std.specs.Prelude.{◌≡◌, IfOk};
+ghost use Rattle.std.specs.Path.{path_buf_bytes};
+ghost use Rattle.rld_config.specs.Paths.{beside, control_path, paths_in, paths_of};
+
+use crate::server::ServerFile;
+use rsl_accounts::Text;
+use rsl_wire::NoMemory;
+use std::alloc::Global;
+use std::path::{Path, PathBuf};
+
+/// The name of the control's socket in the state folder, if the file does not say another.
+const CONTROL: &str = "control";
+
+/// The paths of a server. A relative path of its file starts in the folder of the file.
+#[derive(Drop)]
+pub struct Paths {
+    /// The account file.
+    pub accounts: PathBuf,
+    /// The state folder.
+    pub state: PathBuf,
+    /// The control's socket.
+    pub control: PathBuf,
+}
+
+impl Paths {
+    /// The paths that a server's file of this name says. It fails only where memory is refused.
+    pub fn of(alloc: Global, file: &str, server: &ServerFile) -> Result<Paths, NoMemory>
+        ensures { IfOk result (λ paths. paths_in paths ≡ paths_of file.now server.now) }
+    {
+        let accounts = beside(alloc, file, server.accounts.as_str())?;
+        let state = beside(alloc, file, server.state.as_str())?;
+        let control = control(alloc, file, &server.state, &server.control)?;
+        Ok(Paths {
+            accounts,
+            state,
+            control,
+        })
+    }
+}
+
+/// Where a path of the file leads to.
+fn beside(alloc: Global, file: &str, path: &str) -> Result<PathBuf, NoMemory>
+    ensures { IfOk result (λ found. path_buf_bytes found ≡ beside file.now path.now) }
+{
+    Ok(Path::new(file).with_file_name(alloc, path)?)
+}
+
+/// Where the control's socket is.
+fn control(
+    alloc: Global,
+    file: &str,
+    state: &Text,
+    socket: &Option<Text>,
+) -> Result<PathBuf, NoMemory>
+    ensures { IfOk result (λ found. path_buf_bytes found ≡ control_path file.now state.now socket.now) }
+{
+    match socket {
+        Some(socket) => beside(alloc, file, socket.as_str()),
+        None => Ok(beside(alloc, file, state.as_str())?.join(alloc, CONTROL)?),
+    }
+}

@@ -1,0 +1,240 @@
+//! The server's file: TOML with the paths at its head, an array of tables `listen`, a table
+//! `control` and a table `web`.
+ghost use Rattle.std.specs.Prelude.{◌≡◌, ◌≢◌, ◌≤◌, Some, None, map, length, IfOk, IfErr, option_map};
+ghost use Rattle.toml.specs.View.{view};
+ghost use Rattle.rld_config.specs.Server.{
+  control_in,
+  each_listen,
+  file_of,
+  head_in,
+  listen_in,
+  listens_in,
+  listens_of,
+  page_in,
+  server_in,
+  server_of_file,
+  server_of_text,
+  socket_in,
+  web_in,
+};
+ghost use Rattle.rld_config.specs.Value.{tables_of};
+
+use crate::archive::Archive;
+use crate::fault::ServerFault;
+use crate::head::Head;
+use crate::key::Key;
+use crate::listen::{ACCT_PORT, ANY_ADDRESS, AUTH_PORT, Listen, first_taken};
+use crate::part::Part;
+use crate::sync::SyncPolicy;
+use crate::value::{
+    address, archive, check_names, member, needed_number, number, path, sync, tables_of,
+};
+use crate::web::Web;
+use rsl_accounts::Text;
+use std::alloc::Global;
+use toml::Value;
+
+/// The address of the machine itself, which no other machine can ask.
+const OWN_ADDRESS: [u8; 4] = [127, 0, 0, 1];
+
+/// What a server's file says.
+#[derive(Drop)]
+pub struct ServerFile {
+    /// The path of the account file: 1 to 4,095 octets without NUL, as each path.
+    pub accounts: Text,
+    /// The path of the state folder.
+    pub state: Text,
+    /// When the system has to write what was recorded to the disk.
+    pub sync: SyncPolicy,
+    /// How long files are kept that no start needs any more.
+    pub archive: Archive,
+    /// Where packets come to: 1 to 16, no two on one port.
+    pub listens: Vec<Listen>,
+    /// The path of the control's socket, if the file has one.
+    pub control: Option<Text>,
+    /// Where the page is served, if it is.
+    pub web: Option<Web>,
+}
+
+impl ServerFile {
+    /// What the text of a server's file says. The faults come in this order: `NotToml`; of the
+    /// head, the first name that is not known, then the first key that is absent or has a wrong
+    /// value; the same of each table `listen`, in the file's order, then `TakenPort`; the same of
+    /// `control` and of `web`. `NoMemory` comes where memory is refused, before the checks that
+    /// follow.
+    pub fn read(alloc: Global, text: &[u8]) -> Result<ServerFile, ServerFault>
+        ensures ok { IfOk result (λ file. server_of_text text.now ≡ Ok (server_in file)) }
+        ensures fault { IfErr result (λ fault. fault ≢ ServerFault.NoMemory →
+            server_of_text text.now ≡ Err fault) }
+    {
+        ServerFile::of_file(alloc, &parse(alloc, text)?)
+    }
+
+    /// What the table of a server's file says.
+    #[tactic(auto, unfolding(crate::specs::Server::server_of_file))]
+    fn of_file(alloc: Global, file: &Value) -> Result<ServerFile, ServerFault>
+        ensures ok { IfOk result (λ server.
+            server_of_file (view file.now) ≡ Ok (server_in server)) }
+        ensures fault { IfErr result (λ fault. fault ≢ ServerFault.NoMemory →
+            server_of_file (view file.now) ≡ Err fault) }
+    {
+        let head = head(alloc, file)?;
+        let listens = listens(alloc, file)?;
+        let control = control(alloc, file)?;
+        let web = web(alloc, file)?;
+        Ok(ServerFile {
+            accounts: head.accounts,
+            state: head.state,
+            sync: head.sync,
+            archive: head.archive,
+            listens,
+            control,
+            web,
+        })
+    }
+}
+
+/// The table that the text is.
+fn parse(alloc: Global, text: &[u8]) -> Result<Value, ServerFault>
+    ensures ok { IfOk result (λ file. file_of text.now ≡ Some (view file)) }
+    ensures fault { IfErr result (λ fault. fault ≢ ServerFault.NoMemory →
+        (fault ≡ ServerFault.NotToml) × (file_of text.now ≡ None)) }
+{
+    match toml::table_from_slice(alloc, text) {
+        Ok(table) => Ok(Value::Table(table)),
+        Err(error) if error.is_memory() => Err(ServerFault::NoMemory),
+        Err(_) => Err(ServerFault::NotToml),
+    }
+}
+
+/// What the head of the file says.
+#[tactic(auto, unfolding(crate::specs::Server::head_in))]
+fn head(alloc: Global, file: &Value) -> Result<Head, ServerFault>
+    ensures ok { IfOk result (λ head. head_in (view file.now) ≡ Ok head) }
+    ensures fault { IfErr result (λ fault. fault ≢ ServerFault.NoMemory →
+        head_in (view file.now) ≡ Err fault) }
+{
+    check_names(alloc, Part::Head, file)?;
+    Ok(Head {
+        accounts: path(alloc, Part::Head, file, Key::Accounts)?,
+        state: path(alloc, Part::Head, file, Key::State)?,
+        sync: sync(file)?,
+        archive: archive(file)?,
+    })
+}
+
+/// What a table `listen` says.
+#[tactic(auto, unfolding(crate::specs::Server::listen_in))]
+fn listen(alloc: Global, number_of_table: u64, table: &Value) -> Result<Listen, ServerFault>
+    ensures ok { IfOk result (λ listen. listen_in number_of_table (view table.now) ≡ Ok listen) }
+    ensures fault { IfErr result (λ fault. fault ≢ ServerFault.NoMemory →
+        listen_in number_of_table (view table.now) ≡ Err fault) }
+{
+    let part = Part::Listen(number_of_table);
+    check_names(alloc, part, table)?;
+    Ok(Listen {
+        address: address(part, table, ANY_ADDRESS)?,
+        auth: number(part, table, Key::Auth, AUTH_PORT)?,
+        acct: number(part, table, Key::Acct, ACCT_PORT)?,
+        receivers: number(part, table, Key::Receivers, 1)?,
+    })
+}
+
+/// What each table `listen` says, in the file's order.
+fn listens_of_tables(alloc: Global, tables: &[Value]) -> Result<Vec<Listen>, ServerFault>
+    requires { length tables.now ≤ 16 }
+    ensures ok { IfOk result (λ listens. each_listen 1 (map view tables.now) ≡ Ok listens.items) }
+    ensures fault { IfErr result (λ fault. fault ≢ ServerFault.NoMemory →
+        each_listen 1 (map view tables.now) ≡ Err fault) }
+    ensures few { IfOk result (λ listens. length listens.items ≤ 16) }
+{
+    let mut listens = Vec::with_capacity(alloc, tables.len())?;
+    for (number, table) in tables.iter().enumerate() {
+        listens.push(listen(alloc, number as u64 + 1, table)?)?;
+    }
+    Ok(listens)
+}
+
+/// The same, if no two sockets have one port.
+#[tactic(auto, unfolding(crate::specs::Server::listens_of))]
+fn listens_apart(alloc: Global, tables: &[Value]) -> Result<Vec<Listen>, ServerFault>
+    requires { length tables.now ≤ 16 }
+    ensures ok { IfOk result (λ listens. listens_of (map view tables.now) ≡ Ok listens.items) }
+    ensures fault { IfErr result (λ fault. fault ≢ ServerFault.NoMemory →
+        listens_of (map view tables.now) ≡ Err fault) }
+{
+    let listens = listens_of_tables(alloc, tables)?;
+    match first_taken(listens.as_slice()) {
+        Some(fault) => Err(fault),
+        None => Ok(listens),
+    }
+}
+
+/// Where packets come to.
+#[tactic(auto, unfolding(crate::specs::Server::listens_in))]
+fn listens(alloc: Global, file: &Value) -> Result<Vec<Listen>, ServerFault>
+    ensures ok { IfOk result (λ listens. listens_in (view file.now) ≡ Ok listens.items) }
+    ensures fault { IfErr result (λ fault. fault ≢ ServerFault.NoMemory →
+        listens_in (view file.now) ≡ Err fault) }
+{
+    match member(file, Key::Listen) {
+        Some(value) => match tables_of(value) {
+            Some(tables) => listens_apart(alloc, tables),
+            None => Err(ServerFault::BadValue(Part::Head, Key::Listen)),
+        },
+        None => Ok(vec![in alloc; Listen::standard()]?),
+    }
+}
+
+/// What a table `control` says.
+#[tactic(auto, unfolding(crate::specs::Server::socket_in))]
+fn socket(alloc: Global, table: &Value) -> Result<Text, ServerFault>
+    ensures ok { IfOk result (λ path. socket_in (view table.now) ≡ Ok path) }
+    ensures fault { IfErr result (λ fault. fault ≢ ServerFault.NoMemory →
+        socket_in (view table.now) ≡ Err fault) }
+{
+    check_names(alloc, Part::Control, table)?;
+    path(alloc, Part::Control, table, Key::Socket)
+}
+
+/// The path of the control's socket, if the file has one.
+#[tactic(auto, unfolding(crate::specs::Server::control_in))]
+fn control(alloc: Global, file: &Value) -> Result<Option<Text>, ServerFault>
+    ensures ok { IfOk result (λ path. control_in (view file.now) ≡ Ok path) }
+    ensures fault { IfErr result (λ fault. fault ≢ ServerFault.NoMemory →
+        control_in (view file.now) ≡ Err fault) }
+{
+    match member(file, Key::Control) {
+        Some(table) if table.is_table() => Ok(Some(socket(alloc, table)?)),
+        Some(_) => Err(ServerFault::BadValue(Part::Head, Key::Control)),
+        None => Ok(None),
+    }
+}
+
+/// What a table `web` says.
+#[tactic(auto, unfolding(crate::specs::Server::page_in))]
+fn page(alloc: Global, table: &Value) -> Result<Web, ServerFault>
+    ensures ok { IfOk result (λ web. page_in (view table.now) ≡ Ok web) }
+    ensures fault { IfErr result (λ fault. fault ≢ ServerFault.NoMemory →
+        page_in (view table.now) ≡ Err fault) }
+{
+    check_names(alloc, Part::Web, table)?;
+    Ok(Web {
+        address: address(Part::Web, table, OWN_ADDRESS)?,
+        port: needed_number(Part::Web, table, Key::Port)?,
+    })
+}
+
+/// Where the page is served, if it is.
+#[tactic(auto, unfolding(crate::specs::Server::web_in))]
+fn web(alloc: Global, file: &Value) -> Result<Option<Web>, ServerFault>
+    ensures ok { IfOk result (λ web. web_in (view file.now) ≡ Ok web) }
+    ensures fault { IfErr result (λ fault. fault ≢ ServerFault.NoMemory →
+        web_in (view file.now) ≡ Err fault) }
+{
+    match member(file, Key::Web) {
+        Some(table) if table.is_table() => Ok(Some(page(alloc, table)?)),
+        Some(_) => Err(ServerFault::BadValue(Part::Head, Key::Web)),
+        None => Ok(None),
+    }
+}

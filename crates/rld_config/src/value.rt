@@ -1,0 +1,256 @@
+//! The values of keys in a table of TOML: each with its value, or with the fault of the key.
+ghost use Rattle.std.specs.Prelude.{
+  ◌≡◌,
+  ◌≢◌,
+  ◌≤◌,
+  IfOk,
+  IfErr,
+  IfNone,
+  IfSome,
+  IsOk,
+  None,
+  Some,
+  length,
+  map,
+  is_some,
+  option_copied,
+  option_map,
+};
+ghost use Rattle.std.specs.List.{list_all};
+ghost use Rattle.toml.specs.Data.{as_table};
+ghost use Rattle.toml.specs.View.{view};
+ghost use Rattle.rld_config.specs.Value.{
+  address_value,
+  archive_value,
+  member_in,
+  number_of,
+  path_of,
+  sync_value,
+  tables_of,
+  tables_of_list,
+  unknown_in,
+};
+ghost use Rattle.rld_config.specs.Server.{
+  address_in,
+  archive_in,
+  needed_port_in,
+  path_in,
+  port_in,
+  sync_in,
+};
+
+use crate::archive::Archive;
+use crate::fault::ServerFault;
+use crate::key::{Key, is_between, is_path};
+use crate::part::Part;
+use crate::sync::SyncPolicy;
+use rsl_accounts::{Text, address_of};
+use std::alloc::Global;
+use toml::Value;
+
+/// The most tables that the array `listen` may have.
+const MAX_LISTENS: u64 = 16;
+
+/// How long an archive is kept if the file does not say it, in days.
+const ARCHIVE_DAYS: u16 = 7;
+
+/// What a table has under a key.
+pub(crate) fn member(table: &Value, key: Key) -> Option<&Value>
+    ensures { option_map (λ value. view value.now) result ≡ member_in (view table.now) key }
+{
+    table.get(key.name())
+}
+
+/// What a table has under a key that it must have.
+fn present(part: Part, table: &Value, key: Key) -> Result<&Value, ServerFault>
+    ensures ok { IfOk result (λ value. member_in (view table.now) key ≡ Some (view value.now)) }
+    ensures fault { IfErr result (λ fault.
+        (member_in (view table.now) key ≡ None) × (fault ≡ ServerFault.Missing part key)) }
+{
+    match member(table, key) {
+        Some(value) => Ok(value),
+        None => Err(ServerFault::Missing(part, key)),
+    }
+}
+
+/// The number that a value is, if the key may have it.
+fn number_of(value: &Value, key: Key) -> Option<u16>
+    ensures { result ≡ number_of key (view value.now) }
+{
+    let number = value.as_integer()?;
+    if 0 <= number && key.takes_number(number.unsigned_abs()) {
+        Some(number.unsigned_abs() as u16)
+    } else {
+        None
+    }
+}
+
+/// The number of a key that may be left out.
+#[tactic(auto, unfolding(crate::specs::Server::port_in))]
+pub(crate) fn number(part: Part, table: &Value, key: Key, default: u16) -> Result<u16, ServerFault>
+    ensures { result ≡ port_in part (view table.now) key default }
+{
+    match member(table, key) {
+        Some(value) => match number_of(value, key) {
+            Some(number) => Ok(number),
+            None => Err(ServerFault::BadValue(part, key)),
+        },
+        None => Ok(default),
+    }
+}
+
+/// The number of a key that the table must have.
+#[tactic(auto, unfolding(crate::specs::Server::needed_port_in))]
+pub(crate) fn needed_number(part: Part, table: &Value, key: Key) -> Result<u16, ServerFault>
+    ensures { result ≡ needed_port_in part (view table.now) key }
+{
+    match number_of(present(part, table, key)?, key) {
+        Some(number) => Ok(number),
+        None => Err(ServerFault::BadValue(part, key)),
+    }
+}
+
+/// The path that a value is.
+fn path_of(value: &Value) -> Option<&str>
+    ensures { option_copied result ≡ path_of (view value.now) }
+{
+    let text = value.as_str()?;
+    if is_path(text.as_bytes()) {
+        Some(text)
+    } else {
+        None
+    }
+}
+
+/// The path under a key, as a text of its own. `NoMemory` comes after the faults of the key.
+#[tactic(auto, unfolding(crate::specs::Server::path_in))]
+pub(crate) fn path(alloc: Global, part: Part, table: &Value, key: Key) -> Result<Text, ServerFault>
+    ensures ok { IfOk result (λ path. path_in part (view table.now) key ≡ Ok path) }
+    ensures fault { IfErr result (λ fault. fault ≢ ServerFault.NoMemory →
+        path_in part (view table.now) key ≡ Err fault) }
+{
+    match path_of(present(part, table, key)?) {
+        Some(text) => Ok(Text::from_str(alloc, text)?),
+        None => Err(ServerFault::BadValue(part, key)),
+    }
+}
+
+/// The octets that a value spells, if it is the text of an address.
+fn address_value(value: &Value) -> Option<[u8; 4]>
+    ensures { result ≡ address_value (view value.now) }
+{
+    address_of(value.as_str()?.as_bytes())
+}
+
+/// The address of a table that may leave it out.
+#[tactic(auto, unfolding(crate::specs::Server::address_in))]
+pub(crate) fn address(part: Part, table: &Value, default: [u8; 4]) -> Result<[u8; 4], ServerFault>
+    ensures { result ≡ address_in part (view table.now) default }
+{
+    match member(table, Key::Address) {
+        Some(value) => match address_value(value) {
+            Some(address) => Ok(address),
+            None => Err(ServerFault::BadValue(part, Key::Address)),
+        },
+        None => Ok(default),
+    }
+}
+
+/// The policy that a value is the word of.
+fn sync_value(value: &Value) -> Option<SyncPolicy>
+    ensures { result ≡ sync_value (view value.now) }
+{
+    SyncPolicy::of_word(value.as_str()?)
+}
+
+/// When the system has to write: before each answer if the file does not say it.
+#[tactic(auto, unfolding(crate::specs::Server::sync_in))]
+pub(crate) fn sync(file: &Value) -> Result<SyncPolicy, ServerFault>
+    ensures { result ≡ sync_in (view file.now) }
+{
+    match member(file, Key::Sync) {
+        Some(value) => match sync_value(value) {
+            Some(policy) => Ok(policy),
+            None => Err(ServerFault::BadValue(Part::Head, Key::Sync)),
+        },
+        None => Ok(SyncPolicy::Always),
+    }
+}
+
+/// What a value says of the archive: a word, or a number of days.
+fn archive_value(value: &Value) -> Option<Archive>
+    ensures { result ≡ archive_value (view value.now) }
+{
+    match value.as_str() {
+        Some(word) => Archive::of_word(word),
+        None => Some(Archive::Days(number_of(value, Key::Archive)?)),
+    }
+}
+
+/// How long the archive is kept: a week if the file does not say it.
+#[tactic(auto, unfolding(crate::specs::Server::archive_in))]
+pub(crate) fn archive(file: &Value) -> Result<Archive, ServerFault>
+    ensures { result ≡ archive_in (view file.now) }
+{
+    match member(file, Key::Archive) {
+        Some(value) => match archive_value(value) {
+            Some(archive) => Ok(archive),
+            None => Err(ServerFault::BadValue(Part::Head, Key::Archive)),
+        },
+        None => Ok(Archive::Days(ARCHIVE_DAYS)),
+    }
+}
+
+/// The tables that a value is, if they are 1 to 16.
+pub(crate) fn tables_of(value: &Value) -> Option<&[Value]>
+    ensures value { option_map (λ tables. map view tables.now) result ≡ tables_of (view value.now) }
+    ensures few { IfSome result (λ tables. length tables.now ≤ 16) }
+{
+    tables_of_list(value.as_array()?.as_slice())
+}
+
+/// The items of an array, if they are 1 to 16 tables.
+fn tables_of_list(items: &[Value]) -> Option<&[Value]>
+    ensures value { option_map (λ tables. map view tables.now) result
+        ≡ tables_of_list (map view items.now) }
+    ensures few { IfSome result (λ tables. length tables.now ≤ 16) }
+{
+    if are_tables(items) && is_between(1, MAX_LISTENS, items.len() as u64) {
+        Some(items)
+    } else {
+        None
+    }
+}
+
+/// Whether each item is a table.
+fn are_tables(items: &[Value]) -> bool
+    ensures { result ≡ list_all (λ item. is_some (as_table (view item))) items.now }
+{
+    items.iter().all(|item| item.is_table())
+}
+
+/// The first name that a table may not have as a key, in the order of their octets.
+fn unknown_name(part: Part, table: &Value) -> Option<&str>
+    ensures some { IfSome result (λ name.
+        unknown_in part (view table.now) ≡ Some (ServerFault.Unknown part name.now)) }
+    ensures none { IfNone result (unknown_in part (view table.now) ≡ None) }
+{
+    for name in table.as_table()?.keys() {
+        if !part.knows(name.as_str()) {
+            return Some(name.as_str());
+        }
+    }
+    None
+}
+
+/// `Unknown` of the first name that a table may not have as a key.
+pub(crate) fn check_names(alloc: Global, part: Part, table: &Value) -> Result<(), ServerFault>
+    ensures ok { IsOk result → unknown_in part (view table.now) ≡ None }
+    ensures fault { IfErr result (λ fault. fault ≢ ServerFault.NoMemory →
+        unknown_in part (view table.now) ≡ Some fault) }
+{
+    match unknown_name(part, table) {
+        Some(name) => Err(ServerFault::Unknown(part, Text::from_str(alloc, name)?)),
+        None => Ok(()),
+    }
+}

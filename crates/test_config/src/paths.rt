@@ -1,0 +1,38 @@
+//! Where the paths of a server's file lead to. The first field of a row is the name of the file.
+
+use crate::server_file::read;
+use rld_config::Paths;
+use std::alloc::Global;
+use std::test::Fail;
+use test_rows::{Plain, Subject, check_rows, printed};
+
+/// The paths of a server.
+struct Places;
+
+impl Subject for Places {
+    fn found(&self, alloc: Global, fields: &[&str]) -> Result<String, Fail> {
+        let [name, lines @ ..] = fields else {
+            return Err("no name of a file")?;
+        };
+        let file = read(alloc, lines)?;
+        let paths = Paths::of(alloc, name, &file)?;
+        let (accounts, state) = (paths.accounts.as_str(), paths.state.as_str());
+        printed(
+            alloc,
+            &(Plain(accounts), Plain(state), Plain(paths.control.as_str())),
+        )
+    }
+}
+
+#[test]
+fn a_relative_path_starts_in_the_folder_of_the_file(rt: HostRuntime) -> Result<(), Fail> {
+    let rows = r#"
+        where it runs | d.toml | accounts = "a" | state = "s" | (a, s, s/control)
+        another folder | etc/d.toml | accounts = "a" | state = "../s" | (etc/a, etc/../s, etc/../s/control)
+        from the root | /etc/d.toml | accounts = "a" | state = "s" | (/etc/a, /etc/s, /etc/s/control)
+        paths from the root | etc/d.toml | accounts = "/a" | state = "/var/s/" | (/a, /var/s/, /var/s/control)
+        a socket | etc/d.toml | accounts = "a" | state = "s" | [control] | socket = "c" | (etc/a, etc/s, etc/c)
+        a socket from the root | d.toml | accounts = "a" | state = "s" | [control] | socket = "/run/c" | (a, s, /run/c)
+    "#;
+    check_rows(&rt, &Places, rows)
+}

@@ -1,0 +1,176 @@
+//! What a server's file says, and its faults.
+
+use rld_config::{ServerFault, ServerFile};
+use std::alloc::Global;
+use std::test::Fail;
+use test_rows::{Plain, Subject, check_rows, printed, shown};
+
+/// The text of these lines.
+pub(crate) fn text_of(alloc: Global, lines: &[&str]) -> Result<String, Fail> {
+    let mut text = String::new(alloc);
+    for line in lines {
+        text.push_str(line)?;
+        text.push('\n')?;
+    }
+    Ok(text)
+}
+
+/// What these lines say.
+pub(crate) fn read(alloc: Global, lines: &[&str]) -> Result<ServerFile, Fail> {
+    let text = text_of(alloc, lines)?;
+    match ServerFile::read(alloc, text.as_bytes()) {
+        Ok(file) => Ok(file),
+        Err(_) => Err("the file is refused")?,
+    }
+}
+
+/// What comes of a file: `Ok`, or what its fault prints.
+struct Faults;
+
+impl Subject for Faults {
+    fn found(&self, alloc: Global, fields: &[&str]) -> Result<String, Fail> {
+        let text = text_of(alloc, fields)?;
+        match ServerFile::read(alloc, text.as_bytes()) {
+            Ok(_) => shown(alloc, &"Ok"),
+            Err(fault) => shown(alloc, &fault),
+        }
+    }
+}
+
+#[test]
+fn the_first_fault_of_the_head_is_named(rt: HostRuntime) -> Result<(), Fail> {
+    let rows = r#"
+        the shortest | accounts = "a" | state = "s" | Ok
+        nothing | Missing accounts
+        no TOML | = | NotToml
+        no state | accounts = "a" | Missing state
+        another name | acounts = "a" | state = "s" | Unknown "acounts"
+        two of them, by their octets | zone = 1 | accounts = 1 | level = 1 | Unknown "level"
+        a name with a line feed | "a\nb" = 1 | Unknown "a\nb"
+        a number for a path | accounts = 1 | state = "s" | BadValue accounts
+        an empty path | accounts = "a" | state = "" | BadValue state
+        a path with a zero octet | accounts = "a\u0000" | state = "s" | BadValue accounts
+        another policy | accounts = "a" | state = "s" | sync = "often" | BadValue sync
+        true for a policy | accounts = "a" | state = "s" | sync = true | BadValue sync
+        another word | accounts = "a" | state = "s" | archive = "week" | BadValue archive
+        no day | accounts = "a" | state = "s" | archive = 0 | BadValue archive
+        a hundred years | accounts = "a" | state = "s" | archive = 36500 | Ok
+        a day more | accounts = "a" | state = "s" | archive = 36501 | BadValue archive
+        a day below 0 | accounts = "a" | state = "s" | archive = -1 | BadValue archive
+        days in a text | accounts = "a" | state = "s" | archive = "7" | BadValue archive
+        the first of two | accounts = 1 | state = 2 | BadValue accounts
+        a key before a policy | sync = "often" | accounts = "a" | Missing state
+    "#;
+    check_rows(&rt, &Faults, rows)?;
+    match ServerFile::read(rt.alloc(), b"\xff") {
+        Err(ServerFault::NotToml) => Ok(()),
+        _ => Err("no UTF-8")?,
+    }
+}
+
+#[test]
+fn the_first_fault_of_the_tables_is_named(rt: HostRuntime) -> Result<(), Fail> {
+    let rows = r#"
+        a table | accounts = "a" | state = "s" | [listen] | BadValue listen
+        an empty list | accounts = "a" | state = "s" | listen = [] | BadValue listen
+        a number | accounts = "a" | state = "s" | listen = [1] | BadValue listen
+        an empty table | accounts = "a" | state = "s" | [[listen]] | Ok
+        another name | accounts = "a" | state = "s" | [[listen]] | port = 1 | Unknown listen 1 "port"
+        no address | accounts = "a" | state = "s" | [[listen]] | address = "::1" | BadValue listen 1 address
+        port 0 | accounts = "a" | state = "s" | [[listen]] | auth = 0 | BadValue listen 1 auth
+        port 65535 | accounts = "a" | state = "s" | [[listen]] | acct = 65535 | Ok
+        port 65536 | accounts = "a" | state = "s" | [[listen]] | acct = 65536 | BadValue listen 1 acct
+        no receiver | accounts = "a" | state = "s" | [[listen]] | receivers = 0 | BadValue listen 1 receivers
+        16 receivers | accounts = "a" | state = "s" | [[listen]] | receivers = 16 | Ok
+        17 | accounts = "a" | state = "s" | [[listen]] | receivers = 17 | BadValue listen 1 receivers
+        a second | accounts = "a" | state = "s" | [[listen]] | [[listen]] | auth = "1" | BadValue listen 2 auth
+        a number for the control | accounts = "a" | state = "s" | control = 1 | BadValue control
+        no socket | accounts = "a" | state = "s" | [control] | Missing control socket
+        another name | accounts = "a" | state = "s" | [control] | path = "c" | Unknown control "path"
+        an empty socket | accounts = "a" | state = "s" | [control] | socket = "" | BadValue control socket
+        two pages | accounts = "a" | state = "s" | [[web]] | BadValue web
+        no port | accounts = "a" | state = "s" | [web] | Missing web port
+        another name | accounts = "a" | state = "s" | [web] | host = "a" | Unknown web "host"
+        no address | accounts = "a" | state = "s" | [web] | address = "a" | BadValue web address
+        a page at port 0 | accounts = "a" | state = "s" | [web] | port = 0 | BadValue web port
+        a listen before the rest | accounts = "a" | state = "s" | [web] | [control] | [[listen]] | auth = 0 | BadValue listen 1 auth
+        the control before the page | accounts = "a" | state = "s" | [web] | [control] | Missing control socket
+    "#;
+    check_rows(&rt, &Faults, rows)
+}
+
+#[test]
+fn no_two_sockets_have_one_port(rt: HostRuntime) -> Result<(), Fail> {
+    let rows = r#"
+        one port for both | accounts = "a" | state = "s" | [[listen]] | auth = 1813 | TakenPort listen 1 acct
+        two of the same | accounts = "a" | state = "s" | [[listen]] | [[listen]] | TakenPort listen 2 auth
+        another's port | accounts = "a" | state = "s" | [[listen]] | [[listen]] | auth = 1814 | TakenPort listen 2 acct
+        ports of their own | accounts = "a" | state = "s" | [[listen]] | [[listen]] | auth = 1814 | acct = 1815 | Ok
+        two addresses | accounts = "a" | state = "s" | [[listen]] | address = "127.0.0.1" | [[listen]] | address = "127.0.0.2" | Ok
+        one of all | accounts = "a" | state = "s" | [[listen]] | address = "127.0.0.1" | [[listen]] | TakenPort listen 2 auth
+        all of them, then one | accounts = "a" | state = "s" | [[listen]] | [[listen]] | address = "127.0.0.1" | TakenPort listen 2 auth
+        a value before them | accounts = "a" | state = "s" | [[listen]] | [[listen]] | [[listen]] | auth = 0 | BadValue listen 3 auth
+        them before the page | accounts = "a" | state = "s" | [[listen]] | [[listen]] | [web] | TakenPort listen 2 auth
+        the page's own port | accounts = "a" | state = "s" | [web] | port = 1812 | Ok
+    "#;
+    check_rows(&rt, &Faults, rows)
+}
+
+/// What the head of a file says.
+struct Heads;
+
+impl Subject for Heads {
+    fn found(&self, alloc: Global, fields: &[&str]) -> Result<String, Fail> {
+        let file = read(alloc, fields)?;
+        let (accounts, state) = (Plain(file.accounts.as_str()), Plain(file.state.as_str()));
+        printed(alloc, &(accounts, state, file.sync, file.archive))
+    }
+}
+
+#[test]
+fn a_head_says_what_stands_in_it(rt: HostRuntime) -> Result<(), Fail> {
+    let rows = r#"
+        the shortest | accounts = "a" | state = "s" | (a, s, Always, Days(7))
+        each answer | accounts = "/a/b" | state = "../s" | sync = "always" | (/a/b, ../s, Always, Days(7))
+        each second | accounts = "a" | state = "s" | sync = "second" | (a, s, Second, Days(7))
+        never | accounts = "a" | state = "s" | sync = "never" | (a, s, Never, Days(7))
+        for ever | accounts = "a" | state = "s" | archive = "keep" | (a, s, Always, Keep)
+        no archive | accounts = "a" | state = "s" | archive = "none" | (a, s, Always, Nothing)
+        a month | accounts = "a" | state = "s" | archive = 30 | (a, s, Always, Days(30))
+    "#;
+    check_rows(&rt, &Heads, rows)
+}
+
+/// What the tables of a file say: where it listens, its control's socket, its page.
+struct Tables;
+
+impl Subject for Tables {
+    fn found(&self, alloc: Global, fields: &[&str]) -> Result<String, Fail> {
+        let file = read(alloc, fields)?;
+        let socket = match &file.control {
+            Some(socket) => socket.as_str(),
+            None => "no socket",
+        };
+        printed(alloc, &(file.listens.as_slice(), Plain(socket), file.web))
+    }
+}
+
+#[test]
+fn tables_say_what_stands_in_them(rt: HostRuntime) -> Result<(), Fail> {
+    let rows = "
+        none | accounts = 'a' | state = 's' | \
+          ([Listen { address: [0, 0, 0, 0], auth: 1812, acct: 1813, receivers: 1 }], no socket, None)
+        an empty one | accounts = 'a' | state = 's' | [[listen]] | \
+          ([Listen { address: [0, 0, 0, 0], auth: 1812, acct: 1813, receivers: 1 }], no socket, None)
+        all | accounts = 'a' | state = 's' | [[listen]] | address = '192.0.2.10' | auth = 1645 | acct = 1646 | \
+          receivers = 2 | [[listen]] | address = '192.0.2.11' | [control] | socket = '/run/c' | [web] | \
+          address = '192.0.2.1' | port = 8612 | \
+          ([Listen { address: [192, 0, 2, 10], auth: 1645, acct: 1646, receivers: 2 }, \
+          Listen { address: [192, 0, 2, 11], auth: 1812, acct: 1813, receivers: 1 }], /run/c, \
+          Some(Web { address: [192, 0, 2, 1], port: 8612 }))
+        a page of the machine itself | listen = [{ auth = 1 }] | accounts = 'a' | state = 's' | [web] | port = 80 | \
+          ([Listen { address: [0, 0, 0, 0], auth: 1, acct: 1813, receivers: 1 }], no socket, \
+          Some(Web { address: [127, 0, 0, 1], port: 80 }))
+    ";
+    check_rows(&rt, &Tables, rows)
+}
