@@ -2,6 +2,5 @@ pub mod Files
 pub mod Names
 pub mod Tables
 pub mod Ports
-pub mod Texts
 pub mod Parts
 pub mod Told

@@ -1,7 +1,6 @@
 pub mod Key
 pub mod Value
 pub mod Server
-pub mod Text
 pub mod Place
 pub mod Paths
 pub mod Warning

@@ -5,7 +5,6 @@ pub mod Made
 pub mod Within
 pub mod Addresses
 pub mod Values
-pub mod FileReads
 pub mod Files
 pub mod Parts
 pub mod Memory

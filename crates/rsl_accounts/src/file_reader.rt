@@ -1,16 +1,16 @@
-//! Reading an account file from outside: opening it, and taking its octets, up to the most that a
-//! file may have.
-ghost use Rattle.std.specs.Prelude.{◌<◌, ◌↔◌, IfSome, IsErrOf, length};
+//! Reading an account file from outside.
+ghost use Rattle.std.specs.Prelude.{◌≤◌, IfSome, length};
 ghost use Rattle.rsl_accounts.specs.FileRead.{IsFileRead, most_octets};
 
 use crate::config::Config;
 use crate::file_fault::FileFault;
+use rsl_text::{TextFault, read_text};
 use std::alloc::Global;
 use std::fs::{self, Files};
-use std::io::{ErrorKind, Read};
+use std::io::Read;
 
 /// The most octets of an account file.
-const MAX_FILE_LEN: u64 = 16_777_216;
+const MAX_FILE_LEN: u32 = 16_777_216;
 
 impl Config {
     /// The configuration that the account file of this name gives. The faults are those of
@@ -22,31 +22,30 @@ impl Config {
         }
     }
 
-    /// The configuration that an account file gives, whose octets come from a reader. No more than
-    /// one octet over the most that a file may have is read.
+    /// The configuration that an account file gives, whose octets come from a reader. They are read
+    /// by `rsl_text::read_text`, as a script's are.
     ///
-    /// The faults come in this order: `Unreadable` where a read fails; `TooLong` where there are
-    /// over 16,777,216 octets; `Config` where `Config::read` refuses the text. `NoMemory` comes
-    /// where memory is refused, before the checks that follow.
+    /// The faults come in this order: `Unreadable` where a read fails or 33,554,432 reads have come
+    /// to no end, and `TooLong` where there are over 16,777,216 octets, whichever comes first;
+    /// `Config` where `Config::read` refuses the text. `NoMemory` comes where memory is refused,
+    /// before the checks that follow.
     pub fn read_from<R: Read + Drop>(alloc: Global, reader: R) -> Result<Config, FileFault>
         ensures { IfSome (R.remaining reader) (λ text. IsFileRead text result) }
     {
-        let mut text = Vec::new(alloc);
-        match reader.take(MAX_FILE_LEN + 1).read_to_end(&mut text) {
-            Ok(_) => config_of(alloc, text.as_slice()),
-            Err(error) if error.kind() == ErrorKind::OutOfMemory => Err(FileFault::NoMemory),
-            Err(_) => Err(FileFault::Unreadable),
+        let mut reader = reader;
+        match read_text(alloc, &mut reader, MAX_FILE_LEN) {
+            Ok(text) => config_of(alloc, text.as_slice()),
+            Err(TextFault::Unreadable) => Err(FileFault::Unreadable),
+            Err(TextFault::TooLong) => Err(FileFault::TooLong),
+            Err(TextFault::NoMemory) => Err(FileFault::NoMemory),
         }
     }
 }
 
-/// The configuration that the octets of an account file give, unless they are too many.
+/// The configuration that the octets of an account file give.
 fn config_of(alloc: Global, text: &[u8]) -> Result<Config, FileFault>
-    ensures read { IsFileRead text.now result }
-    ensures too_long { IsErrOf result FileFault.TooLong ↔ (most_octets < length text.now) }
+    requires { length text.now ≤ most_octets }
+    ensures { IsFileRead text.now result }
 {
-    if MAX_FILE_LEN < text.len() as u64 {
-        return Err(FileFault::TooLong);
-    }
     Ok(Config::read(alloc, text)?)
 }

@@ -1,5 +1,4 @@
 pub mod AccountingLaws
-pub mod Consumed
 pub mod AccessLaws
 pub mod LineLaws
 pub mod ReportLaws

@@ -1,15 +1,19 @@
 -- Faults of reading.
-use Rattle.std.proofs.Common.{◌≡◌, ℕ, ◌<◌, List, length, Option, Some, None, IfSome, refl}
-use Rattle.rsl_replay.specs.Fault.{IsReadFault}
+use Rattle.std.proofs.Common.{◌≡◌, ℕ, List, Option, Some, None, IfSome, sym, subst}
+use Rattle.std.specs.Prelude.{Err}
+use Rattle.rsl_text.specs.Read.{IsTextRead}
+use Rattle.rsl_text.specs.declared.fault.TextFault.{TextFault}
+use Rattle.rsl_text.specs.declared.fault.TextFault.TheVariants.{Unreadable, TooLong, NoMemory}
+use Rattle.rsl_replay.specs.Fault.{fault_of_text}
 use Rattle.rsl_replay.specs.Replay.{IsFaultOf, most_octets}
 use Rattle.rsl_replay.specs.declared.fault.ReplayFault.{ReplayFault}
-use Rattle.rsl_replay.specs.declared.fault.ReplayFault.TheVariants.{Line, TooLong, Config, InputOutput, NoMemory}
+
+of_text : (text : List ℕ) (fault : TextFault) → IsTextRead most_octets text (Err fault) → IsFaultOf text (fault_of_text fault)
+of_text text Unreadable is = tt
+of_text text TooLong is = is
+of_text text NoMemory is = tt
 
 -- a text whose reading failed has the fault
-pub read_fault : (from : Option (List ℕ)) (fault : ReplayFault) → IsReadFault fault → (fault ≡ TooLong → IfSome from (λ given. most_octets < length given)) → IfSome from (λ text. IsFaultOf text fault)
-read_fault None fault is over = tt
-read_fault (Some text) (Line number) is over = absurd is
-read_fault (Some text) TooLong is over = over refl
-read_fault (Some text) (Config fault) is over = absurd is
-read_fault (Some text) InputOutput is over = tt
-read_fault (Some text) NoMemory is over = tt
+pub read_fault : (from : Option (List ℕ)) (fault : TextFault) (made : ReplayFault) → made ≡ fault_of_text fault → IfSome from (λ text. IsTextRead most_octets text (Err fault)) → IfSome from (λ text. IsFaultOf text made)
+read_fault None fault made is read = tt
+read_fault (Some text) fault made is read = subst (IsFaultOf text) (sym is) (of_text text fault read)

@@ -1,13 +1,20 @@
 -- Why a script is not replayed.
-use Rattle.std.specs.Prelude.{⊤}
 use Rattle.rsl_accounts.specs.declared.fault.ConfigFault.{ConfigFault}
 use Rattle.rsl_accounts.specs.declared.fault.ConfigFault.TheVariants.{NoMemory as config_no_memory}
 use Rattle.rsl_report.specs.declared.exit_status.ExitStatus.{ExitStatus}
 use Rattle.rsl_report.specs.declared.exit_status.ExitStatus.TheVariants.{WrongInput, InputOutput as input_output_status, NoMemory as no_memory_status}
 use Rattle.rsl_script.specs.declared.fault.ScriptFault.{ScriptFault}
 use Rattle.rsl_script.specs.declared.fault.ScriptFault.TheVariants.{Line as script_line, NoMemory as script_no_memory}
+use Rattle.rsl_text.specs.declared.fault.TextFault.{TextFault}
+use Rattle.rsl_text.specs.declared.fault.TextFault.TheVariants.{Unreadable as text_unreadable, TooLong as text_too_long, NoMemory as text_no_memory}
 use Rattle.rsl_replay.specs.declared.fault.ReplayFault.{ReplayFault}
 use Rattle.rsl_replay.specs.declared.fault.ReplayFault.TheVariants.{Line, TooLong, Config, InputOutput, NoMemory}
+
+-- a script whose octets can't be had: a stream that can't be read is a fault of input
+abbrev pub fault_of_text : TextFault → ReplayFault
+fault_of_text text_unreadable = InputOutput
+fault_of_text text_too_long = TooLong
+fault_of_text text_no_memory = NoMemory
 
 -- a wrong line of the script
 abbrev pub fault_of_script : ScriptFault → ReplayFault
@@ -26,10 +33,3 @@ status_of TooLong = WrongInput
 status_of (Config fault) = WrongInput
 status_of InputOutput = input_output_status
 status_of NoMemory = no_memory_status
-
--- a fault of reading the octets of a script, before any line is looked at
-abbrev pub IsReadFault : ReplayFault → Type 0
-IsReadFault TooLong = ⊤
-IsReadFault InputOutput = ⊤
-IsReadFault NoMemory = ⊤
-IsReadFault _ = ⊥

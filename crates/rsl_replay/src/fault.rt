@@ -7,6 +7,7 @@ ghost use Rattle.rsl_replay.specs.declared.fault.ReplayFault.TheVariants.{
 use rsl_accounts::ConfigFault;
 use rsl_report::{ExitStatus, WriteFault};
 use rsl_script::ScriptFault;
+use rsl_text::TextFault;
 use rsl_wire::NoMemory;
 use std::alloc::AllocError;
 use std::io;
@@ -47,6 +48,20 @@ impl ReplayFault {
             }
             ReplayFault::InputOutput => ExitStatus::InputOutput,
             ReplayFault::NoMemory => ExitStatus::NoMemory,
+        }
+    }
+}
+
+impl From<TextFault> for ReplayFault {
+    ghost use Rattle.rsl_replay.specs.Fault.{fault_of_text};
+
+    ghost from_gives = { λ fault made. made ≡ fault_of_text fault };
+
+    fn from(fault: TextFault) -> ReplayFault {
+        match fault {
+            TextFault::Unreadable => ReplayFault::InputOutput,
+            TextFault::TooLong => ReplayFault::TooLong,
+            TextFault::NoMemory => ReplayFault::NoMemory,
         }
     }
 }

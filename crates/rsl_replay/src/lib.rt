@@ -11,7 +11,6 @@
 mod access;
 mod accounting;
 mod fault;
-mod input;
 mod lines;
 mod output;
 mod rows;

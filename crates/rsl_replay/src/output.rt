@@ -4,7 +4,6 @@ ghost use Rattle.rsl_replay.specs.Replay.{IsFaultOf, IsReplayed, most_octets};
 ghost use Rattle.rsl_report.specs.Output.{output_octets};
 
 use crate::fault::ReplayFault;
-use crate::input::read_text;
 use crate::lines::lines_of;
 use crate::rows::rows_of;
 use crate::steps::steps_of;
@@ -12,8 +11,12 @@ use rsl_accounts::Config;
 use rsl_report::{Output, table_of};
 use rsl_script::Script;
 use rsl_steps::run;
+use rsl_text::read_text;
 use std::alloc::Global;
 use std::io::{Read, Write};
+
+/// The most octets that a script may have.
+const MAX_SCRIPT_LEN: u32 = 1_048_576;
 
 /// The boot number of a server that replays a script.
 const BOOT: u64 = 1;
@@ -46,7 +49,7 @@ pub fn replay<R: Read, W: Write>(
     ensures silent { IfErr result (λ fault.
         fault ≢ ReplayFault.InputOutput → Keeps (W.contents writer.old) (W.contents writer.new)) }
 {
-    let text = read_text(alloc, reader)?;
+    let text = read_text(alloc, reader, MAX_SCRIPT_LEN)?;
     let output = replay_text(alloc, text.as_slice())?;
     output.write(writer)?;
     Ok(())

@@ -1,6 +1,6 @@
 //! The text of a file, as a reader gives it.
 
-use rld_config::{TextFault, text_from};
+use rsl_text::{TextFault, read_text};
 use std::io::{self, ErrorKind, Read};
 use std::test::Fail;
 
@@ -24,22 +24,26 @@ impl Read for Sevens<'_> {
     }
 }
 
+/// What comes of a text of at most so many octets.
+fn read(rt: &HostRuntime, octets: &[u8], fails: bool, most: u32) -> Result<Vec<u8>, TextFault> {
+    let mut reader = Sevens { octets, fails };
+    read_text(rt.alloc(), &mut reader, most)
+}
+
 #[test]
 fn a_text_is_all_that_a_reader_gives(rt: HostRuntime) -> Result<(), Fail> {
     let octets = b"accounts = \"a\"\n";
-    let reader = Sevens {
-        octets,
-        fails: false,
-    };
-    match text_from(rt.alloc(), reader) {
-        Ok(text) => assert_eq!(rt; text.as_slice(), octets.as_slice(), "the text"),
-        Err(_) => return Err("a text that is refused")?,
+    for most in [15, 16] {
+        match read(&rt, octets, false, most) {
+            Ok(text) => assert_eq!(rt; text.as_slice(), octets.as_slice(), "the text"),
+            Err(_) => return Err("a text that is refused")?,
+        }
     }
-    let reader = Sevens {
-        octets,
-        fails: true,
-    };
-    match text_from(rt.alloc(), reader) {
+    match read(&rt, octets, false, 14) {
+        Err(TextFault::TooLong) => {}
+        _ => return Err("an octet too many is not told")?,
+    }
+    match read(&rt, octets, true, 15) {
         Err(TextFault::Unreadable) => Ok(()),
         _ => Err("a read that fails is not told")?,
     }

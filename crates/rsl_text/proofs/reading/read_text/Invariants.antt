@@ -1,11 +1,10 @@
 use Rattle.std.proofs.Common.{◌≤◌, vec_len}
 use Rattle.std.specs.Io.KnownBytes.{Consumes}
-use Rattle.rsl_replay.specs.Replay.{most_octets}
-use Rattle.rsl_replay.proofs.input.read_text.Given as goal
+use Rattle.rsl_text.proofs.reading.read_text.Given as goal
 
 -- the text is what was read so far
 abbrev pub invariant-loop : goal.invariant-loop
 invariant-loop g l = record {
-  short : vec_len l.text ≤ most_octets;
+  short : vec_len l.text ≤ l.fn.most;
   read : Consumes (g.R.Read.remaining l.fn.reader) (g.R.Read.remaining l.reader) l.text.items;
 }
