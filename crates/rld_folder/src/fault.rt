@@ -1,4 +1,5 @@
 use std::alloc::{AllocError, AllocFailed};
+use std::io::{self, ErrorKind};
 use thiserror::Error;
 
 /// Why a call on a server's folder failed.
@@ -34,6 +35,17 @@ pub enum FolderFault {
     /// The folder could not be synced: a new file may be lost with a loss of power.
     #[error("cannot be synced")]
     Unsynced,
+}
+
+impl FolderFault {
+    /// The fault of a call of the system that failed: that memory was refused, where it was, and else
+    /// this one.
+    pub(crate) fn of(error: &io::Error, fault: FolderFault) -> FolderFault {
+        match error.kind() {
+            ErrorKind::OutOfMemory => FolderFault::NoMemory,
+            _ => fault,
+        }
+    }
 }
 
 impl From<AllocError> for FolderFault {

@@ -31,14 +31,15 @@ fn make_folder<R: Files>(files: &R, path: &str) -> Result<(), FolderFault> {
     match DirBuilder::new().mode(FOLDER_MODE).create(files, path) {
         Ok(()) => Ok(()),
         Err(error) if error.kind() == ErrorKind::AlreadyExists => Ok(()),
-        Err(_) => Err(FolderFault::Unmade),
+        Err(error) => Err(FolderFault::of(&error, FolderFault::Unmade)),
     }
 }
 
 /// Checks that this is a folder, and that nobody but its owner may write to it.
 fn check_folder<R: Files>(files: &R, path: &str) -> Result<(), FolderFault> {
-    let Ok(found) = fs::metadata(files, path) else {
-        return Err(FolderFault::Unread);
+    let found = match fs::metadata(files, path) {
+        Ok(found) => found,
+        Err(error) => return Err(FolderFault::of(&error, FolderFault::Unread)),
     };
     if !found.is_dir() {
         return Err(FolderFault::NoFolder);
@@ -91,8 +92,9 @@ impl Folder {
         make_folder(files, path)?;
         check_folder(files, path)?;
         let name = path_in(alloc, path, FileName::Lock)?;
-        let Ok(lock) = open_file(files, name.as_str()) else {
-            return Err(FolderFault::Unlocked);
+        let lock = match open_file(files, name.as_str()) {
+            Ok(lock) => lock,
+            Err(error) => return Err(FolderFault::of(&error, FolderFault::Unlocked)),
         };
         take_lock(&lock)?;
         Ok(Folder {
@@ -114,8 +116,9 @@ impl Folder {
         rt: &R,
     ) -> Result<Vec<FileName>, FolderFault> {
         let mut files = Vec::new(rt.alloc());
-        let Ok(entries) = fs::read_dir(rt, self.path.as_str()) else {
-            return Err(FolderFault::Unread);
+        let entries = match fs::read_dir(rt, self.path.as_str()) {
+            Ok(entries) => entries,
+            Err(error) => return Err(FolderFault::of(&error, FolderFault::Unread)),
         };
         for entry in entries {
             match entry {
@@ -126,7 +129,7 @@ impl Folder {
                 }
                 // A name that is no UTF-8 is none of a server's.
                 Err(error) if error.kind() == ErrorKind::InvalidFilename => {}
-                Err(_) => return Err(FolderFault::Unread),
+                Err(error) => return Err(FolderFault::of(&error, FolderFault::Unread)),
             }
         }
         Ok(files)
@@ -146,7 +149,7 @@ impl Folder {
             .open(files, path.as_str())
         {
             Ok(file) => Ok(FileLog::new(file)),
-            Err(_) => Err(FolderFault::Unopened),
+            Err(error) => Err(FolderFault::of(&error, FolderFault::Unopened)),
         }
     }
 
@@ -172,13 +175,14 @@ impl Folder {
         era: u64,
     ) -> Result<Vec<u8>, FolderFault> {
         let path = self.path_of(alloc, FileName::Era(era))?;
-        let Ok(mut file) = File::open(files, path.as_str()) else {
-            return Err(FolderFault::Unopened);
+        let mut file = match File::open(files, path.as_str()) {
+            Ok(file) => file,
+            Err(error) => return Err(FolderFault::of(&error, FolderFault::Unopened)),
         };
         let mut octets = Vec::new(alloc);
         match file.read_to_end(&mut octets) {
             Ok(_) => Ok(octets),
-            Err(_) => Err(FolderFault::Unread),
+            Err(error) => Err(FolderFault::of(&error, FolderFault::Unread)),
         }
     }
 
@@ -215,14 +219,15 @@ impl Folder {
             .open(files, path.as_str())
         {
             Ok(file) => Ok(file),
-            Err(_) => Err(FolderFault::Unopened),
+            Err(error) => Err(FolderFault::of(&error, FolderFault::Unopened)),
         }
     }
 
     /// Syncs the names of its files.
     fn sync<R: Files<File = File>>(&self, files: &R) -> Result<(), FolderFault> {
-        let Ok(folder) = File::open(files, self.path.as_str()) else {
-            return Err(FolderFault::Unsynced);
+        let folder = match File::open(files, self.path.as_str()) {
+            Ok(folder) => folder,
+            Err(error) => return Err(FolderFault::of(&error, FolderFault::Unsynced)),
         };
         match folder.sync_all() {
             Ok(()) => Ok(()),

@@ -2,7 +2,7 @@ use crate::fault::LogFault;
 use crate::log::Log;
 use std::alloc::Global;
 use std::fs::File;
-use std::io::{Read, Seek, SeekFrom};
+use std::io::{self, ErrorKind, Read, Seek, SeekFrom};
 use std::os::unix::fs::FileExt;
 
 /// What is known of the end of a file.
@@ -46,19 +46,29 @@ impl FileLog {
     }
 }
 
+/// All octets of a file, from its front.
+fn octets_of(file: &mut File, alloc: Global) -> io::Result<Vec<u8>> {
+    let mut octets = Vec::new(alloc);
+    file.seek(SeekFrom::Start(0))?;
+    file.read_to_end(&mut octets)?;
+    Ok(octets)
+}
+
 impl Log for FileLog {
     fn read(&mut self, alloc: Global) -> Result<Vec<u8>, LogFault> {
         if self.end == End::Lost {
             return Err(LogFault::Unsynced);
         }
-        let mut octets = Vec::new(alloc);
-        if self.file.seek(SeekFrom::Start(0)).is_err()
-            || self.file.read_to_end(&mut octets).is_err()
-        {
-            return Err(self.failed(LogFault::Unread));
+        match octets_of(&mut self.file, alloc) {
+            Ok(octets) => {
+                self.end = End::At(octets.len() as u64);
+                Ok(octets)
+            }
+            Err(error) if error.kind() == ErrorKind::OutOfMemory => {
+                Err(self.failed(LogFault::NoMemory))
+            }
+            Err(_) => Err(self.failed(LogFault::Unread)),
         }
-        self.end = End::At(octets.len() as u64);
-        Ok(octets)
     }
 
     fn append(&mut self, octets: &[u8]) -> Result<(), LogFault> {
