@@ -16,6 +16,8 @@ mod saved;
 #[cfg(test)]
 mod script;
 #[cfg(test)]
+mod server_books;
+#[cfg(test)]
 mod shards;
 #[cfg(test)]
 mod shards_of_a_run;

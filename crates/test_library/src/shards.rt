@@ -50,7 +50,7 @@ fn life_of(alloc: Global, config: &Config, number: u32, lines: &str) -> Result<S
     Ok(text)
 }
 
-fn push_part(text: &mut String, between: &str, part: &str) -> Result<(), Fail> {
+pub(crate) fn push_part(text: &mut String, between: &str, part: &str) -> Result<(), Fail> {
     if !text.is_empty() {
         text.push_str(between)?;
     }
@@ -113,7 +113,7 @@ fn told_line(alloc: Global, line: &Line) -> Result<String, Fail> {
 }
 
 /// The move of a line.
-fn move_of(alloc: Global, line: &str) -> Result<Move, Fail> {
+pub(crate) fn move_of(alloc: Global, line: &str) -> Result<Move, Fail> {
     let Some((who, event)) = line.split_once(' ') else {
         return stray(alloc);
     };

@@ -1,0 +1,268 @@
+//! Three lives over one log, of which the first two end at a call of the disk that fails, and torn
+//! ends, beside one run of the same packets without a crash.
+
+use crate::undisturbed::{Run, batch_len, batches_of, config_of, run_of};
+use rld_lives::{Lived, Plan, lives};
+use rld_log::{Ending, Life, MemoryLog};
+use rld_spelling::Header;
+use rld_store::{Opened, Recorded, Store};
+use rsl_accounts::Config;
+use rsl_shard::{Line, Row};
+use std::alloc::Global;
+use std::process::Abort;
+use std::test::Fail;
+
+/// A life that answers all makes 27 calls of the disk: three open the log, and two record each of twelve
+/// batches. So from none to all of them succeed.
+const CALLS: u64 = 28; // quick: 7
+
+/// How many octets a loss of power keeps of what was not synced.
+const KEPT: [usize; 6] = [0, 1, 19, 20, 27, 1000];
+
+/// The octets of the frame of the last batch: 20 of its head, one of a count, and 30, 12 and 2 of an ask,
+/// an alive and a tick.
+const LAST_FRAME: usize = 65;
+
+/// A server of three shards, whose lives have the moves of the run.
+#[derive(Drop)]
+struct Server {
+    config: Config,
+    run: Run,
+    /// The octets of a log that has a generation of no moves yet.
+    begun: Vec<u8>,
+}
+
+/// The header of the generation.
+const HEADER: Header = Header {
+    era: 1,
+    generation: 1,
+    digest: [0; 16],
+    lines: 0,
+};
+
+/// A log in memory with these octets, whose lives go so.
+fn log_of(alloc: Global, octets: &[u8], lives: &[Life]) -> Result<MemoryLog, Fail> {
+    Ok(MemoryLog::new(alloc, octets.to_vec(alloc)?, lives.to_vec(alloc)?)?)
+}
+
+/// The octets of a log that has a generation of no moves yet.
+fn begun_of(alloc: Global, config: &Config) -> Result<Vec<u8>, Fail> {
+    let log = begun(alloc, config)?;
+    Ok(log.octets().to_vec(alloc)?)
+}
+
+fn begun(alloc: Global, config: &Config) -> Result<MemoryLog, Fail> {
+    match Store::begin(alloc, config, HEADER, log_of(alloc, &[], &[])?) {
+        Ok(store) => Ok(store.into_log()),
+        Err(_) => Err("not begun")?,
+    }
+}
+
+/// How many moves are answered, where each decision is that of its line.
+fn answered(lines: &[Line], answers: &[Recorded]) -> Result<usize, Fail> {
+    let mut count: usize = 0;
+    for recorded in answers {
+        for decision in recorded.decisions() {
+            if lines.get(count).map(|line| line.decision) != Some(*decision) {
+                return Err("another decision")?;
+            }
+            count = count.saturating_add(1);
+        }
+    }
+    Ok(count)
+}
+
+/// That a life, which had these lines to answer, answered as they say, and left so many of their
+/// moves in the log: those that it answered, with the batch after them or without.
+fn check_life(lines: &[Line], answers: &[Recorded], left: usize) -> Result<(), Fail> {
+    let done = answered(lines, answers)?;
+    let next = done.saturating_add(batch_len(answers.len()));
+    if left == done || left == next.min(lines.len()) {
+        Ok(())
+    } else {
+        Err("an answer is lost")?
+    }
+}
+
+/// Whether these are the rows of the run, shard after shard.
+fn are_same_rows(rows: &[Row], wanted: &[Row]) -> bool {
+    rows.len() == wanted.len()
+        && rows
+            .iter()
+            .all(|row| wanted.get(row.account as usize) == Some(row))
+}
+
+impl Server {
+    fn new(alloc: Global) -> Result<Server, Fail> {
+        let run = run_of(alloc)?;
+        let config = config_of(alloc, "SHARDS = 3")?;
+        let begun = begun_of(alloc, &config)?;
+        Ok(Server { config, run, begun })
+    }
+
+    /// The lines of the run from a position on.
+    fn lines_from(&self, from: usize) -> &[Line] {
+        &self.run.lines[self.run.lines.len().min(from)..]
+    }
+
+    /// How many moves a log has. Where it has all of them, what the accounts hold is what they hold
+    /// after the run.
+    fn moves_in(&self, alloc: Global, octets: &[u8]) -> Result<usize, Fail> {
+        match Store::open(alloc, &self.config, log_of(alloc, octets, &[])?) {
+            Ok(opened) => self.check_opened(alloc, &opened),
+            Err(_) => Err("not opened")?,
+        }
+    }
+
+    fn check_opened(&self, alloc: Global, opened: &Opened<MemoryLog>) -> Result<usize, Fail> {
+        if opened.moves == self.run.lines.len()
+            && !are_same_rows(&opened.store.rows(alloc)?, &self.run.rows)
+        {
+            return Err("other rows")?;
+        }
+        Ok(opened.moves)
+    }
+
+    /// Plans of lives that each go on with the lines from a position on.
+    fn plans(&self, alloc: Global, froms: &[usize], ending: Ending) -> Result<Vec<Plan>, Fail> {
+        let mut plans = Vec::new(alloc);
+        for from in froms {
+            let batches = batches_of(alloc, self.lines_from(*from))?;
+            plans.push(Plan { batches, ending })?;
+        }
+        Ok(plans)
+    }
+
+    /// What lives answer and leave that each go on with the lines from a position on, over a log with
+    /// these octets, whose own lives go as is said.
+    fn lived(
+        &self,
+        alloc: Global,
+        octets: &[u8],
+        short: &[Life],
+        froms: &[usize],
+        ending: Ending,
+    ) -> Result<Lived<MemoryLog>, Fail> {
+        let plans = self.plans(alloc, froms, ending)?;
+        match lives(alloc, &self.config, log_of(alloc, octets, short)?, plans) {
+            Ok(lived) => Ok(lived),
+            Err(_) => Err("no memory")?,
+        }
+    }
+
+    /// That each of such lives answered as the run did, and left what it answered in the log, with the
+    /// batch after it or without: where the next life goes on.
+    fn check_lived(
+        &self,
+        alloc: Global,
+        lived: &Lived<MemoryLog>,
+        froms: &[usize],
+    ) -> Result<usize, Fail> {
+        let stands = self.moves_in(alloc, lived.log.octets())?;
+        for index in 0..froms.len() {
+            let (Some(from), Some(answers)) = (froms.get(index), lived.told.get(index)) else {
+                return Err("a life that tells nothing")?;
+            };
+            let next = *froms.get(index.saturating_add(1)).unwrap_or(&stands);
+            check_life(self.lines_from(*from), answers, next.saturating_sub(*from))?;
+        }
+        Ok(stands)
+    }
+
+    /// Has such lives checked: where the next life goes on.
+    fn live(
+        &self,
+        alloc: Global,
+        octets: &[u8],
+        short: &[Life],
+        froms: &[usize],
+        ending: Ending,
+    ) -> Result<usize, Fail> {
+        let lived = self.lived(alloc, octets, short, froms, ending)?;
+        self.check_lived(alloc, &lived, froms)
+    }
+
+    /// How many batches a life answers whose log goes so.
+    fn answered_with(&self, alloc: Global, short: Life) -> Result<u64, Fail> {
+        let lived = self.lived(alloc, &self.begun, &[short], &[0], Ending::Kill)?;
+        match lived.told.first() {
+            Some(answers) => Ok(answers.len() as u64),
+            None => Err("a life that tells nothing")?,
+        }
+    }
+
+    /// Three lives over the moves of the run, each from where the log of the one before it stands; the
+    /// first two go as is said. The position at which all of them end is given.
+    fn live_three_times(&self, alloc: Global, short: Life, ending: Ending) -> Result<usize, Fail> {
+        let two = [short, short];
+        let first = self.live(alloc, &self.begun, &two, &[0], ending)?;
+        let second = self.live(alloc, &self.begun, &two, &[0, first], ending)?;
+        self.live(alloc, &self.begun, &two, &[0, first, second], ending)
+    }
+}
+
+/// A life of a log that fails after so many calls.
+fn short(calls: u64, kept: usize) -> Life {
+    Life {
+        calls,
+        failing: u64::MAX,
+        kept,
+    }
+}
+
+/// Each call of the disk fails in turn, in the first life and in the second, with all after it. A loss
+/// of power keeps different parts of what was not synced.
+#[test]
+fn a_crash_at_each_call_loses_nothing(rt: HostRuntime) -> Result<(), Fail> {
+    let server = Server::new(rt.alloc())?;
+    assert_eq!(rt; server.run.lines.len(), 24);
+    crash_at_each_call(&rt, &server)
+}
+
+fn crash_at_each_call<R: Abort + AllocGlobal>(rt: &R, server: &Server) -> Result<(), Fail> {
+    for calls in 0..CALLS {
+        for kept in KEPT {
+            let end = server.live_three_times(rt.alloc(), short(calls, kept), Ending::PowerLoss)?;
+            assert_eq!(rt; end, 24);
+        }
+        let end = server.live_three_times(rt.alloc(), short(calls, 0), Ending::Kill)?;
+        assert_eq!(rt; end, 24);
+    }
+    Ok(())
+}
+
+/// A life answers until a call fails: three calls open the log, and two record a batch.
+#[test]
+fn a_life_answers_until_a_call_fails(rt: HostRuntime) -> Result<(), Fail> {
+    let server = Server::new(rt.alloc())?;
+    fail_each_call(&rt, &server)
+}
+
+fn fail_each_call<R: Abort + AllocGlobal>(rt: &R, server: &Server) -> Result<(), Fail> {
+    for calls in 0..CALLS {
+        let answered = server.answered_with(rt.alloc(), short(calls, 0))?;
+        assert_eq!(rt; answered, calls.saturating_sub(3) / 2);
+    }
+    Ok(())
+}
+
+/// The frame of the last batch is cut to each of its lengths: the next life finds all moves before it,
+/// and goes on from there.
+#[test]
+fn a_torn_end_of_each_length_is_made_good(rt: HostRuntime) -> Result<(), Fail> {
+    let alloc = rt.alloc();
+    let server = Server::new(alloc)?;
+    let whole = server.lived(alloc, &server.begun, &[], &[0], Ending::Kill)?;
+    tear(&rt, &server, whole.log.octets())
+}
+
+fn tear<R: Abort + AllocGlobal>(rt: &R, server: &Server, octets: &[u8]) -> Result<(), Fail> {
+    let alloc = rt.alloc();
+    for len in octets.len().saturating_sub(LAST_FRAME)..octets.len() {
+        let torn = &octets[..len];
+        assert_eq!(rt; server.moves_in(alloc, torn)?, 21);
+        let end = server.live(alloc, torn, &[], &[21], Ending::Kill)?;
+        assert_eq!(rt; end, 24);
+    }
+    Ok(())
+}
