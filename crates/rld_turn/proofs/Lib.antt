@@ -4,3 +4,4 @@ pub mod Entering
 pub mod Replying
 pub mod Serving
 pub mod Showing
+pub mod Storing

@@ -1,6 +1,7 @@
 -- How what was served grows by a turn.
 use Rattle.std.proofs.Common.{◌≡◌, ℕ, ◌+◌, false, List, [], ◌∷◌, ◌++◌, append-nil, append_assoc, sym, ap, subst, ◌∙◌, arith}
 use Rattle.std.specs.Prelude.{Option}
+use Rattle.rsl_accounts.specs.Configuration.{Configuration}
 use Rattle.rsl_event.specs.declared.meaning.Port.{Port}
 use Rattle.rsl_receive.specs.Shown.{HasShown}
 use Rattle.rsl_receive.specs.declared.datagram_port.Datagram.{Datagram}
@@ -21,7 +22,7 @@ use Rattle.rld_turn.specs.declared.ends.Ends.{Ends}
 -- a turn in which nothing was taken
 pub none_turned : (service : ServiceSeen) (port : Port) (ends : Ends)
     (taken_old taken_new sent_old sent_new : List Datagram) (shown : Option (List ℕ))
-    (books : List BooksSeen) (stands : List Move → Type 0) → ends ≡ no_ends
+    (books : List BooksSeen) (stands : Configuration → List Move → Type 0) → ends ≡ no_ends
     → taken_new ≡ taken_old ++ [] → sent_new ≡ sent_old
     → HasTurned service port ends (state_of taken_old sent_old shown books)
     (state_of taken_new sent_new shown books) stands stands
@@ -36,13 +37,13 @@ none_turned service port ends taken_old taken_new sent_old sent_new shown books 
       more_sent = sent ∙ sym (append-nil sent_old);
       more_shown = none_shown shown;
       books = sym (replay_none books);
-      history = λ moves stood. subst stands (sym (append-nil moves)) stood;
+      history = λ config moves stood. subst (stands config) (sym (append-nil moves)) stood;
       turned = NoneYet;
     })
 
 -- before the first turn nothing is served
 pub none_served : (service : ServiceSeen) (port : Port) (counts : Counts) (state : State)
-    (stands : List Move → Type 0) → counts ≡ no_counts
+    (stands : Configuration → List Move → Type 0) → counts ≡ no_counts
     → HasServed service port counts state state stands stands
 none_served service port counts state stands none =
     subst (λ (c : Counts). HasServed service port c state state stands stands) (sym none) (record {
@@ -54,13 +55,13 @@ none_served service port counts state stands none =
       more_sent = sym (append-nil state.sent);
       more_shown = none_shown state.shown;
       books = sym (replay_none state.books);
-      history = λ moves stood. subst stands (sym (append-nil moves)) stood;
+      history = λ config moves stood. subst (stands config) (sym (append-nil moves)) stood;
       served = NoTurn;
     })
 
 -- a turn more
 pub served_more : (service : ServiceSeen) (port : Port) (ends : Ends) (counts after : Counts)
-    (old mid new : State) (stood between stands : List Move → Type 0) → after ≡ counted ends counts
+    (old mid new : State) (stood between stands : Configuration → List Move → Type 0) → after ≡ counted ends counts
     → HasServed service port counts old mid stood between
     → HasTurned service port ends mid new between stands
     → HasServed service port after old new stood stands
@@ -75,9 +76,9 @@ served_more service port ends counts after old mid new stood between stands is s
       more_shown = more_shown so_far.shown (moments_of turn.taken turn.moment) old.shown mid.shown new.shown so_far.more_shown turn.more_shown;
       books = turn.books ∙ ap (λ (b : List BooksSeen). replay b (made turn.recorded turn.batch)) so_far.books
           ∙ sym (replay_then old.books so_far.moves (made turn.recorded turn.batch));
-      history = λ moves stood_so.
-          subst stands (append_assoc moves so_far.moves (made turn.recorded turn.batch))
-          (turn.history (moves ++ so_far.moves) (so_far.history moves stood_so));
+      history = λ config moves stood_so.
+          subst (stands config) (append_assoc moves so_far.moves (made turn.recorded turn.batch))
+          (turn.history config (moves ++ so_far.moves) (so_far.history config moves stood_so));
       served =
           let sends : (counts.answered + counts.unsent) + sends_of ends ≡ (counts.answered + ends.answered) + (counts.unsent + ends.unsent) = omega arith in
           subst (λ (n : ℕ). Served service port old.books (counts.dropped + ends.dropped) (counts.refused + ends.refused) (counts.unrecorded + ends.unrecorded) n (so_far.taken ++ turn.taken) (so_far.moves ++ made turn.recorded turn.batch) (so_far.sent ++ turn.sent) (so_far.shown ++ moments_of turn.taken turn.moment)) sends
@@ -90,7 +91,7 @@ pub turned_by : (service : ServiceSeen) (port : Port) (moment : ℕ) (one : Data
     (behind : List Datagram) (batch : List Move) (ends : Ends)
     (taken_old taken_mid taken_new sent_old sent_mid sent_new : List Datagram)
     (shown_old shown_new : Option (List ℕ)) (books_old books_new : List BooksSeen)
-    (stood stands : List Move → Type 0) → HasShown (moment ∷ []) shown_old shown_new
+    (stood stands : Configuration → List Move → Type 0) → HasShown (moment ∷ []) shown_old shown_new
     → taken_mid ≡ taken_old ++ one ∷ [] → taken_new ≡ taken_mid ++ behind → sent_mid ≡ sent_old
     → HasFinished service port moment (one ∷ behind) batch ends sent_mid sent_new books_old books_new stood stands
     → HasTurned service port ends (state_of taken_old sent_old shown_old books_old)

@@ -1,5 +1,6 @@
 -- A batch once it was answered.
 use Rattle.std.specs.Prelude.{◌≡◌, ℕ, Bool, List, [], ◌++◌, Option}
+use Rattle.rsl_accounts.specs.Configuration.{Configuration}
 use Rattle.rsl_event.specs.declared.event.Decision.{Decision}
 use Rattle.rsl_event.specs.declared.meaning.Port.{Port}
 use Rattle.rsl_receive.specs.declared.datagram_port.Datagram.{Datagram}
@@ -36,11 +37,11 @@ pub record HasAnswered (service : ServiceSeen) (port : Port) (decisions : Option
 -- a batch was recorded or was not, and its datagrams ended so
 pub record HasFinished (service : ServiceSeen) (port : Port) (moment : ℕ) (taken : List Datagram)
     (batch : List Move) (ends : Ends) (old_sent new_sent : List Datagram)
-    (old_books new_books : List BooksSeen) (stood stands : List Move → Type 0) : Type 0 where
+    (old_books new_books : List BooksSeen) (stood stands : Configuration → List Move → Type 0) : Type 0 where
   pub sent : List Datagram
   pub recorded : Bool
   pub more_sent : new_sent ≡ old_sent ++ sent
   pub books : new_books ≡ replay old_books (made recorded batch)
-  pub history : (moves : List Move) → stood moves → stands (moves ++ made recorded batch)
+  pub history : (config : Configuration) (moves : List Move) → stood config moves → stands config (moves ++ made recorded batch)
   pub turned : Turned service port moment recorded old_books
       ends.dropped ends.refused ends.unrecorded (sends_of ends) taken batch sent

@@ -1,5 +1,6 @@
 -- What is made of the datagrams of turns, one turn after the other.
 use Rattle.std.specs.Prelude.{◌≡◌, ℕ, ◌+◌, Bool, List, [], ◌++◌}
+use Rattle.rsl_accounts.specs.Configuration.{Configuration}
 use Rattle.rsl_event.specs.declared.meaning.Port.{Port}
 use Rattle.rsl_receive.specs.Shown.{HasShown}
 use Rattle.rsl_receive.specs.declared.datagram_port.Datagram.{Datagram}
@@ -29,7 +30,7 @@ pub data Served (service : ServiceSeen) (port : Port) (begun : List BooksSeen)
 -- since. The moves are recorded after those that were recorded before, and the books are what they
 -- make of them.
 pub record HasServed (service : ServiceSeen) (port : Port) (counts : Counts) (old new : State)
-    (stood stands : List Move → Type 0) : Type 0 where
+    (stood stands : Configuration → List Move → Type 0) : Type 0 where
   pub taken : List Datagram
   pub moves : List Move
   pub sent : List Datagram
@@ -38,6 +39,6 @@ pub record HasServed (service : ServiceSeen) (port : Port) (counts : Counts) (ol
   pub more_sent : new.sent ≡ old.sent ++ sent
   pub more_shown : HasShown shown old.shown new.shown
   pub books : new.books ≡ replay old.books moves
-  pub history : (earlier : List Move) → stood earlier → stands (earlier ++ moves)
+  pub history : (config : Configuration) (earlier : List Move) → stood config earlier → stands config (earlier ++ moves)
   pub served : Served service port old.books
       counts.dropped counts.refused counts.unrecorded (counts.answered + counts.unsent) taken moves sent shown

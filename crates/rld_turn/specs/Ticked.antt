@@ -1,5 +1,6 @@
 -- A tick of the moment that a clock showed, as a batch of its own.
 use Rattle.std.specs.Prelude.{◌≡◌, ℕ, List, [], ◌∷◌, ◌++◌, Option, Result, Ok, Err}
+use Rattle.rsl_accounts.specs.Configuration.{Configuration}
 use Rattle.rsl_receive.specs.Shown.{HasShown}
 use Rattle.rsl_shard.specs.Restep.{BooksSeen}
 use Rattle.rsl_shard.specs.declared.moved.Move.{Move}
@@ -14,8 +15,8 @@ ticks_in (Err fault) moment = []
 
 -- the tick is recorded, and the books made it, or they are as they were
 pub record HasTicked {T : Type 0} (ticked : Result T RecordFault) (old_shown new_shown : Option (List ℕ))
-    (old new : List BooksSeen) (stood stands : List Move → Type 0) : Type 0 where
+    (old new : List BooksSeen) (stood stands : Configuration → List Move → Type 0) : Type 0 where
   pub moment : ℕ
   pub read : HasShown (moment ∷ []) old_shown new_shown
   pub books : new ≡ replay old (ticks_in ticked moment)
-  pub history : (moves : List Move) → stood moves → stands (moves ++ ticks_in ticked moment)
+  pub history : (config : Configuration) (moves : List Move) → stood config moves → stands config (moves ++ ticks_in ticked moment)

@@ -103,7 +103,7 @@ moments_of (one ∷ taken) moment = moment ∷ []
 -- A turn: what was taken since ended so. The moves of the batch are recorded, all or none, after
 -- those that were recorded before.
 pub record HasTurned (service : ServiceSeen) (port : Port) (ends : Ends) (old new : State)
-    (stood stands : List Move → Type 0) : Type 0 where
+    (stood stands : Configuration → List Move → Type 0) : Type 0 where
   pub taken : List Datagram
   pub batch : List Move
   pub sent : List Datagram
@@ -113,6 +113,6 @@ pub record HasTurned (service : ServiceSeen) (port : Port) (ends : Ends) (old ne
   pub more_sent : new.sent ≡ old.sent ++ sent
   pub more_shown : HasShown (moments_of taken moment) old.shown new.shown
   pub books : new.books ≡ replay old.books (made recorded batch)
-  pub history : (moves : List Move) → stood moves → stands (moves ++ made recorded batch)
+  pub history : (config : Configuration) (moves : List Move) → stood config moves → stands config (moves ++ made recorded batch)
   pub turned : Turned service port moment recorded old.books
       ends.dropped ends.refused ends.unrecorded (sends_of ends) taken batch sent

@@ -28,7 +28,7 @@ use crate::ends::{End, Ends};
 use crate::entry::{Entry, Waiting};
 use crate::outcome::Outcome;
 use crate::receiver::Receiver;
-use crate::recorded::Recorded;
+use rld_store::Recorded;
 use rsl_event::{Decision, MeaningKind, reply_to};
 use rsl_receive::PortFault;
 use rsl_wire::{Draft, Octets, read};

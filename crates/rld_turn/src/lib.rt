@@ -5,6 +5,9 @@
 //! books at that point of the batch, goes to where its datagram came from, and is sent only once the
 //! batch is recorded; the counts are of that (`specs/Turned.antt`, `specs/Served.antt`). Over any port
 //! the counts agree with the calls that the port counted (`specs/Counted.antt`).
+//!
+//! A store is such a recorder (`specs/Stored.antt`). An answer with a decision is made of a
+//! `Recorded`, which only `Store::commit` makes.
 #![tactic(auto)]
 
 mod answering;
@@ -14,16 +17,17 @@ mod ends;
 mod entry;
 mod fault;
 mod gathering;
+pub mod laws;
 mod outcome;
 mod receiver;
-mod recorded;
 mod recorder;
+mod stored;
 mod ticking;
 
 pub use batch_port::BatchPort;
 pub use counts::Counts;
 pub use fault::{ReceiveFault, RecordFault};
 pub use receiver::{MAX_BATCH, receive};
-pub use recorded::Recorded;
 pub use recorder::Recorder;
+pub use rld_store::Recorded;
 pub use ticking::tick;

@@ -1,11 +1,12 @@
 ghost use Rattle.std.specs.Prelude.{◌≡◌, ◌++◌, List, true};
 ghost use Rattle.rld_turn.specs.Recorded.{HasCount, HasDecided, IsRecordedAs, decisions_in, ending_by, is_recorded, made};
+ghost use Rattle.rsl_accounts.specs.Configuration.{Configuration};
 ghost use Rattle.rsl_shard.specs.declared.moved.Move.{Move as OneMove};
 
 use crate::ends::Ending;
 use crate::fault::RecordFault;
-use crate::recorded::Recorded;
 use crate::recorder::Recorder;
+use rld_store::Recorded;
 use rsl_shard::Move;
 use std::alloc::Global;
 
@@ -40,9 +41,9 @@ pub(crate) fn record<R: Recorder>(alloc: Global, recorder: &mut R, batch: Vec<Mo
     ensures telling { R.tells recorder.new ≡ true → R.tells recorder.old ≡ true }
     ensures recorded { R.tells recorder.new ≡ true → IsRecordedAs result batch.items
         (R.books recorder.old) (R.books recorder.new) }
-    ensures stands { R.tells recorder.new ≡ true → (history : List OneMove) →
-        R.stands recorder.old history →
-        R.stands recorder.new (history ++ made (is_recorded (decisions_in result)) batch.items) }
+    ensures stands { R.tells recorder.new ≡ true → (config : Configuration) (history : List OneMove) →
+        R.stands recorder.old config history →
+        R.stands recorder.new config (history ++ made (is_recorded (decisions_in result)) batch.items) }
 {
     if batch.is_empty() {
         return Outcome::Nothing;

@@ -1,5 +1,5 @@
 use crate::fault::RecordFault;
-use crate::recorded::Recorded;
+use rld_store::Recorded;
 use rsl_shard::Move;
 use std::alloc::Global;
 
@@ -10,6 +10,7 @@ use std::alloc::Global;
 pub trait Recorder {
     ghost use Rattle.std.specs.Prelude.{◌≡◌, Bool, true, false, List, [], ◌++◌, length, IfOk, OnOk, OnErr};
     ghost use Rattle.rld_books.specs.Server.{decisions_of, replay};
+    ghost use Rattle.rsl_accounts.specs.Configuration.{Configuration};
     ghost use Rattle.rsl_shard.specs.Restep.{BooksSeen};
     ghost use Rattle.rsl_shard.specs.declared.moved.Move.{Move as OneMove};
 
@@ -19,8 +20,8 @@ pub trait Recorder {
     /// The books after all that was recorded.
     ghost books: { Self → List BooksSeen } = { λ _. [] };
 
-    /// Whether these are the moves that it has recorded, in their order.
-    ghost stands: { Self → List OneMove → Type 0 } = { λ _ _. Unit {0} };
+    /// Whether these are the moves of this configuration that it has recorded, in their order.
+    ghost stands: { Self → Configuration → List OneMove → Type 0 } = { λ _ _ _. Unit {0} };
 
     /// Records a batch whole, and decides on each of its moves by the books at that point of the
     /// batch. Where it fails nothing may be answered, and the books are as they were.
@@ -32,8 +33,8 @@ pub trait Recorder {
         ensures books { tells self.new ≡ true →
             OnOk result (books self.new ≡ replay (books self.old) batch.items) }
         ensures same { tells self.new ≡ true → OnErr result (books self.new ≡ books self.old) }
-        ensures recorded { tells self.new ≡ true → (history : List OneMove) →
-            stands self.old history → OnOk result (stands self.new (history ++ batch.items)) }
-        ensures unrecorded { tells self.new ≡ true → (history : List OneMove) →
-            stands self.old history → OnErr result (stands self.new history) };
+        ensures recorded { tells self.new ≡ true → (config : Configuration) (history : List OneMove) →
+            stands self.old config history → OnOk result (stands self.new config (history ++ batch.items)) }
+        ensures unrecorded { tells self.new ≡ true → (config : Configuration) (history : List OneMove) →
+            stands self.old config history → OnErr result (stands self.new config history) };
 }

@@ -1,0 +1,12 @@
+use Rattle.std.proofs.Common.{ap, length, ◌∙◌}
+use Rattle.rld_turn.proofs.Deciding.{count_decided}
+use Rattle.rld_turn.proofs.Storing.{on_err, recorded_still}
+use Rattle.rld_turn.proofs.stored.StoreRecorder.record.Goals as goal
+
+pub returns-in_err-commit-clause-unrecorded : goal.returns-in_err-commit-clause-unrecorded
+returns-in_err-commit-clause-unrecorded g c = λ told config history so.
+    on_err c.from_residual.result (recorded_still _ _ _ _ _ _ _ _ _ _ _ (c.in_err-commit.ensures.left told config history so.unanswered so.stands))
+
+pub returns-clause-count : goal.returns-clause-count
+returns-clause-count g c =
+    ap length c.in_ok-commit.ensures.decisions ∙ count_decided c.args.self.now.books c.args.batch.items

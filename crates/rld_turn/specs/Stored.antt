@@ -1,0 +1,28 @@
+-- What a store has recorded, and why it did not record a batch.
+use Rattle.std.specs.Prelude.{ℕ, List}
+use Rattle.rsl_accounts.specs.Configuration.{Configuration}
+use Rattle.rsl_shard.specs.Restep.{BooksSeen}
+use Rattle.rsl_shard.specs.declared.moved.Move.{Move}
+use Rattle.rld_log.specs.declared.fault.LogFault.TheVariants as log_faults
+use Rattle.rld_log.specs.declared.log.Ending.{Ending}
+use Rattle.rld_spelling.specs.declared.moves.Counts.{Counts}
+use Rattle.rld_store.specs.Standing.{StandsFor}
+use Rattle.rld_store.specs.declared.fault.StoreFault.{StoreFault}
+use Rattle.rld_store.specs.declared.fault.StoreFault.TheVariants as store_faults
+use Rattle.rld_store.specs.declared.store.End.{End}
+use Rattle.rld_turn.specs.declared.fault.RecordFault.{RecordFault}
+use Rattle.rld_turn.specs.declared.fault.RecordFault.TheVariants.{Failed, Ended}
+
+-- A store has recorded a history: it stands for it, and perhaps for a batch behind it that was not
+-- answered. Where a batch is not recorded the history stays, and which batch that is may change.
+pub record HasRecorded (config : Configuration) (counts : Counts)
+    (tears : List ℕ → List ℕ → Type 0) (end : End) (seen : List ℕ)
+    (may_leave : Ending → List ℕ → Type 0) (whole : ℕ) (books : List BooksSeen)
+    (history : List Move) : Type 0 where
+  pub unanswered : List Move
+  pub stands : StandsFor config counts tears end seen may_leave whole books history unanswered
+
+-- after a sync that failed nothing more can be recorded, after any other fault another batch may be
+abbrev pub record_fault : StoreFault → RecordFault
+record_fault (store_faults.Log log_faults.Unsynced) = Ended
+record_fault _ = Failed

@@ -1,0 +1,33 @@
+ghost use Rattle.std.specs.Prelude.{◌≡◌};
+ghost use Rattle.rld_turn.specs.Stored.{HasRecorded, record_fault};
+
+use crate::fault::RecordFault;
+use crate::recorder::Recorder;
+use rld_log::{Log, LogFault};
+use rld_store::{Recorded, Store, StoreFault};
+use rsl_shard::Move;
+use std::alloc::Global;
+
+impl<L: Log> Recorder for Store<L> {
+    ghost tells = { λ store. L.tells store.log };
+
+    ghost books = { λ store. store.books };
+
+    ghost stands = { λ store config history. HasRecorded config store.counts L.tears store.end
+        (L.seen store.log) (L.may_leave store.log) store.whole store.books history };
+
+    fn record(&mut self, alloc: Global, batch: Vec<Move>) -> Result<Recorded, RecordFault> {
+        Ok(self.commit(alloc, batch)?)
+    }
+}
+
+impl From<StoreFault> for RecordFault {
+    ghost from_gives = { λ failed fault. fault ≡ record_fault failed };
+
+    fn from(failed: StoreFault) -> RecordFault {
+        match failed {
+            StoreFault::Log(LogFault::Unsynced) => RecordFault::Ended,
+            _ => RecordFault::Failed,
+        }
+    }
+}

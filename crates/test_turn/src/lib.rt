@@ -1,0 +1,13 @@
+//! Tests of `rld_turn`: what turns make of what waits at a port of memory, and what a loss of power
+//! leaves of their batches on a disk of memory, as rows of text (`test_rows`). Expected values come
+//! from the session rule, worked by hand, and the octets from Python's hashlib.
+#![tactic(auto)]
+
+#[cfg(test)]
+mod clock;
+#[cfg(test)]
+mod coming;
+#[cfg(test)]
+mod disk;
+#[cfg(test)]
+mod turns;

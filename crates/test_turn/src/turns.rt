@@ -1,0 +1,316 @@
+//! What turns make of what waits.
+//!
+//! A row has a name, the number of shards, the port, the turns, what comes, the numbers of the sends
+//! that fail, the clock's first moment and its step, and the call of the disk that fails, with the
+//! number of its batch.
+//!
+//! It tells the counts: turns, taken, dropped, refused, unrecorded, answered and unsent, after `Down`
+//! where the port failed and `Ended` where nothing more could be recorded. Then what the port counts:
+//! datagrams taken, receives and how many of them failed, sends and how many of them failed. Then
+//! what was handed to be sent, and to which port; and each move that a loss of power leaves in the
+//! log, as its batch, its moment, what it is and the decision.
+
+use crate::clock::clock_of;
+use crate::coming::{coming_of, config_of, numbers_of, push_sent};
+use crate::disk::{batches_of, left_by, push_moves, store_of};
+use rld_log::MemoryLog;
+use rld_store::Store;
+use rld_turn::{Counts, ReceiveFault, RecordFault, receive, tick};
+use rsl_accounts::Config;
+use rsl_event::Port;
+use rsl_receive::MemoryPort;
+use rsl_shard::Move;
+use std::alloc::Global;
+use std::test::Fail;
+use test_rows::{Plain, Subject, check_rows, number, push_printed};
+
+/// The turns of rows.
+#[derive(Clone, Copy)]
+struct Turns;
+
+impl Subject for Turns {
+    fn found(&self, alloc: Global, fields: &[&str]) -> Result<String, Fail> {
+        let scene = scene_of(fields)?;
+        let config = config_of(alloc, scene.shards)?;
+        let mut store = store_of(alloc, &config, scene.disk)?;
+        let mut text = String::new(alloc);
+        let datagrams = served(alloc, &config, scene, &mut store, &mut text)?;
+        push_port(&mut text, &datagrams)?;
+        push_sent(&mut text, alloc, datagrams.sent())?;
+        push_moves(&mut text, alloc, &config, &left_by(store))?;
+        Ok(text)
+    }
+}
+
+/// What a row says.
+#[derive(Clone, Copy)]
+struct Scene<'a> {
+    shards: &'a str,
+    port: &'a str,
+    turns: &'a str,
+    coming: &'a str,
+    failing: &'a str,
+    clock: &'a str,
+    disk: &'a str,
+}
+
+/// A row, of its fields.
+fn scene_of<'a>(fields: &[&'a str]) -> Result<Scene<'a>, Fail> {
+    let [shards, port, turns, coming, failing, clock, disk] = fields else {
+        return Err("a row with other fields")?;
+    };
+    Ok(Scene {
+        shards,
+        port,
+        turns,
+        coming,
+        failing,
+        clock,
+        disk,
+    })
+}
+
+/// The port of a word.
+fn port_of(word: &str) -> Result<Port, Fail> {
+    match word {
+        "auth" => Ok(Port::Auth),
+        "acct" => Ok(Port::Acct),
+        _ => Err("an unknown port")?,
+    }
+}
+
+/// The turns of rows that tell only how many.
+#[derive(Clone, Copy)]
+struct Crowds;
+
+impl Subject for Crowds {
+    fn found(&self, alloc: Global, fields: &[&str]) -> Result<String, Fail> {
+        let scene = scene_of(fields)?;
+        let config = config_of(alloc, scene.shards)?;
+        let mut store = store_of(alloc, &config, scene.disk)?;
+        let mut text = String::new(alloc);
+        let datagrams = served(alloc, &config, scene, &mut store, &mut text)?;
+        push_port(&mut text, &datagrams)?;
+        push_sizes(&mut text, &batches_of(alloc, &config, &left_by(store))?)?;
+        Ok(text)
+    }
+}
+
+/// Takes the turns of a row, and tells the counts. Gives the port.
+fn served(
+    alloc: Global,
+    config: &Config,
+    scene: Scene<'_>,
+    store: &mut Store<MemoryLog>,
+    text: &mut String,
+) -> Result<MemoryPort, Fail> {
+    let coming = coming_of(alloc, scene.coming)?;
+    let mut datagrams = MemoryPort::new(alloc, coming, numbers_of(alloc, scene.failing)?);
+    let turns = number(scene.turns)?;
+    if turns > 1000 {
+        return Err("too many turns")?;
+    }
+    let answer = receive(
+        alloc,
+        config,
+        1,
+        port_of(scene.port)?,
+        &mut datagrams,
+        store,
+        &mut clock_of(scene.clock)?,
+        turns,
+    );
+    push_counts(text, answer)?;
+    Ok(datagrams)
+}
+
+/// Tells what a receiver answers.
+fn push_counts(text: &mut String, answer: Result<Counts, ReceiveFault>) -> Result<(), Fail> {
+    let counts = match answer {
+        Ok(counts) => counts,
+        Err(ReceiveFault::Down(counts)) => {
+            push_printed(text, &Plain("Down"))?;
+            counts
+        }
+        Err(ReceiveFault::Ended(counts)) => {
+            push_printed(text, &Plain("Ended"))?;
+            counts
+        }
+        Err(ReceiveFault::NoMemory) => return Err("no memory")?,
+    };
+    let told = [
+        counts.turns,
+        counts.taken,
+        counts.dropped,
+        counts.refused,
+        counts.unrecorded,
+        counts.answered,
+        counts.unsent,
+    ];
+    push_printed(text, &told)
+}
+
+/// Tells what a port counts.
+fn push_port(text: &mut String, datagrams: &MemoryPort) -> Result<(), Fail> {
+    if !datagrams.is_telling() {
+        return Err("the port was refused memory")?;
+    }
+    let numbers = datagrams.numbers();
+    let told = [
+        datagrams.taken().len() as u64,
+        numbers.receives,
+        numbers.failed_receives,
+        numbers.sends,
+        numbers.failed_sends,
+    ];
+    push_printed(text, &told)
+}
+
+/// Tells how many moves each batch has.
+fn push_sizes(text: &mut String, batches: &[Vec<Move>]) -> Result<(), Fail> {
+    for batch in batches {
+        push_printed(text, &batch.len())?;
+    }
+    Ok(())
+}
+
+/// What is dropped, answered, unsent and unrecorded, in one turn and in several.
+const TURNS: &str = "
+an ask | 1 | auth | 1 | ask | | 5 1 | \
+    | [1, 1, 0, 0, 0, 1, 0] [1, 2, 0, 1, 0] accept to 1024, (0, 5, own, Accept(0))
+what waits is one batch, at one moment | 1 | auth | 1 | ask wrong:1025 short ask:1026 ask | | 5 1 | \
+    | [1, 5, 1, 0, 0, 4, 0] [5, 6, 0, 4, 0] \
+    accept to 1024, reject to 1025, limit to 1026, accept to 1024, \
+    (0, 5, own, Accept(0)) (0, 5, own, LimitReject) (0, 5, own, Accept(0))
+each turn is a batch of its own | 1 | auth | 2 | ask nothing ask:1025 | | 5 1 | \
+    | [2, 2, 0, 0, 0, 2, 0] [2, 4, 0, 2, 0] accept to 1024, limit to 1025, \
+    (0, 5, own, Accept(0)) (1, 6, own, LimitReject)
+no turns | 1 | auth | 0 | ask | | 5 1 | | [0, 0, 0, 0, 0, 0, 0] [0, 0, 0, 0, 0]
+nothing comes | 1 | auth | 2 | nothing | | 5 1 | | [2, 0, 0, 0, 0, 0, 0] [0, 2, 0, 0, 0]
+a restart is one sweep, a stray a line | 3 | acct | 1 | start on stray stop | | 5 1 | \
+    | [1, 4, 0, 0, 0, 4, 0] [4, 5, 0, 4, 0] start to 1024, on to 1024, stray to 1024, stop to 1024, \
+    (0, 5, own, Done) (0, 5, sweep, Done) (0, 5, stray, Done) (0, 5, own, Done)
+a restart frees a place for what waits behind it | 1 | acct | 2 | start nothing on start forged | | 5 1 | \
+    | [2, 4, 1, 0, 0, 3, 0] [4, 6, 0, 3, 0] start to 1024, on to 1024, start to 1024, \
+    (0, 5, own, Done) (1, 6, sweep, Done) (1, 6, own, Done)
+the first send fails | 1 | auth | 1 | ask ask:1025 | 0 | 5 1 | \
+    | [1, 2, 0, 0, 0, 1, 1] [2, 3, 0, 2, 1] accept to 1024, limit to 1025, \
+    (0, 5, own, Accept(0)) (0, 5, own, LimitReject)
+a reject beside unrecorded asks | 1 | auth | 1 | ask wrong:1025 ask:1026 | | 5 1 | append 0 \
+    | [1, 3, 0, 0, 2, 1, 0] [3, 4, 0, 1, 0] reject to 1025,
+a batch that fails leaves no trace | 1 | auth | 2 | ask:1025 wrong nothing ask | | 5 1 | append 0 \
+    | [2, 3, 0, 0, 1, 2, 0] [3, 5, 0, 2, 0] reject to 1024, accept to 1024, (0, 6, own, Accept(0))
+a batch without moves is not recorded | 1 | auth | 1 | wrong bare half | | 5 1 | sync 0 \
+    | [1, 3, 1, 0, 0, 2, 0] [3, 4, 0, 2, 0] reject to 1024, bare to 1024,
+nothing more can be recorded | 1 | auth | 9 | ask wrong nothing ask | | 5 1 | sync 0 \
+    | Ended [1, 2, 0, 0, 1, 1, 0] [2, 3, 0, 1, 0] reject to 1024,
+the second batch is the last | 1 | auth | 9 | ask nothing ask nothing ask | | 5 1 | sync 1 \
+    | Ended [2, 2, 0, 0, 1, 1, 0] [2, 4, 0, 1, 0] accept to 1024, (0, 5, own, Accept(0))
+the port fails at once | 1 | auth | 9 | fault ask | | 5 1 | \
+    | Down [1, 0, 0, 0, 0, 0, 0] [0, 1, 1, 0, 0]
+what came before the port failed is answered | 1 | auth | 9 | ask wrong fault ask | | 5 1 | \
+    | Down [1, 2, 0, 0, 0, 2, 0] [2, 3, 1, 2, 0] accept to 1024, reject to 1024, \
+    (0, 5, own, Accept(0))
+the port fails and nothing can be recorded | 1 | auth | 9 | ask fault | | 5 1 | sync 0 \
+    | Down [1, 1, 0, 0, 1, 0, 0] [1, 2, 1, 0, 0]
+";
+
+/// So many come at once: the counts, what the port counts, and how many moves each batch has that was
+/// recorded.
+const CROWDS: &str = "
+as many as a turn takes | 1 | auth | 1 | ask*64 | | 5 1 | \
+    | [1, 64, 0, 0, 0, 64, 0] [64, 64, 0, 64, 0] 64
+one more stays at the port | 1 | auth | 1 | ask*65 | | 5 1 | \
+    | [1, 64, 0, 0, 0, 64, 0] [64, 64, 0, 64, 0] 64
+and is taken by the next turn | 1 | auth | 2 | ask*65 | | 5 1 | \
+    | [2, 65, 0, 0, 0, 65, 0] [65, 66, 0, 65, 0] 64 1
+dropped ones count among the 64 | 1 | auth | 1 | short*63 ask ask | | 5 1 | \
+    | [1, 64, 63, 0, 0, 1, 0] [64, 64, 0, 1, 0] 1
+rejects alone are not recorded | 1 | auth | 2 | wrong*65 | | 5 1 | \
+    | [2, 65, 0, 0, 0, 65, 0] [65, 66, 0, 65, 0]
+";
+
+#[test]
+fn turns_over_what_waits(rt: HostRuntime) -> Result<(), Fail> {
+    check_rows(&rt, &Turns, TURNS)
+}
+
+#[test]
+fn turns_over_as_many_as_they_take(rt: HostRuntime) -> Result<(), Fail> {
+    check_rows(&rt, &Crowds, CROWDS)
+}
+
+/// A tick is a batch of its own, at the moment that the clock shows.
+#[test]
+fn a_tick_is_recorded(rt: HostRuntime) -> Result<(), Fail> {
+    let alloc = rt.alloc();
+    let config = config_of(alloc, "2")?;
+    let mut store = store_of(alloc, &config, "append 0")?;
+    let mut clock = clock_of("5 60")?;
+    assert_eq!(rt;
+        tick(alloc, &mut store, &mut clock),
+        Err(RecordFault::Failed)
+    );
+    assert_eq!(rt; tick(alloc, &mut store, &mut clock), Ok(()));
+    let mut text = String::new(alloc);
+    push_moves(&mut text, alloc, &config, &left_by(store))?;
+    assert_eq!(rt; text.as_str(), "(0, 65, tick, Done)");
+    Ok(())
+}
+
+/// After a sync that failed nothing more can be recorded.
+#[test]
+fn a_tick_that_is_not_synced_is_the_last(rt: HostRuntime) -> Result<(), Fail> {
+    let alloc = rt.alloc();
+    let config = config_of(alloc, "2")?;
+    let mut store = store_of(alloc, &config, "sync 0")?;
+    let mut clock = clock_of("5 60")?;
+    assert_eq!(rt;
+        tick(alloc, &mut store, &mut clock),
+        Err(RecordFault::Ended)
+    );
+    assert!(rt; batches_of(alloc, &config, &left_by(store))?.is_empty());
+    Ok(())
+}
+
+/// What is sent in one turn over a store, of what comes.
+fn sent_in_turn(
+    alloc: Global,
+    config: &Config,
+    coming: &str,
+    store: &mut Store<MemoryLog>,
+) -> Result<String, Fail> {
+    let scene = Scene {
+        shards: "1",
+        port: "auth",
+        turns: "1",
+        coming,
+        failing: "",
+        clock: "5 1",
+        disk: "",
+    };
+    let mut text = String::new(alloc);
+    let datagrams = served(alloc, config, scene, store, &mut text)?;
+    text.clear();
+    push_sent(&mut text, alloc, datagrams.sent())?;
+    Ok(text)
+}
+
+/// After a loss of power what was answered is answered so again, and its place is still taken.
+#[test]
+fn a_restart_changes_no_answer(rt: HostRuntime) -> Result<(), Fail> {
+    let alloc = rt.alloc();
+    let config = config_of(alloc, "1")?;
+    let mut store = store_of(alloc, &config, "")?;
+    let sent = sent_in_turn(alloc, &config, "ask ask:1025", &mut store)?;
+    assert_eq!(rt; sent.as_str(), " accept to 1024, limit to 1025,");
+    let Ok(mut opened) = Store::open(alloc, &config, left_by(store)) else {
+        return Err("not opened")?;
+    };
+    let again = sent_in_turn(alloc, &config, "ask ask:1025 ask:1026", &mut opened.store)?;
+    assert_eq!(rt;
+        again.as_str(),
+        " accept to 1024, limit to 1025, limit to 1026,"
+    );
+    Ok(())
+}
