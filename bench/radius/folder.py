@@ -1,0 +1,75 @@
+"""The files of a state folder, as docs/FOLDER.md has them, written apart from the server."""
+
+import hashlib
+
+
+def number(value):
+    """A number, in as few octets as it takes."""
+    if value < 253:
+        return bytes([value])
+    mark, size = next((mark, size) for mark, size in ((253, 2), (254, 4), (255, 8)) if value < 1 << 8 * size)
+    return bytes([mark]) + value.to_bytes(size, "big")
+
+
+def string(octets):
+    """A string of at most 253 octets."""
+    return bytes([len(octets)]) + octets
+
+
+def option(octets):
+    """A string, if there is one."""
+    return b"\x00" if octets is None else b"\x01" + string(octets)
+
+
+def listed(values):
+    """A list of values that are spelled already."""
+    return number(len(values)) + b"".join(values)
+
+
+def frame(payload):
+    """A frame: the length, the MD5 digest and the payload."""
+    return len(payload).to_bytes(4, "big") + hashlib.md5(payload).digest() + payload
+
+
+def table(accounts, clients, boot, shards=1, times=(60, 900, 900, 3600, 10)):
+    """An era's table: accounts are names with places and ports, clients addresses."""
+    rows = [string(name) + b"".join(map(number, (places, ports, *times))) for name, places, ports in accounts]
+    addresses = [bytes(map(int, address.split("."))) for address in clients]
+    return number(boot) + number(shards) + listed(rows) + listed(addresses)
+
+
+def header(era, generation, octets, lines=0):
+    """The header of a generation of an era whose table has these octets."""
+    return b"\x01\x01" + number(era) + number(generation) + hashlib.md5(octets).digest() + number(lines)
+
+
+def new_books(accounts):
+    """A snapshot of books that have had no event."""
+    return listed([bytes(6)] * accounts)
+
+
+def nas(client, identifier):
+    """An access server with a NAS-Identifier."""
+    return number(client) + b"\x00" + string(identifier)
+
+
+def ask(moment, account, server, source, port, identifier, authenticator):
+    """An Access-Request with the right password."""
+    key = bytes(map(int, source.split("."))) + port.to_bytes(2, "big") + bytes([identifier]) + authenticator
+    return b"\x01" + number(moment) + number(account) + key + server
+
+
+def alive(moment, account, server, session, bundle=None, accept=None):
+    """A Start or an Interim-Update."""
+    reserved = b"\x00" if accept is None else b"\x01" + number(accept)
+    return b"\x02" + number(moment) + number(account) + server + string(session) + option(bundle) + reserved
+
+
+def stop(moment, account, server, session):
+    """A Stop."""
+    return b"\x03" + number(moment) + number(account) + server + string(session)
+
+
+def tick(moment):
+    """A tick."""
+    return b"\x05" + number(moment)

@@ -1,0 +1,7 @@
+use Rattle.std.proofs.Common.{◌≡◌, ◌++◌, take}
+use Rattle.rld_lines.specs.Values.{hex}
+use Rattle.rld_lines.proofs.value.push_hex.Given as goal
+
+-- the digits of the octets that were looked at
+abbrev pub invariant-loop-octet : goal.invariant-loop-octet
+invariant-loop-octet l = l.out.items ≡ l.fn.out.items ++ hex (take l.octet-index l.octets)

@@ -1,0 +1,134 @@
+-- The line of a move: `FILE NUMBER MOMENT MOVE KEY=VALUE .. -> DECISION`, with one space between the
+-- words and a line feed at the end.
+use Rattle.std.specs.Prelude.{◌≡◌, ℕ, ◌+◌, List, [], ◌∷◌, ◌++◌, length, Option, None, Some, codes, slice_get}
+use Rattle.std.specs.Fmt.{decimal}
+use Rattle.std.specs.Option.{option_map_or}
+use Rattle.rsl_accounts.specs.Configuration.{Configuration}
+use Rattle.rsl_event.specs.declared.event.Act.{Act}
+use Rattle.rsl_event.specs.declared.event.Act.TheVariants as acts
+use Rattle.rsl_event.specs.declared.event.Decision.{Decision}
+use Rattle.rsl_event.specs.declared.event.Decision.TheVariants.{Accept, LimitReject, Done}
+use Rattle.rsl_event.specs.declared.event.Key.{Key}
+use Rattle.rsl_event.specs.declared.event.Source.{Source}
+use Rattle.rsl_event.specs.declared.meaning.Note.{Note}
+use Rattle.rsl_event.specs.declared.nas.Nas.{Nas}
+use Rattle.rsl_event.specs.declared.nas.NasName.{NasName}
+use Rattle.rsl_event.specs.declared.nas.NasName.TheVariants.{Identifier, Address, Unnamed}
+use Rattle.rsl_shard.specs.Restep.{BooksSeen}
+use Rattle.rsl_shard.specs.declared.moved.Move.{Move}
+use Rattle.rsl_shard.specs.declared.moved.Move.TheVariants.{Own, Sweep, Tick, Stray}
+use Rattle.rld_books.specs.Server.{decision_in, replay, server_after}
+use Rattle.rld_spelling.specs.Moves.{moves_field}
+use Rattle.rld_store.specs.Generations.{counts_of}
+use Rattle.rld_lines.specs.Values.{dotted, escaped, hex}
+
+-- a space, a key, `=` and a value
+abbrev pub word : (key value : List ℕ) → List ℕ
+word key value = 32 ∷ (key ++ (61 ∷ value))
+
+-- a word if there is a value, else nothing
+abbrev pub word_if : {A : Type 0} → (key : List ℕ) → (text : A → List ℕ) → Option A → List ℕ
+word_if key text None = []
+word_if key text (Some value) = word key (text value)
+
+-- what an access server calls itself
+abbrev pub name_words : NasName → List ℕ
+name_words (Identifier name) = word (codes "nas") (escaped name)
+name_words (Address address) = word (codes "nas-address") (hex address)
+name_words Unnamed = []
+
+-- the address of a client
+abbrev pub client_address : Configuration → (client : ℕ) → List ℕ
+client_address config client = option_map_or (λ client. client.address) (slice_get config.clients client) []
+
+abbrev pub nas_words : Configuration → Nas → List ℕ
+nas_words config nas = word (codes "client") (dotted (client_address config nas.client)) ++ name_words nas.name
+
+-- where a request came from
+unfoldable pub source_word : Source → List ℕ
+source_word source =
+    word (codes "source") (dotted source.address ++ (58 ∷ decimal source.port))
+
+-- a Request Authenticator
+unfoldable pub authenticator_word : List ℕ → List ℕ
+authenticator_word authenticator = word (codes "authenticator") (hex authenticator)
+
+-- what an Access-Request is known by
+unfoldable pub key_words : Key → List ℕ
+key_words key =
+    source_word key.source ++ (word (codes "id") (decimal key.id) ++ authenticator_word key.authenticator)
+
+-- the name of an account
+abbrev pub account_name : Configuration → (account : ℕ) → List ℕ
+account_name config account = option_map_or (λ entry. entry.name) (slice_get config.accounts account) []
+
+abbrev pub account_word : Configuration → (account : ℕ) → List ℕ
+account_word config account = word (codes "account") (escaped (account_name config account))
+
+-- an ask, from its word on
+unfoldable pub ask_text : Configuration → (account : ℕ) → Key → Nas → List ℕ
+ask_text config account key nas =
+    codes "ask" ++ (account_word config account ++ (nas_words config nas ++ key_words key))
+
+-- an account's own move, from its word on
+abbrev pub act_text : Configuration → (account : ℕ) → Act → List ℕ
+act_text config account (acts.Ask key nas) = ask_text config account key nas
+act_text config account (acts.Alive nas session bundle class) =
+    codes "alive" ++ (account_word config account ++ (nas_words config nas
+    ++ (word (codes "session") (escaped session) ++ (word_if (codes "bundle") escaped bundle
+    ++ word_if (codes "class") decimal class))))
+act_text config account (acts.Stop nas session) =
+    codes "stop" ++ (account_word config account ++ (nas_words config nas
+    ++ word (codes "session") (escaped session)))
+-- no account's own: no log has these
+act_text config account (acts.Sweep nas) = []
+act_text config account acts.Tick = []
+
+abbrev pub note_words : Configuration → Note → List ℕ
+note_words config note =
+    nas_words config note.nas ++ (word (codes "status") (decimal note.status)
+    ++ (word (codes "name") (escaped note.name) ++ word (codes "session") (escaped note.session)))
+
+-- a move, from its word on
+unfoldable pub move_text : Configuration → Move → List ℕ
+move_text config (Own account event) = act_text config account event.act
+move_text config (Sweep moment nas) = codes "restart" ++ nas_words config nas
+move_text config (Tick moment) = codes "tick"
+move_text config (Stray moment note) = codes "stray" ++ note_words config note
+
+abbrev pub moment_of : Move → ℕ
+moment_of (Own account event) = event.moment
+moment_of (Sweep moment nas) = moment
+moment_of (Tick moment) = moment
+moment_of (Stray moment note) = moment
+
+-- a decision: that of a move which asks nothing is `done`
+abbrev pub decision_text : Decision → List ℕ
+decision_text (Accept number) = codes "accept " ++ decimal number
+decision_text LimitReject = codes "reject limit"
+decision_text Done = codes "done"
+
+-- the line of a move of a file, with its number in the era
+unfoldable pub line : (file : List ℕ) → Configuration → (number : ℕ) → Move → Decision → List ℕ
+line file config number moved decision =
+    escaped file ++ (32 ∷ (decimal number ++ (32 ∷ (decimal (moment_of moved) ++ (32 ∷ (move_text config moved
+    ++ (codes " -> " ++ (decision_text decision ++ 10 ∷ []))))))))
+
+-- the lines of moves, each with the decision of the books at that point; before the first of them the
+-- era had so many moves
+unfoldable pub lines_of : (file : List ℕ) → Configuration → (number : ℕ) → (server : List BooksSeen)
+    → List Move → List ℕ
+lines_of file config number server [] = []
+lines_of file config number server (moved ∷ moves) =
+    line file config (number + 1) moved (decision_in server moved)
+    ++ lines_of file config (number + 1) (server_after server moved) moves
+
+-- the lines of the moves that a payload spells, and the books and the number of moves after them
+pub record IsPrinted (file : List ℕ) (config : Configuration) (number : ℕ) (server : List BooksSeen)
+    (payload lines : List ℕ) (next : ℕ) (after : List BooksSeen) : Type 0 where
+  pub moves : List Move
+  pub fit : (moves_field (counts_of config)).Fits moves
+  pub spelled : payload ≡ (moves_field (counts_of config)).spell moves
+  pub lines_are : lines ≡ lines_of file config number server moves
+  pub next_is : next ≡ number + length moves
+  pub after_is : after ≡ replay server moves

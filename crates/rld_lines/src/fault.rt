@@ -1,0 +1,41 @@
+use rld_start::Wrong;
+use rsl_wire::NoMemory;
+use std::alloc::{AllocError, AllocFailed};
+use std::io;
+
+/// Why the lines of a log are not written, or not all.
+#[derive(Clone, Copy, Debug, PartialEq, Eq)]
+pub enum LinesFault {
+    /// Memory was refused.
+    NoMemory,
+    /// The writer failed.
+    Unwritten,
+    /// The table of the log's era is damaged.
+    Table(Wrong),
+    /// The log is damaged.
+    Log(Wrong),
+}
+
+impl From<AllocError> for LinesFault {
+    fn from(_refused: AllocError) -> LinesFault {
+        LinesFault::NoMemory
+    }
+}
+
+impl<T: Drop> From<AllocFailed<T>> for LinesFault {
+    fn from(_refused: AllocFailed<T>) -> LinesFault {
+        LinesFault::NoMemory
+    }
+}
+
+impl From<NoMemory> for LinesFault {
+    fn from(_refused: NoMemory) -> LinesFault {
+        LinesFault::NoMemory
+    }
+}
+
+impl From<io::Error> for LinesFault {
+    fn from(_failed: io::Error) -> LinesFault {
+        LinesFault::Unwritten
+    }
+}

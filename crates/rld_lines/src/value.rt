@@ -1,0 +1,98 @@
+//! How values stand in a line.
+
+ghost use Rattle.std.specs.Prelude.{◌≡◌, ◌++◌, ◌∷◌, ◌<◌, [], OnOk};
+ghost use Rattle.std.specs.Fmt.{decimal};
+ghost use Rattle.rld_lines.specs.Values.{dotted, dotted_pair, escaped, escaped_octet, hex, hex_digit, hex_octet, is_plain};
+
+use std::alloc::{AllocError, Global};
+
+/// The hexadecimal digit of a number below 16.
+fn hex_digit(number: u8) -> u8
+    requires { number < 16 }
+    ensures { result ≡ hex_digit number }
+{
+    if number < 10 {
+        48 + number
+    } else {
+        87 + number
+    }
+}
+
+/// Writes the two digits of an octet.
+fn push_hex_octet(out: &mut Vec<u8>, octet: u8) -> Result<(), AllocError>
+    ensures { OnOk result (out.new.items ≡ out.old.items ++ hex_octet octet) }
+{
+    out.push(hex_digit(octet / 16))?;
+    out.push(hex_digit(octet % 16))?;
+    Ok(())
+}
+
+/// Writes octets as hexadecimal digits.
+pub(crate) fn push_hex(out: &mut Vec<u8>, octets: &[u8]) -> Result<(), AllocError>
+    ensures { OnOk result (out.new.items ≡ out.old.items ++ hex octets.now) }
+{
+    for octet in octets {
+        push_hex_octet(out, *octet)?;
+    }
+    Ok(())
+}
+
+/// Whether an octet is a visible character of ASCII, and no backslash.
+fn is_plain(octet: u8) -> bool
+    ensures { result ≡ is_plain octet }
+{
+    33 <= octet && octet <= 126 && octet != 92
+}
+
+/// Writes an octet as it is, or as a backslash, an `x` and its two digits.
+fn push_escaped_octet(out: &mut Vec<u8>, octet: u8) -> Result<(), AllocError>
+    ensures { OnOk result (out.new.items ≡ out.old.items ++ escaped_octet octet) }
+{
+    if is_plain(octet) {
+        out.push(octet)?;
+        return Ok(());
+    }
+    out.extend_from_slice(b"\\x")?;
+    push_hex_octet(out, octet)
+}
+
+/// Writes octets in one word.
+pub(crate) fn push_escaped(out: &mut Vec<u8>, octets: &[u8]) -> Result<(), AllocError>
+    ensures { OnOk result (out.new.items ≡ out.old.items ++ escaped octets.now) }
+{
+    for octet in octets {
+        push_escaped_octet(out, *octet)?;
+    }
+    Ok(())
+}
+
+/// Writes a number.
+pub(crate) fn push_decimal(alloc: Global, out: &mut Vec<u8>, number: u64) -> Result<(), AllocError>
+    ensures { OnOk result (out.new.items ≡ out.old.items ++ decimal number) }
+{
+    let text = format!(in alloc; "{number}")?;
+    out.extend_from_slice(text.as_bytes())
+}
+
+/// Writes two numbers with a dot between them.
+fn push_pair(alloc: Global, out: &mut Vec<u8>, some: u8, other: u8) -> Result<(), AllocError>
+    ensures { OnOk result (out.new.items ≡ out.old.items ++ dotted_pair some other) }
+{
+    push_decimal(alloc, out, u64::from(some))?;
+    out.push(46)?;
+    push_decimal(alloc, out, u64::from(other))
+}
+
+/// Writes an address.
+#[tactic(auto, unfolding(crate::specs::Values::dotted))]
+pub(crate) fn push_dotted(
+    alloc: Global,
+    out: &mut Vec<u8>,
+    address: [u8; 4],
+) -> Result<(), AllocError>
+    ensures { OnOk result (out.new.items ≡ out.old.items ++ dotted address) }
+{
+    push_pair(alloc, out, address[0], address[1])?;
+    out.push(46)?;
+    push_pair(alloc, out, address[2], address[3])
+}

@@ -1,0 +1,33 @@
+-- What stands at the front of a log.
+use Rattle.std.specs.Prelude.{◌≡◌, ◌⊎◌, ℕ, ◌+◌, List, ◌++◌, drop}
+use Rattle.rld_fields.specs.Lists.{all_of}
+use Rattle.rld_fields.specs.declared.fault.Fault.{Fault}
+use Rattle.rld_log.specs.Frames.{EndsAt, Fits, IsDamagedAt, frame}
+use Rattle.rld_spelling.specs.Headers.{header_field, header_octets}
+use Rattle.rld_spelling.specs.declared.header.Header.{Header}
+use Rattle.rld_start.specs.Lengths.{HasSpoiltLength}
+use Rattle.rld_start.specs.declared.first.First.{First}
+use Rattle.rld_start.specs.declared.first.First.TheVariants.{Unbegun, Begun}
+
+-- two whole frames stand at the front: the first has a header, the second a snapshot
+pub record HasTwo (octets header snapshot : List ℕ) : Type 0 where
+  pub rest : List ℕ
+  pub header_fits : Fits header
+  pub snapshot_fits : Fits snapshot
+  pub is : octets ≡ frame header ++ (frame snapshot ++ rest)
+
+-- a generation that was begun with this header
+pub record IsBegun (octets : List ℕ) (header : Header) : Type 0 where
+  pub snapshot : List ℕ
+  pub two : HasTwo octets (header_octets header) snapshot
+  pub fits : header_field.Fits header
+
+-- what stands at the front of a log: no two frames, or those of a generation that was begun
+abbrev pub IsFirst : (octets : List ℕ) → First → Type 0
+IsFirst octets Unbegun = (header snapshot : List ℕ) → HasTwo octets header snapshot → ⊥
+IsFirst octets (Begun header) = IsBegun octets header
+
+-- A frame is spoilt here: a whole one stands behind what has the shape of frames, or its digest is
+-- that of a front of what stands behind its head, and its length is another.
+abbrev pub IsSpoilt : (octets : List ℕ) → (at : ℕ) → Type 0
+IsSpoilt octets at = IsDamagedAt octets at ⊎ (EndsAt octets at × HasSpoiltLength (drop at octets))

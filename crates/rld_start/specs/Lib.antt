@@ -1,0 +1,6 @@
+pub mod Counted
+pub mod Firsts
+pub mod Lengths
+pub mod NextHeaders
+pub mod Numbers
+pub mod Status

@@ -1,0 +1,23 @@
+-- Which header a log must have, and which follows.
+use Rattle.std.specs.Prelude.{ℕ, List, ◌+◌, ◌&&◌, nat_eq, bytes_eq, if◌then◌else◌, Option, None, Some, Result, Ok, Err}
+use Rattle.md5.specs.Md5.{md5}
+use Rattle.rld_folder.specs.declared.name.Generation.{Generation}
+use Rattle.rld_spelling.specs.declared.header.Header.{Header}
+use Rattle.rld_start.specs.declared.wrong.Cause.{Cause}
+use Rattle.rld_start.specs.declared.wrong.Cause.TheVariants.{OtherGeneration, OtherTable}
+
+-- why a header is not that of a generation and of a table; none where it is
+abbrev pub header_cause : Header → Generation → (table : List ℕ) → Option Cause
+header_cause header generation table =
+    if nat_eq header.era generation.era && nat_eq header.generation generation.number then
+    (if bytes_eq header.digest (md5 table) then None else Some OtherTable)
+    else Some OtherGeneration
+
+-- the header of the generation with a number, after so many moves of the one before it
+abbrev pub header_after : Header → (generation moves : ℕ) → Header
+header_after header generation moves = record {
+  era = header.era;
+  generation = generation;
+  digest = header.digest;
+  lines = header.lines + moves;
+}

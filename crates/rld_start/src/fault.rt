@@ -1,0 +1,144 @@
+ghost use Rattle.std.specs.Prelude.{◌≡◌};
+ghost use Rattle.rld_start.specs.Status.{status_of_folder, status_of_log};
+ghost use Rattle.rld_start.specs.declared.fault.StartFault.TheVariants.{NoMemory as no_memory};
+
+use crate::status::EndStatus;
+use crate::wrong::{BadLog, Cause, Wrong, write_name};
+use rld_folder::{FileName, FolderFault};
+use rld_log::LogFault;
+use rld_store::StoreFault;
+use rsl_wire::NoMemory;
+use std::alloc::AllocError;
+use std::fmt;
+
+/// Why a server does not start. It prints as the line for standard error.
+#[derive(Clone, Copy, Debug, PartialEq, Eq)]
+pub enum StartFault {
+    /// Memory was refused.
+    NoMemory,
+    /// The folder, or a file of it, cannot be used. That another process has it is `busy`.
+    Folder(FolderFault),
+    /// A call on a log failed.
+    Log(FileName, LogFault),
+    /// A file is damaged.
+    BadLog(BadLog),
+    /// The accounts, their rules, the clients' addresses or the shards are not those of the era of
+    /// this number.
+    OtherAccounts(u64),
+    /// What was to be written to a new log has no spelling, or is too long for a file.
+    Unwritable(FileName),
+    /// No number is left for a new file.
+    NoNumber,
+}
+
+impl StartFault {
+    ghost use Rattle.rld_start.specs.Status.{status_of};
+
+    /// The fault of a file in which something is wrong.
+    pub(crate) fn bad(file: FileName, wrong: Wrong) -> StartFault {
+        StartFault::BadLog(BadLog { file, wrong })
+    }
+
+    /// How the server ends.
+    pub fn status(&self) -> EndStatus
+        ensures { result ≡ status_of self.now }
+    {
+        match self {
+            StartFault::NoMemory => EndStatus::NoMemory,
+            StartFault::Folder(fault) => status_of_folder(*fault),
+            StartFault::Log(_, fault) => status_of_log(*fault),
+            StartFault::BadLog(_) | StartFault::OtherAccounts(_) | StartFault::NoNumber => {
+                EndStatus::WrongInput
+            }
+            StartFault::Unwritable(_) => EndStatus::InputOutput,
+        }
+    }
+}
+
+/// How a server ends whose folder cannot be used.
+fn status_of_folder(fault: FolderFault) -> EndStatus
+    ensures { result ≡ status_of_folder fault }
+{
+    match fault {
+        FolderFault::NoMemory => EndStatus::NoMemory,
+        FolderFault::NoFolder | FolderFault::Exposed => EndStatus::WrongInput,
+        FolderFault::Unsynced => EndStatus::Unsynced,
+        FolderFault::Unmade
+        | FolderFault::Unread
+        | FolderFault::Busy
+        | FolderFault::Unlocked
+        | FolderFault::Unopened
+        | FolderFault::Unwritten => EndStatus::InputOutput,
+    }
+}
+
+/// How a server ends whose log failed.
+fn status_of_log(fault: LogFault) -> EndStatus
+    ensures { result ≡ status_of_log fault }
+{
+    match fault {
+        LogFault::NoMemory => EndStatus::NoMemory,
+        LogFault::Unsynced => EndStatus::Unsynced,
+        LogFault::Unread | LogFault::Unwritten | LogFault::Uncut => EndStatus::InputOutput,
+    }
+}
+
+impl fmt::Display for StartFault {
+    fn fmt<W: fmt::Write>(&self, f: &mut fmt::Formatter<W>) -> fmt::Result {
+        match self {
+            StartFault::NoMemory => f.write_str("no memory"),
+            StartFault::Folder(FolderFault::Busy) => f.write_str("busy"),
+            StartFault::Folder(fault) => write!(f, "bad folder: {fault}"),
+            StartFault::Log(file, fault) => {
+                write_name(*file, f)?;
+                write!(f, ": {fault}")
+            }
+            StartFault::BadLog(bad) => write!(f, "{bad}"),
+            StartFault::OtherAccounts(era) => write!(f, "other accounts than those of era-{era}"),
+            StartFault::Unwritable(file) => {
+                write_name(*file, f)?;
+                f.write_str(": too long")
+            }
+            StartFault::NoNumber => f.write_str("no number is left for a new file"),
+        }
+    }
+}
+
+impl From<AllocError> for StartFault {
+    ghost from_gives = { λ _ fault. fault ≡ no_memory };
+
+    fn from(_refused: AllocError) -> StartFault {
+        StartFault::NoMemory
+    }
+}
+
+impl From<NoMemory> for StartFault {
+    ghost from_gives = { λ _ fault. fault ≡ no_memory };
+
+    fn from(_refused: NoMemory) -> StartFault {
+        StartFault::NoMemory
+    }
+}
+
+impl From<FolderFault> for StartFault {
+    fn from(fault: FolderFault) -> StartFault {
+        match fault {
+            FolderFault::NoMemory => StartFault::NoMemory,
+            _ => StartFault::Folder(fault),
+        }
+    }
+}
+
+impl From<BadLog> for StartFault {
+    fn from(bad: BadLog) -> StartFault {
+        StartFault::BadLog(bad)
+    }
+}
+
+/// The fault of a log that was read, written or synced in vain.
+pub(crate) fn log_fault(file: FileName, fault: LogFault) -> StartFault {
+    match fault {
+        LogFault::NoMemory => StartFault::NoMemory,
+        _ => StartFault::Log(file, fault),
+    }
+}

@@ -1,0 +1,45 @@
+ghost use Rattle.std.specs.Prelude.{◌≡◌, ◌+◌, ◌≤◌, ◌^◌, MatchOption, MatchResult, None, Some};
+ghost use Rattle.rld_start.specs.NextHeaders.{header_after, header_cause};
+
+use crate::wrong::{Cause, Wrong};
+use md5::{Digest, Md5};
+use rld_folder::Generation;
+use rld_log::HEAD_LEN;
+use rld_spelling::Header;
+
+/// Makes sure that a header is that of the generation which its file has the name of, and of the
+/// era's table, whose octets are given: `OtherGeneration` and `OtherTable`, in this order, where it is
+/// not.
+pub fn check_header(header: &Header, generation: Generation, table: &[u8]) -> Result<(), Wrong>
+    ensures { MatchResult result (λ _. header_cause header.now generation table.now ≡ None)
+        (λ wrong. (header_cause header.now generation table.now ≡ Some wrong.cause)
+        × (wrong.offset ≡ 20)) }
+{
+    if header.era != generation.era || header.generation != generation.number {
+        return Err(Wrong {
+            offset: HEAD_LEN,
+            cause: Cause::OtherGeneration,
+        });
+    }
+    if header.digest != Md5::digest(table) {
+        return Err(Wrong {
+            offset: HEAD_LEN,
+            cause: Cause::OtherTable,
+        });
+    }
+    Ok(())
+}
+
+/// The header of the generation that follows one, under this number and after so many moves of it.
+/// `None` where the moves of the era are no number of 64 bits.
+pub fn next_header(header: &Header, generation: u64, moves: u64) -> Option<Header>
+    ensures { MatchOption result (2 ^ 64 ≤ header.now.lines + moves)
+        (λ next. next ≡ header_after header.now generation moves) }
+{
+    Some(Header {
+        era: header.era,
+        generation,
+        digest: header.digest,
+        lines: header.lines.checked_add(moves)?,
+    })
+}

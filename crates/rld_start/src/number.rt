@@ -1,0 +1,61 @@
+//! The numbers of new eras and new generations: none is used twice.
+
+ghost use Rattle.std.specs.Prelude.{◌≡◌, ◌+◌, ◌^◌, ◌≤◌, MatchOption};
+ghost use Rattle.rld_start.specs.Numbers.{era_of, generation_of, greatest_by, greatest_of};
+
+use rld_folder::FileName;
+
+/// The number of the era that a file is of; 0 for a file of none.
+fn era_of(file: FileName) -> u64
+    ensures { result ≡ era_of file }
+{
+    match file {
+        FileName::Lock => 0,
+        FileName::Era(era) => era,
+        FileName::Log(generation) => generation.era,
+    }
+}
+
+/// The number of the generation of this era that a file is the log of; 0 for any other file.
+fn generation_of(era: u64, file: FileName) -> u64
+    ensures { result ≡ generation_of era file }
+{
+    match file {
+        FileName::Log(generation) if generation.era == era => generation.number,
+        _ => 0,
+    }
+}
+
+/// The greater of two numbers.
+fn greater(some: u64, other: u64) -> u64
+    ensures { result ≡ greatest_of some other }
+{
+    if some < other { other } else { some }
+}
+
+/// The number of the era that a folder with these files begins next: one more than the greatest that
+/// any file has, and 1 where none has one. `None` where no number of 64 bits is left.
+pub fn next_era(files: &[FileName]) -> Option<u64>
+    ensures { MatchOption result (2 ^ 64 ≤ greatest_by era_of files.now + 1)
+        (λ number. number ≡ greatest_by era_of files.now + 1) }
+{
+    let mut most = 0;
+    for file in files {
+        most = greater(most, era_of(*file));
+    }
+    most.checked_add(1)
+}
+
+/// The number of the generation of this era that a folder with these files begins next: one more than
+/// the greatest that a log of the era has, and 1 where there is none. `None` where no number of 64
+/// bits is left.
+pub fn next_generation(files: &[FileName], era: u64) -> Option<u64>
+    ensures { MatchOption result (2 ^ 64 ≤ greatest_by (generation_of era) files.now + 1)
+        (λ number. number ≡ greatest_by (generation_of era) files.now + 1) }
+{
+    let mut most = 0;
+    for file in files {
+        most = greater(most, generation_of(era, *file));
+    }
+    most.checked_add(1)
+}

@@ -1,0 +1,67 @@
+//! Where the frames of a file stand.
+
+ghost use Rattle.std.specs.Prelude.{◌≡◌, ◌≤◌, ◌↔◌, ℕ, List, IsTrue, length};
+ghost use Rattle.md5.specs.Md5.{Holds, md5};
+ghost use Rattle.rld_start.specs.Lengths.{HasFront, HasSpoiltLength};
+
+use md5::{Digest, Md5};
+use rld_log::{HEAD_LEN, first_frame};
+
+/// How many octets of a frame's head are its length.
+const LENGTH_LEN: usize = 4;
+
+/// What stands behind the frame at the front, if there is one; else all.
+fn behind_frame(octets: &[u8]) -> &[u8]
+    ensures { length result.now ≤ length octets.now }
+{
+    match first_frame(octets) {
+        Some((_, after)) => after,
+        None => octets,
+    }
+}
+
+/// How many octets stand before the payload of a frame of this number, in a file that has so many
+/// whole frames; else how many the whole frames and a head have.
+pub(crate) fn payload_offset(octets: &[u8], frame: usize) -> usize {
+    let mut left = octets;
+    for _ in 0..frame {
+        left = behind_frame(left);
+    }
+    (octets.len() - left.len()).saturating_add(HEAD_LEN)
+}
+
+/// Whether a digest is that of what a hasher was given.
+fn is_digest_of(hasher: &Md5, sum: &[u8]) -> bool
+    ensures { (given : List ℕ) → Holds hasher.now given → IsTrue result ↔ (sum.now ≡ md5 given) }
+{
+    let digest = hasher.clone().unwrap().finalize();
+    sum == digest.as_slice()
+}
+
+/// Whether a digest is that of a front of octets. It takes one digest an octet, each of two blocks at
+/// most.
+fn is_digest_of_front(sum: &[u8], octets: &[u8]) -> bool
+    ensures { IsTrue result ↔ HasFront sum.now octets.now }
+{
+    let mut hasher = Md5::new();
+    for octet in octets {
+        if is_digest_of(&hasher, sum) {
+            return true;
+        }
+        hasher.update(&[*octet]);
+    }
+    is_digest_of(&hasher, sum)
+}
+
+/// Whether a frame stands at the front whose length is spoilt: its digest is that of a front of what
+/// stands behind its head. What a crash leaves of a frame is none, whatever names stand in it.
+pub(crate) fn has_spoilt_length(octets: &[u8]) -> bool
+    ensures { IsTrue result ↔ HasSpoiltLength octets.now }
+{
+    if octets.len() < HEAD_LEN {
+        return false;
+    }
+    let (head, body) = octets.split_at(HEAD_LEN);
+    let (_, sum) = head.split_at(LENGTH_LEN);
+    is_digest_of_front(sum, body)
+}

@@ -1,0 +1,33 @@
+ghost use Rattle.std.specs.Prelude.{◌≡◌};
+ghost use Rattle.rld_start.specs.Status.{number_of};
+
+/// How a server ends, as whoever started it can see.
+#[derive(Clone, Copy, Debug, PartialEq, Eq)]
+pub enum EndStatus {
+    /// All was done.
+    Done,
+    /// A file that the operator wrote is wrong, or the state folder does not fit it.
+    WrongInput,
+    /// A call to the system failed, or another server has the folder.
+    InputOutput,
+    /// Memory was refused.
+    NoMemory,
+    /// The disk could not be synced.
+    Unsynced,
+}
+
+impl EndStatus {
+    /// The number with which the process ends: 0 where all was done, 1 for wrong input, 2 where a
+    /// call to the system failed, 3 where memory was refused, and 4 for a disk that cannot be synced.
+    pub fn number(self) -> u8
+        ensures { result ≡ number_of self }
+    {
+        match self {
+            EndStatus::Done => 0,
+            EndStatus::WrongInput => 1,
+            EndStatus::InputOutput => 2,
+            EndStatus::NoMemory => 3,
+            EndStatus::Unsynced => 4,
+        }
+    }
+}

@@ -1,0 +1,85 @@
+ghost use Rattle.std.specs.Prelude.{◌≡◌};
+ghost use Rattle.rld_start.specs.declared.wrong.Cause.TheVariants.{Damaged as damaged};
+
+use rld_books::ServerFault;
+use rld_fields as fields;
+use rld_folder::FileName;
+use rld_log::Damage;
+use std::fmt;
+use thiserror::Error;
+
+/// What is wrong with a file of the folder.
+#[derive(Clone, Copy, Debug, PartialEq, Eq, Error)]
+pub enum Cause {
+    /// A frame was spoilt before a whole one.
+    #[error("damaged")]
+    Damaged,
+    /// What stands here spells nothing that can stand there.
+    #[error("{0}")]
+    Malformed(fields::Cause),
+    /// The header has the numbers of another generation than the name of the file.
+    #[error("a header of another generation")]
+    OtherGeneration,
+    /// The header has the digest of another table than that of the era.
+    #[error("a header of another table")]
+    OtherTable,
+    /// The snapshot is none of the era's accounts.
+    #[error("{0}")]
+    Misfit(ServerFault),
+    /// A move is of no account.
+    #[error("a move of no account")]
+    Foreign,
+    /// No account file has the table of the era.
+    #[error("a table that no account file has")]
+    NoConfiguration,
+    /// The snapshot is not whole, and no earlier generation is there that has one.
+    #[error("no whole snapshot, here or earlier")]
+    Alone,
+}
+
+/// What is wrong with a file, and where.
+#[derive(Clone, Copy, Debug, PartialEq, Eq, Error)]
+#[error("at {offset}: {cause}")]
+pub struct Wrong {
+    /// Where it stands, in octets from the front of the file.
+    pub offset: usize,
+    /// What is wrong.
+    pub cause: Cause,
+}
+
+impl From<Damage> for Wrong {
+    ghost from_gives = { λ damage wrong. (wrong.offset ≡ damage.offset) × (wrong.cause ≡ damaged) };
+
+    fn from(damage: Damage) -> Wrong {
+        Wrong {
+            offset: damage.offset,
+            cause: Cause::Damaged,
+        }
+    }
+}
+
+/// A file of the folder that is damaged. It prints as `bad log: log-1-2 at 40: damaged`.
+#[derive(Clone, Copy, Debug, PartialEq, Eq)]
+pub struct BadLog {
+    /// The file.
+    pub file: FileName,
+    /// What is wrong with it, and where.
+    pub wrong: Wrong,
+}
+
+impl fmt::Display for BadLog {
+    fn fmt<W: fmt::Write>(&self, f: &mut fmt::Formatter<W>) -> fmt::Result {
+        f.write_str("bad log: ")?;
+        write_name(self.file, f)?;
+        write!(f, " {}", self.wrong)
+    }
+}
+
+/// Writes the name of a file in its folder.
+pub(crate) fn write_name<W: fmt::Write>(file: FileName, f: &mut fmt::Formatter<W>) -> fmt::Result {
+    match file {
+        FileName::Lock => f.write_str("lock"),
+        FileName::Era(era) => write!(f, "era-{era}"),
+        FileName::Log(generation) => write!(f, "log-{}-{}", generation.era, generation.number),
+    }
+}

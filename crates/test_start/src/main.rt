@@ -1,0 +1,136 @@
+//! The program `test_start`: starts a server from a folder in the folder that it runs in, over and
+//! over, and says what each start found. Between the starts it does to the files what a crash, a disk
+//! or an operator may do.
+#![tactic(auto)]
+
+mod files;
+mod printed;
+mod server;
+
+use files::{add, copy, cut, cut_last, empty, spoil};
+use printed::print;
+use rld_folder::Folder;
+use server::{OTHERS, OURS, each_kind, frame_as_id, login, record, record_both, say};
+use std::{fs, io};
+
+/// Where the four frames of a log begin: a header, a snapshot and two batches.
+const FRAMES: [usize; 4] = [0, 41, 74, 148];
+
+fn main(rt: HostRuntime) -> io::Result<()> {
+    goes_on(&rt)?;
+    passes_over_what_was_not_begun(&rt)?;
+    refuses_other_accounts(&rt)?;
+    refuses_what_is_damaged(&rt)?;
+    begins_anew_after_a_crash(&rt)?;
+    refuses_a_generation_alone(&rt)?;
+    prints_each_kind(&rt)?;
+    tells_lengths_from_names(&rt)?;
+    keeps_others_out(&rt)
+}
+
+/// A first start, one after two moves, and one after a torn end.
+fn goes_on(rt: &HostRuntime) -> io::Result<()> {
+    say(rt, "first", "state", OURS, 1000)?;
+    record(rt, "state", login(rt)?, 1500)?;
+    say(rt, "after an ask and a Start", "state", OURS, 2000)?;
+    add(rt, "state/log-1-3", b"a torn end")?;
+    say(rt, "after a torn end", "state", OURS, 2001)?;
+    say(rt, "again", "state", OURS, 2002)
+}
+
+/// Newer generations without a whole snapshot: an empty log, and half a snapshot. No number is used
+/// again.
+fn passes_over_what_was_not_begun(rt: &HostRuntime) -> io::Result<()> {
+    empty(rt, "state/log-1-9")?;
+    say(rt, "after an empty log", "state", OURS, 2003)?;
+    copy(rt, "state/log-1-10", "state/log-1-11")?;
+    cut(rt, "state/log-1-11", 70)?;
+    say(rt, "after half a snapshot", "state", OURS, 2004)
+}
+
+/// An account file with another limit.
+fn refuses_other_accounts(rt: &HostRuntime) -> io::Result<()> {
+    say(rt, "other accounts", "state", OTHERS, 2005)
+}
+
+/// One octet of the newest log is another, and then one of the era's table; and a log has the name of
+/// another. What was refused is as it was: once it is mended, the server starts.
+fn refuses_what_is_damaged(rt: &HostRuntime) -> io::Result<()> {
+    copy(rt, "state/log-1-12", "kept")?;
+    for at in [3, 10, 20, 21, 24, 44, 45, 60, 70] {
+        spoil(rt, "state/log-1-12", at)?;
+        print!(rt; "octet {at}, ")?;
+        say(rt, "spoilt", "state", OURS, 2006)?;
+        copy(rt, "kept", "state/log-1-12")?;
+    }
+    copy(rt, "state/era-1", "kept-era")?;
+    spoil(rt, "state/era-1", 3)?;
+    say(rt, "a spoilt table", "state", OURS, 2007)?;
+    copy(rt, "kept-era", "state/era-1")?;
+    copy(rt, "kept", "state/log-1-99")?;
+    say(rt, "another name", "state", OURS, 2008)?;
+    fs::remove_file(rt, "state/log-1-99")?;
+    say(rt, "mended", "state", OURS, 2009)
+}
+
+/// A crash in the very first start: the era's file is half written, or no generation was begun.
+fn begins_anew_after_a_crash(rt: &HostRuntime) -> io::Result<()> {
+    fs::create_dir(rt, "crashed")?;
+    empty(rt, "crashed/era-1")?;
+    say(rt, "after half an era", "crashed", OURS, 3000)?;
+    cut(rt, "crashed/log-2-1", 30)?;
+    say(rt, "after half a generation", "crashed", OURS, 3001)?;
+    say(rt, "again", "crashed", OURS, 3002)
+}
+
+/// A later generation whose snapshot is not whole, and none before it.
+fn refuses_a_generation_alone(rt: &HostRuntime) -> io::Result<()> {
+    fs::create_dir(rt, "alone")?;
+    empty(rt, "alone/log-1-2")?;
+    say(rt, "a generation alone", "alone", OURS, 4000)
+}
+
+/// The lines of a log with a move of each kind, and of one with another name.
+fn prints_each_kind(rt: &HostRuntime) -> io::Result<()> {
+    record(rt, "printed", each_kind(rt)?, 1000)?;
+    print(rt, "printed", 1)?;
+    say(rt, "after a move of each kind", "printed", OURS, 1010)?;
+    record(rt, "printed", login(rt)?, 1011)?;
+    print(rt, "printed", 2)?;
+    add(rt, "printed/log-1-3", b"a torn end")?;
+    print(rt, "printed", 3)?;
+    copy(rt, "printed/log-1-1", "printed/log-1-9")?;
+    print(rt, "printed", 9)?;
+    fs::remove_file(rt, "printed/log-1-9")
+}
+
+/// A spoilt length: of a snapshot, of a batch in the middle, and of the last one. Then a torn batch in
+/// which a session's id is a whole frame, whoever chose it: it is cut off.
+fn tells_lengths_from_names(rt: &HostRuntime) -> io::Result<()> {
+    record_both(rt, "lengths", login(rt)?, each_kind(rt)?, 1000)?;
+    copy(rt, "lengths/log-1-1", "kept")?;
+    for at in FRAMES {
+        spoil(rt, "lengths/log-1-1", at + 3)?;
+        print!(rt; "a length at {at}: ")?;
+        print(rt, "lengths", 1)?;
+        say(rt, "a spoilt length", "lengths", OURS, 1001)?;
+        copy(rt, "kept", "lengths/log-1-1")?;
+    }
+    record(rt, "lengths", frame_as_id(rt)?, 1002)?;
+    cut_last(rt, "lengths/log-1-2")?;
+    say(
+        rt,
+        "a torn batch with a whole frame in it",
+        "lengths",
+        OURS,
+        1003,
+    )
+}
+
+/// A second server.
+fn keeps_others_out(rt: &HostRuntime) -> io::Result<()> {
+    let held = Folder::open(rt, rt.alloc(), "state");
+    say(rt, "while another runs", "state", OURS, 5000)?;
+    drop(held);
+    say(rt, "in no folder", "none/state", OURS, 5001)
+}

@@ -1,0 +1,213 @@
+//! A server that is started and answers a request.
+
+use rld_log::frame_of;
+use rld_start::{StartFault, Started, start};
+use rsl_accounts::Config;
+use rsl_event::{Act, Event, Key, Nas, NasName, Note, Source};
+use rsl_shard::Move;
+use rsl_wire::Octets;
+use std::io;
+
+/// The account file.
+pub const OURS: &str = "version = 2\nshards = 2\nreserve_secs = 60\nlive_secs = 900\n\
+grace_secs = 900\nclosed_secs = 3600\nkeep_secs = 10\n\
+[[client]]\naddress = \"10.0.0.1\"\nsecret = \"xyzzy5461\"\n\
+[[account]]\nname = \"nemo\"\npassword = \"arctangent\"\nplaces = 2\nports = 1\n\
+[[account]]\nname = \"flopsy\"\npassword = \"arctangent\"\nplaces = 1\nports = 1\n";
+
+/// One with other limits.
+pub const OTHERS: &str = "version = 2\nshards = 2\nreserve_secs = 60\nlive_secs = 900\n\
+grace_secs = 900\nclosed_secs = 3600\nkeep_secs = 10\n\
+[[client]]\naddress = \"10.0.0.1\"\nsecret = \"xyzzy5461\"\n\
+[[account]]\nname = \"nemo\"\npassword = \"arctangent\"\nplaces = 3\nports = 1\n\
+[[account]]\nname = \"flopsy\"\npassword = \"arctangent\"\nplaces = 1\nports = 1\n";
+
+/// A server that is started with these accounts.
+fn started(
+    rt: &HostRuntime,
+    folder: &str,
+    accounts: &str,
+    now: u64,
+) -> Result<Started, StartFault> {
+    let Ok(config) = Config::read(rt.alloc(), accounts.as_bytes()) else {
+        return Err(StartFault::NoMemory);
+    };
+    start(rt, rt.alloc(), &config, folder, now)
+}
+
+/// Starts a server and says what it found, and in which generation it goes on; or its fault.
+pub fn say(rt: &HostRuntime, when: &str, folder: &str, accounts: &str, now: u64) -> io::Result<()> {
+    match started(rt, folder, accounts, now) {
+        Ok(
+            Started {
+                found,
+                boot,
+                header,
+                ..
+            },
+        ) => println!(rt;
+            "{when}: found {}-{}, moves {}, sessions {}, torn {}; boot {boot}, goes on in {}-{}",
+            found.era,
+            found.generation,
+            found.moves,
+            found.sessions,
+            found.torn,
+            header.era,
+            header.generation
+        ),
+        Err(fault) => println!(rt; "{when}: {fault}; status {}", fault.status().number()),
+    }
+}
+
+/// Octets of a move.
+fn octets(rt: &HostRuntime, octets: &[u8]) -> io::Result<Octets> {
+    match Octets::from_slice(rt.alloc(), octets) {
+        Ok(octets) => Ok(octets),
+        Err(_) => Err(io::Error::from(io::ErrorKind::OutOfMemory)),
+    }
+}
+
+/// The access server of a name.
+fn nas(rt: &HostRuntime, name: &[u8]) -> io::Result<Nas> {
+    Ok(Nas {
+        client: 0,
+        name: NasName::Identifier(octets(rt, name)?),
+    })
+}
+
+/// An Access-Request of an account.
+fn ask(rt: &HostRuntime, account: u32, id: u8, moment: u64) -> io::Result<Move> {
+    let key = Key {
+        source: Source {
+            address: [10, 0, 0, 1],
+            port: 1024,
+        },
+        id,
+        authenticator: [id; 16],
+    };
+    let act = Act::Ask {
+        key,
+        nas: nas(rt, b"nas1")?,
+    };
+    Ok(Move::Own {
+        account,
+        event: Event { moment, act },
+    })
+}
+
+/// The Start of a session of the first account.
+fn alive(rt: &HostRuntime, session: &[u8], moment: u64) -> io::Result<Move> {
+    let act = Act::Alive {
+        nas: nas(rt, b"nas1")?,
+        session: octets(rt, session)?,
+        bundle: None,
+        class: Some(0),
+    };
+    Ok(Move::Own {
+        account: 0,
+        event: Event { moment, act },
+    })
+}
+
+/// An Interim-Update of a session of a bundle, at an access server that has an address alone.
+fn bundled(rt: &HostRuntime, moment: u64) -> io::Result<Move> {
+    let act = Act::Alive {
+        nas: Nas {
+            client: 0,
+            name: NasName::Address(octets(rt, &[10, 0, 0, 9])?),
+        },
+        session: octets(rt, b"")?,
+        bundle: Some(octets(rt, b"b\\1")?),
+        class: None,
+    };
+    Ok(Move::Own {
+        account: 1,
+        event: Event { moment, act },
+    })
+}
+
+/// A Stop at an access server with a name that is no word.
+fn stop(rt: &HostRuntime, moment: u64) -> io::Result<Move> {
+    let act = Act::Stop {
+        nas: nas(rt, b"a name\n1 2 tick -> done")?,
+        session: octets(rt, b"s=1")?,
+    };
+    Ok(Move::Own {
+        account: 0,
+        event: Event { moment, act },
+    })
+}
+
+/// A packet that is no account's.
+fn stray(rt: &HostRuntime, moment: u64) -> io::Result<Move> {
+    let note = Note {
+        nas: Nas {
+            client: 0,
+            name: NasName::Unnamed,
+        },
+        status: 9,
+        name: octets(rt, b"no\xffbody")?,
+        session: octets(rt, b"s2")?,
+    };
+    Ok(Move::Stray { moment, note })
+}
+
+/// An ask of the first account and its Start.
+pub fn login(rt: &HostRuntime) -> io::Result<Vec<Move>> {
+    Ok(vec![in rt.alloc(); ask(rt, 0, 7, 1001)?, alive(rt, b"s1", 1002)?]?)
+}
+
+/// A move of each kind.
+pub fn each_kind(rt: &HostRuntime) -> io::Result<Vec<Move>> {
+    let mut moves = login(rt)?;
+    moves.push(ask(rt, 1, 8, 1003)?)?;
+    moves.push(ask(rt, 1, 9, 1004)?)?;
+    moves.push(bundled(rt, 1005)?)?;
+    moves.push(stop(rt, 1006)?)?;
+    moves.push(Move::Sweep {
+        moment: 1007,
+        nas: nas(rt, b"nas1")?,
+    })?;
+    moves.push(Move::Tick { moment: 1008 })?;
+    moves.push(stray(rt, 1009)?)?;
+    Ok(moves)
+}
+
+/// A Start whose session id is a whole frame of a log.
+pub fn frame_as_id(rt: &HostRuntime) -> io::Result<Vec<Move>> {
+    let frame = frame_of(rt.alloc(), b"x")?;
+    Ok(vec![in rt.alloc(); alive(rt, frame.as_slice(), 1002)?]?)
+}
+
+/// Starts a server that records a batch of moves, and says what it decided.
+pub fn record(rt: &HostRuntime, folder: &str, moves: Vec<Move>, now: u64) -> io::Result<()> {
+    match started(rt, folder, OURS, now) {
+        Ok(mut started) => commit(rt, &mut started, moves),
+        Err(fault) => println!(rt; "a start: {fault}"),
+    }
+}
+
+/// The same of two batches in one log.
+pub fn record_both(
+    rt: &HostRuntime,
+    folder: &str,
+    first: Vec<Move>,
+    second: Vec<Move>,
+    now: u64,
+) -> io::Result<()> {
+    match started(rt, folder, OURS, now) {
+        Ok(mut started) => {
+            commit(rt, &mut started, first)?;
+            commit(rt, &mut started, second)
+        }
+        Err(fault) => println!(rt; "a start: {fault}"),
+    }
+}
+
+/// Records a batch of moves, and says what was decided.
+fn commit(rt: &HostRuntime, started: &mut Started, moves: Vec<Move>) -> io::Result<()> {
+    match started.store.commit(rt.alloc(), moves) {
+        Ok(recorded) => println!(rt; "decisions: {:?}", recorded.decisions()),
+        Err(fault) => println!(rt; "a batch: {fault}"),
+    }
+}
