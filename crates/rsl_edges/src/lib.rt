@@ -1,5 +1,5 @@
-//! The edges of a running server: what its arguments ask for, its account file, its sockets, what its
-//! receivers did, and with which status each fault ends.
+//! The edges of a running server: what its arguments ask for, its account file, its sockets, its clock,
+//! what its receivers did, and with which status each fault ends.
 //!
 //! They are apart from `rsl_serve`, whose threads need them, since each of them is a matter of
 //! values alone.
@@ -12,9 +12,11 @@
 mod fault;
 mod output;
 mod plan;
+mod system_clock;
 mod udp_port;
 
 pub use fault::ServeFault;
 pub use output::counts_of;
 pub use plan::Plan;
-pub use udp_port::UdpPort;
+pub use system_clock::SystemClock;
+pub use udp_port::{UdpPort, reception, socket_addr};

@@ -90,7 +90,7 @@ impl DatagramPort for UdpPort {
 }
 
 /// The address and port of a source, as the system takes them.
-fn socket_addr(source: Source) -> SocketAddr
+pub fn socket_addr(source: Source) -> SocketAddr
     ensures { source_in result ≡ Some source }
 {
     let address = Ipv4Addr::from_octets(source.address);
@@ -110,9 +110,13 @@ fn source_in(from: SocketAddr) -> Option<Source>
     }
 }
 
-/// What a port gives for what a read of a socket gave, which had room for so many octets.
+/// What a port gives for what a read of a UDP socket gave, which had room for so many octets.
+///
+/// A datagram is cut to the room. That none came in time, that the wait was interrupted, or that the
+/// system had no memory for it is `None`, and so is a datagram from an IPv6 address; every other fault
+/// of the read is a `PortFault`.
 #[tactic(auto, using(crate::proofs::Reading::reading))]
-fn reception(
+pub fn reception(
     read: io::Result<(usize, SocketAddr)>,
     room: usize,
 ) -> Result<Option<(usize, Source)>, PortFault>

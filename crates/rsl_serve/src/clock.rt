@@ -1,5 +1,5 @@
 use crate::shutdown::Shutdown;
-use rsl_receive::{Clock, Pause};
+use rsl_receive::Pause;
 use std::thread;
 use std::time::{self, Duration};
 
@@ -41,29 +41,6 @@ impl RunTime {
             Err(_) => Duration::ZERO,
         };
         thread::sleep(clock, Duration::from_secs(1).saturating_sub(passed));
-    }
-}
-
-/// The system's clock, in seconds since 1970. Where it can't be read it shows what it showed last.
-#[derive(Drop)]
-pub(crate) struct SystemClock<'a, C: time::Clock> {
-    clock: &'a C,
-    last: u64,
-}
-
-impl<'a, C: time::Clock> SystemClock<'a, C> {
-    /// The clock, which showed this last.
-    pub(crate) fn new(clock: &'a C, last: u64) -> SystemClock<'a, C> {
-        SystemClock { clock, last }
-    }
-}
-
-impl<'a, C: time::Clock> Clock for SystemClock<'a, C> {
-    fn now(&mut self) -> u64 {
-        if let Ok(time) = self.clock.since_1970() {
-            self.last = time.as_secs();
-        }
-        self.last
     }
 }
 

@@ -2,10 +2,10 @@ ghost use Rattle.std.specs.Prelude.{◌≡◌, IfOk};
 ghost use Rattle.rsl_receive.specs.Told.{no_numbers};
 ghost use Rattle.rsl_serve.specs.Served.{HasReceived};
 
-use crate::clock::{EverySecond, SystemClock};
+use crate::clock::EverySecond;
 use crate::server::{Finished, Passes, Server, Sockets};
 use crate::shutdown::PairedPort;
-use rsl_edges::{ServeFault, UdpPort};
+use rsl_edges::{ServeFault, SystemClock, UdpPort};
 use rsl_event::Port;
 use rsl_receive::{Counts, expire_loop, receive};
 use rsl_service::{Pass, Tally};

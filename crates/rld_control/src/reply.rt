@@ -1,0 +1,30 @@
+ghost use Rattle.rld_control.specs.Reply.{IsReply};
+
+/// How an answer of a running server ends, and what stands before that.
+#[derive(Clone, Copy, Debug, PartialEq, Eq)]
+pub enum Reply<'a> {
+    /// It was done. These are the lines before the last, each with its line feed.
+    Done(&'a [u8]),
+    /// It was not done, and this is why.
+    Refused(&'a [u8]),
+    /// The answer was cut off.
+    Broken,
+}
+
+impl Reply<'_> {
+    /// What an answer says, whose octets are all there.
+    pub fn of(octets: &[u8]) -> Reply<'_>
+        ensures { IsReply octets.now result }
+    {
+        if let Some(lines) = octets.strip_suffix(b"ok\n") {
+            return Reply::Done(lines);
+        }
+        let Some(rest) = octets.strip_prefix(b"error ") else {
+            return Reply::Broken;
+        };
+        match rest.strip_suffix(b"\n") {
+            Some(text) => Reply::Refused(text),
+            None => Reply::Broken,
+        }
+    }
+}

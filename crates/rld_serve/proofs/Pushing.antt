@@ -1,0 +1,25 @@
+-- Jobs that are added at the end of a list.
+use Rattle.std.proofs.Common.{◌≡◌, ◌+◌, ◌∷◌, ◌++◌, [], ℕ, List, ap, map, append_assoc, ◌∙◌}
+use Rattle.std.proofs.Math.ListN.{replicate}
+use Rattle.std.proofs.lemmas.List.{map-append, replicate-append-replicate}
+
+-- one more of a kind of which there were so many
+pub one_more : {A B : Type 0} (f : A → B) (first : List B) (jobs more : List A) (job : A) (n : ℕ) (kind : B)
+    → more ≡ jobs ++ job ∷ [] → map f jobs ≡ first ++ replicate n kind → f job ≡ kind → map f more ≡ first ++ replicate (n + 1) kind
+one_more f first jobs more job n kind pushed before is =
+    ap (map f) pushed
+    ∙ (map-append f jobs (job ∷ [])
+    ∙ (ap (λ all. all ++ f job ∷ []) before
+    ∙ (append_assoc first (replicate n kind) (f job ∷ [])
+    ∙ ap (λ rest. first ++ rest) (ap (λ last. replicate n kind ++ last ∷ []) is ∙ replicate-append-replicate n 1 kind))))
+
+-- one after the other
+pub two_more : {A B : Type 0} (f : A → B) (before : List B) (jobs one two : List A) (job next : A)
+    → map f jobs ≡ before → one ≡ jobs ++ job ∷ [] → two ≡ one ++ next ∷ [] → map f two ≡ before ++ f job ∷ f next ∷ []
+two_more f before jobs one two job next is first second =
+    ap (map f) second
+    ∙ (map-append f one (next ∷ [])
+    ∙ (ap (λ all. map f all ++ f next ∷ []) first
+    ∙ (ap (λ all. all ++ f next ∷ []) (map-append f jobs (job ∷ []))
+    ∙ (ap (λ all. (all ++ f job ∷ []) ++ f next ∷ []) is
+    ∙ append_assoc before (f job ∷ []) (f next ∷ [])))))

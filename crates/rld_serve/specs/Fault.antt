@@ -1,0 +1,31 @@
+-- Which fault of its workers is a server's.
+use Rattle.std.specs.Prelude.{ℕ, ◌<◌, List, [], ◌∷◌, Option, Some, None, Result, Ok, Err, nat_lt, if◌then◌else◌}
+use Rattle.rld_serve.specs.declared.fault.RunFault.{RunFault}
+use Rattle.rld_serve.specs.declared.fault.RunFault.TheVariants.{Unbound, Threads, Down, NoMemory, Unsynced}
+
+-- how grave a fault is
+abbrev pub gravity : RunFault → ℕ
+gravity Threads = 1
+gravity (Unbound address) = 2
+gravity Down = 2
+gravity NoMemory = 3
+gravity Unsynced = 4
+
+-- a worker's fault, if it has one
+abbrev pub fault_in : {T : Type 0} → Result T RunFault → Option RunFault
+fault_in (Ok value) = None
+fault_in (Err fault) = Some fault
+
+-- the graver of two, and the first of those that are as grave
+abbrev pub graver : Option RunFault → Option RunFault → Option RunFault
+graver None next = next
+graver (Some fault) None = Some fault
+graver (Some fault) (Some next) = if nat_lt (gravity fault) (gravity next) then Some next else Some fault
+
+-- the gravest of them all, after one that was found before them
+abbrev pub gravest_after : {T : Type 0} → Option RunFault → List (Result T RunFault) → Option RunFault
+gravest_after found [] = found
+gravest_after found (ended ∷ more) = gravest_after (graver found (fault_in ended)) more
+
+abbrev pub gravest : {T : Type 0} → List (Result T RunFault) → Option RunFault
+gravest ended = gravest_after None ended

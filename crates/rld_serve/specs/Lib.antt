@@ -1,0 +1,5 @@
+pub mod Fault
+pub mod Jobs
+pub mod Keeping
+pub mod Totals
+pub mod Troubled

@@ -1,0 +1,75 @@
+ghost use Rattle.std.specs.Prelude.{◌≡◌, ◌++◌, map, IfOk, OnOk};
+ghost use Rattle.std.specs.List.{flat_map};
+ghost use Rattle.rld_serve.specs.Jobs.{jobs_of, jobs_on, receivers_on, seen};
+
+use crate::control::Control;
+use crate::sockets::{Pair, Sockets};
+use rsl_event::Port;
+use std::alloc::{AllocError, Global};
+use std::net::UdpSocket;
+
+/// What a worker of a server does.
+#[derive(Clone, Copy, Drop)]
+pub(crate) enum Job<'a> {
+    /// It takes datagrams from this socket, for this port.
+    Receive(&'a UdpSocket, Port),
+    /// It makes ticks.
+    Tick,
+    /// It answers operators.
+    Answer(&'a Control),
+}
+
+impl Sockets {
+    /// What the workers of a server do: so many receivers on each socket as the server's file says,
+    /// one that makes ticks, and one that answers at the control. It fails only where memory is refused.
+    #[tactic(auto, using(crate::proofs::Pushing::two_more))]
+    pub(crate) fn jobs<'a>(
+        &'a self,
+        alloc: Global,
+        control: &'a Control,
+    ) -> Result<Vec<Job<'a>>, AllocError>
+        ensures { IfOk result (λ jobs.
+            map seen jobs.items ≡ jobs_of self.now.pairs.items control.now) }
+    {
+        let mut jobs = self.receivers(alloc)?;
+        jobs.push(Job::Tick)?;
+        jobs.push(Job::Answer(control))?;
+        Ok(jobs)
+    }
+
+    /// So many receivers on each socket as the server's file says.
+    fn receivers(&self, alloc: Global) -> Result<Vec<Job<'_>>, AllocError>
+        ensures { IfOk result (λ jobs.
+            map seen jobs.items ≡ flat_map jobs_on self.now.pairs.items) }
+    {
+        let mut jobs = Vec::new(alloc);
+        for pair in self.pairs.as_slice() {
+            push_pair(&mut jobs, pair)?;
+        }
+        Ok(jobs)
+    }
+}
+
+/// Adds the receivers of both sockets of a `[[listen]]`.
+fn push_pair<'a>(jobs: &mut Vec<Job<'a>>, pair: &'a Pair) -> Result<(), AllocError>
+    ensures { OnOk result (map seen jobs.new.items ≡ map seen jobs.old.items ++ jobs_on pair.now) }
+{
+    push_receivers(jobs, &pair.auth, Port::Auth, pair.receivers)?;
+    push_receivers(jobs, &pair.acct, Port::Acct, pair.receivers)?;
+    Ok(())
+}
+
+/// Adds so many receivers of a socket.
+fn push_receivers<'a>(
+    jobs: &mut Vec<Job<'a>>,
+    socket: &'a UdpSocket,
+    port: Port,
+    receivers: u16,
+) -> Result<(), AllocError>
+    ensures { OnOk result (map seen jobs.new.items ≡ map seen jobs.old.items ++ receivers_on socket.now port receivers) }
+{
+    for _ in 0..receivers {
+        jobs.push(Job::Receive(socket, port))?;
+    }
+    Ok(())
+}

@@ -1,0 +1,65 @@
+use std::sync::atomic::{AtomicBool, AtomicU64, Ordering};
+use std::thread;
+use std::time::{self, Duration};
+
+/// How often a worker looks whether all workers have started.
+const START_LOOKS: u64 = 5_000;
+
+/// How long it sleeps between two looks, in milliseconds.
+const START_SLEEP_MILLIS: u64 = 1;
+
+/// What a worker finds that waits for the others.
+#[derive(Clone, Copy, Debug, PartialEq, Eq)]
+pub(crate) enum Start {
+    /// All have started.
+    All,
+    /// One has ended already.
+    Over,
+    /// One has not started.
+    Missing,
+}
+
+/// What the workers of a server tell each other: how many have started, and that all shall end.
+#[derive(Drop)]
+pub(crate) struct Shutdown {
+    workers: u64,
+    started: AtomicU64,
+    is_over: AtomicBool,
+}
+
+impl Shutdown {
+    /// No worker of so many has started.
+    pub(crate) fn new(workers: usize) -> Shutdown {
+        Shutdown {
+            workers: workers as u64,
+            started: AtomicU64::new(0),
+            is_over: AtomicBool::new(false),
+        }
+    }
+
+    /// Tells that a worker has started, and waits until all have, for some five seconds at most. A
+    /// worker for which no thread can be made starts only once another has ended.
+    pub(crate) fn await_start<C: time::Clock>(&self, clock: &C) -> Start {
+        self.started.fetch_add(1, Ordering::SeqCst);
+        for _ in 0..START_LOOKS {
+            if self.is_over() {
+                return Start::Over;
+            }
+            if self.started.load(Ordering::SeqCst) >= self.workers {
+                return Start::All;
+            }
+            thread::sleep(clock, Duration::from_millis(START_SLEEP_MILLIS));
+        }
+        Start::Missing
+    }
+
+    /// Tells all workers to end.
+    pub(crate) fn end(&self) {
+        self.is_over.store(true, Ordering::SeqCst);
+    }
+
+    /// Whether all workers shall end.
+    pub(crate) fn is_over(&self) -> bool {
+        self.is_over.load(Ordering::SeqCst)
+    }
+}

@@ -1,0 +1,56 @@
+ghost use Rattle.std.specs.Prelude.{◌≡◌};
+ghost use Rattle.rld_serve.specs.Troubled.{news_of};
+
+use std::fmt;
+
+/// What an operator is told of how batches are recorded. It prints as a line of standard error.
+#[derive(Clone, Copy, Debug, PartialEq, Eq)]
+pub(crate) enum News {
+    /// Batches are not recorded from now on.
+    Began,
+    /// They are recorded again.
+    Over,
+}
+
+impl fmt::Display for News {
+    fn fmt<W: fmt::Write>(&self, f: &mut fmt::Formatter<W>) -> fmt::Result {
+        match self {
+            News::Began => f.write_str(
+                "not recorded, and so not answered: the disk is full or fails, or memory is refused",
+            ),
+            News::Over => f.write_str("recorded again"),
+        }
+    }
+}
+
+/// Whether batches are not recorded, as it was told last.
+#[derive(Clone, Copy, Debug, PartialEq, Eq)]
+pub(crate) struct Trouble {
+    is_there: bool,
+}
+
+impl Trouble {
+    ghost use Rattle.std.specs.Prelude.{false};
+
+    /// All is well.
+    pub(crate) fn new() -> Trouble
+        ensures { result.is_there ≡ false }
+    {
+        Trouble { is_there: false }
+    }
+
+    /// What is to be told after a second in which a batch was not recorded, or each was: nothing as
+    /// long as it is as before.
+    pub(crate) fn news(&mut self, has_failed: bool) -> Option<News>
+        ensures news { result ≡ news_of self.old.is_there has_failed }
+        ensures kept { self.new.is_there ≡ has_failed }
+    {
+        let was_there = self.is_there;
+        self.is_there = has_failed;
+        match (was_there, has_failed) {
+            (false, true) => Some(News::Began),
+            (true, false) => Some(News::Over),
+            _ => None,
+        }
+    }
+}
