@@ -10,20 +10,11 @@ set -euo pipefail
 top=$(cd "$(dirname "$0")/.." && pwd)
 program=${1:-$top/radlimit}
 said=$(mktemp)
-failed=0
 
 server=
 trap 'kill "$server" 2> /dev/null || true; wait "$server" 2> /dev/null || true; rm -f "$said"' EXIT
 
-# Two UDP ports that nobody has.
-free_ports() {
-    PYTHONPATH="$top/bench/radius" python3 -Bc 'from served import free_ports; print(*free_ports())'
-}
-
-# Whether a UDP socket is bound on this port.
-bound() {
-    grep -q "^ *[0-9]*: [0-9A-F]*:$(printf %04X "$1") " /proc/net/udp
-}
+. "$top/examples/radclient.bash"
 
 # Starts the server, and waits for its sockets as long as the process is there.
 start() {
@@ -45,28 +36,6 @@ fi
 start || start || start || {
     echo "the server has not started: $(cat "$said")" >&2
     exit 1
-}
-
-# Sends a packet and looks at the answer:
-# expect WHAT CODE PATTERN auth|acct SECRET ATTRIBUTE..
-# CODE is the answer's name, or nothing where none may come; PATTERN, if there is one, stands in a line of it.
-expect() {
-    local what=$1 code=$2 pattern=$3 kind=$4 secret=$5
-    shift 5
-    local port=$auth wait=3
-    if [ "$kind" = acct ]; then port=$acct; fi
-    if [ -z "$code" ]; then wait=1; fi
-    answer=$(printf '%s\n' "$@" | radclient -x -r 1 -t "$wait" "127.0.0.1:$port" "$kind" "$secret" 2>&1) || true
-    received=$(sed -n '/^Received /,$p' <<< "$answer")
-    local found
-    found=$(sed -n 's/^Received \([A-Za-z-]*\) .*/\1/p' <<< "$received")
-    if [ "$found" = "$code" ] && { [ -z "$pattern" ] || grep -q -- "$pattern" <<< "$received"; }; then
-        echo "$what: ${code:-no answer}"
-    else
-        echo "$what: wanted ${code:-no answer}${pattern:+ with $pattern}, and found:"
-        sed 's/^/    /' <<< "$answer"
-        failed=1
-    fi
 }
 
 # The same from the client 127.0.0.1, and from 127.0.0.2, which has to sign.

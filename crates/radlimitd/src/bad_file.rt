@@ -1,4 +1,5 @@
 use rld_config::{Place, ServerFault};
+use rld_start as start;
 use rsl_accounts::ConfigFault;
 use std::fmt;
 use thiserror::Error;
@@ -9,7 +10,10 @@ pub(crate) enum Wrong {
     /// The file is not there, or a read of it failed.
     #[error("unreadable")]
     Unreadable,
-    /// It has over 16,777,216 octets.
+    /// It has not the name of a log.
+    #[error("no log by its name")]
+    NoLog,
+    /// It has more octets than it may have.
     #[error("too long")]
     TooLong,
     /// A server's file is refused.
@@ -40,4 +44,14 @@ impl fmt::Display for BadFile {
         }
         write!(f, ": bad file: {}", self.wrong)
     }
+}
+
+/// A file of a state folder that is damaged. It prints as `bad log: state/log-1-2 at 40: damaged`.
+#[derive(Debug, Drop, Error)]
+#[error("bad log: {name} {wrong}")]
+pub(crate) struct BadLog {
+    /// The name of the file.
+    pub(crate) name: String,
+    /// What is wrong with it, and where.
+    pub(crate) wrong: start::Wrong,
 }

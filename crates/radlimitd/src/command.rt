@@ -1,11 +1,19 @@
 ghost use Rattle.std.specs.Prelude.{◌≡◌, map, string_bytes};
-ghost use Rattle.radlimitd.specs.Arguments.{command_of, command_of_file, command_of_word};
+ghost use Rattle.radlimitd.specs.Arguments.{command_of, command_of_file, command_of_files, command_of_word};
 
 /// What the program is asked to do.
 #[derive(Clone, Copy, Debug, PartialEq, Eq)]
 pub(crate) enum Command {
     /// To check a server's file, which the second word names.
     Check,
+    /// To run a server, whose file the second word names.
+    Run,
+    /// To print the moves of logs, which the words behind the first name.
+    Lines,
+    /// To say of the running server of a file since when it runs, and what its accounts hold.
+    Status,
+    /// To end the running server of a file.
+    Stop,
     /// To print its version.
     Version,
     /// To print what it can be asked.
@@ -20,6 +28,7 @@ impl Command {
         match words {
             [word] => Command::of_word(word.as_str()),
             [word, _file] => Command::of_file(word.as_str()),
+            [word, ..] => Command::of_files(word.as_str()),
             _ => None,
         }
     }
@@ -41,6 +50,19 @@ impl Command {
     {
         match word {
             "check" => Some(Command::Check),
+            "run" => Some(Command::Run),
+            "status" => Some(Command::Status),
+            "stop" => Some(Command::Stop),
+            _ => Command::of_files(word),
+        }
+    }
+
+    /// What a word asks for with the names of one or more files behind it.
+    fn of_files(word: &str) -> Option<Command>
+        ensures { result ≡ command_of_files word.now }
+    {
+        match word {
+            "lines" => Some(Command::Lines),
             _ => None,
         }
     }

@@ -1,6 +1,6 @@
 ghost use Rattle.std.specs.Prelude.{◌≡◌};
 ghost use Rattle.std.specs.Process.{exit_status};
-ghost use Rattle.rsl_report.specs.ExitStatus.{number_of};
+ghost use Rattle.rld_start.specs.Status.{number_of};
 ghost use Rattle.radlimitd.specs.Status.{status_after};
 
 use crate::fault::Fault;

@@ -1,8 +1,10 @@
 ghost use Rattle.std.specs.Prelude.{◌≡◌};
-ghost use Rattle.radlimitd.specs.declared.fault.Fault.TheVariants.{InputOutput, NoMemory as no_memory};
+ghost use Rattle.radlimitd.specs.Status.{run_status};
+ghost use Rattle.radlimitd.specs.declared.fault.Fault.TheVariants.{InputOutput, NoMemory as no_memory, Run, Start};
 
-use crate::bad_file::BadFile;
-use rsl_report::ExitStatus;
+use crate::bad_file::{BadFile, BadLog};
+use rld_serve::RunFault;
+use rld_start::{EndStatus, StartFault};
 use rsl_wire::NoMemory;
 use std::alloc::AllocError;
 use std::io;
@@ -12,12 +14,30 @@ use thiserror::Error;
 #[derive(Debug, Drop, Error)]
 pub(crate) enum Fault {
     /// The arguments are wrong.
-    #[error("usage: radlimitd check FILE or radlimitd version or radlimitd help")]
+    #[error("usage: radlimitd check FILE or radlimitd run FILE or radlimitd lines FILE.. or radlimitd status FILE or radlimitd stop FILE or radlimitd version or radlimitd help")]
     Usage,
     /// The server's file is wrong, or the account file that it names.
     #[error("{0}")]
     BadFile(BadFile),
-    /// A write failed.
+    /// A file of a state folder is damaged.
+    #[error("{0}")]
+    BadLog(BadLog),
+    /// The server does not start from its folder.
+    #[error("{0}")]
+    Start(StartFault),
+    /// The server has not started its threads and sockets, or could not go on.
+    #[error("{0}")]
+    Run(RunFault),
+    /// The control's socket cannot be made there.
+    #[error("{0}: cannot be bound")]
+    Control(String),
+    /// No server answers at the control of this path.
+    #[error("{0}: no server answers")]
+    Silent(String),
+    /// The server does not do what it was asked.
+    #[error("{0}")]
+    Refused(String),
+    /// A write failed, or the clock could not be read.
     #[error("input or output fault")]
     InputOutput,
     /// Memory was refused.
@@ -29,14 +49,45 @@ impl Fault {
     ghost use Rattle.radlimitd.specs.Status.{fault_status};
 
     /// The status with which the process ends.
-    pub(crate) fn status(&self) -> ExitStatus
+    pub(crate) fn status(&self) -> EndStatus
         ensures { result ≡ fault_status self.now }
     {
         match self {
-            Fault::Usage | Fault::BadFile(_) => ExitStatus::WrongInput,
-            Fault::InputOutput => ExitStatus::InputOutput,
-            Fault::NoMemory => ExitStatus::NoMemory,
+            Fault::Usage | Fault::BadFile(_) | Fault::BadLog(_) => EndStatus::WrongInput,
+            Fault::Start(fault) => fault.status(),
+            Fault::Run(fault) => run_status(*fault),
+            Fault::Control(_) | Fault::Silent(_) | Fault::Refused(_) | Fault::InputOutput => {
+                EndStatus::InputOutput
+            }
+            Fault::NoMemory => EndStatus::NoMemory,
         }
+    }
+}
+
+/// The status of a server that ends so.
+fn run_status(fault: RunFault) -> EndStatus
+    ensures { result ≡ run_status fault }
+{
+    match fault {
+        RunFault::Unbound(_) | RunFault::Threads | RunFault::Down => EndStatus::InputOutput,
+        RunFault::NoMemory => EndStatus::NoMemory,
+        RunFault::Unsynced => EndStatus::Unsynced,
+    }
+}
+
+impl From<StartFault> for Fault {
+    ghost from_gives = { λ fault made. made ≡ Start fault };
+
+    fn from(fault: StartFault) -> Fault {
+        Fault::Start(fault)
+    }
+}
+
+impl From<RunFault> for Fault {
+    ghost from_gives = { λ fault made. made ≡ Run fault };
+
+    fn from(fault: RunFault) -> Fault {
+        Fault::Run(fault)
     }
 }
 

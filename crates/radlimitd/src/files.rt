@@ -5,11 +5,15 @@
 
 use crate::bad_file::{BadFile, Wrong};
 use crate::fault::Fault;
-use rld_config::{Place, ServerFault, ServerFile, TextFault, break_of, text_of_file};
+use rld_config::{Place, ServerFault, ServerFile, break_of};
 use rsl_accounts::{Config, ConfigFault};
+use rsl_text::{TextFault, read_file};
 use std::alloc::Global;
 use std::fs::{self, Files};
 use std::os::unix::fs::PermissionsExt;
+
+/// The most octets of a server's file or an account file.
+const MAX_FILE_LEN: u32 = 16_777_216;
 
 /// An account file that is right.
 #[derive(Drop)]
@@ -65,7 +69,7 @@ pub(crate) fn account_file<F: Files>(
 
 /// The text of the file of this name.
 fn file_text<F: Files>(files: &F, alloc: Global, name: &str) -> Result<Vec<u8>, Fault> {
-    match text_of_file(files, alloc, name) {
+    match read_file(files, alloc, name, MAX_FILE_LEN) {
         Ok(text) => Ok(text),
         Err(TextFault::Unreadable) => bad_file(alloc, name, None, Wrong::Unreadable),
         Err(TextFault::TooLong) => bad_file(alloc, name, None, Wrong::TooLong),

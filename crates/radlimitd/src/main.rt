@@ -1,24 +1,38 @@
-//! The program `radlimitd`: the server that an operator keeps. `radlimitd check FILE` says what is
-//! wrong with a server's file, or with the account file that it names.
+//! The program `radlimitd`: the server that an operator keeps. `radlimitd run FILE` is the server,
+//! `radlimitd check FILE` says what is wrong with its file, or with the account file that it names, and
+//! `radlimitd lines FILE..` prints the moves of logs of a state folder.
 //!
 //! This crate has the edges of the process: its arguments, its files, what it prints and the exit
 //! status, which is that of the fault (`exit_code`).
 #![tactic(auto)]
 
+mod ask;
 mod bad_file;
 mod check;
 mod command;
 mod exit;
 mod fault;
 mod files;
+mod greeting;
+mod lines;
+mod run;
 
+use ask::ask;
 use check::check;
 use command::Command;
 use exit::exit_code;
 use fault::Fault;
-use std::env;
+use lines::lines;
+use run::run;
+use std::alloc::Global;
+use std::env::{self, Env};
+use std::fs::{File, Files};
 use std::io::{self, ErrorKind, Write};
+use std::net::{Net, TcpListener, TcpStream};
 use std::process::ExitCode;
+use std::sync::Wait;
+use std::thread::Threads;
+use std::time::Clock;
 
 /// The name and the version of the program.
 const VERSION: &str = "radlimitd 0.2.0\n";
@@ -26,17 +40,34 @@ const VERSION: &str = "radlimitd 0.2.0\n";
 /// What the program can be asked.
 const HELP: &str = "\
 radlimitd check FILE    says what is wrong with a server's file, or with the account file that it names
+radlimitd run FILE      runs the server of this file, until it is killed
+radlimitd lines FILE..  prints the moves of logs of a state folder, each with its decision
+radlimitd status FILE   says since when the server of this file runs, and what its accounts hold
+radlimitd stop FILE     ends it
 radlimitd version       prints the version
 radlimitd help          prints this
 ";
 
 fn main(rt: HostRuntime) -> ExitCode {
-    let outcome = work(&rt);
+    let outcome = work(&rt, &mut rt.stdout(), &mut rt.stderr());
     exit_code(&mut rt.stderr(), outcome)
 }
 
-/// Does what the arguments ask for.
-fn work(rt: &HostRuntime) -> Result<(), Fault> {
+/// Does what the arguments ask for, and writes what it gives.
+fn work<R, W: Write, S: Write>(rt: &R, stdout: &mut W, stderr: &mut S) -> Result<(), Fault>
+where
+    R: Env
+        + Files<File = File>
+        + Net<Listener = TcpListener, Stream = TcpStream>
+        + Alloc<A = Global>
+        + Clone
+        + Drop
+        + Eprint
+        + Clock
+        + Threads
+        + Wait
+        + Sync,
+{
     let alloc = rt.alloc();
     let mut words = match env::args(rt) {
         Ok(words) => words,
@@ -45,9 +76,23 @@ fn work(rt: &HostRuntime) -> Result<(), Fault> {
     let _ = words.next();
     let words: Vec<String> = words.collect(alloc)?;
     match (Command::of_words(words.as_slice()), words.as_slice()) {
-        (Some(Command::Check), [_, file]) => check(rt, alloc, file.as_str(), &mut rt.stdout()),
-        (Some(Command::Version), _) => say(&mut rt.stdout(), VERSION),
-        (Some(Command::Help), _) => say(&mut rt.stdout(), HELP),
+        (Some(Command::Check), [_, file]) => check(rt, alloc, file.as_str(), stdout),
+        (Some(Command::Lines), [_, names @ ..]) => lines(rt, alloc, names, stdout, stderr),
+        (Some(Command::Run), [_, file]) => run(rt, alloc, file.as_str()),
+        (Some(Command::Status), [_, file]) => {
+            ask(
+                rt,
+                alloc,
+                file.as_str(),
+                rld_control::Command::Status,
+                stdout,
+            )
+        }
+        (Some(Command::Stop), [_, file]) => {
+            ask(rt, alloc, file.as_str(), rld_control::Command::Stop, stdout)
+        }
+        (Some(Command::Version), _) => say(stdout, VERSION),
+        (Some(Command::Help), _) => say(stdout, HELP),
         _ => Err(Fault::Usage),
     }
 }

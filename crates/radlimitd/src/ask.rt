@@ -1,0 +1,62 @@
+use crate::fault::Fault;
+use crate::files::server_file;
+use rld_config::Paths;
+use rld_control::{Command, Reply};
+use std::alloc::Global;
+use std::fs::Files;
+use std::io::{self, ErrorKind, Read, Write};
+use std::net::Net;
+use std::os::unix::net::UnixStream;
+use std::time::Duration;
+
+/// How long the server may keep silent, in seconds.
+const SILENCE_SECS: u64 = 5;
+
+/// The most octets of an answer.
+const ANSWER_LEN: u64 = 16_777_216;
+
+/// Asks the running server of this file, and writes the lines that it answers.
+///
+/// `Silent` comes where no server answers whole at the control that the file says, and `Refused` with
+/// what the server says instead.
+pub(crate) fn ask<R: Files + Net, W: Write>(
+    rt: &R,
+    alloc: Global,
+    name: &str,
+    command: Command,
+    writer: &mut W,
+) -> Result<(), Fault> {
+    let server = server_file(rt, alloc, name)?;
+    let Paths { control, .. } = Paths::of(alloc, name, &server)?;
+    let octets = match answer_to(rt, alloc, control.as_str(), command) {
+        Ok(octets) => octets,
+        Err(error) if error.kind() == ErrorKind::OutOfMemory => return Err(Fault::NoMemory),
+        Err(_) => return silent(alloc, control.as_str()),
+    };
+    match Reply::of(octets.as_slice()) {
+        Reply::Done(lines) => {
+            writer.write_all(lines)?;
+            Ok(writer.flush()?)
+        }
+        Reply::Refused(text) => Err(Fault::Refused(String::from_utf8_lossy(alloc, text)?)),
+        Reply::Broken => silent(alloc, control.as_str()),
+    }
+}
+
+/// The fault of a control at which no server answers.
+fn silent(alloc: Global, path: &str) -> Result<(), Fault> {
+    Err(Fault::Silent(String::from_str(alloc, path)?))
+}
+
+/// All that a server answers to a command, at the control of this path.
+fn answer_to<R: Net>(rt: &R, alloc: Global, path: &str, command: Command) -> io::Result<Vec<u8>> {
+    let stream = UnixStream::connect(rt, path)?;
+    stream.set_read_timeout(Some(Duration::from_secs(SILENCE_SECS)))?;
+    let mut to = &stream;
+    to.write_all(command.word().as_bytes())?;
+    to.write_all(b"\n")?;
+    let mut octets = Vec::new(alloc);
+    let from = &stream;
+    from.take(ANSWER_LEN).read_to_end(&mut octets)?;
+    Ok(octets)
+}

@@ -1,0 +1,99 @@
+//! `radlimitd lines`: the moves of logs, with their decisions.
+
+use crate::bad_file::{BadFile, BadLog, Wrong};
+use crate::fault::Fault;
+use rld_folder::{FileName, Generation};
+use rld_lines::{LinesFault, LogFile, write_lines};
+use rld_start as start;
+use rsl_text::{TextFault, read_file};
+use std::alloc::Global;
+use std::fs::Files;
+use std::io::Write;
+use std::path::Path;
+
+/// Prints each move of these logs with its decision, a line each: those of the first file, then those
+/// of the next. Of each file that ends in a torn end it says so on standard error, with its length.
+///
+/// Beside a log stands its era's file. A file that has another name than a log, or cannot be read, is
+/// a `BadFile`. One that is damaged is a `BadLog`: with the first place that is wrong. The lines of
+/// the files before it are printed, and of itself those of the batches before that place.
+pub(crate) fn lines<F: Files, W: Write, S: Write>(
+    files: &F,
+    alloc: Global,
+    names: &[String],
+    writer: &mut W,
+    stderr: &mut S,
+) -> Result<(), Fault> {
+    for name in names {
+        lines_of(files, alloc, name.as_str(), writer, stderr)?;
+    }
+    Ok(writer.flush()?)
+}
+
+/// Prints the moves of one log.
+fn lines_of<F: Files, W: Write, S: Write>(
+    files: &F,
+    alloc: Global,
+    name: &str,
+    writer: &mut W,
+    stderr: &mut S,
+) -> Result<(), Fault> {
+    let generation = generation_of(alloc, name)?;
+    let octets = octets_of(files, alloc, name)?;
+    let era = FileName::Era(generation.era).text(alloc)?;
+    let era = Path::new(name).with_file_name(alloc, era.as_str())?;
+    let table = octets_of(files, alloc, era.as_str())?;
+    let log = LogFile {
+        name,
+        generation,
+        octets: octets.as_slice(),
+    };
+    match write_lines(alloc, table.as_slice(), log, writer) {
+        Ok(printed) if printed.torn > 0 => {
+            writeln!(stderr, "{name}: a torn end of {} octets", printed.torn)?;
+            Ok(())
+        }
+        Ok(_) => Ok(()),
+        Err(LinesFault::NoMemory) => Err(Fault::NoMemory),
+        Err(LinesFault::Unwritten) => Err(Fault::InputOutput),
+        Err(LinesFault::Table(wrong)) => bad_log(alloc, era.as_str(), wrong),
+        Err(LinesFault::Log(wrong)) => bad_log(alloc, name, wrong),
+    }
+}
+
+/// The generation that a file has the name of.
+fn generation_of(alloc: Global, name: &str) -> Result<Generation, Fault> {
+    if let Some(last) = Path::new(name).file_name() {
+        if let Some(FileName::Log(generation)) = FileName::read(alloc, last)? {
+            return Ok(generation);
+        }
+    }
+    bad_file(alloc, name, Wrong::NoLog)
+}
+
+/// The octets of a file.
+fn octets_of<F: Files>(files: &F, alloc: Global, name: &str) -> Result<Vec<u8>, Fault> {
+    match read_file(files, alloc, name, u32::MAX) {
+        Ok(octets) => Ok(octets),
+        Err(TextFault::NoMemory) => Err(Fault::NoMemory),
+        Err(TextFault::TooLong) => bad_file(alloc, name, Wrong::TooLong),
+        Err(TextFault::Unreadable) => bad_file(alloc, name, Wrong::Unreadable),
+    }
+}
+
+/// The fault of a file that is wrong.
+fn bad_file<T>(alloc: Global, name: &str, wrong: Wrong) -> Result<T, Fault> {
+    Err(Fault::BadFile(BadFile {
+        name: String::from_str(alloc, name)?,
+        place: None,
+        wrong,
+    }))
+}
+
+/// The fault of a file of the folder that is damaged.
+fn bad_log<T>(alloc: Global, name: &str, wrong: start::Wrong) -> Result<T, Fault> {
+    Err(Fault::BadLog(BadLog {
+        name: String::from_str(alloc, name)?,
+        wrong,
+    }))
+}

@@ -1,0 +1,123 @@
+#!/usr/bin/env bash
+# Starts radlimitd on free ports of 127.0.0.1 with a folder of its own, lets a session start, kills the server, starts it
+# again, and looks at each answer. It exits with 0 only where every answer was the right one.
+#
+# usage: examples/radlimitd.sh [PROGRAM]        PROGRAM: the program radlimitd, as it was built if it is not given
+#
+# It wants Linux, Python 3 and radclient (Debian's package freeradius-utils).
+set -euo pipefail
+
+top=$(cd "$(dirname "$0")/.." && pwd)
+program=${1:-$top/crates/radlimitd/out/radlimitd}
+folder=$(mktemp -d)
+said=$folder/said
+
+server=
+trap 'kill -9 "$server" 2> /dev/null || true; wait "$server" 2> /dev/null || true; rm -rf "$folder"' EXIT
+
+. "$top/examples/radclient.bash"
+
+# Starts the server, and waits until it says what it found.
+start() {
+    : > "$said"
+    "$program" run "$folder/radlimitd.toml" 2> "$said" &
+    server=$!
+    until [ -s "$said" ]; do
+        kill -0 "$server" 2> /dev/null || return 1
+        sleep 0.1
+    done
+    kill -0 "$server" 2> /dev/null
+}
+
+# Starts it for the first time, on ports that nobody has.
+start_first() {
+    read -r auth acct < <(free_ports)
+    rm -rf "$folder/state"
+    cat > "$folder/radlimitd.toml" << END
+accounts = "accounts.toml"
+state = "state"
+listen = [{ address = "127.0.0.1", auth = $auth, acct = $acct }]
+END
+    start
+}
+
+# Looks at what something is: shows WHAT EXPECTED FOUND
+shows() {
+    if [ "$2" = "$3" ]; then
+        echo "$1: $3"
+    else
+        echo "$1: wanted $2, and found $3"
+        failed=1
+    fi
+}
+
+# The octets of the answer to the first request of this script, in hexadecimal digits. The request is the same each time,
+# as an access server repeats it: the same octets, from the same port.
+first_answer() {
+    PYTHONPATH="$top/bench/radius" python3 -B - "$auth" "$source" << 'END'
+import socket
+import sys
+from served import HOST, access_request, attribute
+
+with socket.socket(socket.AF_INET, socket.SOCK_DGRAM) as one:
+    one.bind((HOST, int(sys.argv[2])))
+    one.settimeout(3)
+    names = attribute(1, b"nemo") + attribute(32, b"pop1")
+    one.sendto(access_request(1, b"testing123", names, bytes(range(16)), b"arctangent"), (HOST, int(sys.argv[1])))
+    print(one.recv(4096).hex())
+END
+}
+
+# The status and the text of a server that does not start.
+refused() {
+    local text status=0
+    text=$("$program" run "$folder/radlimitd.toml" 2>&1) || status=$?
+    echo "$text, status $status"
+}
+
+install -m 600 "$top/examples/with-radclient.toml" "$folder/accounts.toml"
+read -r source _ < <(free_ports)
+# another program may take a port in between
+start_first || start_first || start_first || {
+    echo "the server has not started: $(cat "$said")" >&2
+    exit 1
+}
+
+nas='NAS-Identifier = "pop1"'
+name='User-Name = "nemo"'
+pap='User-Password = "arctangent"'
+session='Acct-Session-Id = "s1"'
+
+# Sends a packet as the client 127.0.0.1, and looks at the answer.
+from_client() { expect "$1" "$2" "$3" "$4" testing123 "${@:5}"; }
+
+shows 'a server on a new folder' 'era 1, new: 0 sessions' "$(cat "$said")"
+shows 'a second one' 'busy, status 2' "$(refused)"
+answer_before=$(first_answer)
+shows 'a login by PAP, its code' 02 "${answer_before:0:2}"
+class="Class = 0x$(sed -n 's/.*1912\([0-9a-f]\{32\}\).*/\1/p' <<< "$answer_before")"
+from_client 'a login beside it' Access-Reject 'Session limit reached' auth "$name" "$pap" "$nas"
+from_client 'the session starts' Accounting-Response '' acct \
+    'Acct-Status-Type = Start' "$name" "$nas" "$session" "$class"
+
+{ kill -9 "$server" && wait "$server"; } 2> /dev/null || true
+start || {
+    echo "the server has not started again: $(cat "$said")" >&2
+    exit 1
+}
+
+shows 'killed, and started again' 'era 1, generation 1: 1 sessions' "$(cat "$said")"
+shows 'the first request again, its answer' "$answer_before" "$(first_answer)"
+from_client 'a login beside the session' Access-Reject 'Session limit reached' auth "$name" "$pap" "$nas"
+from_client 'the session stops' Accounting-Response '' acct 'Acct-Status-Type = Stop' "$name" "$nas" "$session" "$class"
+from_client 'a login after it' Access-Accept 'Class = ' auth "$name" "$pap" "$nas"
+
+shows 'what its accounts hold' 'places 3, held 1' "$("$program" status "$folder/radlimitd.toml" |
+    sed -n 's/^held/, held/; /places\|held/p' | tr -d '\n')"
+"$program" stop "$folder/radlimitd.toml"
+status=0
+wait "$server" || status=$?
+shows 'stopped, its status' 0 "$status"
+
+if [ "$failed" = 0 ]; then echo "every answer was the right one"; fi
+exit "$failed"
