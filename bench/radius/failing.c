@@ -63,6 +63,16 @@ ssize_t write(int fd, const void *octets, size_t len) {
     return fails("write", fd) ? -1 : syscall(SYS_write, fd, octets, len);
 }
 
+ssize_t pwrite64(int fd, const void *octets, size_t len, off64_t at) {
+    return fails("pwrite", fd) ? -1 : syscall(SYS_pwrite64, fd, octets, len, at);
+}
+
+ssize_t pwrite(int fd, const void *octets, size_t len, off_t at) { return pwrite64(fd, octets, len, at); }
+
+int fdatasync(int fd) { return fails("fdatasync", fd) ? -1 : syscall(SYS_fdatasync, fd); }
+
+int fsync(int fd) { return fails("fsync", fd) ? -1 : syscall(SYS_fsync, fd); }
+
 int clock_gettime(clockid_t clock, struct timespec *now) {
     return clock == CLOCK_REALTIME && fails("clock_gettime", -1) ? -1 : syscall(SYS_clock_gettime, clock, now);
 }

@@ -1,12 +1,14 @@
-"""What scripts of bench/ share that ask `radlimit serve`: the server as a process, and an access server, whose octets
-Python's hashlib and hmac make. It wants Linux."""
+"""What scripts of bench/ share that ask `radlimit serve` or `radlimitd run`: the server as a process, and an access
+server, whose octets Python's hashlib and hmac make. It wants Linux."""
 
+import contextlib
 import hashlib
 import hmac
 import itertools
 import os
 import random
 import re
+import select
 import signal
 import socket
 import struct
@@ -17,6 +19,7 @@ import time
 
 TOP = os.path.dirname(os.path.dirname(os.path.dirname(os.path.abspath(__file__))))
 PROGRAM = os.path.join(TOP, "crates", "rsl_app", "out", "rsl_app")
+DAEMON = os.path.join(TOP, "crates", "radlimitd", "out", "radlimitd")
 HOST = "127.0.0.1"
 UNUSED = itertools.cycle(random.sample(range(20_000, 32_000), 12_000))
 START, STOP, INTERIM = 1, 2, 3
@@ -28,10 +31,15 @@ REQUEST = bytes.fromhex(
 SECRET, PASSWORD = b"xyzzy5461", b"arctangent"
 COUNTS = re.compile(r"^(auth|acct) received (\d+) answered (\d+) dropped (\d+) refused (\d+) unsent (\d+)$", re.M)
 
+DAEMON_FILE = """accounts = "accounts.toml"
+state = "state"
+listen = [{{ address = "{}", auth = {}, acct = {}, receivers = {} }}]
+"""
+
 HEAD = """version = 1
 shards = {shards}
 reserve_secs = {reserve}
-live_secs = 900
+live_secs = {live}
 grace_secs = 900
 closed_secs = 3600
 keep_secs = {keep}
@@ -65,11 +73,11 @@ def free_ports():
     return found
 
 
-def account_file(path, clients, accounts, **numbers):
+def account_file(path, clients, accounts, live=900, **numbers):
     """Writes an account file, and gives its name: of clients with their secrets and whether they have to sign, and of
     accounts with their passwords, places and ports. The numbers are those that HEAD leaves open."""
     with open(path, "w", encoding="ascii") as file:
-        file.write(HEAD.format(**numbers))
+        file.write(HEAD.format(live=live, **numbers))
         for address, secret, signed in clients:
             file.write(f'[[client]]\naddress = "{address}"\nsecret = "{secret.decode()}"\n')
             file.write(f"signed = {str(signed).lower()}\n")
@@ -181,6 +189,69 @@ class Server:
     def resident(self):
         """The octets that are resident."""
         return resident(self.process)
+
+
+def daemon_file(folder, ports, receivers):
+    """Writes the file of a `radlimitd` whose account file is accounts.toml of the folder, and gives its name."""
+    path = os.path.join(folder, "radlimitd.toml")
+    with open(path, "w", encoding="ascii") as file:
+        file.write(DAEMON_FILE.format(HOST, *ports, receivers))
+    return path
+
+
+def daemon(file, environment=None):
+    """A `radlimitd` of this file that has begun, in this environment or in this process's: the process."""
+    words = [DAEMON, "run", file]
+    return subprocess.Popen(words, stdin=subprocess.DEVNULL, stderr=subprocess.PIPE, env=environment)
+
+
+def greeting(process, seconds):
+    """What a `radlimitd` says once it serves; it has so many seconds for that."""
+    if not select.select([process.stderr], [], [], seconds)[0]:
+        process.kill()
+        sys.exit(f"radlimitd has not begun within {seconds} seconds")
+    return process.stderr.readline().decode()
+
+
+class Repeater:
+    """An access server that sends all its requests at once, and repeats each until it is answered. A request is the
+    place of its port and octets."""
+
+    AGAIN = 0.3  # seconds
+
+    def __init__(self, requests, secret):
+        self.requests, self.secret = requests, secret
+        self.sockets = [socket.socket(socket.AF_INET, socket.SOCK_DGRAM) for _ in range(2)]
+        for one in self.sockets:
+            one.bind((HOST, 0))
+            one.setblocking(False)
+
+    def ask(self, ports, process, seconds):
+        """The answers, by the places of their requests. It asks until all are answered, the process ends, or so many
+        seconds have passed."""
+        answers, until = {}, time.monotonic() + seconds
+        while len(answers) < len(self.requests) and process.poll() is None and time.monotonic() < until:
+            for place, (at, octets) in enumerate(self.requests):
+                if place not in answers:
+                    self.sockets[at].sendto(octets, (HOST, int(ports[at])))
+            again = time.monotonic() + self.AGAIN
+            while (left := again - time.monotonic()) > 0 and len(answers) < len(self.requests):
+                for one in select.select(self.sockets, [], [], left)[0]:
+                    self.take(one, answers)
+        return answers
+
+    def take(self, one, answers):
+        """Takes a datagram."""
+        with contextlib.suppress(BlockingIOError):
+            reply = one.recv(4096)
+            for place, (at, octets) in enumerate(self.requests):
+                if self.sockets[at] is one and is_answer(reply, octets, self.secret):
+                    answers.setdefault(place, reply)
+
+    def close(self):
+        """Closes its sockets."""
+        for one in self.sockets:
+            one.close()
 
 
 def first_answer(port, request, secret, seconds):
