@@ -44,11 +44,7 @@ pub fn read_file<F: Files>(
 /// as the text may have octets have come to no end, and `NoMemory` where memory is refused. A read
 /// that is interrupted is tried again, and counts as a read.
 #[tactic(auto, using(crate::proofs::Consumed::consumed_steps))]
-pub fn read_text<R: Read>(
-    alloc: Global,
-    reader: &mut R,
-    most: u32,
-) -> Result<Vec<u8>, TextFault>
+pub fn read_text<R: Read>(alloc: Global, reader: &mut R, most: u32) -> Result<Vec<u8>, TextFault>
     ensures read { IfSome (R.remaining reader.old) (λ text. IsTextRead most text result) }
     ensures short { IfOk result (λ text. vec_len text ≤ most) }
 {
@@ -58,11 +54,11 @@ pub fn read_text<R: Read>(
         match reader.read(&mut piece) {
             Ok(0) => return Ok(text),
             Ok(len) => append(&mut text, &piece[..len], most)?,
-            Err(error) => {
-                if error.kind() != ErrorKind::Interrupted {
-                    return Err(TextFault::Unreadable);
-                }
-            }
+            Err(error) => match error.kind() {
+                ErrorKind::Interrupted => {}
+                ErrorKind::OutOfMemory => return Err(TextFault::NoMemory),
+                _ => return Err(TextFault::Unreadable),
+            },
         }
     }
     Err(TextFault::Unreadable)
