@@ -1,5 +1,5 @@
 -- Which generation is the newest.
-use Rattle.std.specs.Prelude.{◌≡◌, ◌⊎◌, ⊤, ℕ, ◌<◌, List, Option, Some, None, All, Contains}
+use Rattle.std.specs.Prelude.{◌≡◌, ◌⊎◌, ⊤, ℕ, ◌<◌, ◌&&◌, ◌||◌, ◌==◌, Bool, nat_lt, List, Option, Some, None, All, Contains}
 use Rattle.rld_folder.specs.declared.name.Generation.{Generation}
 use Rattle.rld_folder.specs.declared.name.FileName.{FileName}
 use Rattle.rld_folder.specs.declared.name.FileName.TheVariants.{Lock, Era, Log}
@@ -8,6 +8,11 @@ use Rattle.rld_folder.specs.declared.name.FileName.TheVariants.{Lock, Era, Log}
 abbrev pub Precedes : (one other : Generation) → Type 0
 Precedes one other =
     (one.era < other.era) ⊎ ((one.era ≡ other.era) × (one.number < other.number))
+
+-- the same, as a test
+abbrev pub precedes : (one other : Generation) → Bool
+precedes one other =
+    nat_lt one.era other.era || (one.era == other.era && nat_lt one.number other.number)
 
 -- before a limit, if there is one
 abbrev pub IsBelow : (limit : Option Generation) → Generation → Type 0

@@ -27,11 +27,17 @@ pub enum FolderFault {
     #[error("cannot be locked")]
     Unlocked,
     /// A file could not be opened or made.
-    #[error("a file cannot be opened")]
+    #[error("cannot be opened")]
     Unopened,
     /// A file could not be written.
-    #[error("a file cannot be written")]
+    #[error("cannot be written")]
     Unwritten,
+    /// A file could not be moved to the archive.
+    #[error("a file cannot be moved")]
+    Unmoved,
+    /// A file could not be removed.
+    #[error("a file cannot be removed")]
+    Unremoved,
     /// The folder could not be synced: a new file may be lost with a loss of power.
     #[error("cannot be synced")]
     Unsynced,

@@ -2,7 +2,7 @@ use crate::fault::FolderFault;
 use crate::name::{FileName, Generation};
 use rld_log::FileLog;
 use std::alloc::{AllocError, Global};
-use std::fs::{self, DirBuilder, File, OpenOptions, TryLockError};
+use std::fs::{self, DirBuilder, File, OpenOptions, ReadDir, TryLockError};
 use std::io::{self, ErrorKind, Read, Write};
 use std::os::unix::fs::{DirBuilderExt, OpenOptionsExt, PermissionsExt};
 use std::rt::Files;
@@ -22,12 +22,12 @@ const OTHERS_WRITE: u32 = 0o022;
 /// syncs the file and the folder before it returns.
 #[derive(Drop)]
 pub struct Folder {
-    path: String,
+    pub(crate) path: String,
     lock: File,
 }
 
 /// Makes the folder where there is none, for its owner alone.
-fn make_folder<R: Files>(files: &R, path: &str) -> Result<(), FolderFault> {
+pub(crate) fn make_folder<R: Files>(files: &R, path: &str) -> Result<(), FolderFault> {
     match DirBuilder::new().mode(FOLDER_MODE).create(files, path) {
         Ok(()) => Ok(()),
         Err(error) if error.kind() == ErrorKind::AlreadyExists => Ok(()),
@@ -60,9 +60,42 @@ fn take_lock(lock: &File) -> Result<(), FolderFault> {
 }
 
 /// The path of a file in a folder.
-fn path_in(alloc: Global, folder: &str, file: FileName) -> Result<String, AllocError> {
+pub(crate) fn path_in(alloc: Global, folder: &str, file: FileName) -> Result<String, AllocError> {
     let name = file.text(alloc)?;
     format!(in alloc; "{folder}/{name}")
+}
+
+/// The files of a server among what a folder has.
+pub(crate) fn files_among<R: Files<File = File> + Clone + Drop>(
+    alloc: Global,
+    entries: ReadDir<R>,
+) -> Result<Vec<FileName>, FolderFault> {
+    let mut files = Vec::new(alloc);
+    for entry in entries {
+        match entry {
+            Ok(entry) => {
+                if let Some(file) = FileName::read(alloc, entry.file_name())? {
+                    files.push(file)?;
+                }
+            }
+            // A name that is no UTF-8 is none of a server's.
+            Err(error) if error.kind() == ErrorKind::InvalidFilename => {}
+            Err(error) => return Err(FolderFault::of(&error, FolderFault::Unread)),
+        }
+    }
+    Ok(files)
+}
+
+/// Syncs the names of the files of a folder.
+pub(crate) fn sync_names<R: Files<File = File>>(files: &R, path: &str) -> Result<(), FolderFault> {
+    let folder = match File::open(files, path) {
+        Ok(folder) => folder,
+        Err(error) => return Err(FolderFault::of(&error, FolderFault::Unsynced)),
+    };
+    match folder.sync_all() {
+        Ok(()) => Ok(()),
+        Err(_) => Err(FolderFault::Unsynced),
+    }
 }
 
 /// A new file, or the one that is there, for its owner to read and write.
@@ -115,24 +148,10 @@ impl Folder {
         &self,
         rt: &R,
     ) -> Result<Vec<FileName>, FolderFault> {
-        let mut files = Vec::new(rt.alloc());
-        let entries = match fs::read_dir(rt, self.path.as_str()) {
-            Ok(entries) => entries,
-            Err(error) => return Err(FolderFault::of(&error, FolderFault::Unread)),
-        };
-        for entry in entries {
-            match entry {
-                Ok(entry) => {
-                    if let Some(file) = FileName::read(rt.alloc(), entry.file_name())? {
-                        files.push(file)?;
-                    }
-                }
-                // A name that is no UTF-8 is none of a server's.
-                Err(error) if error.kind() == ErrorKind::InvalidFilename => {}
-                Err(error) => return Err(FolderFault::of(&error, FolderFault::Unread)),
-            }
+        match fs::read_dir(rt, self.path.as_str()) {
+            Ok(entries) => files_among(rt.alloc(), entries),
+            Err(error) => Err(FolderFault::of(&error, FolderFault::Unread)),
         }
-        Ok(files)
     }
 
     /// The log of a generation that is there. `Unopened` where it is not, or cannot be opened.
@@ -187,8 +206,8 @@ impl Folder {
     }
 
     /// Writes the table of a new era and syncs it. `Unopened` where it is there or cannot be made. After
-    /// `Unwritten` a part of it may stand there, and after `Unsynced` a loss of power may take it away:
-    /// its number is not to be used again.
+    /// `Unwritten` a part of it may stand there, and after `Unsynced` a loss of power may take it away, or
+    /// a part of it: its number is not to be used again.
     pub fn write_era<R: Files<File = File>>(
         &self,
         files: &R,
@@ -197,8 +216,11 @@ impl Folder {
         octets: &[u8],
     ) -> Result<(), FolderFault> {
         let mut file = self.create(files, alloc, FileName::Era(era))?;
-        if file.write_all(octets).is_err() || file.sync_all().is_err() {
+        if file.write_all(octets).is_err() {
             return Err(FolderFault::Unwritten);
+        }
+        if file.sync_all().is_err() {
+            return Err(FolderFault::Unsynced);
         }
         self.sync(files)
     }
@@ -224,14 +246,7 @@ impl Folder {
     }
 
     /// Syncs the names of its files.
-    fn sync<R: Files<File = File>>(&self, files: &R) -> Result<(), FolderFault> {
-        let folder = match File::open(files, self.path.as_str()) {
-            Ok(folder) => folder,
-            Err(error) => return Err(FolderFault::of(&error, FolderFault::Unsynced)),
-        };
-        match folder.sync_all() {
-            Ok(()) => Ok(()),
-            Err(_) => Err(FolderFault::Unsynced),
-        }
+    pub(crate) fn sync<R: Files<File = File>>(&self, files: &R) -> Result<(), FolderFault> {
+        sync_names(files, self.path.as_str())
     }
 }

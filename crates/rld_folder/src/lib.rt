@@ -2,12 +2,15 @@
 //! that may write there.
 #![tactic(auto)]
 
+mod archive;
 mod fault;
 mod folder;
 mod name;
 mod newest;
+mod older;
 
 pub use fault::FolderFault;
 pub use folder::Folder;
 pub use name::{FileName, Generation};
 pub use newest::newest_generation;
+pub use older::{is_expired, older_logs};

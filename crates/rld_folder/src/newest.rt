@@ -1,5 +1,5 @@
 ghost use Rattle.std.specs.Prelude.{◌≡◌, List, [], ◌∷◌, ◌++◌, ◌↔◌, IsTrue, None};
-ghost use Rattle.rld_folder.specs.Newest.{IsBelow, IsNewest, Precedes};
+ghost use Rattle.rld_folder.specs.Newest.{IsBelow, IsNewest, Precedes, precedes};
 ghost use Rattle.rld_folder.specs.declared.name.FileName.{FileName as OneName};
 
 use crate::name::{FileName, Generation};
@@ -7,7 +7,8 @@ use crate::name::{FileName, Generation};
 impl Generation {
     /// Whether this one is of an earlier era, or has an earlier number in the same.
     pub fn precedes(self, other: Generation) -> bool
-        ensures { IsTrue result ↔ Precedes self other }
+        ensures before { IsTrue result ↔ Precedes self other }
+        ensures test { result ≡ precedes self other }
     {
         self.era < other.era || (self.era == other.era && self.number < other.number)
     }

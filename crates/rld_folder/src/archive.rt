@@ -1,0 +1,206 @@
+//! What becomes of the logs that no start needs any more: they go to a folder of their own beside the
+//! others, `archive`, or they are removed.
+
+use crate::fault::FolderFault;
+use crate::folder::{Folder, files_among, make_folder, path_in, sync_names};
+use crate::name::{FileName, Generation};
+use crate::older::is_expired;
+use std::alloc::{AllocError, Global};
+use std::fs::{self, File};
+use std::io::ErrorKind;
+use std::rt::Files;
+use std::time::UNIX_EPOCH;
+
+/// What became of several files: the first fault, where one has a fault.
+fn first_fault(
+    before: Result<(), FolderFault>,
+    next: Result<(), FolderFault>,
+) -> Result<(), FolderFault> {
+    match before {
+        Ok(()) => next,
+        Err(fault) => Err(fault),
+    }
+}
+
+/// Whether a folder cannot be listed because there is none, or a file has its name.
+fn is_none(kind: ErrorKind) -> bool {
+    kind == ErrorKind::NotFound || kind == ErrorKind::NotADirectory
+}
+
+/// Moves a file, but not over one that is there.
+fn move_file<R: Files<File = File>>(files: &R, from: &str, to: &str) -> Result<(), FolderFault> {
+    if fs::symlink_metadata(files, to).is_ok() {
+        return Err(FolderFault::Unmoved);
+    }
+    match fs::rename(files, from, to) {
+        Ok(()) => Ok(()),
+        Err(error) => Err(FolderFault::of(&error, FolderFault::Unmoved)),
+    }
+}
+
+/// Removes a file.
+fn remove_file<R: Files<File = File>>(files: &R, path: &str) -> Result<(), FolderFault> {
+    match fs::remove_file(files, path) {
+        Ok(()) => Ok(()),
+        Err(error) => Err(FolderFault::of(&error, FolderFault::Unremoved)),
+    }
+}
+
+/// The second since 1970 at which a file changed last.
+fn changed<R: Files<File = File>>(files: &R, path: &str) -> Result<u64, FolderFault> {
+    let found = match fs::metadata(files, path) {
+        Ok(found) => found,
+        Err(error) => return Err(FolderFault::of(&error, FolderFault::Unread)),
+    };
+    let Ok(changed) = found.modified() else {
+        return Err(FolderFault::Unread);
+    };
+    match changed.duration_since(UNIX_EPOCH) {
+        Ok(since) => Ok(since.as_secs()),
+        Err(_) => Err(FolderFault::Unread),
+    }
+}
+
+impl Folder {
+    /// The path of its archive.
+    fn archive_path(&self, alloc: Global) -> Result<String, AllocError> {
+        let path = self.path.as_str();
+        format!(in alloc; "{path}/archive")
+    }
+
+    /// Puts the octets of a log on the disk, whoever wrote them. `Unopened` where it is not there or
+    /// cannot be opened, and `Unsynced` where the system cannot say that the disk has them.
+    pub fn sync_log<R: Files<File = File>>(
+        &self,
+        files: &R,
+        alloc: Global,
+        generation: Generation,
+    ) -> Result<(), FolderFault> {
+        let path = self.path_of(alloc, FileName::Log(generation))?;
+        let file = match File::open(files, path.as_str()) {
+            Ok(file) => file,
+            Err(error) => return Err(FolderFault::of(&error, FolderFault::Unopened)),
+        };
+        match file.sync_all() {
+            Ok(()) => Ok(()),
+            Err(_) => Err(FolderFault::Unsynced),
+        }
+    }
+
+    /// Removes a log. `Unremoved` where it is not there or cannot be removed; after `Unsynced` it is
+    /// gone, and a loss of power may bring it back.
+    pub fn remove_log<R: Files<File = File>>(
+        &self,
+        files: &R,
+        alloc: Global,
+        generation: Generation,
+    ) -> Result<(), FolderFault> {
+        let path = self.path_of(alloc, FileName::Log(generation))?;
+        remove_file(files, path.as_str())?;
+        self.sync(files)
+    }
+
+    /// Removes logs. Where it fails for one the others are removed all the same, and the first fault is
+    /// given, as of `remove_log`.
+    pub fn remove_logs<R: Files<File = File>>(
+        &self,
+        files: &R,
+        alloc: Global,
+        logs: &[Generation],
+    ) -> Result<(), FolderFault> {
+        let mut outcome = Ok(());
+        for generation in logs {
+            outcome = first_fault(outcome, self.remove_log(files, alloc, *generation));
+        }
+        outcome
+    }
+
+    /// Moves logs to the archive, which is made, with mode 700, where it is not there. Where it fails
+    /// for one the others are moved all the same, and the first fault is given.
+    ///
+    /// `Unmade` where the archive cannot be made; then nothing has changed. `Unmoved` where a log is
+    /// not there or cannot be moved, or the archive has one of its name. After `Unsynced` they are
+    /// moved, and a loss of power may undo that.
+    pub fn archive_logs<R: Files<File = File>>(
+        &self,
+        files: &R,
+        alloc: Global,
+        logs: &[Generation],
+    ) -> Result<(), FolderFault> {
+        if logs.is_empty() {
+            return Ok(());
+        }
+        let archive = self.archive_path(alloc)?;
+        make_folder(files, archive.as_str())?;
+        let mut outcome = Ok(());
+        for generation in logs {
+            let moved = self.archive_log(files, alloc, archive.as_str(), *generation);
+            outcome = first_fault(outcome, moved);
+        }
+        let synced = first_fault(sync_names(files, archive.as_str()), self.sync(files));
+        first_fault(outcome, synced)
+    }
+
+    /// Moves a log to the archive of this path.
+    fn archive_log<R: Files<File = File>>(
+        &self,
+        files: &R,
+        alloc: Global,
+        archive: &str,
+        generation: Generation,
+    ) -> Result<(), FolderFault> {
+        let log = FileName::Log(generation);
+        let from = self.path_of(alloc, log)?;
+        let to = path_in(alloc, archive, log)?;
+        move_file(files, from.as_str(), to.as_str())
+    }
+
+    /// The files of its archive, in no order; none where there is no archive. `Unread` comes where the
+    /// system does not list them, and `NoMemory` where memory is refused.
+    pub fn archived<R: Files<File = File> + Alloc<A = Global> + Clone + Drop>(
+        &self,
+        rt: &R,
+    ) -> Result<Vec<FileName>, FolderFault> {
+        let archive = self.archive_path(rt.alloc())?;
+        match fs::read_dir(rt, archive.as_str()) {
+            Ok(entries) => files_among(rt.alloc(), entries),
+            Err(error) if is_none(error.kind()) => Ok(Vec::new(rt.alloc())),
+            Err(error) => Err(FolderFault::of(&error, FolderFault::Unread)),
+        }
+    }
+
+    /// Removes the logs of the archive that were kept for so many days at this second since 1970, by
+    /// the moment of their last change. Where it fails for one the others are removed all the same,
+    /// and the first fault is given: `Unread` where the archive, or what the system knows of a log,
+    /// cannot be read, and `Unremoved` where one cannot be removed.
+    pub fn remove_expired<R: Files<File = File> + Alloc<A = Global> + Clone + Drop>(
+        &self,
+        rt: &R,
+        days: u16,
+        now: u64,
+    ) -> Result<(), FolderFault> {
+        let archive = self.archive_path(rt.alloc())?;
+        let mut outcome = Ok(());
+        for file in self.archived(rt)?.as_slice() {
+            if let FileName::Log(_) = file {
+                let path = path_in(rt.alloc(), archive.as_str(), *file)?;
+                outcome = first_fault(outcome, remove_if_expired(rt, path.as_str(), days, now));
+            }
+        }
+        outcome
+    }
+}
+
+/// Removes a file that was kept for so many days.
+fn remove_if_expired<R: Files<File = File>>(
+    files: &R,
+    path: &str,
+    days: u16,
+    now: u64,
+) -> Result<(), FolderFault> {
+    if is_expired(days, changed(files, path)?, now) {
+        remove_file(files, path)
+    } else {
+        Ok(())
+    }
+}
