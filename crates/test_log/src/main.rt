@@ -9,6 +9,8 @@
 #![tactic(auto)]
 
 mod numbers;
+#[cfg(test)]
+mod paces;
 mod problem;
 #[cfg(test)]
 mod tests;
