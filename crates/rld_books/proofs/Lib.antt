@@ -1,4 +1,5 @@
 pub mod Callers
+pub mod Cutting
 pub mod Making
 pub mod Saving
 pub mod Stepping

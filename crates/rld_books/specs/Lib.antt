@@ -1,2 +1,5 @@
+pub mod Clocks
+pub mod Cut
+pub mod CutLaws
 pub mod Saved
 pub mod Server

@@ -14,9 +14,11 @@ ghost use Rattle.rld_books.specs.Server.{
 ghost use Rattle.rsl_shard.specs.declared.moved.Move.TheVariants as moves;
 ghost use Rattle.rsl_event.specs.declared.event.Decision.TheVariants.{Done as done};
 
+mod cutting;
 mod looking;
 mod saving;
 
+pub use cutting::CutBooks;
 use rsl_accounts::Config;
 use rsl_event::{Decision, Event, Nas};
 use rsl_shard::{Books, Move};

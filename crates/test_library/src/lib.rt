@@ -8,6 +8,8 @@
 #[cfg(test)]
 mod book;
 #[cfg(test)]
+mod cuts;
+#[cfg(test)]
 mod replay;
 #[cfg(test)]
 mod report;

@@ -21,7 +21,7 @@ fn nas_of(alloc: Global) -> Result<Nas, NoMemory> {
 }
 
 /// An ask that no event leads to: it was kept after the clock, and nothing was decided on it.
-fn ask_of(alloc: Global) -> Result<KeptAsk, NoMemory> {
+pub(crate) fn ask_of(alloc: Global) -> Result<KeptAsk, NoMemory> {
     let source = Source {
         address: [192, 168, 1, 16],
         port: 1024,
@@ -39,7 +39,7 @@ fn ask_of(alloc: Global) -> Result<KeptAsk, NoMemory> {
     })
 }
 
-fn stop_of(alloc: Global) -> Result<KeptStop, NoMemory> {
+pub(crate) fn stop_of(alloc: Global) -> Result<KeptStop, NoMemory> {
     Ok(KeptStop {
         session: Session {
             nas: nas_of(alloc)?,
@@ -52,7 +52,7 @@ fn stop_of(alloc: Global) -> Result<KeptStop, NoMemory> {
 
 /// A link in the bundle of this id, or in none for `-`: all are bound to one session, and were
 /// touched after the clock.
-fn link_of(alloc: Global, bundle: &str) -> Result<SavedLink, NoMemory> {
+pub(crate) fn link_of(alloc: Global, bundle: &str) -> Result<SavedLink, NoMemory> {
     let bundle = match bundle {
         "-" => None,
         id => Some(Octets::from_slice(alloc, id.as_bytes())?),

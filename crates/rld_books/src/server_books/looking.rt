@@ -1,11 +1,14 @@
 //! What is looked up in the books.
 
-ghost use Rattle.std.specs.Prelude.{◌≡◌, IfOk};
+ghost use Rattle.std.specs.Prelude.{◌≡◌, IfNone, IfOk, IfSome, None, Some, ◌≤◌, ◌⊎◌, length};
 ghost use Rattle.std.specs.Option.{option_map};
-ghost use Rattle.rld_books.specs.Saved.{links_in, rows_in};
+ghost use Rattle.rld_books.specs.Clocks.{IsGreatestClock, clock_in};
+ghost use Rattle.rld_books.specs.Saved.{book_in, links_in, rows_in};
 ghost use Rattle.rsl_saved.specs.Saved.{saved_links};
 
 use crate::server_books::ServerBooks;
+use rsl_accounts::Config;
+use rsl_book::Book;
 use rsl_saved::{SavedBook, SavedLink};
 use rsl_shard::{Books, Row};
 use rsl_wire::NoMemory;
@@ -23,7 +26,46 @@ fn rows_of(alloc: Global, shards: &[Books]) -> Result<Vec<Row>, NoMemory>
     Ok(rows)
 }
 
+/// The later of two moments.
+fn later(one: u64, other: u64) -> u64
+    ensures first { one ≤ result }
+    ensures second { other ≤ result }
+    ensures which { (result ≡ one) ⊎ (result ≡ other) }
+{
+    if one < other { other } else { one }
+}
+
 impl ServerBooks {
+    /// The book of an account, if there is such an account.
+    fn book(&self, account: u32) -> Option<&Book>
+        ensures some { IfSome result (λ book. book_in self.now account ≡ Some book.now) }
+        ensures none { IfNone result (book_in self.now account ≡ None) }
+    {
+        self.shards[self.index_of(account)].book(account)
+    }
+
+    /// The clock of the book of an account; 0 where there is no such account.
+    fn clock_of(&self, account: u32) -> u64
+        ensures { result ≡ clock_in self.now account }
+    {
+        match self.book(account) {
+            Some(book) => book.now(),
+            None => 0,
+        }
+    }
+
+    /// The greatest clock of the books of a configuration's accounts: the greatest moment that any of
+    /// them has seen, in seconds since 1970; 0 where none has had an event.
+    pub fn clock(&self, config: &Config) -> u64
+        ensures { IsGreatestClock self.now (length config.now.accounts) result }
+    {
+        let mut most = 0;
+        for account in 0..config.accounts() {
+            most = later(most, self.clock_of(account));
+        }
+        most
+    }
+
     /// What each account holds, shard after shard, and in each in the order of the accounts'
     /// numbers. It fails only where memory is refused.
     pub fn rows(&self, alloc: Global) -> Result<Vec<Row>, NoMemory>
