@@ -6,8 +6,8 @@ use Rattle.std.proofs.lemmas.List.{length-drop, map-append, take_all}
 use Rattle.std.proofs.lemmas.List.Elements.{recursion_from_All}
 use Rattle.rsl_accounts.specs.Configuration.{Configuration}
 use Rattle.rsl_event.specs.declared.event.Decision.{Decision}
+use Rattle.rsl_shard.specs.Restep.{BooksSeen}
 use Rattle.rsl_shard.specs.declared.moved.Move.{Move}
-use Rattle.rld_books.specs.Server.{new_server}
 use Rattle.rld_store.specs.Generations.{HasHistory}
 use Rattle.rld_lives.specs.Leaving.{HasLived, HaveLived, batches_of}
 use Rattle.rld_lives.specs.Life.{AreLives}
@@ -24,11 +24,11 @@ all_here P (suc n) (y ∷ ys) x rest all next = all_here P n ys x rest all.1 nex
 pub all_at : {A : Type 0} (P : A → Type 0) (n : ℕ) (xs : List A) (x : A) (rest : List A) → All P xs → drop n xs ≡ x ∷ rest → P x
 all_at P n xs x rest all next = all_here P n xs x rest (recursion_from_All P xs all) next
 
-pub begun_so : (config : Configuration) (history : List Move) (plans : List Plan) (told : List (Vec (List Decision))) (file : List ℕ) → told ≡ [] → HasHistory config history file
-    → HaveLived config history (plans_of (take (length told) plans)) (told_of told) file
-begun_so config history plans told file none has = record {
+pub begun_so : (config : Configuration) (opening : List BooksSeen) (history : List Move) (plans : List Plan) (told : List (Vec (List Decision))) (file : List ℕ) → told ≡ [] → HasHistory config opening history file
+    → HaveLived config opening history (plans_of (take (length told) plans)) (told_of told) file
+begun_so config opening history plans told file none has = record {
   left = history;
-  lives = subst (λ (t : List (Vec (List Decision))). AreLives (new_server config) history (plans_of (take (length t) plans)) (told_of t) history) (sym none) (no_lives (new_server config) history [] refl);
+  lives = subst (λ (t : List (Vec (List Decision))). AreLives opening history (plans_of (take (length t) plans)) (told_of t) history) (sym none) (no_lives opening history [] refl);
   has = has;
 }
 
@@ -37,10 +37,10 @@ pub left_past : (plans : List Plan) (told more : List (Vec (List Decision))) (pl
 left_past plans told more plan answers rest next is =
     ap (λ (k : ℕ). drop k plans) (one_more told more answers is) ∙ (is_at (length told) plans plan rest next).left
 
-pub lived_more : (config : Configuration) (history : List Move) (plans : List Plan) (told more : List (Vec (List Decision))) (plan : Plan) (answers : Vec (List Decision)) (rest : List Plan) (file left : List ℕ)
-    → drop (length told) plans ≡ plan ∷ rest → more ≡ told ++ answers ∷ [] → (mid : HaveLived config history (plans_of (take (length told) plans)) (told_of told) file)
-    → HasLived config mid.left (batches_of plan.batches.items) answers.items left → HaveLived config history (plans_of (take (length more) plans)) (told_of more) left
-lived_more config history plans told more plan answers rest file left next is mid life =
+pub lived_more : (config : Configuration) (opening : List BooksSeen) (history : List Move) (plans : List Plan) (told more : List (Vec (List Decision))) (plan : Plan) (answers : Vec (List Decision)) (rest : List Plan) (file left : List ℕ)
+    → drop (length told) plans ≡ plan ∷ rest → more ≡ told ++ answers ∷ [] → (mid : HaveLived config opening history (plans_of (take (length told) plans)) (told_of told) file)
+    → HasLived config opening mid.left (batches_of plan.batches.items) answers.items left → HaveLived config opening history (plans_of (take (length more) plans)) (told_of more) left
+lived_more config opening history plans told more plan answers rest file left next is mid life =
     let first : List Plan = take (length told) plans in
     let taken : take (length more) plans ≡ first ++ plan ∷ [] = ap (λ (k : ℕ). take k plans) (one_more told more answers is) ∙ (is_at (length told) plans plan rest next).more in
     let planned : plans_of (take (length more) plans) ≡ plans_of first ++ batches_of plan.batches.items ∷ [] =
@@ -48,15 +48,15 @@ lived_more config history plans told more plan answers rest file left next is mi
     let answered : told_of more ≡ told_of told ++ answers.items ∷ [] = ap told_of is ∙ map-append (λ (a : Vec (List Decision)). a.items) told (answers ∷ []) in
     record {
       left = life.left;
-      lives = subst (λ (t : List (List (List Decision))). AreLives (new_server config) history (plans_of (take (length more) plans)) t life.left) (sym answered)
-          (subst (λ (p : List (List (List Move))). AreLives (new_server config) history p (told_of told ++ answers.items ∷ []) life.left) (sym planned)
-          (lives_more (new_server config) history (plans_of first) (told_of told) mid.left life.left (batches_of plan.batches.items) answers.items mid.lives life.life));
+      lives = subst (λ (t : List (List (List Decision))). AreLives opening history (plans_of (take (length more) plans)) t life.left) (sym answered)
+          (subst (λ (p : List (List (List Move))). AreLives opening history p (told_of told ++ answers.items ∷ []) life.left) (sym planned)
+          (lives_more opening history (plans_of first) (told_of told) mid.left life.left (batches_of plan.batches.items) answers.items mid.lives life.life));
       has = life.has;
     }
 
 -- all plans are done
-pub all_told : (config : Configuration) (history : List Move) (plans : List Plan) (told : List (Vec (List Decision))) (rest : List Plan) (file : List ℕ) → drop (length told) plans ≡ rest → length rest ≡ 0
-    → HaveLived config history (plans_of (take (length told) plans)) (told_of told) file → HaveLived config history (plans_of plans) (told_of told) file
-all_told config history plans told rest file left none lived =
+pub all_told : (config : Configuration) (opening : List BooksSeen) (history : List Move) (plans : List Plan) (told : List (Vec (List Decision))) (rest : List Plan) (file : List ℕ) → drop (length told) plans ≡ rest → length rest ≡ 0
+    → HaveLived config opening history (plans_of (take (length told) plans)) (told_of told) file → HaveLived config opening history (plans_of plans) (told_of told) file
+all_told config opening history plans told rest file left none lived =
     let past : length plans ≤ length told = omega (arith, length-drop (length told) plans, ap length left, none) in
-    subst (λ (p : List Plan). HaveLived config history (plans_of p) (told_of told) file) (take_all (length told) plans past) lived
+    subst (λ (p : List Plan). HaveLived config opening history (plans_of p) (told_of told) file) (take_all (length told) plans past) lived

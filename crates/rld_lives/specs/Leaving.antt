@@ -3,8 +3,8 @@ use Rattle.std.specs.Prelude.{ℕ, List, map}
 use Rattle.std.specs.Global.{Vec}
 use Rattle.rsl_accounts.specs.Configuration.{Configuration}
 use Rattle.rsl_event.specs.declared.event.Decision.{Decision}
+use Rattle.rsl_shard.specs.Restep.{BooksSeen}
 use Rattle.rsl_shard.specs.declared.moved.Move.{Move}
-use Rattle.rld_books.specs.Server.{new_server}
 use Rattle.rld_store.specs.Premises.{Premise}
 use Rattle.rld_log.specs.declared.log.Ending.{Ending}
 use Rattle.rld_store.specs.Generations.{HasHistory}
@@ -14,26 +14,27 @@ use Rattle.rld_lives.specs.Life.{AreLives, IsLife}
 abbrev pub batches_of : List (Vec Move) → List (List Move)
 batches_of batches = map (λ (batch : Vec Move). batch.items) batches
 
--- a file has the history that a life left after another history
-pub record HasLived (config : Configuration) (history : List Move) (batches : List (List Move))
-    (answers : List (List Decision)) (file : List ℕ) : Type 0 where
+-- a file has the history that a life left after another history, in an era that opened with these
+-- books
+pub record HasLived (config : Configuration) (opening : List BooksSeen) (history : List Move)
+    (batches : List (List Move)) (answers : List (List Decision)) (file : List ℕ) : Type 0 where
   pub left : List Move
-  pub life : IsLife (new_server config) history batches answers left
-  pub has : HasHistory config left file
+  pub life : IsLife opening history batches answers left
+  pub has : HasHistory config opening left file
 
 -- Each crash leaves a file of a life. Of a loss of power it is the premise that no torn write of a
 -- frame passes for one.
-abbrev pub LeavesLife : Configuration → (tears : List ℕ → List ℕ → Type 0) → (history : List Move)
-    → (batches : List (List Move)) → (answers : List (List Decision))
-    → (may_leave : Ending → List ℕ → Type 0) → Type 0
-LeavesLife config tears history batches answers may_leave =
+abbrev pub LeavesLife : Configuration → (opening : List BooksSeen)
+    → (tears : List ℕ → List ℕ → Type 0) → (history : List Move) → (batches : List (List Move))
+    → (answers : List (List Decision)) → (may_leave : Ending → List ℕ → Type 0) → Type 0
+LeavesLife config opening tears history batches answers may_leave =
     (ending : Ending) → Premise tears ending → (file : List ℕ) → may_leave ending file
-    → HasLived config history batches answers file
+    → HasLived config opening history batches answers file
 
 -- a file has the history that lives left after another history
-pub record HaveLived (config : Configuration) (history : List Move)
+pub record HaveLived (config : Configuration) (opening : List BooksSeen) (history : List Move)
     (plans : List (List (List Move))) (told : List (List (List Decision))) (file : List ℕ)
     : Type 0 where
   pub left : List Move
-  pub lives : AreLives (new_server config) history plans told left
-  pub has : HasHistory config left file
+  pub lives : AreLives opening history plans told left
+  pub has : HasHistory config opening left file

@@ -10,6 +10,7 @@ ghost use Rattle.rld_store.specs.Premises.{Only, Premise};
 ghost use Rattle.rld_store.specs.Generations.{HasHistory};
 ghost use Rattle.rld_store.specs.Standing.{StandsFor};
 ghost use Rattle.rsl_accounts.specs.Configuration.{Configuration};
+ghost use Rattle.rsl_shard.specs.Restep.{BooksSeen};
 ghost use Rattle.rsl_shard.specs.declared.moved.Move.{Move as OneMove};
 
 use rld_log::{Crash, Ending, Log};
@@ -50,10 +51,11 @@ pub fn live<L: Log>(alloc: Global, store: &mut Store<L>, batches: Vec<Vec<Move>>
     ensures answers { AreAnswersTo store.old.books (batches_of batches.items) result.items }
 
     // A crash leaves what was answered, and perhaps the batch after it, whole.
-    ensures lived { IsTrue (L.tells store.new.log) → (config : Configuration) (history : List OneMove) →
-        StandsFor config store.old.counts L.tears store.old.end (L.seen store.old.log) (L.may_leave store.old.log)
+    ensures lived { IsTrue (L.tells store.new.log) →
+        (config : Configuration) (opening : List BooksSeen) (history : List OneMove) →
+        StandsFor config opening store.old.counts L.tears store.old.end (L.seen store.old.log) (L.may_leave store.old.log)
         store.old.whole store.old.books history [] →
-        LeavesLife config L.tears history (batches_of batches.items) result.items (L.may_leave store.new.log) }
+        LeavesLife config opening L.tears history (batches_of batches.items) result.items (L.may_leave store.new.log) }
 {
     let Ok(mut answers) = Vec::with_capacity(alloc, batches.len()) else {
         return Vec::new(alloc);
@@ -71,8 +73,10 @@ pub fn live<L: Log>(alloc: Global, store: &mut Store<L>, batches: Vec<Vec<Move>>
 fn live_over<L: Log>(alloc: Global, config: &Config, log: L, batches: Vec<Vec<Move>>) -> OneLife<L>
     ensures told { IsTrue (L.tells result.log) → IsTrue (L.tells log) }
     ensures lived { IsTrue (L.tells result.log) → Only (L.seen log) (L.may_leave log) →
-        (history : List OneMove) → HasHistory config.now history (L.seen log) →
-        LeavesLife config.now L.tears history (batches_of batches.items) result.answers.items (L.may_leave result.log) }
+        (opening : List BooksSeen) (history : List OneMove) →
+        HasHistory config.now opening history (L.seen log) →
+        LeavesLife config.now opening L.tears history (batches_of batches.items) result.answers.items
+        (L.may_leave result.log) }
 {
     match Store::open(alloc, config, log) {
         Ok(opened) => {
@@ -111,8 +115,9 @@ pub fn lives<L: Crash>(
     ensures lived { IfOk result (λ lived. IsTrue (L.Log.tells lived.log) →
         Only (L.Log.seen log) (L.Log.may_leave log) →
         All (λ plan. Premise L.Log.tears plan.ending) plans.items →
-        (history : List OneMove) → HasHistory config.now history (L.Log.seen log) →
-        HaveLived config.now history (plans_of plans.items) (told_of lived.told.items) (L.Log.seen lived.log)) }
+        (opening : List BooksSeen) (history : List OneMove) →
+        HasHistory config.now opening history (L.Log.seen log) →
+        HaveLived config.now opening history (plans_of plans.items) (told_of lived.told.items) (L.Log.seen lived.log)) }
 {
     let Ok(mut told) = Vec::with_capacity(alloc, plans.len()) else {
         return Err(log);

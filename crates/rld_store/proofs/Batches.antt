@@ -7,7 +7,7 @@ use Rattle.std.proofs.lemmas.List.Concat.{flat_map-append}
 use Rattle.rsl_accounts.specs.Configuration.{Configuration}
 use Rattle.rsl_shard.specs.Restep.{BooksSeen}
 use Rattle.rsl_shard.specs.declared.moved.Move.{Move}
-use Rattle.rld_books.specs.Server.{new_server, replay, server_after}
+use Rattle.rld_books.specs.Server.{replay, server_after}
 use Rattle.rld_log.specs.Frames.{Fits, digest, frame, frames}
 use Rattle.rld_log.proofs.Callers.{frame_shape, frames_more, parts_of}
 use Rattle.rld_spelling.specs.Moves.{moves_field}
@@ -73,12 +73,13 @@ generation_more counts header begun moves batch payloads payload so fit is = rec
   payloads_are = ap (λ (l : List (List ℕ)). l ++ payload ∷ []) so.payloads_are;
 }
 
-pub history_more : (config : Configuration) (history batch : List Move) (payloads : List (List ℕ)) (payload : List ℕ) → AreOfHistory config history payloads
-    → (moves_field (counts_of config)).Fits batch → payload ≡ (moves_field (counts_of config)).spell batch → AreOfHistory config (history ++ batch) (payloads ++ payload ∷ [])
-history_more config history batch payloads payload so fit is = record {
+pub history_more : (config : Configuration) (opening : List BooksSeen) (history batch : List Move) (payloads : List (List ℕ)) (payload : List ℕ) → AreOfHistory config opening history payloads
+    → (moves_field (counts_of config)).Fits batch → payload ≡ (moves_field (counts_of config)).spell batch → AreOfHistory config opening (history ++ batch) (payloads ++ payload ∷ [])
+history_more config opening history batch payloads payload so fit is = record {
+  opening_is = so.opening_is;
   header = so.header;
   earlier = so.earlier;
   moves = so.moves ++ batch;
   are = ap (λ (l : List Move). l ++ batch) so.are ∙ append_assoc so.earlier so.moves batch;
-  generation = generation_more (counts_of config) so.header (replay (new_server config) so.earlier) so.moves batch payloads payload so.generation fit is;
+  generation = generation_more (counts_of config) so.header (replay opening so.earlier) so.moves batch payloads payload so.generation fit is;
 }

@@ -9,8 +9,8 @@ use Rattle.rsl_saved.specs.Saved.{saved_book}
 use Rattle.rsl_saved.specs.declared.saved.SavedBook.{SavedBook}
 use Rattle.rsl_shard.specs.Restep.{BooksSeen}
 use Rattle.rsl_shard.specs.declared.moved.Move.{Move}
-use Rattle.rld_books.specs.Saved.{saved_server}
-use Rattle.rld_books.specs.Server.{new_server, replay}
+use Rattle.rld_books.specs.Saved.{IsServerOf, saved_server}
+use Rattle.rld_books.specs.Server.{replay}
 use Rattle.rld_fields.specs.Numbers.{number_octets}
 use Rattle.rld_log.specs.Frames.{Fits, HasPayloads, frames}
 use Rattle.rld_log.specs.Log.{NoMore, Only}
@@ -151,9 +151,10 @@ no_moves_fit counts = (omega arith, All-nil (move_field counts).Fits)
 
 -- ---- the history of a generation that begins
 
-begun_history : (config : Configuration) (header : Header) (books : List BooksSeen) (history : List Move) (payloads : List (List ℕ)) → books ≡ replay (new_server config) history
-    → IsGeneration (counts_of config) header books [] payloads → AreOfHistory config history payloads
-begun_history config header books history payloads are generation = record {
+begun_history : (config : Configuration) (opening : List BooksSeen) (header : Header) (books : List BooksSeen) (history : List Move) (payloads : List (List ℕ)) → IsServerOf config opening → books ≡ replay opening history
+    → IsGeneration (counts_of config) header books [] payloads → AreOfHistory config opening history payloads
+begun_history config opening header books history payloads of are generation = record {
+  opening_is = of;
   header = header;
   earlier = history;
   moves = [];
@@ -161,19 +162,19 @@ begun_history config header books history payloads are generation = record {
   generation = subst (λ (b : List BooksSeen). IsGeneration (counts_of config) header b [] payloads) are generation;
 }
 
-pub begun_of : (config : Configuration) (header : Header) (books : List BooksSeen) (history : List Move) (left : List ℕ) → books ≡ replay (new_server config) history
-    → IsUnbegun left ⊎ HasGeneration (counts_of config) header books [] left → IsUnbegun left ⊎ HasHistory config history left
-begun_of config header books history left are (inl none) = inl none
-begun_of config header books history left are (inr has) =
-    inr (record { payloads = has.payloads; has = has.has; are = begun_history config header books history has.payloads are has.generation })
+pub begun_of : (config : Configuration) (opening : List BooksSeen) (header : Header) (books : List BooksSeen) (history : List Move) (left : List ℕ) → IsServerOf config opening → books ≡ replay opening history
+    → IsUnbegun left ⊎ HasGeneration (counts_of config) header books [] left → IsUnbegun left ⊎ HasHistory config opening history left
+begun_of config opening header books history left of are (inl none) = inl none
+begun_of config opening header books history left of are (inr has) =
+    inr (record { payloads = has.payloads; has = has.has; are = begun_history config opening header books history has.payloads of are has.generation })
 
-pub begun_stands : (config : Configuration) (counts : Counts) (tears : List ℕ → List ℕ → Type 0) (header : Header) (seen : List ℕ) (may_leave : Ending → List ℕ → Type 0) (whole : ℕ) (books : List BooksSeen) (history : List Move)
-    → counts ≡ counts_of config → IsBegun counts header books seen may_leave whole → books ≡ replay (new_server config) history
-    → StandsFor config counts tears Settled seen may_leave whole books history []
-begun_stands config counts tears header seen may_leave whole books history counted so are = record {
+pub begun_stands : (config : Configuration) (opening : List BooksSeen) (counts : Counts) (tears : List ℕ → List ℕ → Type 0) (header : Header) (seen : List ℕ) (may_leave : Ending → List ℕ → Type 0) (whole : ℕ) (books : List BooksSeen) (history : List Move)
+    → IsServerOf config opening → counts ≡ counts_of config → IsBegun counts header books seen may_leave whole → books ≡ replay opening history
+    → StandsFor config opening counts tears Settled seen may_leave whole books history []
+begun_stands config opening counts tears header seen may_leave whole books history of counted so are = record {
   counts_are = counted;
   payloads = so.payloads;
-  are = begun_history config header books history so.payloads are (subst (λ (c : Counts). IsGeneration c header books [] so.payloads) counted so.generation);
+  are = begun_history config opening header books history so.payloads of are (subst (λ (c : Counts). IsGeneration c header books [] so.payloads) counted so.generation);
   unanswered_fits = no_moves_fit counts;
   size = so.size;
   ends = so.settled;
@@ -181,7 +182,7 @@ begun_stands config counts tears header seen may_leave whole books history count
 }
 
 -- two logs as the newer begins
-pub both_stand : (config : Configuration) (history unanswered : List Move) (older newer : List ℕ) → HasHistoryOr config history unanswered older → IsUnbegun newer ⊎ HasHistory config history newer
-    → StandForHistory config history unanswered older newer
-both_stand config history unanswered older newer has (inl none) = inr (none, has)
-both_stand config history unanswered older newer has (inr new) = inl new
+pub both_stand : (config : Configuration) (opening : List BooksSeen) (history unanswered : List Move) (older newer : List ℕ) → HasHistoryOr config opening history unanswered older → IsUnbegun newer ⊎ HasHistory config opening history newer
+    → StandForHistory config opening history unanswered older newer
+both_stand config opening history unanswered older newer has (inl none) = inr (none, has)
+both_stand config opening history unanswered older newer has (inr new) = inl new

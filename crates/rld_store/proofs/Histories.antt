@@ -4,8 +4,7 @@ use Rattle.std.specs.List.{AllByRecursion}
 use Rattle.rsl_accounts.specs.Configuration.{Configuration}
 use Rattle.rsl_shard.specs.Restep.{BooksSeen}
 use Rattle.rsl_shard.specs.declared.moved.Move.{Move}
-use Rattle.rld_books.specs.Saved.{IsServerOf}
-use Rattle.rld_books.specs.Server.{new_server, replay}
+use Rattle.rld_books.specs.Server.{replay}
 use Rattle.rld_log.specs.Frames.{EndsAt, Fits, HasPayloads, IsDamagedAt, frames}
 use Rattle.rld_log.specs.Log.{Extends, NoMore, Only}
 use Rattle.rld_log.specs.Recording.{IsBeforeOrAfter, IsSettled, LeavesEither}
@@ -71,25 +70,25 @@ of_no_log counts payloads _ why = tt
 
 -- ---- the history of a log that was opened
 
-pub opened_stands : (config : Configuration) (counts : Counts) (tears : List ℕ → List ℕ → Type 0) (file seen : List ℕ) (may_leave : Ending → List ℕ → Type 0) (whole : ℕ) (header : Header) (books : List BooksSeen) (count : ℕ) (history : List Move)
-    → counts ≡ counts_of config → (has : HasHistory config history file) → IsFoundIn config has.payloads header books count → whole ≡ length (frames has.payloads) → IsSettled seen may_leave has.payloads
-    → StandsFor config counts tears Settled seen may_leave whole books history []
-opened_stands config counts tears file seen may_leave whole header books count history counted has found size settled = record {
+pub opened_stands : (config : Configuration) (opening : List BooksSeen) (counts : Counts) (tears : List ℕ → List ℕ → Type 0) (file seen : List ℕ) (may_leave : Ending → List ℕ → Type 0) (whole : ℕ) (header : Header) (books : List BooksSeen) (count : ℕ) (history : List Move)
+    → counts ≡ counts_of config → (has : HasHistory config opening history file) → IsFoundIn config has.payloads header books count → whole ≡ length (frames has.payloads) → IsSettled seen may_leave has.payloads
+    → StandsFor config opening counts tears Settled seen may_leave whole books history []
+opened_stands config opening counts tears file seen may_leave whole header books count history counted has found size settled = record {
   counts_are = counted;
   payloads = has.payloads;
   are = has.are;
   unanswered_fits = no_moves_fit counts;
   size = size;
   ends = settled;
-  replayed = (found has.are.header (replay (new_server config) has.are.earlier) has.are.moves (begun_is_of config has.are.earlier) has.are.generation).books_are
-      ∙ sym (made_of_begun config history has.payloads has.are);
+  replayed = (found has.are.header (replay opening has.are.earlier) has.are.moves (begun_is_of config opening has.are.earlier has.are.opening_is) has.are.generation).books_are
+      ∙ sym (made_of_begun config opening history has.payloads has.are);
 }
 
-pub opened_found : (config : Configuration) (file : List ℕ) (header : Header) (books : List BooksSeen) (count : ℕ) (history : List Move)
-    → (has : HasHistory config history file) → IsFoundIn config has.payloads header books count → (header ≡ has.are.header) × (count ≡ length has.are.moves)
-opened_found config file header books count history has found =
-    let is = found has.are.header (replay (new_server config) has.are.earlier) has.are.moves (begun_is_of config has.are.earlier) has.are.generation in
+pub opened_found : (config : Configuration) (opening : List BooksSeen) (file : List ℕ) (header : Header) (books : List BooksSeen) (count : ℕ) (history : List Move)
+    → (has : HasHistory config opening history file) → IsFoundIn config has.payloads header books count → (header ≡ has.are.header) × (count ≡ length has.are.moves)
+opened_found config opening file header books count history has found =
+    let is = found has.are.header (replay opening has.are.earlier) has.are.moves (begun_is_of config opening has.are.earlier has.are.opening_is) has.are.generation in
     (is.header_is, is.count_is)
 
-pub still_history : (config : Configuration) (history : List Move) (file left : List ℕ) → (has : HasHistory config history file) → HasPayloads left has.payloads → HasHistory config history left
-still_history config history file left has there = record { payloads = has.payloads; has = there; are = has.are }
+pub still_history : (config : Configuration) (opening : List BooksSeen) (history : List Move) (file left : List ℕ) → (has : HasHistory config opening history file) → HasPayloads left has.payloads → HasHistory config opening history left
+still_history config opening history file left has there = record { payloads = has.payloads; has = there; are = has.are }

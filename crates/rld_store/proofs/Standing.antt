@@ -3,7 +3,7 @@ use Rattle.std.proofs.Common.{◌≡◌, ◌⊎◌, inl, inr, ℕ, ◌+◌, ◌<
 use Rattle.rsl_accounts.specs.Configuration.{Configuration}
 use Rattle.rsl_shard.specs.Restep.{BooksSeen}
 use Rattle.rsl_shard.specs.declared.moved.Move.{Move}
-use Rattle.rld_books.specs.Server.{new_server, replay}
+use Rattle.rld_books.specs.Server.{replay}
 use Rattle.rld_log.specs.Frames.{Fits, HasPayloads, frames}
 use Rattle.rld_log.specs.Log.{Extends, Premise}
 use Rattle.rld_log.specs.Recording.{IsBeforeOrAfter, IsSettled, LeavesEither}
@@ -40,14 +40,14 @@ now_unsettled tears seen new old may_leave payloads payload settled front leaves
 
 -- ---- what a store stands for
 
-module _ (config : Configuration) (tears : List ℕ → List ℕ → Type 0) where
+module _ (config : Configuration) (opening : List BooksSeen) (tears : List ℕ → List ℕ → Type 0) where
   -- a call that kept the history and what was not answered
   pub stands_still : (counts same_counts : Counts) (end now : End) (seen new : List ℕ) (old may_leave : Ending → List ℕ → Type 0) (whole size : ℕ) (books made : List BooksSeen) (history unanswered : List Move)
-      → StandsFor config counts tears end seen old whole books history unanswered → same_counts ≡ counts → size ≡ whole → made ≡ books
+      → StandsFor config opening counts tears end seen old whole books history unanswered → same_counts ≡ counts → size ≡ whole → made ≡ books
       → ((before : List (List ℕ)) (payload : List ℕ) → whole ≡ length (frames before) → EndsSo end tears seen old before payload → EndsSo now tears new may_leave before payload)
-      → StandsFor config same_counts tears now new may_leave size made history unanswered
+      → StandsFor config opening same_counts tears now new may_leave size made history unanswered
   stands_still counts same_counts end now seen new old may_leave whole size books made history unanswered so counted same made_is ends =
-      subst (λ (c : Counts). StandsFor config c tears now new may_leave size made history unanswered) (sym counted) (record {
+      subst (λ (c : Counts). StandsFor config opening c tears now new may_leave size made history unanswered) (sym counted) (record {
         counts_are = so.counts_are;
         payloads = so.payloads;
         are = so.are;
@@ -59,11 +59,11 @@ module _ (config : Configuration) (tears : List ℕ → List ℕ → Type 0) whe
 
   -- a call that failed as it recorded a batch
   pub stands_unanswered : (counts same_counts : Counts) (end : End) (seen new : List ℕ) (old may_leave : Ending → List ℕ → Type 0) (whole size : ℕ) (books made : List BooksSeen) (history unanswered batch : List Move) (payload : List ℕ)
-      → StandsFor config counts tears end seen old whole books history unanswered → same_counts ≡ counts → size ≡ whole → made ≡ books → payload ≡ (moves_field counts).spell batch → (moves_field counts).Fits batch
+      → StandsFor config opening counts tears end seen old whole books history unanswered → same_counts ≡ counts → size ≡ whole → made ≡ books → payload ≡ (moves_field counts).spell batch → (moves_field counts).Fits batch
       → ((before : List (List ℕ)) (other : List ℕ) → whole ≡ length (frames before) → EndsSo end tears seen old before other → EndsSo Unsettled tears new may_leave before payload)
-      → StandsFor config same_counts tears Unsettled new may_leave size made history batch
+      → StandsFor config opening same_counts tears Unsettled new may_leave size made history batch
   stands_unanswered counts same_counts end seen new old may_leave whole size books made history unanswered batch payload so counted same made_is is fit ends =
-      subst (λ (c : Counts). StandsFor config c tears Unsettled new may_leave size made history batch) (sym counted) (record {
+      subst (λ (c : Counts). StandsFor config opening c tears Unsettled new may_leave size made history batch) (sym counted) (record {
         counts_are = so.counts_are;
         payloads = so.payloads;
         are = so.are;
@@ -75,34 +75,34 @@ module _ (config : Configuration) (tears : List ℕ → List ℕ → Type 0) whe
 
   -- a call that recorded a batch and made it
   pub stands_more : (counts same_counts : Counts) (end : End) (seen new : List ℕ) (old may_leave : Ending → List ℕ → Type 0) (whole size : ℕ) (books made : List BooksSeen) (history unanswered batch : List Move) (payload : List ℕ)
-      → StandsFor config counts tears end seen old whole books history unanswered → same_counts ≡ counts → Fits payload → size ≡ whole + (20 + length payload) → made ≡ replay books batch
+      → StandsFor config opening counts tears end seen old whole books history unanswered → same_counts ≡ counts → Fits payload → size ≡ whole + (20 + length payload) → made ≡ replay books batch
       → payload ≡ (moves_field counts).spell batch → (moves_field counts).Fits batch
       → ((before : List (List ℕ)) (other : List ℕ) → whole ≡ length (frames before) → EndsSo end tears seen old before other → EndsSo Settled tears new may_leave (before ++ payload ∷ []) payload)
-      → StandsFor config same_counts tears Settled new may_leave size made (history ++ batch) batch
+      → StandsFor config opening same_counts tears Settled new may_leave size made (history ++ batch) batch
   stands_more counts same_counts end seen new old may_leave whole size books made history unanswered batch payload so counted short size_is made_is is fit ends =
-      subst (λ (c : Counts). StandsFor config c tears Settled new may_leave size made (history ++ batch) batch) (sym counted) (record {
+      subst (λ (c : Counts). StandsFor config opening c tears Settled new may_leave size made (history ++ batch) batch) (sym counted) (record {
         counts_are = so.counts_are;
         payloads = so.payloads ++ payload ∷ [];
-        are = history_more config history batch so.payloads payload so.are (subst (λ (c : Counts). (moves_field c).Fits batch) so.counts_are fit) (is ∙ ap (λ (c : Counts). (moves_field c).spell batch) so.counts_are);
+        are = history_more config opening history batch so.payloads payload so.are (subst (λ (c : Counts). (moves_field c).Fits batch) so.counts_are fit) (is ∙ ap (λ (c : Counts). (moves_field c).spell batch) so.counts_are);
         unanswered_fits = fit;
         size = omega (arith, size_is, so.size, size_more so.payloads payload short);
         ends = ends so.payloads ((moves_field counts).spell unanswered) so.size so.ends;
-        replayed = made_is ∙ ap (λ (b : List BooksSeen). replay b batch) so.replayed ∙ sym (replay_more (new_server config) history batch);
+        replayed = made_is ∙ ap (λ (b : List BooksSeen). replay b batch) so.replayed ∙ sym (replay_more opening history batch);
       })
 
 -- what a crash leaves
-pub crashes_lose : (config : Configuration) (counts : Counts) (tears : List ℕ → List ℕ → Type 0) (end : End) (seen : List ℕ) (may_leave : Ending → List ℕ → Type 0) (whole : ℕ) (books : List BooksSeen) (history unanswered : List Move)
-    → StandsFor config counts tears end seen may_leave whole books history unanswered → LosesNothing config tears may_leave history unanswered
-crashes_lose config counts tears Settled seen may_leave whole books history unanswered so ending premise left reached =
+pub crashes_lose : (config : Configuration) (opening : List BooksSeen) (counts : Counts) (tears : List ℕ → List ℕ → Type 0) (end : End) (seen : List ℕ) (may_leave : Ending → List ℕ → Type 0) (whole : ℕ) (books : List BooksSeen) (history unanswered : List Move)
+    → StandsFor config opening counts tears end seen may_leave whole books history unanswered → LosesNothing config opening tears may_leave history unanswered
+crashes_lose config opening counts tears Settled seen may_leave whole books history unanswered so ending premise left reached =
     inl (record { payloads = so.payloads; has = whole_has left so.payloads so.ends.fit (so.ends.durable ending left reached ∙ so.ends.whole); are = so.are })
-crashes_lose config counts tears Unsettled seen may_leave whole books history unanswered so ending premise left reached =
+crashes_lose config opening counts tears Unsettled seen may_leave whole books history unanswered so ending premise left reached =
     by (so.ends.left ending premise left reached)
   where
-    by : IsBeforeOrAfter so.payloads ((moves_field counts).spell unanswered) left → HasHistoryOr config history unanswered left
+    by : IsBeforeOrAfter so.payloads ((moves_field counts).spell unanswered) left → HasHistoryOr config opening history unanswered left
     by (inl has) = inl (record { payloads = so.payloads; has = has; are = so.are })
     by (inr has) = inr (record {
       payloads = so.payloads ++ (moves_field counts).spell unanswered ∷ [];
       has = has;
-      are = history_more config history unanswered so.payloads ((moves_field counts).spell unanswered) so.are
+      are = history_more config opening history unanswered so.payloads ((moves_field counts).spell unanswered) so.are
           (subst (λ (c : Counts). (moves_field c).Fits unanswered) so.counts_are so.unanswered_fits) (ap (λ (c : Counts). (moves_field c).spell unanswered) so.counts_are);
     })

@@ -11,8 +11,8 @@ use Rattle.rsl_session.specs.Book.{Book}
 use Rattle.rsl_shard.specs.Restep.{BooksSeen}
 use Rattle.rsl_shard.specs.declared.moved.Move.{Move}
 use Rattle.rld_books.specs.Saved.{IsServerOf, saved_server}
-use Rattle.rld_books.specs.Server.{new_server, replay}
-use Rattle.rld_books.proofs.Callers.{new_is_of, one_server, replay_is_of}
+use Rattle.rld_books.specs.Server.{replay}
+use Rattle.rld_books.proofs.Callers.{one_server, replay_is_of}
 use Rattle.rld_log.proofs.Callers.{have_one_reading}
 use Rattle.rld_spelling.specs.Books.{BookSeen, book_seen, books_field, books_seen}
 use Rattle.rld_spelling.specs.Headers.{header_octets}
@@ -77,29 +77,29 @@ one_moves : (counts : Counts) (some other : List Move) (payloads same : List (Li
 one_moves counts some other payloads same is a b e =
     a.are ∙ ap moves_in (one_list (moves_field counts) is a.batches b.batches a.fit b.fit (sym a.spelled ∙ e ∙ b.spelled)) ∙ sym b.are
 
--- the books that a history makes of new books are those that its generation makes of the books that it began with
-pub made_of_begun : (config : Configuration) (history : List Move) (payloads : List (List ℕ)) → (of : AreOfHistory config history payloads)
-    → replay (new_server config) history ≡ replay (replay (new_server config) of.earlier) of.moves
-made_of_begun config history payloads of = ap (replay (new_server config)) of.are ∙ replay_more (new_server config) of.earlier of.moves
+-- the books that a history makes are those that its generation makes of the books that it began with
+pub made_of_begun : (config : Configuration) (opening : List BooksSeen) (history : List Move) (payloads : List (List ℕ)) → (of : AreOfHistory config opening history payloads)
+    → replay opening history ≡ replay (replay opening of.earlier) of.moves
+made_of_begun config opening history payloads of = ap (replay opening) of.are ∙ replay_more opening of.earlier of.moves
 
 -- the books that a generation begins with are of the configuration
-pub begun_is_of : (config : Configuration) (earlier : List Move) → IsServerOf config (replay (new_server config) earlier)
-begun_is_of config earlier = replay_is_of config (new_server config) earlier (new_is_of config)
+pub begun_is_of : (config : Configuration) (opening : List BooksSeen) (earlier : List Move) → IsServerOf config opening → IsServerOf config (replay opening earlier)
+begun_is_of config opening earlier of = replay_is_of config opening earlier of
 
 pub few_enough : (config : Configuration) → IsConfiguration config → FewEnough (counts_of config)
 few_enough config is = record { accounts = omega (arith, is.accounts); clients = omega (arith, is.clients) }
 
 pub one_state : ((counts : Counts) → FewEnough counts → IsRead (moves_field counts)) → ((clients : ℕ) → clients < 2 ^ 32 → IsRead (books_field clients)) → FilesHaveOneState
-one_state moves_read books_read config some other file is a b =
+one_state moves_read books_read config opening also some other file is a b =
     let few = few_enough config is in
     let same : a.payloads ≡ b.payloads = have_one_reading file a.payloads b.payloads a.has b.has in
     let parts : header_octets a.are.header ∷ a.are.generation.snapshot ∷ a.are.generation.batches ≡ header_octets b.are.header ∷ b.are.generation.snapshot ∷ b.are.generation.batches =
     sym a.are.generation.payloads_are ∙ same ∙ b.are.generation.payloads_are in
     let snapshots : a.are.generation.snapshot ≡ b.are.generation.snapshot = cc parts in
     let batches : a.are.generation.batches ≡ b.are.generation.batches = cc parts in
-    let begun = one_begun config (replay (new_server config) a.are.earlier) (replay (new_server config) b.are.earlier) a.are.generation.snapshot b.are.generation.snapshot
-    (books_read (counts_of config).clients few.clients) (begun_is_of config a.are.earlier) (begun_is_of config b.are.earlier) a.are.generation.snapshot_is b.are.generation.snapshot_is snapshots in
+    let begun = one_begun config (replay opening a.are.earlier) (replay also b.are.earlier) a.are.generation.snapshot b.are.generation.snapshot
+    (books_read (counts_of config).clients few.clients) (begun_is_of config opening a.are.earlier a.are.opening_is) (begun_is_of config also b.are.earlier b.are.opening_is) a.are.generation.snapshot_is b.are.generation.snapshot_is snapshots in
     let moves = one_moves (counts_of config) a.are.moves b.are.moves a.are.generation.batches b.are.generation.batches (moves_read (counts_of config) few)
     a.are.generation.batches_are b.are.generation.batches_are batches in
-    made_of_begun config some a.payloads a.are ∙ ap (λ (x : List BooksSeen). replay x a.are.moves) begun ∙ ap (replay (replay (new_server config) b.are.earlier)) moves
-    ∙ sym (made_of_begun config other b.payloads b.are)
+    made_of_begun config opening some a.payloads a.are ∙ ap (λ (x : List BooksSeen). replay x a.are.moves) begun ∙ ap (replay (replay also b.are.earlier)) moves
+    ∙ sym (made_of_begun config also other b.payloads b.are)

@@ -7,8 +7,8 @@ use Rattle.rsl_saved.specs.Saved.{saved_links}
 use Rattle.rsl_session.specs.Book.{Book}
 use Rattle.rsl_shard.specs.Restep.{BooksSeen}
 use Rattle.rsl_shard.specs.declared.moved.Move.{Move}
-use Rattle.rld_books.specs.Saved.{saved_server}
-use Rattle.rld_books.specs.Server.{new_server, replay}
+use Rattle.rld_books.specs.Saved.{IsServerOf, saved_server}
+use Rattle.rld_books.specs.Server.{replay}
 use Rattle.rld_log.specs.Frames.{HasPayloads}
 use Rattle.rld_spelling.specs.Books.{BookSeen, books_field}
 use Rattle.rld_spelling.specs.Headers.{header_field, header_octets}
@@ -59,15 +59,16 @@ pub record IsGeneration (counts : Counts) (header : Header) (begun : List BooksS
   pub batches_are : AreBatches counts moves batches
   pub payloads_are : payloads ≡ header_octets header ∷ snapshot ∷ batches
 
--- The payloads of a generation of a history: the books that it begins with are what the moves before
--- it make of new books.
-pub record AreOfHistory (config : Configuration) (history : List Move) (payloads : List (List ℕ))
-    : Type 0 where
+-- The payloads of a generation of a history, of an era that opened with these books: the books that
+-- it begins with are what the moves before it make of them. A first era opens with new books.
+pub record AreOfHistory (config : Configuration) (opening : List BooksSeen) (history : List Move)
+    (payloads : List (List ℕ)) : Type 0 where
+  pub opening_is : IsServerOf config opening
   pub header : Header
   pub earlier : List Move
   pub moves : List Move
   pub are : history ≡ earlier ++ moves
-  pub generation : IsGeneration (counts_of config) header (replay (new_server config) earlier) moves payloads
+  pub generation : IsGeneration (counts_of config) header (replay opening earlier) moves payloads
 
 -- a file of a generation
 pub record HasGeneration (counts : Counts) (header : Header) (begun : List BooksSeen)
@@ -77,11 +78,11 @@ pub record HasGeneration (counts : Counts) (header : Header) (begun : List Books
   pub generation : IsGeneration counts header begun moves payloads
 
 -- a file that stands for a history
-pub record HasHistory (config : Configuration) (history : List Move) (file : List ℕ)
-    : Type 0 where
+pub record HasHistory (config : Configuration) (opening : List BooksSeen) (history : List Move)
+    (file : List ℕ) : Type 0 where
   pub payloads : List (List ℕ)
   pub has : HasPayloads file payloads
-  pub are : AreOfHistory config history payloads
+  pub are : AreOfHistory config opening history payloads
 
 -- a file whose snapshot is not whole: it is no generation yet
 pub record IsUnbegun (file : List ℕ) : Type 0 where
@@ -90,14 +91,15 @@ pub record IsUnbegun (file : List ℕ) : Type 0 where
   pub few : length payloads < 2
 
 -- a file that stands for a history, or for that and a batch that was not answered, whole
-abbrev pub HasHistoryOr : (config : Configuration) → (history unanswered : List Move)
-    → (file : List ℕ) → Type 0
-HasHistoryOr config history unanswered file =
-    HasHistory config history file ⊎ HasHistory config (history ++ unanswered) file
+abbrev pub HasHistoryOr : (config : Configuration) → (opening : List BooksSeen)
+    → (history unanswered : List Move) → (file : List ℕ) → Type 0
+HasHistoryOr config opening history unanswered file =
+    HasHistory config opening history file ⊎ HasHistory config opening (history ++ unanswered) file
 
 -- Two files of which the newer counts where its snapshot is whole, and else the older: they stand
 -- for a history, or for that and a batch that was not answered.
-abbrev pub StandForHistory : (config : Configuration) → (history unanswered : List Move)
-    → (older newer : List ℕ) → Type 0
-StandForHistory config history unanswered older newer =
-    HasHistory config history newer ⊎ (IsUnbegun newer × HasHistoryOr config history unanswered older)
+abbrev pub StandForHistory : (config : Configuration) → (opening : List BooksSeen)
+    → (history unanswered : List Move) → (older newer : List ℕ) → Type 0
+StandForHistory config opening history unanswered older newer =
+    HasHistory config opening history newer
+    ⊎ (IsUnbegun newer × HasHistoryOr config opening history unanswered older)

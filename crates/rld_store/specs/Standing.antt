@@ -1,10 +1,11 @@
--- What a store stands for: a history, which its log has, and which makes its books of new ones.
+-- What a store stands for: a history, which its log has, and which makes its books of those that its
+-- era opened with.
 use Rattle.std.specs.Prelude.{◌≡◌, ◌⊎◌, ℕ, List, ◌++◌, length}
 use Rattle.std.specs.List.{AllByRecursion}
 use Rattle.rsl_accounts.specs.Configuration.{Configuration}
 use Rattle.rsl_shard.specs.Restep.{BooksSeen}
 use Rattle.rsl_shard.specs.declared.moved.Move.{Move}
-use Rattle.rld_books.specs.Server.{new_server, replay}
+use Rattle.rld_books.specs.Server.{replay}
 use Rattle.rld_log.specs.Frames.{Fits, frames}
 use Rattle.rld_log.specs.Log.{Extends}
 use Rattle.rld_store.specs.Premises.{Premise}
@@ -35,22 +36,23 @@ EndsSo Unsettled tears seen may_leave payloads unanswered =
     IsUnsettled tears seen may_leave payloads unanswered
 
 -- The log has a history, and at its end perhaps a batch that was not answered; the books are what
--- the history makes of new books.
-pub record StandsFor (config : Configuration) (counts : Counts)
+-- the history makes of those that the era opened with.
+pub record StandsFor (config : Configuration) (opening : List BooksSeen) (counts : Counts)
     (tears : List ℕ → List ℕ → Type 0) (end : End) (seen : List ℕ)
     (may_leave : Ending → List ℕ → Type 0) (whole : ℕ) (books : List BooksSeen)
     (history unanswered : List Move) : Type 0 where
   pub counts_are : counts ≡ counts_of config
   pub payloads : List (List ℕ)
-  pub are : AreOfHistory config history payloads
+  pub are : AreOfHistory config opening history payloads
   pub unanswered_fits : (moves_field counts).Fits unanswered
   pub size : whole ≡ length (frames payloads)
   pub ends : EndsSo end tears seen may_leave payloads ((moves_field counts).spell unanswered)
-  pub replayed : books ≡ replay (new_server config) history
+  pub replayed : books ≡ replay opening history
 
 -- a crash leaves the history, or that and the batch that was not answered, whole
-abbrev pub LosesNothing : (config : Configuration) → (tears : List ℕ → List ℕ → Type 0)
-    → (may_leave : Ending → List ℕ → Type 0) → (history unanswered : List Move) → Type 0
-LosesNothing config tears may_leave history unanswered =
+abbrev pub LosesNothing : (config : Configuration) → (opening : List BooksSeen)
+    → (tears : List ℕ → List ℕ → Type 0) → (may_leave : Ending → List ℕ → Type 0)
+    → (history unanswered : List Move) → Type 0
+LosesNothing config opening tears may_leave history unanswered =
     (ending : Ending) → Premise tears ending → (left : List ℕ) → may_leave ending left
-    → HasHistoryOr config history unanswered left
+    → HasHistoryOr config opening history unanswered left

@@ -4,6 +4,7 @@ ghost use Rattle.std.specs.Prelude.{List};
 ghost use Rattle.rld_store.specs.Laws.{FilesHaveOneState};
 ghost use Rattle.rld_store.specs.Standing.{LosesNothing, StandsFor};
 ghost use Rattle.rsl_accounts.specs.Configuration.{Configuration};
+ghost use Rattle.rsl_shard.specs.Restep.{BooksSeen};
 ghost use Rattle.rsl_shard.specs.declared.moved.Move.{Move as OneMove};
 
 use crate::store::Store;
@@ -13,16 +14,16 @@ use rld_log::Log;
 /// and the batch that was not answered, whole. Of a loss of power it is the premise that no torn
 /// write passes for a frame by chance; of a kill that is proved.
 pub fn crashes_lose_nothing<L: Log>(store: &Store<L>)
-    ensures { (config : Configuration) (history unanswered : List OneMove) →
-        StandsFor config store.now.counts L.tears store.now.end (L.seen store.now.log) (L.may_leave store.now.log)
+    ensures { (config : Configuration) (opening : List BooksSeen) (history unanswered : List OneMove) →
+        StandsFor config opening store.now.counts L.tears store.now.end (L.seen store.now.log) (L.may_leave store.now.log)
         store.now.whole store.now.books history unanswered →
-        LosesNothing config L.tears (L.may_leave store.now.log) history unanswered }
+        LosesNothing config opening L.tears (L.may_leave store.now.log) history unanswered }
 {
     let _store = store;
 }
 
-/// A file stands for one state: whatever histories are found in it, the books that they make are the
-/// same.
+/// A file stands for one state: whatever histories are found in it, and whatever books their eras
+/// opened with, the books that they make are the same.
 pub fn files_have_one_state()
     ensures { FilesHaveOneState }
 {

@@ -1,8 +1,8 @@
 ghost use Rattle.std.specs.Prelude.{◌≡◌, ◌⊎◌, ◌+◌, ℕ, List, [], ◌∷◌, ◌++◌, length, IsTrue, IsErrOf, IfErr, IfOk, OnErr, OnOk};
 ghost use Rattle.std.specs.List.{All};
 ghost use Rattle.std.specs.Option.{option_map};
-ghost use Rattle.rld_books.specs.Saved.{links_in, rows_in};
-ghost use Rattle.rld_books.specs.Server.{AreTakenIn, decisions_of, replay};
+ghost use Rattle.rld_books.specs.Saved.{IsServerOf, links_in, rows_in};
+ghost use Rattle.rld_books.specs.Server.{AreTakenIn, decisions_of, new_server, replay};
 ghost use Rattle.rld_log.specs.Frames.{Fits, frames};
 ghost use Rattle.rld_store.specs.Premises.{Only, Premise};
 ghost use Rattle.rld_log.specs.Recording.{IsSettled};
@@ -14,6 +14,7 @@ ghost use Rattle.rld_store.specs.Standing.{EndsSo, StandsFor};
 ghost use Rattle.rld_store.specs.declared.store.End.TheVariants.{Settled as settled, Unsettled as unsettled};
 ghost use Rattle.rsl_accounts.specs.Configuration.{Configuration};
 ghost use Rattle.rsl_saved.specs.Saved.{saved_links};
+ghost use Rattle.rsl_shard.specs.Restep.{BooksSeen};
 ghost use Rattle.rsl_shard.specs.declared.moved.Move.{Move as OneMove};
 
 use crate::beginning::{begin_log, counts_in, whole_with};
@@ -80,24 +81,57 @@ impl<L: Log> Store<L> {
         // The store stands for a history of no moves.
         ensures stands { IfOk result (λ store. IsTrue (L.tells store.log) →
             Only (L.seen log) (L.may_leave log) →
-            StandsFor config.now store.counts L.tears store.end (L.seen store.log) (L.may_leave store.log)
-            store.whole store.books [] []) }
+            StandsFor config.now (new_server config.now) store.counts L.tears store.end
+            (L.seen store.log) (L.may_leave store.log) store.whole store.books [] []) }
 
         // Where it fails, a crash leaves no generation, or one that stands for no moves.
         ensures crash { IfErr result (λ refused. IsTrue (L.tells refused.log) →
             Only (L.seen log) (L.may_leave log) → L.seen log ≡ [] →
             (ending : OneEnding) → Premise L.tears ending →
             (left : List ℕ) → L.may_leave refused.log ending left →
-            IsUnbegun left ⊎ HasHistory config.now [] left) }
+            IsUnbegun left ⊎ HasHistory config.now (new_server config.now) [] left) }
+    {
+        match ServerBooks::new(alloc, config) {
+            Ok(books) => Store::begin_with(alloc, config, header, books, log),
+            Err(_) => Err(Refused {
+                log,
+                fault: StoreFault::NoMemory,
+            }),
+        }
+    }
+
+    /// Begins the first generation of an era that opens with these books, in an empty log: writes its
+    /// header and a snapshot of them, and syncs each. A log that has anything is refused as
+    /// `Occupied`.
+    ///
+    /// The books are to be of the configuration, as `ServerBooks::restore` and `ServerBooks::cut` give
+    /// them: else a later `open` refuses the log as `Misfit`.
+    pub fn begin_with(
+        alloc: Global,
+        config: &Config,
+        header: Header,
+        books: ServerBooks,
+        log: L,
+    ) -> Result<Store<L>, Refused<L>>
+        ensures told { IfOk result (λ store. IsTrue (L.tells store.log) → IsTrue (L.tells log)) }
+        ensures refused { IfErr result (λ refused. IsTrue (L.tells refused.log) → IsTrue (L.tells log)) }
+        ensures books { IfOk result (λ store. store.books ≡ books) }
+
+        // The store stands for a history of no moves behind these books.
+        ensures stands { IfOk result (λ store. IsTrue (L.tells store.log) →
+            Only (L.seen log) (L.may_leave log) → IsServerOf config.now books →
+            StandsFor config.now books store.counts L.tears store.end (L.seen store.log) (L.may_leave store.log)
+            store.whole store.books [] []) }
+
+        // Where it fails, a crash leaves no generation, or one that stands for no moves behind them.
+        ensures crash { IfErr result (λ refused. IsTrue (L.tells refused.log) →
+            Only (L.seen log) (L.may_leave log) → L.seen log ≡ [] → IsServerOf config.now books →
+            (ending : OneEnding) → Premise L.tears ending →
+            (left : List ℕ) → L.may_leave refused.log ending left →
+            IsUnbegun left ⊎ HasHistory config.now books [] left) }
     {
         let counts = counts_in(config);
         let mut log = log;
-        let Ok(books) = ServerBooks::new(alloc, config) else {
-            return Err(Refused {
-                log,
-                fault: StoreFault::NoMemory,
-            });
-        };
         match begin_log(alloc, &mut log, header, counts, &books) {
             Ok(whole) => Ok(Store {
                 log,
@@ -121,14 +155,16 @@ impl<L: Log> Store<L> {
 
         // The store stands for the history that the log has.
         ensures stands { IfOk result (λ opened. IsTrue (L.tells opened.store.log) →
-            (history : List OneMove) → HasHistory config.now history (L.seen log) →
-            StandsFor config.now opened.store.counts L.tears opened.store.end
+            (opening : List BooksSeen) (history : List OneMove) →
+            HasHistory config.now opening history (L.seen log) →
+            StandsFor config.now opening opened.store.counts L.tears opened.store.end
             (L.seen opened.store.log) (L.may_leave opened.store.log)
             opened.store.whole opened.store.books history []) }
 
         // What was found: the generation's own header and moves, and how long the torn end was.
         ensures found { IfOk result (λ opened. IsTrue (L.tells opened.store.log) →
-            (history : List OneMove) → (has : HasHistory config.now history (L.seen log)) →
+            (opening : List BooksSeen) (history : List OneMove) →
+            (has : HasHistory config.now opening history (L.seen log)) →
             (opened.header ≡ has.are.header) × (opened.moves ≡ length has.are.moves)) }
         ensures torn { IfOk result (λ opened. IsTrue (L.tells opened.store.log) →
             length (L.seen log) ≡ opened.store.whole + opened.torn) }
@@ -136,9 +172,10 @@ impl<L: Log> Store<L> {
         // Where it fails, a crash leaves the same history; and it says why.
         ensures crash { IfErr result (λ refused. IsTrue (L.tells refused.log) →
             Only (L.seen log) (L.may_leave log) →
-            (history : List OneMove) → HasHistory config.now history (L.seen log) →
+            (opening : List BooksSeen) (history : List OneMove) →
+            HasHistory config.now opening history (L.seen log) →
             (ending : OneEnding) (left : List ℕ) → L.may_leave refused.log ending left →
-            HasHistory config.now history left) }
+            HasHistory config.now opening history left) }
         ensures why { IfErr result (λ refused. IsTrue (L.tells refused.log) →
             IsWhy (counts_of config.now) (L.seen log) refused.fault) }
         ensures untouched { IfErr result (λ refused. IsTrue (L.tells refused.log) →
@@ -275,21 +312,23 @@ impl<L: Log> Store<L> {
             (AreTakenIn self.old.books batch.items → All (MoveFits self.old.counts) batch.items → ⊥) }
 
         // The log then has the history and the batch, synced.
-        ensures recorded { IsTrue (L.tells self.new.log) → (config : Configuration) (history unanswered : List OneMove) →
-            StandsFor config self.old.counts L.tears self.old.end (L.seen self.old.log) (L.may_leave self.old.log)
+        ensures recorded { IsTrue (L.tells self.new.log) →
+            (config : Configuration) (opening : List BooksSeen) (history unanswered : List OneMove) →
+            StandsFor config opening self.old.counts L.tears self.old.end (L.seen self.old.log) (L.may_leave self.old.log)
             self.old.whole self.old.books history unanswered → OnOk result
-            (StandsFor config self.new.counts L.tears settled (L.seen self.new.log) (L.may_leave self.new.log)
+            (StandsFor config opening self.new.counts L.tears settled (L.seen self.new.log) (L.may_leave self.new.log)
             self.new.whole self.new.books (history ++ batch.items) batch.items) }
         ensures settled { OnOk result (self.new.end ≡ settled) }
 
         // Where it fails the log has the history, and at its end perhaps a batch that was not
         // answered: this one, or one from before it.
-        ensures left { IsTrue (L.tells self.new.log) → (config : Configuration) (history unanswered : List OneMove) →
-            StandsFor config self.old.counts L.tears self.old.end (L.seen self.old.log) (L.may_leave self.old.log)
+        ensures left { IsTrue (L.tells self.new.log) →
+            (config : Configuration) (opening : List BooksSeen) (history unanswered : List OneMove) →
+            StandsFor config opening self.old.counts L.tears self.old.end (L.seen self.old.log) (L.may_leave self.old.log)
             self.old.whole self.old.books history unanswered → OnErr result
-            (StandsFor config self.new.counts L.tears self.new.end (L.seen self.new.log) (L.may_leave self.new.log)
+            (StandsFor config opening self.new.counts L.tears self.new.end (L.seen self.new.log) (L.may_leave self.new.log)
             self.new.whole self.new.books history unanswered
-            ⊎ StandsFor config self.new.counts L.tears self.new.end (L.seen self.new.log) (L.may_leave self.new.log)
+            ⊎ StandsFor config opening self.new.counts L.tears self.new.end (L.seen self.new.log) (L.may_leave self.new.log)
             self.new.whole self.new.books history batch.items) }
     {
         let decisions = Vec::with_capacity(alloc, batch.len())?;
@@ -316,21 +355,21 @@ impl<L: Log> Store<L> {
 
         // The store stands for the same history, by the next log alone.
         ensures stands { IsTrue (L.tells self.new.log) → Only (L.seen next) (L.may_leave next) →
-            (config : Configuration) (history unanswered : List OneMove) →
-            StandsFor config self.old.counts L.tears self.old.end (L.seen self.old.log) (L.may_leave self.old.log)
+            (config : Configuration) (opening : List BooksSeen) (history unanswered : List OneMove) →
+            StandsFor config opening self.old.counts L.tears self.old.end (L.seen self.old.log) (L.may_leave self.old.log)
             self.old.whole self.old.books history unanswered → OnOk result
-            (StandsFor config self.new.counts L.tears self.new.end (L.seen self.new.log) (L.may_leave self.new.log)
+            (StandsFor config opening self.new.counts L.tears self.new.end (L.seen self.new.log) (L.may_leave self.new.log)
             self.new.whole self.new.books history []) }
 
         // And at a crash at any call the two logs do.
         ensures crash { IfErr result (λ refused. IsTrue (L.tells refused.log) → IsTrue (L.tells self.new.log) →
             Only (L.seen next) (L.may_leave next) → L.seen next ≡ [] →
-            (config : Configuration) (history unanswered : List OneMove) →
-            StandsFor config self.old.counts L.tears self.old.end (L.seen self.old.log) (L.may_leave self.old.log)
+            (config : Configuration) (opening : List BooksSeen) (history unanswered : List OneMove) →
+            StandsFor config opening self.old.counts L.tears self.old.end (L.seen self.old.log) (L.may_leave self.old.log)
             self.old.whole self.old.books history unanswered →
             (ending : OneEnding) → Premise L.tears ending → (older newer : List ℕ) →
             L.may_leave self.new.log ending older → L.may_leave refused.log ending newer →
-            StandForHistory config history unanswered older newer) }
+            StandForHistory config opening history unanswered older newer) }
     {
         let mut next = next;
         match begin_log(alloc, &mut next, header, self.counts, &self.books) {
@@ -359,6 +398,13 @@ impl<L: Log> Store<L> {
             option_map (λ some. saved_links some.items) links ≡ links_in self.now.books account) }
     {
         self.books.links(alloc, account)
+    }
+
+    /// The books.
+    pub fn books(&self) -> &ServerBooks
+        ensures { result.now ≡ self.now.books }
+    {
+        &self.books
     }
 
     /// The log.

@@ -4,7 +4,7 @@ use Rattle.std.specs.Vec.Iter.{into_iter_items}
 use Rattle.rsl_event.specs.declared.event.Decision.{Decision}
 use Rattle.rsl_shard.specs.Restep.{BooksSeen}
 use Rattle.rsl_shard.specs.declared.moved.Move.{Move}
-use Rattle.rld_books.specs.Server.{new_server, replay}
+use Rattle.rld_books.specs.Server.{replay}
 use Rattle.rld_store.specs.Standing.{StandsFor}
 use Rattle.rld_lives.specs.Leaving.{batches_of}
 use Rattle.rld_lives.specs.Life.{AreAnswersTo}
@@ -16,12 +16,12 @@ pub returns-in_default-clause-answers : goal.returns-in_default-clause-answers
 returns-in_default-clause-answers g c = none_answered c.args.store.now.books (batches_of c.args.batches.items) c.new.result.items c.new.ensures.items
 
 pub returns-in_default-clause-lived : goal.returns-in_default-clause-lived
-returns-in_default-clause-lived g c = λ told config history so.
+returns-in_default-clause-lived g c = λ told config opening history so.
     let batches : List (List Move) = batches_of c.args.batches.items in
     let answers : List (List Decision) = c.new.result.items in
-    leaves_all config c.args.store.now.counts g.L.Log.tears c.args.store.now.end (g.L.Log.seen c.args.store.now.log) (g.L.Log.may_leave c.args.store.now.log) c.args.store.now.whole c.args.store.now.books
-    history batches answers (none_answered (replay (new_server config) history) batches answers c.new.ensures.items)
-    (subst (λ (h : List Move). StandsFor config c.args.store.now.counts g.L.Log.tears c.args.store.now.end (g.L.Log.seen c.args.store.now.log) (g.L.Log.may_leave c.args.store.now.log) c.args.store.now.whole c.args.store.now.books h [])
+    leaves_all config opening c.args.store.now.counts g.L.Log.tears c.args.store.now.end (g.L.Log.seen c.args.store.now.log) (g.L.Log.may_leave c.args.store.now.log) c.args.store.now.whole c.args.store.now.books
+    history batches answers (none_answered (replay opening history) batches answers c.new.ensures.items)
+    (subst (λ (h : List Move). StandsFor config opening c.args.store.now.counts g.L.Log.tears c.args.store.now.end (g.L.Log.seen c.args.store.now.log) (g.L.Log.may_leave c.args.store.now.log) c.args.store.now.whole c.args.store.now.books h [])
     (so_far_none history batches answers c.new.ensures.items) so)
 
 pub loop-batch-init : goal.loop-batch-init
@@ -38,8 +38,8 @@ loop-batch-init g c =
       told = λ told. told;
       left = ap (λ (a : List (List Decision)). drop (length a) batches) c.in-Ok.ensures.items ∙ ap batches_of (sym gives.0);
       answered = begins c.args.store.now.books batches c.in-Ok.answers.items c.in-Ok.ensures.items;
-      stood = λ told config history so.
-          subst (λ (h : List Move). StandsFor config c.args.store.now.counts g.L.Log.tears c.args.store.now.end (g.L.Log.seen c.args.store.now.log) (g.L.Log.may_leave c.args.store.now.log) c.args.store.now.whole c.args.store.now.books h [])
+      stood = λ told config opening history so.
+          subst (λ (h : List Move). StandsFor config opening c.args.store.now.counts g.L.Log.tears c.args.store.now.end (g.L.Log.seen c.args.store.now.log) (g.L.Log.may_leave c.args.store.now.log) c.args.store.now.whole c.args.store.now.books h [])
           (so_far_none history batches c.in-Ok.answers.items c.in-Ok.ensures.items) so;
     }
 
@@ -63,9 +63,9 @@ loop-batch-preserved g c =
       left = left_then batches answers more batch c.in-Ok-commit.recorded rest next c.push_reserved.ensures.items;
       answered = goes_on c.args.store.now.books batches answers more c.loop-batch.store.books store.books batch c.in-Ok-commit.recorded rest
           now.answered next c.push_reserved.ensures.items c.in-Ok-commit.ensures.decisions c.in-Ok-commit.ensures.books;
-      stood = λ told config history so.
-          stands_settled config store.counts g.L.Log.tears store.end (g.L.Log.seen store.log) (g.L.Log.may_leave store.log) store.whole store.books (so_far history batches answers ++ batch) (so_far history batches more) batch
-          (c.in-Ok-commit.ensures.recorded told config (so_far history batches answers) [] (now.stood (c.commit.ensures.told told) config history so))
+      stood = λ told config opening history so.
+          stands_settled config opening store.counts g.L.Log.tears store.end (g.L.Log.seen store.log) (g.L.Log.may_leave store.log) store.whole store.books (so_far history batches answers ++ batch) (so_far history batches more) batch
+          (c.in-Ok-commit.ensures.recorded told config opening (so_far history batches answers) [] (now.stood (c.commit.ensures.told told) config opening history so))
           c.in-Ok-commit.ensures.settled (so_far_more history batches answers more batch c.in-Ok-commit.recorded rest next c.push_reserved.ensures.items);
     }
 
@@ -73,7 +73,7 @@ pub returns-in-Err-clause-answers : goal.returns-in-Err-clause-answers
 returns-in-Err-clause-answers g c = c.loop-batch.invariant.answered.answered
 
 pub returns-in-Err-clause-lived : goal.returns-in-Err-clause-lived
-returns-in-Err-clause-lived g c = λ told config history so.
+returns-in-Err-clause-lived g c = λ told config opening history so.
     let now = c.loop-batch.invariant in
     let batches : List (List Move) = batches_of c.args.batches.items in
     let answers : List (List Decision) = c.loop-batch.answers.items in
@@ -81,20 +81,20 @@ returns-in-Err-clause-lived g c = λ told config history so.
     let rest : List (List Move) = batches_of (into_iter_items c.next.new.self) in
     let next : drop (length answers) batches ≡ batch ∷ rest = now.left ∙ ap batches_of c.in-Some.ensures.steps.0 in
     let store = c.commit.new.self in
-    let answered : AreAnswersTo (replay (new_server config) history) batches answers = subst (λ (s : List BooksSeen). AreAnswersTo s batches answers) so.replayed now.answered.answered in
+    let answered : AreAnswersTo (replay opening history) batches answers = subst (λ (s : List BooksSeen). AreAnswersTo s batches answers) so.replayed now.answered.answered in
     ⊎_elim
-    (λ still. leaves_all config store.counts g.L.Log.tears store.end (g.L.Log.seen store.log) (g.L.Log.may_leave store.log) store.whole store.books history batches answers answered still)
-    (λ unanswered. leaves_next config store.counts g.L.Log.tears store.end (g.L.Log.seen store.log) (g.L.Log.may_leave store.log) store.whole store.books history batches answers batch rest answered next unanswered)
-    (c.in-Err.ensures.left told config (so_far history batches answers) [] (now.stood (c.commit.ensures.told told) config history so))
+    (λ still. leaves_all config opening store.counts g.L.Log.tears store.end (g.L.Log.seen store.log) (g.L.Log.may_leave store.log) store.whole store.books history batches answers answered still)
+    (λ unanswered. leaves_next config opening store.counts g.L.Log.tears store.end (g.L.Log.seen store.log) (g.L.Log.may_leave store.log) store.whole store.books history batches answers batch rest answered next unanswered)
+    (c.in-Err.ensures.left told config opening (so_far history batches answers) [] (now.stood (c.commit.ensures.told told) config opening history so))
 
 pub returns-clause-answers : goal.returns-clause-answers
 returns-clause-answers g c = c.loop-batch.invariant.answered.answered
 
 pub returns-clause-lived : goal.returns-clause-lived
-returns-clause-lived g c = λ told config history so.
+returns-clause-lived g c = λ told config opening history so.
     let now = c.loop-batch.invariant in
     let batches : List (List Move) = batches_of c.args.batches.items in
     let answers : List (List Decision) = c.loop-batch.answers.items in
     let store = c.loop-batch.store in
-    leaves_all config store.counts g.L.Log.tears store.end (g.L.Log.seen store.log) (g.L.Log.may_leave store.log) store.whole store.books history batches answers
-    (subst (λ (s : List BooksSeen). AreAnswersTo s batches answers) so.replayed now.answered.answered) (now.stood told config history so)
+    leaves_all config opening store.counts g.L.Log.tears store.end (g.L.Log.seen store.log) (g.L.Log.may_leave store.log) store.whole store.books history batches answers
+    (subst (λ (s : List BooksSeen). AreAnswersTo s batches answers) so.replayed now.answered.answered) (now.stood told config opening history so)

@@ -2,6 +2,7 @@ use Rattle.std.proofs.Common.{◌≡◌, ◌+◌, ◌≤◌, List, [], IsTrue, d
 use Rattle.std.specs.Vec.{vec_capacity}
 use Rattle.std.specs.Vec.Iter.{into_iter_items, into_iter_len}
 use Rattle.rsl_accounts.specs.Configuration.{Configuration}
+use Rattle.rsl_shard.specs.Restep.{BooksSeen}
 use Rattle.rsl_shard.specs.declared.moved.Move.{Move}
 use Rattle.rld_store.specs.Standing.{StandsFor}
 use Rattle.rld_lives.specs.Leaving.{batches_of}
@@ -17,8 +18,8 @@ invariant-loop-batch g l = record {
   told : IsTrue (g.L.Log.tells l.store.log) → IsTrue (g.L.Log.tells l.fn.store.log);
   left : drop (length l.answers.items) (batches_of l.fn.batches.items) ≡ batches_of (into_iter_items l.batch-iterator);
   answered : HasAnswered l.fn.store.books (batches_of l.fn.batches.items) l.answers.items l.store.books;
-  stood : IsTrue (g.L.Log.tells l.store.log) → (config : Configuration) (history : List Move)
-      → StandsFor config l.fn.store.counts g.L.Log.tears l.fn.store.end (g.L.Log.seen l.fn.store.log) (g.L.Log.may_leave l.fn.store.log) l.fn.store.whole l.fn.store.books history []
-      → StandsFor config l.store.counts g.L.Log.tears l.store.end (g.L.Log.seen l.store.log) (g.L.Log.may_leave l.store.log) l.store.whole l.store.books
+  stood : IsTrue (g.L.Log.tells l.store.log) → (config : Configuration) (opening : List BooksSeen) (history : List Move)
+      → StandsFor config opening l.fn.store.counts g.L.Log.tears l.fn.store.end (g.L.Log.seen l.fn.store.log) (g.L.Log.may_leave l.fn.store.log) l.fn.store.whole l.fn.store.books history []
+      → StandsFor config opening l.store.counts g.L.Log.tears l.store.end (g.L.Log.seen l.store.log) (g.L.Log.may_leave l.store.log) l.store.whole l.store.books
       (so_far history (batches_of l.fn.batches.items) l.answers.items) [];
 }

@@ -1,6 +1,7 @@
 use Rattle.std.proofs.Common.{◌≡◌, ◌+◌, ◌≤◌, All, List, IsTrue, drop, length, take, vec_len}
 use Rattle.std.specs.Vec.{vec_capacity}
 use Rattle.std.specs.Vec.Iter.{into_iter_items, into_iter_len}
+use Rattle.rsl_shard.specs.Restep.{BooksSeen}
 use Rattle.rsl_shard.specs.declared.moved.Move.{Move}
 use Rattle.rld_store.specs.Generations.{HasHistory}
 use Rattle.rld_store.specs.Premises.{Only, Premise}
@@ -19,6 +20,6 @@ invariant-loop-plan g l = record {
   tells : IsTrue (g.L.Log.tells l.log) → IsTrue (g.L.Log.tells l.fn.log);
   settled : IsTrue (g.L.Log.tells l.log) → Only (g.L.Log.seen l.fn.log) (g.L.Log.may_leave l.fn.log) → Only (g.L.Log.seen l.log) (g.L.Log.may_leave l.log);
   lived : IsTrue (g.L.Log.tells l.log) → Only (g.L.Log.seen l.fn.log) (g.L.Log.may_leave l.fn.log) → All (λ (plan : Plan). Premise g.L.Log.tears plan.ending) l.fn.plans.items
-      → (history : List Move) → HasHistory l.config history (g.L.Log.seen l.fn.log)
-      → HaveLived l.config history (plans_of (take (length l.told.items) l.fn.plans.items)) (told_of l.told.items) (g.L.Log.seen l.log);
+      → (opening : List BooksSeen) (history : List Move) → HasHistory l.config opening history (g.L.Log.seen l.fn.log)
+      → HaveLived l.config opening history (plans_of (take (length l.told.items) l.fn.plans.items)) (told_of l.told.items) (g.L.Log.seen l.log);
 }

@@ -11,7 +11,7 @@ use Rattle.rld_store.proofs.Standing.{stands_more}
 use Rattle.rld_store.proofs.store.Store.commit.Goals as goal
 
 pub returns-clause-recorded : goal.returns-clause-recorded
-returns-clause-recorded g c = λ told config history unanswered so.
+returns-clause-recorded g c = λ told config opening history unanswered so.
     let batch : List Move = c.args.batch.items in
     let counts : Counts = c.args.self.now.counts in
     let payload : List ℕ = c.deref-2.result.now in
@@ -22,7 +22,7 @@ returns-clause-recorded g c = λ told config history unanswered so.
     let short : Fits payload = subst (λ (p : List ℕ). Fits p) (sym c.deref-2.ensures.value) c.in_ok-payload.ensures.short in
     let size_is : c.add.new.self.whole ≡ c.args.self.now.whole + (20 + length payload) =
     c.in_ok-add.ensures.whole ∙ c.in_ok-payload.ensures.whole ∙ ap (λ (p : List ℕ). c.args.self.now.whole + (20 + length p)) (sym c.deref-2.ensures.value) in
-    stands_more config g.L.Log.tears counts c.add.new.self.counts c.args.self.now.end
+    stands_more config opening g.L.Log.tears counts c.add.new.self.counts c.args.self.now.end
     (g.L.Log.seen c.args.self.now.log) (g.L.Log.seen c.add.new.self.log) (g.L.Log.may_leave c.args.self.now.log) (g.L.Log.may_leave c.add.new.self.log)
     c.args.self.now.whole c.add.new.self.whole c.args.self.now.books c.make_all.new.self history unanswered batch payload so
     (c.add.ensures.counts ∙ c.settle.ensures.counts) short size_is

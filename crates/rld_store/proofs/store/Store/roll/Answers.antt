@@ -6,9 +6,9 @@ use Rattle.rld_store.proofs.Standing.{crashes_lose}
 use Rattle.rld_store.proofs.store.Store.roll.Goals as goal
 
 pub returns-in-Err-clause-crash : goal.returns-in-Err-clause-crash
-returns-in-Err-clause-crash g c = λ told told_older only empty config history unanswered so ending premise older newer reached_older reached_newer.
-    both_stand config history unanswered older newer
-    (crashes_lose config c.args.self.now.counts g.L.Log.tears c.args.self.now.end (g.L.Log.seen c.args.self.now.log) (g.L.Log.may_leave c.args.self.now.log) c.args.self.now.whole c.args.self.now.books history unanswered so
+returns-in-Err-clause-crash g c = λ told told_older only empty config opening history unanswered so ending premise older newer reached_older reached_newer.
+    both_stand config opening history unanswered older newer
+    (crashes_lose config opening c.args.self.now.counts g.L.Log.tears c.args.self.now.end (g.L.Log.seen c.args.self.now.log) (g.L.Log.may_leave c.args.self.now.log) c.args.self.now.whole c.args.self.now.books history unanswered so
     ending premise older reached_older)
-    (begun_of config c.args.header c.args.self.now.books history newer so.replayed
+    (begun_of config opening c.args.header c.args.self.now.books history newer so.are.opening_is so.replayed
     (subst (λ (counts : Counts). IsUnbegun newer ⊎ HasGeneration counts c.args.header c.args.self.now.books [] newer) so.counts_are (c.in-Err.ensures.crash told only empty ending premise newer reached_newer)))
