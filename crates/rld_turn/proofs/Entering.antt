@@ -102,8 +102,8 @@ goes_on service port moment taken (entry ∷ entries) old new (one, rest, mid, i
   where
     by : (entry : Entry) → IsEntered service port moment one entry old mid → (more : List Move)
         → new ≡ mid ++ more → (more : List Move) × (new ≡ old ++ more)
-    by Dropped entered more so = (more, so ∙ ap (λ (b : List Move). b ++ more) entered.1)
-    by Refused entered more so = (more, so ∙ ap (λ (b : List Move). b ++ more) entered.1)
+    by (Dropped source cause) entered more so = (more, so ∙ ap (λ (b : List Move). b ++ more) entered.2)
+    by (Refused source) entered more so = (more, so ∙ ap (λ (b : List Move). b ++ more) entered.2)
     by (Bare waiting) entered more so = (more, so ∙ ap (λ (b : List Move). b ++ more) entered.1)
     by (Moved waiting place) (moved, waits, last) more so =
         (moved ∷ more, so ∙ ap (λ (b : List Move). b ++ more) last.last ∙ append_assoc old (moved ∷ []) more)
@@ -127,8 +127,8 @@ can_end service port moment decisions taken (entry ∷ entries) old new (one, re
         omega (arith, long, short, length-append mid after.0, length-append old (moved ∷ []), last.at, count)
 
     by : (entry : Entry) → IsEntered service port moment one entry old mid → CanEnd service.config decisions entry
-    by Dropped entered = tt
-    by Refused entered = tt
+    by (Dropped source cause) entered = tt
+    by (Refused source) entered = tt
     by (Bare waiting) entered = entered.0.answer
     by (Moved waiting place) (moved, waits, last) = (waits.answer, within decisions place moved last count)
 
@@ -176,6 +176,7 @@ waits service port moment source datagram prepared waiting moved meant packet kn
       move = move;
       answer = record {
         fields = fields_of prepared.packet;
+        known = known;
         packet = packet;
         reply = record {
           known = is.client;
@@ -196,9 +197,12 @@ pub added : (service : ServiceSeen) (port : Port) (moment : ℕ) (source : Sourc
     → waiting ≡ waiting_of source datagram prepared.client prepared.meaning prepared.packet.id
     → HasAdded service.config moment prepared.meaning waiting entry old new
     → IsEntered service port moment (datagram_of source datagram) entry old new
-added service port moment source datagram prepared waiting Dropped old new meant packet known is held added_so = absurd added_so
-added service port moment source datagram prepared waiting Refused old new meant packet known is held added_so =
-    (record { meant = prepared.meaning; understood = meant }, added_so)
+added service port moment source datagram prepared waiting (Dropped from cause) old new meant packet known is held added_so = absurd added_so
+added service port moment source datagram prepared waiting (Refused from) old new meant packet known is held (same, left) = (
+  same ∙ ap (λ (w : Waiting). w.source) held,
+  record { meant = prepared.meaning; understood = meant },
+  left,
+)
 added service port moment source datagram prepared waiting (Bare other) old new meant packet known is held (same, none, left) =
     (waits service port moment source datagram prepared other None meant packet known is (same ∙ held) none, left)
 added service port moment source datagram prepared waiting (Moved other place) old new meant packet known is held (moved, same, some, last) =

@@ -5,3 +5,4 @@ pub mod Replying
 pub mod Serving
 pub mod Showing
 pub mod Storing
+pub mod Telling

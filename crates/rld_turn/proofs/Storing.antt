@@ -16,13 +16,13 @@ on_err (Ok value) holds = tt
 on_err (Err fault) holds = holds
 
 -- a batch was not recorded: it or the one before it is left unanswered
-pub recorded_still : (config : Configuration) (counts : Counts) (tears : List ℕ → List ℕ → Type 0)
+pub recorded_still : (config : Configuration) (opening : List BooksSeen) (counts : Counts) (tears : List ℕ → List ℕ → Type 0)
     (end : End) (seen : List ℕ) (may_leave : Ending → List ℕ → Type 0) (whole : ℕ)
     (books : List BooksSeen) (history before batch : List Move)
-    → StandsFor config counts tears end seen may_leave whole books history before
-    ⊎ StandsFor config counts tears end seen may_leave whole books history batch
-    → HasRecorded config counts tears end seen may_leave whole books history
-recorded_still config counts tears end seen may_leave whole books history before batch (inl so) =
+    → StandsFor config opening counts tears end seen may_leave whole books history before
+    ⊎ StandsFor config opening counts tears end seen may_leave whole books history batch
+    → HasRecorded config opening counts tears end seen may_leave whole books history
+recorded_still config opening counts tears end seen may_leave whole books history before batch (inl so) =
     record { unanswered = before; stands = so }
-recorded_still config counts tears end seen may_leave whole books history before batch (inr so) =
+recorded_still config opening counts tears end seen may_leave whole books history before batch (inr so) =
     record { unanswered = batch; stands = so }

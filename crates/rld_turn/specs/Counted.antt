@@ -36,11 +36,11 @@ sends_of ends = ends.answered + ends.unsent
 
 -- with one datagram more
 abbrev pub counted_end : End → Ends → Ends
-counted_end Dropped ends = record ends { dropped = ends.dropped + 1 }
+counted_end (Dropped cause) ends = record ends { dropped = ends.dropped + 1 }
 counted_end Refused ends = record ends { refused = ends.refused + 1 }
 counted_end Unrecorded ends = record ends { unrecorded = ends.unrecorded + 1 }
-counted_end Answered ends = record ends { answered = ends.answered + 1 }
-counted_end Unsent ends = record ends { unsent = ends.unsent + 1 }
+counted_end (Answered said) ends = record ends { answered = ends.answered + 1 }
+counted_end (Unsent said) ends = record ends { unsent = ends.unsent + 1 }
 
 abbrev pub no_counts : Counts
 no_counts = record {

@@ -1,5 +1,5 @@
 -- What a batch holds of the datagrams that were taken.
-use Rattle.std.specs.Prelude.{◌≡◌, ℕ, List, [], ◌∷◌, ◌++◌, length, Option, Some, None, Ok}
+use Rattle.std.specs.Prelude.{◌≡◌, ℕ, List, [], ◌∷◌, ◌++◌, length, Option, Some, None, Ok, Err}
 use Rattle.rsl_accounts.specs.Configuration.{Configuration, client_number}
 use Rattle.rsl_event.specs.Meaning.{meaning}
 use Rattle.rsl_event.specs.MeaningKind.{kind_of}
@@ -7,7 +7,6 @@ use Rattle.rsl_event.specs.Prepared.{CanReply}
 use Rattle.rsl_event.specs.declared.event.Source.{Source}
 use Rattle.rsl_event.specs.declared.meaning.Meaning.{Meaning}
 use Rattle.rsl_event.specs.declared.meaning.Port.{Port}
-use Rattle.rsl_receive.specs.Served.{IsDropped}
 use Rattle.rsl_receive.specs.Told.{datagram_of}
 use Rattle.rsl_receive.specs.declared.datagram_port.Datagram.{Datagram}
 use Rattle.rsl_service.specs.Service.{ServiceSeen}
@@ -29,9 +28,10 @@ waiting_of source octets client meant id = record {
   draft = record { id = id; attributes = [] };
 }
 
--- an answer can be made to what waits: to its packet, with the kind of its meaning
+-- an answer can be made to what waits: to its client's packet, with the kind of its meaning
 pub record CanAnswer (config : Configuration) (waiting : Waiting) : Type 0 where
   pub fields : Fields
+  pub known : client_number config waiting.source.address ≡ Some waiting.client
   pub packet : packet_of waiting.octets ≡ Ok fields
   pub reply : CanReply config waiting.client fields.attributes waiting.kind
   pub draft : waiting.draft ≡ record { id = fields.id; attributes = [] }
@@ -55,8 +55,11 @@ pub record IsLast (place : ℕ) (moved : Move) (old new : List Move) : Type 0 wh
 -- a datagram was taken into a batch as this
 abbrev pub IsEntered : ServiceSeen → Port → (moment : ℕ) → (taken : Datagram) → Entry
     → (old new : List Move) → Type 0
-IsEntered service port moment taken Dropped old new = IsDropped service port taken × (new ≡ old)
-IsEntered service port moment taken Refused old new = IsRefused service port taken × (new ≡ old)
+IsEntered service port moment taken (Dropped source cause) old new =
+    (source ≡ taken.source)
+    × (meaning service.config service.boot port taken.source taken.octets ≡ Err cause) × (new ≡ old)
+IsEntered service port moment taken (Refused source) old new =
+    (source ≡ taken.source) × IsRefused service port taken × (new ≡ old)
 IsEntered service port moment taken (Bare waiting) old new =
     IsWaiting service port moment taken None waiting × (new ≡ old)
 IsEntered service port moment taken (Moved waiting place) old new =
@@ -65,8 +68,8 @@ IsEntered service port moment taken (Moved waiting place) old new =
 
 -- a move was put at the end of a batch, at its place, or refused memory
 abbrev pub HasPushed : Move → Waiting → Entry → (old new : List Move) → Type 0
-HasPushed moved waiting Dropped old new = ⊥
-HasPushed moved waiting Refused old new = new ≡ old
+HasPushed moved waiting (Dropped source cause) old new = ⊥
+HasPushed moved waiting (Refused source) old new = (source ≡ waiting.source) × (new ≡ old)
 HasPushed moved waiting (Bare held) old new = ⊥
 HasPushed moved waiting (Moved held place) old new =
     (held ≡ waiting) × IsLast place moved old new
@@ -74,8 +77,9 @@ HasPushed moved waiting (Moved held place) old new =
 -- the move of a meaning was, if it has one
 abbrev pub HasAdded : Configuration → (moment : ℕ) → Meaning → Waiting → Entry
     → (old new : List Move) → Type 0
-HasAdded config moment meant waiting Dropped old new = ⊥
-HasAdded config moment meant waiting Refused old new = new ≡ old
+HasAdded config moment meant waiting (Dropped source cause) old new = ⊥
+HasAdded config moment meant waiting (Refused source) old new =
+    (source ≡ waiting.source) × (new ≡ old)
 HasAdded config moment meant waiting (Bare held) old new =
     (held ≡ waiting) × (move_of config moment meant ≡ None) × (new ≡ old)
 HasAdded config moment meant waiting (Moved held place) old new =

@@ -7,4 +7,5 @@ pub mod Recorded
 pub mod Served
 pub mod Stored
 pub mod Ticked
+pub mod Told
 pub mod Turned

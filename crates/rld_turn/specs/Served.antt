@@ -1,5 +1,5 @@
 -- What is made of the datagrams of turns, one turn after the other.
-use Rattle.std.specs.Prelude.{◌≡◌, ℕ, ◌+◌, Bool, List, [], ◌++◌}
+use Rattle.std.specs.Prelude.{◌≡◌, ℕ, Bool, List, [], ◌++◌}
 use Rattle.rsl_accounts.specs.Configuration.{Configuration}
 use Rattle.rsl_event.specs.declared.meaning.Port.{Port}
 use Rattle.rsl_receive.specs.Shown.{HasShown}
@@ -9,36 +9,41 @@ use Rattle.rsl_shard.specs.Restep.{BooksSeen}
 use Rattle.rsl_shard.specs.declared.moved.Move.{Move}
 use Rattle.rld_books.specs.Server.{replay}
 use Rattle.rld_turn.specs.Recorded.{made}
+use Rattle.rld_turn.specs.Told.{AreNumbersOf, HasTold, Told}
 use Rattle.rld_turn.specs.Turned.{State, Turned, moments_of}
 use Rattle.rld_turn.specs.declared.counts.Counts.{Counts}
 
--- So many datagrams were dropped, refused, unrecorded and answered, in the order in which they were
--- taken; these moves were recorded, these are the sends, and the clock showed these moments. The
--- books of each turn are those that were there at the beginning, and the moves recorded since.
+-- The datagrams of turns ended so, in the order in which they were taken; these moves were recorded,
+-- these are the sends, and the clock showed these moments. The books of each turn are those that were
+-- there at the beginning, and the moves recorded since.
 pub data Served (service : ServiceSeen) (port : Port) (begun : List BooksSeen)
-    : (dropped refused unrecorded answered : ℕ) → (taken : List Datagram) → (moves : List Move)
-    → (sent : List Datagram) → (shown : List ℕ) → Type 0 where
-  NoTurn : Served service port begun 0 0 0 0 [] [] [] []
-  ThenTurn : {d r u a : ℕ} {taken : List Datagram} {moves : List Move} {sent : List Datagram} {shown : List ℕ}
-      → {d' r' u' a' : ℕ} {taken' : List Datagram} {batch : List Move} {sent' : List Datagram}
-      → Served service port begun d r u a taken moves sent shown
+    : (told : List Told) → (taken : List Datagram) → (moves : List Move) → (sent : List Datagram)
+    → (shown : List ℕ) → Type 0 where
+  NoTurn : Served service port begun [] [] [] [] []
+  ThenTurn : {told : List Told} {taken : List Datagram} {moves : List Move} {sent : List Datagram} {shown : List ℕ}
+      → {told' : List Told} {taken' : List Datagram} {batch : List Move} {sent' : List Datagram}
+      → Served service port begun told taken moves sent shown
       → (moment : ℕ) → (recorded : Bool)
-      → Turned service port moment recorded (replay begun moves) d' r' u' a' taken' batch sent'
-      → Served service port begun (d + d') (r + r') (u + u') (a + a') (taken ++ taken') (moves ++ made recorded batch) (sent ++ sent') (shown ++ moments_of taken' moment)
+      → Turned service port moment recorded (replay begun moves) told' taken' batch sent'
+      → Served service port begun (told ++ told') (taken ++ taken') (moves ++ made recorded batch) (sent ++ sent') (shown ++ moments_of taken' moment)
 
 -- These counts are of what was served: of the datagrams taken since, with the sends and the moments
--- since. The moves are recorded after those that were recorded before, and the books are what they
--- make of them.
+-- since. They are the numbers of the ends of these, as the watcher was told. The moves are recorded
+-- after those that were recorded before, and the books are what they make of them.
 pub record HasServed (service : ServiceSeen) (port : Port) (counts : Counts) (old new : State)
-    (stood stands : Configuration → List Move → Type 0) : Type 0 where
+    (stood stands : Configuration → List BooksSeen → List Move → Type 0) : Type 0 where
   pub taken : List Datagram
   pub moves : List Move
   pub sent : List Datagram
   pub shown : List ℕ
+  pub told : List Told
   pub more_taken : new.taken ≡ old.taken ++ taken
   pub more_sent : new.sent ≡ old.sent ++ sent
   pub more_shown : HasShown shown old.shown new.shown
+  pub more_told : HasTold told old.told new.told
   pub books : new.books ≡ replay old.books moves
-  pub history : (config : Configuration) (earlier : List Move) → stood config earlier → stands config (earlier ++ moves)
-  pub served : Served service port old.books
-      counts.dropped counts.refused counts.unrecorded (counts.answered + counts.unsent) taken moves sent shown
+  pub history : (config : Configuration) (opening : List BooksSeen) (earlier : List Move)
+      → stood config opening earlier → stands config opening (earlier ++ moves)
+  pub served : Served service port old.books told taken moves sent shown
+  pub numbers : AreNumbersOf told
+      counts.dropped counts.refused counts.unrecorded counts.answered counts.unsent

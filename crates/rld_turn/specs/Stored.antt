@@ -13,14 +13,15 @@ use Rattle.rld_store.specs.declared.store.End.{End}
 use Rattle.rld_turn.specs.declared.fault.RecordFault.{RecordFault}
 use Rattle.rld_turn.specs.declared.fault.RecordFault.TheVariants.{Failed, Ended}
 
--- A store has recorded a history: it stands for it, and perhaps for a batch behind it that was not
--- answered. Where a batch is not recorded the history stays, and which batch that is may change.
-pub record HasRecorded (config : Configuration) (counts : Counts)
+-- A store has recorded a history, in an era that opened with these books: it stands for it, and
+-- perhaps for a batch behind it that was not answered. Where a batch is not recorded the history
+-- stays, and which batch that is may change.
+pub record HasRecorded (config : Configuration) (opening : List BooksSeen) (counts : Counts)
     (tears : List ℕ → List ℕ → Type 0) (end : End) (seen : List ℕ)
     (may_leave : Ending → List ℕ → Type 0) (whole : ℕ) (books : List BooksSeen)
     (history : List Move) : Type 0 where
   pub unanswered : List Move
-  pub stands : StandsFor config counts tears end seen may_leave whole books history unanswered
+  pub stands : StandsFor config opening counts tears end seen may_leave whole books history unanswered
 
 -- after a sync that failed nothing more can be recorded, after any other fault another batch may be
 abbrev pub record_fault : StoreFault → RecordFault

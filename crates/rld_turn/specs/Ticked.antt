@@ -15,8 +15,10 @@ ticks_in (Err fault) moment = []
 
 -- the tick is recorded, and the books made it, or they are as they were
 pub record HasTicked {T : Type 0} (ticked : Result T RecordFault) (old_shown new_shown : Option (List ℕ))
-    (old new : List BooksSeen) (stood stands : Configuration → List Move → Type 0) : Type 0 where
+    (old new : List BooksSeen)
+    (stood stands : Configuration → List BooksSeen → List Move → Type 0) : Type 0 where
   pub moment : ℕ
   pub read : HasShown (moment ∷ []) old_shown new_shown
   pub books : new ≡ replay old (ticks_in ticked moment)
-  pub history : (config : Configuration) (moves : List Move) → stood config moves → stands config (moves ++ ticks_in ticked moment)
+  pub history : (config : Configuration) (opening : List BooksSeen) (moves : List Move)
+      → stood config opening moves → stands config opening (moves ++ ticks_in ticked moment)

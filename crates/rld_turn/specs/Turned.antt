@@ -1,12 +1,12 @@
 -- What is made of the datagrams of a turn: in the order in which they were taken, each is dropped,
 -- refused, unrecorded or answered, and nothing else is recorded or sent.
-use Rattle.std.specs.Prelude.{◌≡◌, ℕ, ◌+◌, Bool, true, false, List, [], ◌∷◌, ◌++◌, Ok, Option, Some, None}
+use Rattle.std.specs.Prelude.{◌≡◌, ℕ, Bool, true, false, List, [], ◌∷◌, ◌++◌, Ok, Err, Option, Some, None}
 use Rattle.rsl_accounts.specs.Configuration.{Configuration, client_number}
-use Rattle.rsl_event.specs.Answer.{answer}
+use Rattle.rsl_event.specs.Answer.{answer, said}
 use Rattle.rsl_event.specs.Meaning.{meaning}
+use Rattle.rsl_event.specs.declared.meaning.Dropped.{Dropped}
 use Rattle.rsl_event.specs.declared.meaning.Meaning.{Meaning}
 use Rattle.rsl_event.specs.declared.meaning.Port.{Port}
-use Rattle.rsl_receive.specs.Served.{IsDropped}
 use Rattle.rsl_receive.specs.Shown.{HasShown}
 use Rattle.rsl_receive.specs.declared.datagram_port.Datagram.{Datagram}
 use Rattle.rsl_service.specs.Service.{ServiceSeen}
@@ -14,9 +14,11 @@ use Rattle.rsl_shard.specs.Restep.{BooksSeen}
 use Rattle.rsl_shard.specs.declared.moved.Move.{Move}
 use Rattle.rsl_wire.specs.Packet.{Fields, packet_of}
 use Rattle.rld_books.specs.Server.{replay}
-use Rattle.rld_turn.specs.Counted.{sends_of}
 use Rattle.rld_turn.specs.Moves.{decided, move_of}
 use Rattle.rld_turn.specs.Recorded.{made}
+use Rattle.rld_turn.specs.Told.{AreNumbersOf, HasTold, IsSentAs, Told, told_of}
+use Rattle.rld_turn.specs.declared.ends.End.{End}
+use Rattle.rld_turn.specs.declared.ends.End.TheVariants as ends
 use Rattle.rld_turn.specs.declared.ends.Ends.{Ends}
 
 -- a server of this configuration, with this boot number
@@ -36,9 +38,9 @@ pub record IsUnrecorded (service : ServiceSeen) (port : Port) (moment : ℕ) (ta
   pub move : move_of service.config moment meant ≡ Some moved
 
 -- a datagram has a meaning with this move, or with none, and this is the answer to it, with the
--- decision of these books, to where it came from
+-- decision of these books, to where it came from; so it ended
 pub record IsAnsweredBy (service : ServiceSeen) (port : Port) (moment : ℕ) (books : List BooksSeen)
-    (taken : Datagram) (moved : Option Move) (sent : Datagram) : Type 0 where
+    (taken : Datagram) (moved : Option Move) (sent : Datagram) (end : End) : Type 0 where
   pub fields : Fields
   pub client : ℕ
   pub meant : Meaning
@@ -49,70 +51,79 @@ pub record IsAnsweredBy (service : ServiceSeen) (port : Port) (moment : ℕ) (bo
   pub source : sent.source ≡ taken.source
   pub octets : sent.octets
       ≡ answer service.config service.boot client fields meant (decided books moved)
+  pub ended : IsSentAs (said meant (decided books moved)) end
 
--- So many datagrams of a turn were dropped, refused, unrecorded and answered, in the order in which
--- they were taken; these are the moves of the batch, all at one moment, and these are the sends.
--- The batch is recorded or it is not: one with a move is answered only if it is, by the books that
--- were there when the batch began and the moves before its own.
+-- The datagrams of a turn ended so, in the order in which they were taken: each was dropped by the
+-- cause why it has no meaning, refused, unrecorded or answered, and its end is told. These are the
+-- moves of the batch, all at one moment, and these are the sends. The batch is recorded or it is not:
+-- one with a move is answered only if it is, by the books that were there when the batch began and
+-- the moves before its own.
 pub data Turned (service : ServiceSeen) (port : Port) (moment : ℕ) (recorded : Bool)
     (begun : List BooksSeen)
-    : (dropped refused unrecorded answered : ℕ) → (taken : List Datagram) → (batch : List Move)
-    → (sent : List Datagram) → Type 0 where
-  NoneYet : Turned service port moment recorded begun 0 0 0 0 [] [] []
-  ThenDropped : {d r u a : ℕ} {taken : List Datagram} {batch : List Move} {sent : List Datagram}
-      → Turned service port moment recorded begun d r u a taken batch sent
-      → (one : Datagram) → IsDropped service port one
-      → Turned service port moment recorded begun (d + 1) r u a (taken ++ one ∷ []) batch sent
-  ThenRefused : {d r u a : ℕ} {taken : List Datagram} {batch : List Move} {sent : List Datagram}
-      → Turned service port moment recorded begun d r u a taken batch sent
+    : (told : List Told) → (taken : List Datagram) → (batch : List Move) → (sent : List Datagram)
+    → Type 0 where
+  NoneYet : Turned service port moment recorded begun [] [] [] []
+  ThenDropped : {told : List Told} {taken : List Datagram} {batch : List Move} {sent : List Datagram}
+      → Turned service port moment recorded begun told taken batch sent
+      → (one : Datagram) → (cause : Dropped)
+      → meaning service.config service.boot port one.source one.octets ≡ Err cause
+      → Turned service port moment recorded begun (told ++ told_of service.config one.source [] (ends.Dropped cause) ∷ []) (taken ++ one ∷ []) batch sent
+  ThenRefused : {told : List Told} {taken : List Datagram} {batch : List Move} {sent : List Datagram}
+      → Turned service port moment recorded begun told taken batch sent
       → (one : Datagram) → IsRefused service port one
-      → Turned service port moment recorded begun d (r + 1) u a (taken ++ one ∷ []) batch sent
-  ThenUnrecorded : {d r u a : ℕ} {taken : List Datagram} {batch : List Move} {sent : List Datagram}
-      → Turned service port moment recorded begun d r u a taken batch sent
+      → Turned service port moment recorded begun (told ++ told_of service.config one.source [] ends.Refused ∷ []) (taken ++ one ∷ []) batch sent
+  ThenUnrecorded : {told : List Told} {taken : List Datagram} {batch : List Move} {sent : List Datagram}
+      → Turned service port moment recorded begun told taken batch sent
       → (one : Datagram) → (moved : Move) → recorded ≡ false
       → IsUnrecorded service port moment one moved
-      → Turned service port moment recorded begun d r (u + 1) a (taken ++ one ∷ []) (batch ++ moved ∷ []) sent
-  ThenBare : {d r u a : ℕ} {taken : List Datagram} {batch : List Move} {sent : List Datagram}
-      → Turned service port moment recorded begun d r u a taken batch sent
-      → (one reply : Datagram)
-      → IsAnsweredBy service port moment (replay begun batch) one None reply
-      → Turned service port moment recorded begun d r u (a + 1) (taken ++ one ∷ []) batch (sent ++ reply ∷ [])
-  ThenAnswered : {d r u a : ℕ} {taken : List Datagram} {batch : List Move} {sent : List Datagram}
-      → Turned service port moment recorded begun d r u a taken batch sent
-      → (one reply : Datagram) → (moved : Move) → recorded ≡ true
-      → IsAnsweredBy service port moment (replay begun batch) one (Some moved) reply
-      → Turned service port moment recorded begun d r u (a + 1) (taken ++ one ∷ []) (batch ++ moved ∷ []) (sent ++ reply ∷ [])
+      → Turned service port moment recorded begun (told ++ told_of service.config one.source one.octets ends.Unrecorded ∷ []) (taken ++ one ∷ []) (batch ++ moved ∷ []) sent
+  ThenBare : {told : List Told} {taken : List Datagram} {batch : List Move} {sent : List Datagram}
+      → Turned service port moment recorded begun told taken batch sent
+      → (one reply : Datagram) → (end : End)
+      → IsAnsweredBy service port moment (replay begun batch) one None reply end
+      → Turned service port moment recorded begun (told ++ told_of service.config one.source one.octets end ∷ []) (taken ++ one ∷ []) batch (sent ++ reply ∷ [])
+  ThenAnswered : {told : List Told} {taken : List Datagram} {batch : List Move} {sent : List Datagram}
+      → Turned service port moment recorded begun told taken batch sent
+      → (one reply : Datagram) → (end : End) → (moved : Move) → recorded ≡ true
+      → IsAnsweredBy service port moment (replay begun batch) one (Some moved) reply end
+      → Turned service port moment recorded begun (told ++ told_of service.config one.source one.octets end ∷ []) (taken ++ one ∷ []) (batch ++ moved ∷ []) (sent ++ reply ∷ [])
 
--- what stands at a time: the datagrams taken, the sends tried, the moments that the clock has shown,
--- if it reports them, and the books
+-- what stands at a time: the datagrams taken, the sends tried, the moments that the clock has shown
+-- and what the watcher was told, if they report that, and the books
 pub record State : Type 0 where
   pub taken : List Datagram
   pub sent : List Datagram
   pub shown : Option (List ℕ)
+  pub told : Option (List Told)
   pub books : List BooksSeen
 
-abbrev pub state_of : (taken sent : List Datagram) → (shown : Option (List ℕ)) → List BooksSeen → State
-state_of taken sent shown books =
-    record { taken = taken; sent = sent; shown = shown; books = books }
+abbrev pub state_of : (taken sent : List Datagram) → (shown : Option (List ℕ))
+    → (told : Option (List Told)) → List BooksSeen → State
+state_of taken sent shown told books =
+    record { taken = taken; sent = sent; shown = shown; told = told; books = books }
 
 -- the clock is read once if there is a datagram
 abbrev pub moments_of : (taken : List Datagram) → (moment : ℕ) → List ℕ
 moments_of [] moment = []
 moments_of (one ∷ taken) moment = moment ∷ []
 
--- A turn: what was taken since ended so. The moves of the batch are recorded, all or none, after
--- those that were recorded before.
+-- A turn: what was taken since ended so, as the watcher was told. The moves of the batch are recorded,
+-- all or none, after those that were recorded before.
 pub record HasTurned (service : ServiceSeen) (port : Port) (ends : Ends) (old new : State)
-    (stood stands : Configuration → List Move → Type 0) : Type 0 where
+    (stood stands : Configuration → List BooksSeen → List Move → Type 0) : Type 0 where
   pub taken : List Datagram
   pub batch : List Move
   pub sent : List Datagram
+  pub told : List Told
   pub moment : ℕ
   pub recorded : Bool
   pub more_taken : new.taken ≡ old.taken ++ taken
   pub more_sent : new.sent ≡ old.sent ++ sent
   pub more_shown : HasShown (moments_of taken moment) old.shown new.shown
+  pub more_told : HasTold told old.told new.told
   pub books : new.books ≡ replay old.books (made recorded batch)
-  pub history : (config : Configuration) (moves : List Move) → stood config moves → stands config (moves ++ made recorded batch)
-  pub turned : Turned service port moment recorded old.books
-      ends.dropped ends.refused ends.unrecorded (sends_of ends) taken batch sent
+  pub history : (config : Configuration) (opening : List BooksSeen) (moves : List Move)
+      → stood config opening moves → stands config opening (moves ++ made recorded batch)
+  pub turned : Turned service port moment recorded old.books told taken batch sent
+  pub numbers : AreNumbersOf told
+      ends.dropped ends.refused ends.unrecorded ends.answered ends.unsent

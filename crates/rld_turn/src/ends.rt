@@ -1,19 +1,21 @@
 ghost use Rattle.std.specs.Prelude.{◌≡◌, ◌+◌, ◌<◌, ◌^◌};
 ghost use Rattle.rld_turn.specs.Counted.{counted_end, ends_of, no_ends};
 
-/// How a datagram of a batch ended.
+use rsl_event::{Dropped, Said};
+
+/// How a datagram ended.
 #[derive(Clone, Copy, Debug, PartialEq, Eq)]
-pub(crate) enum End {
-    /// It was dropped.
-    Dropped,
+pub enum End {
+    /// It was dropped, by this cause. `NoMemory` is none of these: then it is `Refused`.
+    Dropped(Dropped),
     /// It has a meaning, and memory for it was refused.
     Refused,
     /// It has a move, and its batch was not recorded.
     Unrecorded,
-    /// Its answer was sent.
-    Answered,
-    /// Its answer could not be sent.
-    Unsent,
+    /// This was answered, and sent.
+    Answered(Said),
+    /// This could not be sent. What was recorded of it stands.
+    Unsent(Said),
 }
 
 /// How many datagrams of a turn ended so.
@@ -66,11 +68,11 @@ impl Ends {
         ensures { self.new ≡ counted_end end self.old }
     {
         match end {
-            End::Dropped => self.dropped += 1,
+            End::Dropped(_) => self.dropped += 1,
             End::Refused => self.refused += 1,
             End::Unrecorded => self.unrecorded += 1,
-            End::Answered => self.answered += 1,
-            End::Unsent => self.unsent += 1,
+            End::Answered(_) => self.answered += 1,
+            End::Unsent(_) => self.unsent += 1,
         }
     }
 }

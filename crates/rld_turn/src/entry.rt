@@ -1,7 +1,7 @@
 ghost use Rattle.std.specs.Prelude.{◌≡◌, IfOk};
 ghost use Rattle.rld_turn.specs.Entered.{waiting_of};
 
-use rsl_event::{MeaningKind, Prepared, Source, room};
+use rsl_event::{Dropped, MeaningKind, Prepared, Source, room};
 use rsl_wire::{Draft, NoMemory, Octets};
 use std::alloc::Global;
 
@@ -24,9 +24,14 @@ pub(crate) struct Waiting {
 #[derive(Drop)]
 pub(crate) enum Entry {
     /// It is dropped.
-    Dropped,
-    /// Memory for it was refused.
-    Refused,
+    Dropped {
+        /// Where it came from.
+        source: Source,
+        /// Why.
+        cause: Dropped,
+    },
+    /// Memory for it was refused; it came from this source.
+    Refused(Source),
     /// It moves nothing, and is answered all the same.
     Bare(Waiting),
     /// Its move stands at this place of the batch.

@@ -86,12 +86,12 @@ impl Receiver<'_> {
             datagram,
         ) {
             Ok(prepared) => prepared,
-            Err(Dropped::NoMemory) => return Entry::Refused,
-            Err(_) => return Entry::Dropped,
+            Err(Dropped::NoMemory) => return Entry::Refused(source),
+            Err(cause) => return Entry::Dropped { source, cause },
         };
         match Waiting::of(self.alloc, source, datagram, &prepared) {
             Ok(waiting) => add(self.config, moment, prepared.meaning, waiting, batch),
-            Err(_) => Entry::Refused,
+            Err(_) => Entry::Refused(source),
         }
     }
 }
@@ -132,6 +132,6 @@ fn push(batch: &mut Vec<Move>, moved: Move, waiting: Waiting) -> Entry
     let place = batch.len();
     match batch.push(moved) {
         Ok(()) => Entry::Moved { waiting, place },
-        Err(_) => Entry::Refused,
+        Err(_) => Entry::Refused(waiting.source),
     }
 }

@@ -6,6 +6,9 @@
 //! batch is recorded; the counts are of that (`specs/Turned.antt`, `specs/Served.antt`). Over any port
 //! the counts agree with the calls that the port counted (`specs/Counted.antt`).
 //!
+//! A watcher is told how each datagram ended, with its cause or with what was answered, and the counts
+//! are the numbers of what it was told (`specs/Told.antt`).
+//!
 //! A store is such a recorder (`specs/Stored.antt`). An answer with a decision is made of a
 //! `Recorded`, which only `Store::commit` makes.
 #![tactic(auto)]
@@ -23,11 +26,14 @@ mod receiver;
 mod recorder;
 mod stored;
 mod ticking;
+mod watch;
 
 pub use batch_port::BatchPort;
 pub use counts::Counts;
+pub use ends::End;
 pub use fault::{ReceiveFault, RecordFault};
 pub use receiver::{MAX_BATCH, receive};
 pub use recorder::Recorder;
 pub use rld_store::Recorded;
 pub use ticking::tick;
+pub use watch::{Ended, Unwatched, Watch};

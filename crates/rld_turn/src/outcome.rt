@@ -1,6 +1,7 @@
 ghost use Rattle.std.specs.Prelude.{◌≡◌, ◌++◌, List, true};
 ghost use Rattle.rld_turn.specs.Recorded.{HasCount, HasDecided, IsRecordedAs, decisions_in, ending_by, is_recorded, made};
 ghost use Rattle.rsl_accounts.specs.Configuration.{Configuration};
+ghost use Rattle.rsl_shard.specs.Restep.{BooksSeen};
 ghost use Rattle.rsl_shard.specs.declared.moved.Move.{Move as OneMove};
 
 use crate::ends::Ending;
@@ -41,9 +42,10 @@ pub(crate) fn record<R: Recorder>(alloc: Global, recorder: &mut R, batch: Vec<Mo
     ensures telling { R.tells recorder.new ≡ true → R.tells recorder.old ≡ true }
     ensures recorded { R.tells recorder.new ≡ true → IsRecordedAs result batch.items
         (R.books recorder.old) (R.books recorder.new) }
-    ensures stands { R.tells recorder.new ≡ true → (config : Configuration) (history : List OneMove) →
-        R.stands recorder.old config history →
-        R.stands recorder.new config (history ++ made (is_recorded (decisions_in result)) batch.items) }
+    ensures stands { R.tells recorder.new ≡ true →
+        (config : Configuration) (opening : List BooksSeen) (history : List OneMove) →
+        R.stands recorder.old config opening history →
+        R.stands recorder.new config opening (history ++ made (is_recorded (decisions_in result)) batch.items) }
 {
     if batch.is_empty() {
         return Outcome::Nothing;

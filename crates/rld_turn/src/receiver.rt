@@ -26,6 +26,7 @@ use crate::entry::Entry;
 use crate::fault::ReceiveFault;
 use crate::outcome::record;
 use crate::recorder::Recorder;
+use crate::watch::Watch;
 use rsl_accounts::Config;
 use rsl_event::Port;
 use rsl_receive::{Clock, PortFault};
@@ -56,13 +57,14 @@ pub(crate) struct Receiver<'a> {
 /// nor refused memory are recorded as one batch, at the moment that the clock then shows. Each
 /// datagram is then answered, in the order in which they were taken; one that has a move only if the
 /// batch was recorded. Where an answer cannot be sent what was recorded stands, and the next turn
-/// follows; so it does where memory is refused or a batch is not recorded.
+/// follows; so it does where memory is refused or a batch is not recorded. How each datagram ended is
+/// told to `watch`, in that order.
 ///
 /// `Down` comes where a call that takes a datagram fails, and `Ended` where nothing more can be
 /// recorded, with the counts up to then; what was taken in that turn is answered first. `NoMemory`
 /// comes where there is no memory for the buffer or the entries: then nothing has changed. What the
 /// port counts of its calls has to stay under 2^64 with 64 more of each kind for each turn.
-pub fn receive<P: BatchPort, R: Recorder, C: Clock>(
+pub fn receive<P: BatchPort, R: Recorder, C: Clock, W: Watch>(
     alloc: Global,
     config: &Config,
     boot: u64,
@@ -70,6 +72,7 @@ pub fn receive<P: BatchPort, R: Recorder, C: Clock>(
     datagrams: &mut P,
     recorder: &mut R,
     clock: &mut C,
+    watch: &mut W,
     turns: u64,
 ) -> Result<Counts, ReceiveFault>
     requires receives { CanReceive (64 * turns) (P.numbers datagrams.old) }
@@ -81,13 +84,13 @@ pub fn receive<P: BatchPort, R: Recorder, C: Clock>(
         (P.numbers datagrams.old) (P.numbers datagrams.new)) }
     ensures served { P.tells datagrams.new ≡ true → R.tells recorder.new ≡ true →
         IfCounted result (λ counts. HasServed (service_of config.now boot) port counts
-        (state_of (P.taken datagrams.old) (P.sent datagrams.old) (C.shown clock.old) (R.books recorder.old))
-        (state_of (P.taken datagrams.new) (P.sent datagrams.new) (C.shown clock.new) (R.books recorder.new))
+        (state_of (P.taken datagrams.old) (P.sent datagrams.old) (C.shown clock.old) (W.told watch.old) (R.books recorder.old))
+        (state_of (P.taken datagrams.new) (P.sent datagrams.new) (C.shown clock.new) (W.told watch.new) (R.books recorder.new))
         (R.stands recorder.old) (R.stands recorder.new)) }
     ensures room { P.tells datagrams.new ≡ true →
         min (P.room datagrams.old) 4096 ≤ P.room datagrams.new }
     ensures unmade { result ≡ Err faults.NoMemory → (datagrams.new ≡ datagrams.old)
-        × (recorder.new ≡ recorder.old) × (clock.new ≡ clock.old) }
+        × (recorder.new ≡ recorder.old) × (clock.new ≡ clock.old) × (watch.new ≡ watch.old) }
 {
     let mut buffer = match Vec::from_elem(alloc, 0u8, MAX_LEN) {
         Ok(buffer) => buffer,
@@ -105,7 +108,7 @@ pub fn receive<P: BatchPort, R: Recorder, C: Clock>(
     };
     let mut counts = Counts::new();
     for _ in 0..turns {
-        let turn = receiver.turn(datagrams, recorder, clock, &mut buffer, &mut queue);
+        let turn = receiver.turn(datagrams, recorder, clock, watch, &mut buffer, &mut queue);
         counts.count(turn.ends);
         match turn.ending {
             Ending::Open => {}
@@ -118,11 +121,12 @@ pub fn receive<P: BatchPort, R: Recorder, C: Clock>(
 
 impl Receiver<'_> {
     /// Takes a turn, with a buffer for a datagram and a queue for the entries of a batch.
-    fn turn<P: BatchPort, R: Recorder, C: Clock>(
+    fn turn<P: BatchPort, R: Recorder, C: Clock, W: Watch>(
         &self,
         datagrams: &mut P,
         recorder: &mut R,
         clock: &mut C,
+        watch: &mut W,
         buffer: &mut [u8],
         queue: &mut VecDeque<Entry>,
     ) -> Turn
@@ -138,8 +142,8 @@ impl Receiver<'_> {
         ensures recorder_tells { R.tells recorder.new ≡ true → R.tells recorder.old ≡ true }
         ensures turned { P.tells datagrams.new ≡ true → R.tells recorder.new ≡ true →
             HasTurned (service_of self.now.config.now self.now.boot) self.now.port result.ends
-            (state_of (P.taken datagrams.old) (P.sent datagrams.old) (C.shown clock.old) (R.books recorder.old))
-            (state_of (P.taken datagrams.new) (P.sent datagrams.new) (C.shown clock.new) (R.books recorder.new))
+            (state_of (P.taken datagrams.old) (P.sent datagrams.old) (C.shown clock.old) (W.told watch.old) (R.books recorder.old))
+            (state_of (P.taken datagrams.new) (P.sent datagrams.new) (C.shown clock.new) (W.told watch.new) (R.books recorder.new))
             (R.stands recorder.old) (R.stands recorder.new) }
         ensures room { P.tells datagrams.new ≡ true →
             min (P.room datagrams.old) (length buffer.old) ≤ P.room datagrams.new }
@@ -151,7 +155,7 @@ impl Receiver<'_> {
                 let entry = self.enter(moment, source, buffer, len, &mut batch);
                 queue.push_back_reserved(entry);
                 let taking = self.gather(moment, datagrams, buffer, &mut batch, queue);
-                self.finish(datagrams, recorder, batch, queue, taking)
+                self.finish(datagrams, recorder, watch, batch, queue, taking)
             }
             Ok(None) => Turn::quiet(Ending::Open),
             Err(PortFault) => Turn::quiet(Ending::Down),
@@ -159,10 +163,11 @@ impl Receiver<'_> {
     }
 
     /// Records a batch whose taking ended so, and answers its datagrams.
-    fn finish<P: BatchPort, R: Recorder>(
+    fn finish<P: BatchPort, R: Recorder, W: Watch>(
         &self,
         datagrams: &mut P,
         recorder: &mut R,
+        watch: &mut W,
         batch: Vec<Move>,
         queue: &mut VecDeque<Entry>,
         taking: Ending,
@@ -191,11 +196,12 @@ impl Receiver<'_> {
             HasFinished (service_of self.now.config.now self.now.boot) self.now.port
             moment taken batch.items result.ends
             (P.sent datagrams.old) (P.sent datagrams.new)
+            (W.told watch.old) (W.told watch.new)
             (R.books recorder.old) (R.books recorder.new)
             (R.stands recorder.old) (R.stands recorder.new) }
     {
         let outcome = record(self.alloc, recorder, batch);
-        let ends = self.answer_each(datagrams, &outcome, queue);
+        let ends = self.answer_each(datagrams, watch, &outcome, queue);
         Turn {
             ends,
             ending: outcome.ending(taking),

@@ -20,8 +20,9 @@ pub trait Recorder {
     /// The books after all that was recorded.
     ghost books: { Self → List BooksSeen } = { λ _. [] };
 
-    /// Whether these are the moves of this configuration that it has recorded, in their order.
-    ghost stands: { Self → Configuration → List OneMove → Type 0 } = { λ _ _ _. Unit {0} };
+    /// Whether these are the moves of this configuration that it has recorded, in their order, in an
+    /// era that opened with these books.
+    ghost stands: { Self → Configuration → List BooksSeen → List OneMove → Type 0 } = { λ _ _ _ _. Unit {0} };
 
     /// Records a batch whole, and decides on each of its moves by the books at that point of the
     /// batch. Where it fails nothing may be answered, and the books are as they were.
@@ -33,8 +34,11 @@ pub trait Recorder {
         ensures books { tells self.new ≡ true →
             OnOk result (books self.new ≡ replay (books self.old) batch.items) }
         ensures same { tells self.new ≡ true → OnErr result (books self.new ≡ books self.old) }
-        ensures recorded { tells self.new ≡ true → (config : Configuration) (history : List OneMove) →
-            stands self.old config history → OnOk result (stands self.new config (history ++ batch.items)) }
-        ensures unrecorded { tells self.new ≡ true → (config : Configuration) (history : List OneMove) →
-            stands self.old config history → OnErr result (stands self.new config history) };
+        ensures recorded { tells self.new ≡ true →
+            (config : Configuration) (opening : List BooksSeen) (history : List OneMove) →
+            stands self.old config opening history →
+            OnOk result (stands self.new config opening (history ++ batch.items)) }
+        ensures unrecorded { tells self.new ≡ true →
+            (config : Configuration) (opening : List BooksSeen) (history : List OneMove) →
+            stands self.old config opening history → OnErr result (stands self.new config opening history) };
 }

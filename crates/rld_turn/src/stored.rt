@@ -13,7 +13,7 @@ impl<L: Log> Recorder for Store<L> {
 
     ghost books = { λ store. store.books };
 
-    ghost stands = { λ store config history. HasRecorded config store.counts L.tears store.end
+    ghost stands = { λ store config opening history. HasRecorded config opening store.counts L.tears store.end
         (L.seen store.log) (L.may_leave store.log) store.whole store.books history };
 
     fn record(&mut self, alloc: Global, batch: Vec<Move>) -> Result<Recorded, RecordFault> {

@@ -1,6 +1,7 @@
-//! Tests of `rld_turn`: what turns make of what waits at a port of memory, and what a loss of power
-//! leaves of their batches on a disk of memory, as rows of text (`test_rows`). Expected values come
-//! from the session rule, worked by hand, and the octets from Python's hashlib.
+//! Tests of `rld_turn`: what turns make of what waits at a port of memory, what a watcher is told of
+//! it, and what a loss of power leaves of their batches on a disk of memory; and of `rld_why`. They are
+//! rows of text (`test_rows`). Expected values come from the session rule, worked by hand, and the
+//! octets from Python's hashlib.
 #![tactic(auto)]
 
 #[cfg(test)]
@@ -9,5 +10,9 @@ mod clock;
 mod coming;
 #[cfg(test)]
 mod disk;
+#[cfg(test)]
+mod notes;
+#[cfg(test)]
+mod rejects;
 #[cfg(test)]
 mod turns;

@@ -13,9 +13,10 @@
 use crate::clock::clock_of;
 use crate::coming::{coming_of, config_of, numbers_of, push_sent};
 use crate::disk::{batches_of, left_by, push_moves, store_of};
+use crate::notes::Notes;
 use rld_log::MemoryLog;
 use rld_store::Store;
-use rld_turn::{Counts, ReceiveFault, RecordFault, receive, tick};
+use rld_turn::{Counts, ReceiveFault, RecordFault, Unwatched, Watch, receive, tick};
 use rsl_accounts::Config;
 use rsl_event::Port;
 use rsl_receive::MemoryPort;
@@ -34,7 +35,7 @@ impl Subject for Turns {
         let config = config_of(alloc, scene.shards)?;
         let mut store = store_of(alloc, &config, scene.disk)?;
         let mut text = String::new(alloc);
-        let datagrams = served(alloc, &config, scene, &mut store, &mut text)?;
+        let datagrams = served(alloc, &config, scene, &mut store, &mut Unwatched, &mut text)?;
         push_port(&mut text, &datagrams)?;
         push_sent(&mut text, alloc, datagrams.sent())?;
         push_moves(&mut text, alloc, &config, &left_by(store))?;
@@ -89,19 +90,36 @@ impl Subject for Crowds {
         let config = config_of(alloc, scene.shards)?;
         let mut store = store_of(alloc, &config, scene.disk)?;
         let mut text = String::new(alloc);
-        let datagrams = served(alloc, &config, scene, &mut store, &mut text)?;
+        let datagrams = served(alloc, &config, scene, &mut store, &mut Unwatched, &mut text)?;
         push_port(&mut text, &datagrams)?;
         push_sizes(&mut text, &batches_of(alloc, &config, &left_by(store))?)?;
         Ok(text)
     }
 }
 
+/// The turns of rows that tell what a watcher is told.
+#[derive(Clone, Copy)]
+struct Watched;
+
+impl Subject for Watched {
+    fn found(&self, alloc: Global, fields: &[&str]) -> Result<String, Fail> {
+        let scene = scene_of(fields)?;
+        let config = config_of(alloc, scene.shards)?;
+        let mut store = store_of(alloc, &config, scene.disk)?;
+        let mut notes = Notes::new(alloc, &config);
+        let mut counts = String::new(alloc);
+        served(alloc, &config, scene, &mut store, &mut notes, &mut counts)?;
+        Ok(String::from_str(alloc, notes.text())?)
+    }
+}
+
 /// Takes the turns of a row, and tells the counts. Gives the port.
-fn served(
+fn served<W: Watch>(
     alloc: Global,
     config: &Config,
     scene: Scene<'_>,
     store: &mut Store<MemoryLog>,
+    watch: &mut W,
     text: &mut String,
 ) -> Result<MemoryPort, Fail> {
     let coming = coming_of(alloc, scene.coming)?;
@@ -118,6 +136,7 @@ fn served(
         &mut datagrams,
         store,
         &mut clock_of(scene.clock)?,
+        watch,
         turns,
     );
     push_counts(text, answer)?;
@@ -230,6 +249,25 @@ rejects alone are not recorded | 1 | auth | 2 | wrong*65 | | 5 1 | \
     | [2, 65, 0, 0, 0, 65, 0] [65, 66, 0, 65, 0]
 ";
 
+/// What a watcher is told: the port that each datagram came from, its client, how it ended, and why it
+/// is rejected, if it is.
+const WATCHED: &str = "
+each end, in the order of the datagrams | 1 | auth | 1 | ask short:1025 wrong:1026 half bare:1027 ask:1028 \
+    | | 5 1 | | (1024, Some(0), Answered(Accept(0)), None) (1025, Some(0), Dropped(Short), None) \
+    (1026, Some(0), Answered(Reject), Some(WrongPassword)) (1024, Some(0), Dropped(BadLength), None) \
+    (1027, Some(0), Answered(Reject), Some(Malformed)) (1028, Some(0), Answered(LimitReject), None)
+an answer that could not be sent | 1 | auth | 1 | ask wrong | 0 1 | 5 1 | \
+    | (1024, Some(0), Unsent(Accept(0)), None) (1024, Some(0), Unsent(Reject), Some(WrongPassword))
+a batch that is not recorded | 1 | auth | 1 | ask wrong short | | 5 1 | append 0 \
+    | (1024, Some(0), Unrecorded, None) (1024, Some(0), Answered(Reject), Some(WrongPassword)) \
+    (1024, Some(0), Dropped(Short), None)
+";
+
+#[test]
+fn turns_tell_how_each_datagram_ended(rt: HostRuntime) -> Result<(), Fail> {
+    check_rows(&rt, &Watched, WATCHED)
+}
+
 #[test]
 fn turns_over_what_waits(rt: HostRuntime) -> Result<(), Fail> {
     check_rows(&rt, &Turns, TURNS)
@@ -290,7 +328,7 @@ fn sent_in_turn(
         disk: "",
     };
     let mut text = String::new(alloc);
-    let datagrams = served(alloc, config, scene, store, &mut text)?;
+    let datagrams = served(alloc, config, scene, store, &mut Unwatched, &mut text)?;
     text.clear();
     push_sent(&mut text, alloc, datagrams.sent())?;
     Ok(text)

@@ -15,8 +15,8 @@ invariant-loop g l = record {
   recorder_tells : g.R.Recorder.tells l.recorder ≡ true → g.R.Recorder.tells l.fn.recorder ≡ true;
   served : g.P.DatagramPort.tells l.datagrams ≡ true → g.R.Recorder.tells l.recorder ≡ true
       → HasServed (service_of l.receiver.config.now l.receiver.boot) l.receiver.port l.counts
-      (state_of (g.P.DatagramPort.taken l.fn.datagrams) (g.P.DatagramPort.sent l.fn.datagrams) (g.C.Clock.shown l.fn.clock) (g.R.Recorder.books l.fn.recorder))
-      (state_of (g.P.DatagramPort.taken l.datagrams) (g.P.DatagramPort.sent l.datagrams) (g.C.Clock.shown l.clock) (g.R.Recorder.books l.recorder))
+      (state_of (g.P.DatagramPort.taken l.fn.datagrams) (g.P.DatagramPort.sent l.fn.datagrams) (g.C.Clock.shown l.fn.clock) (g.W.Watch.told l.fn.watch) (g.R.Recorder.books l.fn.recorder))
+      (state_of (g.P.DatagramPort.taken l.datagrams) (g.P.DatagramPort.sent l.datagrams) (g.C.Clock.shown l.clock) (g.W.Watch.told l.watch) (g.R.Recorder.books l.recorder))
       (g.R.Recorder.stands l.fn.recorder) (g.R.Recorder.stands l.recorder);
   room : g.P.DatagramPort.tells l.datagrams ≡ true
       → min (g.P.DatagramPort.room l.fn.datagrams) 4096 ≤ g.P.DatagramPort.room l.datagrams;

@@ -18,7 +18,7 @@ loop-entry-init g c = record {
   telling = λ told. told;
   taken = λ told. refl;
   room = λ told. refl;
-  answered = λ told batch. none_answered _ _ _ _ batch c.new-ends.result (g.P.DatagramPort.sent c.args.datagrams.now) c.new-ends.ensures;
+  answered = λ told batch. none_answered _ _ _ _ batch c.new-ends.result (g.P.DatagramPort.sent c.args.datagrams.now) (g.W.Watch.told c.args.watch.now) c.new-ends.ensures;
 }
 
 pub loop-entry-preserved : goal.loop-entry-preserved
@@ -42,7 +42,8 @@ loop-entry-preserved g c =
           one_answered service c.args.self.now.port batch.moment decisions batch.begun batch.taken batch.moves
           c.in-Some.entry c.loop-entry.queue.items c.pop_front.new.self.items c.end.result c.loop-entry.ends c.count.new.self
           (g.P.DatagramPort.sent c.args.datagrams.now) (g.P.DatagramPort.sent c.loop-entry.datagrams) (g.P.DatagramPort.sent c.end.new.datagrams)
-          first batch.decided c.end.ensures.end c.count.ensures (c.end.ensures.sent told)
+          (g.W.Watch.told c.args.watch.now) (g.W.Watch.told c.loop-entry.watch) (g.W.Watch.told c.end.new.watch)
+          first batch.decided c.end.ensures.end c.count.ensures (c.end.ensures.sent told) c.end.ensures.told
           (c.loop-entry.invariant.answered (c.end.ensures.telling told) batch);
     }
 
@@ -51,4 +52,5 @@ returns-clause-answered g c = λ told batch.
     let none : c.loop-entry.queue.items ≡ [] = nil_from_length c.loop-entry.queue.items (omega (arith, c.in_default.ensures.cases.0)) in
     all_answered _ _ _ _ batch c.loop-entry.queue.items c.loop-entry.ends
     (g.P.DatagramPort.sent c.args.datagrams.now) (g.P.DatagramPort.sent c.loop-entry.datagrams)
+    (g.W.Watch.told c.args.watch.now) (g.W.Watch.told c.loop-entry.watch)
     none (c.loop-entry.invariant.answered told batch)

@@ -26,7 +26,8 @@ invariant-loop-entry g l = record {
       (decisions_in l.outcome) l.fn.queue.items)
       → AreAnswered (service_of l.self.config.now l.self.boot) l.self.port batch.moment
       (decisions_in l.outcome) batch.begun batch.taken batch.moves l.queue.items l.ends
-      (g.P.DatagramPort.sent l.fn.datagrams) (g.P.DatagramPort.sent l.datagrams);
+      (g.P.DatagramPort.sent l.fn.datagrams) (g.P.DatagramPort.sent l.datagrams)
+      (g.W.Watch.told l.fn.watch) (g.W.Watch.told l.watch);
 }
 
 abbrev pub decreases-loop-entry : goal.decreases-loop-entry

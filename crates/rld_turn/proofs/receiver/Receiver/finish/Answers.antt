@@ -23,9 +23,12 @@ returns-clause-finished g c = λ told recorder_told moment taken entered.
     }) in
     record {
       sent = answered.sent;
+      told = answered.told;
       recorded = is_recorded (decisions_in c.record-outcome.result);
       more_sent = answered.more_sent;
+      more_told = answered.more_told;
       books = recorded.books;
       history = c.record-outcome.ensures.stands recorder_told;
       turned = answered.turned;
+      numbers = answered.numbers;
     }

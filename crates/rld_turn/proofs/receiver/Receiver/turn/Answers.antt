@@ -10,13 +10,13 @@ use Rattle.rld_turn.proofs.receiver.Receiver.turn.Goals as goal
 
 pub returns-in-Ok-None-clause-turned : goal.returns-in-Ok-None-clause-turned
 returns-in-Ok-None-clause-turned g c = λ told recorder_told.
-    none_turned _ _ c.quiet.result.ends _ _ _ _ _ _ _ (ap (λ t. t.ends) c.quiet.ensures)
+    none_turned _ _ c.quiet.result.ends _ _ _ _ _ _ _ _ (ap (λ t. t.ends) c.quiet.ensures)
     (none_came c.receive.result c.receive.new.buffer _ _ (c.in-Ok-None.is ∙ ap (λ o. Ok o) c.in-Ok-None.field-0-is) (c.receive.ensures.taken told))
     (c.receive.ensures.sent told)
 
 pub returns-in-Err-clause-turned : goal.returns-in-Err-clause-turned
 returns-in-Err-clause-turned g c = λ told recorder_told.
-    none_turned _ _ c.quiet-in-Err.result.ends _ _ _ _ _ _ _ (ap (λ t. t.ends) c.quiet-in-Err.ensures)
+    none_turned _ _ c.quiet-in-Err.result.ends _ _ _ _ _ _ _ _ (ap (λ t. t.ends) c.quiet-in-Err.ensures)
     (none_failed c.receive.result c.receive.new.buffer _ _ _ c.in-Err.is (c.receive.ensures.taken told))
     (c.receive.ensures.sent told)
 
@@ -42,7 +42,7 @@ returns-in-Ok-Some-clause-turned g c = λ told recorder_told.
     let mid = c.finish.ensures.port_tells told in
     let first = c.gather-taking.ensures.telling mid in
     turned_by service c.args.self.now.port c.now-moment.result one gathered.taken c.gather-taking.new.batch.items c.finish.result.ends
-    _ _ _ _ _ _ _ _ _ _ _ _ c.now-moment.ensures.shown
+    _ _ _ _ _ _ _ _ _ _ _ _ _ _ c.now-moment.ensures.shown
     (one_taken c.in-Ok-Some.len c.in-Ok-Some.source c.receive.result c.receive.new.buffer _ _ got (c.receive.ensures.taken first))
     (c.finish.ensures.taken told ∙ gathered.told mid)
     (c.gather-taking.ensures.sent mid ∙ c.receive.ensures.sent first)

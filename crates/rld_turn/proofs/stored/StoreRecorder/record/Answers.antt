@@ -4,8 +4,8 @@ use Rattle.rld_turn.proofs.Storing.{on_err, recorded_still}
 use Rattle.rld_turn.proofs.stored.StoreRecorder.record.Goals as goal
 
 pub returns-in_err-commit-clause-unrecorded : goal.returns-in_err-commit-clause-unrecorded
-returns-in_err-commit-clause-unrecorded g c = λ told config history so.
-    on_err c.from_residual.result (recorded_still _ _ _ _ _ _ _ _ _ _ _ (c.in_err-commit.ensures.left told config history so.unanswered so.stands))
+returns-in_err-commit-clause-unrecorded g c = λ told config opening history so.
+    on_err c.from_residual.result (recorded_still _ _ _ _ _ _ _ _ _ _ _ _ (c.in_err-commit.ensures.left told config opening history so.unanswered so.stands))
 
 pub returns-clause-count : goal.returns-clause-count
 returns-clause-count g c =

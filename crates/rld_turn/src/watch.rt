@@ -1,0 +1,41 @@
+//! Watchers: who is told how datagrams ended.
+
+use crate::ends::End;
+use rsl_event::Source;
+
+/// What a watcher is told of a datagram.
+#[derive(Clone, Copy, Debug)]
+pub struct Ended<'a> {
+    /// Where it came from.
+    pub source: Source,
+    /// The number of the client that has this address, if there is one.
+    pub client: Option<u32>,
+    /// Its octets. Of a datagram that was dropped or refused memory there are none here.
+    pub octets: &'a [u8],
+    /// How it ended.
+    pub end: End,
+}
+
+/// Who is told how each datagram ended, as counters or a log are.
+///
+/// A watcher over memory also reports to contracts what it was told, in that order. Another reports
+/// nothing.
+pub trait Watch {
+    ghost use Rattle.std.specs.Prelude.{List, [], ◌∷◌, Option, None};
+    ghost use Rattle.rld_turn.specs.Told.{HasTold, Told as OneTold, told_as};
+
+    ghost told: { Self → Option (List OneTold) } = { λ _. None };
+
+    /// Notes that a datagram has ended. A receiver calls it once for each datagram that it took, in the
+    /// order in which it took them, after the answer was handed to the port.
+    fn note(&mut self, ended: Ended<'_>)
+        ensures told { HasTold (told_as ended.entry ∷ []) (told self.old) (told self.new) };
+}
+
+/// A watcher that notes nothing.
+#[derive(Clone, Copy, Debug)]
+pub struct Unwatched;
+
+impl Watch for Unwatched {
+    fn note(&mut self, _ended: Ended<'_>) {}
+}
