@@ -1,5 +1,7 @@
+pub mod Behind
 pub mod Counted
 pub mod Firsts
+pub mod Gaps
 pub mod Lengths
 pub mod NextHeaders
 pub mod Numbers

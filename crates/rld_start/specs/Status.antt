@@ -28,6 +28,8 @@ status_of_folder folders.Busy = InputOutput
 status_of_folder folders.Unlocked = InputOutput
 status_of_folder folders.Unopened = InputOutput
 status_of_folder folders.Unwritten = InputOutput
+status_of_folder folders.Unmoved = InputOutput
+status_of_folder folders.Unremoved = InputOutput
 status_of_folder folders.Unsynced = Unsynced
 
 abbrev pub status_of_log : LogFault → EndStatus
@@ -41,8 +43,10 @@ status_of_log logs.Unsynced = Unsynced
 abbrev pub status_of : StartFault → EndStatus
 status_of faults.NoMemory = NoMemory
 status_of (faults.Folder fault) = status_of_folder fault
+status_of (faults.File file fault) = status_of_folder fault
 status_of (faults.Log file fault) = status_of_log fault
 status_of (faults.BadLog bad) = WrongInput
 status_of (faults.OtherAccounts era) = WrongInput
 status_of (faults.Unwritable file) = InputOutput
 status_of faults.NoNumber = WrongInput
+status_of faults.NoHistory = WrongInput

@@ -16,6 +16,9 @@ pub struct Found {
     pub sessions: u64,
     /// How many octets of a torn end were cut off.
     pub torn: usize,
+    /// By how many seconds the system's clock is behind the greatest clock of the books, where these
+    /// are 60 or more: until it is there no deadline passes.
+    pub behind: Option<u64>,
 }
 
 /// How many links are bound, in what accounts hold; at most 2^64 - 1.

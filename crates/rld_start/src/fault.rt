@@ -16,8 +16,10 @@ use std::fmt;
 pub enum StartFault {
     /// Memory was refused.
     NoMemory,
-    /// The folder, or a file of it, cannot be used. That another process has it is `busy`.
+    /// The folder cannot be used, or its files are not listed. That another process has it is `busy`.
     Folder(FolderFault),
+    /// A file of the folder cannot be opened or made, read, written or synced.
+    File(FileName, FolderFault),
     /// A call on a log failed.
     Log(FileName, LogFault),
     /// A file is damaged.
@@ -29,6 +31,8 @@ pub enum StartFault {
     Unwritable(FileName),
     /// No number is left for a new file.
     NoNumber,
+    /// No generation was begun, so there is no history.
+    NoHistory,
 }
 
 impl StartFault {
@@ -45,17 +49,18 @@ impl StartFault {
     {
         match self {
             StartFault::NoMemory => EndStatus::NoMemory,
-            StartFault::Folder(fault) => status_of_folder(*fault),
+            StartFault::Folder(fault) | StartFault::File(_, fault) => status_of_folder(*fault),
             StartFault::Log(_, fault) => status_of_log(*fault),
-            StartFault::BadLog(_) | StartFault::OtherAccounts(_) | StartFault::NoNumber => {
-                EndStatus::WrongInput
-            }
+            StartFault::BadLog(_)
+            | StartFault::OtherAccounts(_)
+            | StartFault::NoNumber
+            | StartFault::NoHistory => EndStatus::WrongInput,
             StartFault::Unwritable(_) => EndStatus::InputOutput,
         }
     }
 }
 
-/// How a server ends whose folder cannot be used.
+/// How a server ends whose folder, or a file of it, cannot be used.
 fn status_of_folder(fault: FolderFault) -> EndStatus
     ensures { result ≡ status_of_folder fault }
 {
@@ -68,7 +73,9 @@ fn status_of_folder(fault: FolderFault) -> EndStatus
         | FolderFault::Busy
         | FolderFault::Unlocked
         | FolderFault::Unopened
-        | FolderFault::Unwritten => EndStatus::InputOutput,
+        | FolderFault::Unwritten
+        | FolderFault::Unmoved
+        | FolderFault::Unremoved => EndStatus::InputOutput,
     }
 }
 
@@ -89,6 +96,10 @@ impl fmt::Display for StartFault {
             StartFault::NoMemory => f.write_str("no memory"),
             StartFault::Folder(FolderFault::Busy) => f.write_str("busy"),
             StartFault::Folder(fault) => write!(f, "bad folder: {fault}"),
+            StartFault::File(file, fault) => {
+                write_name(*file, f)?;
+                write!(f, ": {fault}")
+            }
             StartFault::Log(file, fault) => {
                 write_name(*file, f)?;
                 write!(f, ": {fault}")
@@ -100,6 +111,7 @@ impl fmt::Display for StartFault {
                 f.write_str(": too long")
             }
             StartFault::NoNumber => f.write_str("no number is left for a new file"),
+            StartFault::NoHistory => f.write_str("no history"),
         }
     }
 }
@@ -132,6 +144,14 @@ impl From<FolderFault> for StartFault {
 impl From<BadLog> for StartFault {
     fn from(bad: BadLog) -> StartFault {
         StartFault::BadLog(bad)
+    }
+}
+
+/// The fault of a file that was opened or made, read, written or synced in vain.
+pub(crate) fn file_fault(file: FileName, fault: FolderFault) -> StartFault {
+    match fault {
+        FolderFault::NoMemory => StartFault::NoMemory,
+        _ => StartFault::File(file, fault),
     }
 }
 

@@ -1,18 +1,25 @@
 //! The start of a server from its folder.
 //!
 //! The promise: a start goes on from the newest generation that was begun, under numbers that no file
-//! has, or it says what keeps it from that. `specs/Numbers.antt` says which numbers follow,
+//! has, or it says what keeps it from that. Where a clock that was ahead has led the books past the
+//! present, a new era begins with the books cut to it. `specs/Numbers.antt` says which numbers follow,
 //! `specs/Firsts.antt` when a generation was begun, and `specs/Status.antt` how a server ends that
 //! does not start. What the files of the system give stands in no clause; `starting.rt` is written to be
 //! read.
 #![tactic(auto)]
 
+mod behind;
 mod count;
 mod fault;
+mod files;
 mod first;
+mod gap;
+mod generations;
 mod header;
+mod new_era;
 mod number;
 mod place;
+mod rebasing;
 mod refused;
 mod starting;
 mod status;
@@ -22,8 +29,10 @@ mod wrong;
 pub use count::Found;
 pub use fault::StartFault;
 pub use first::First;
+pub use generations::{FolderGenerations, Generations, NextLog};
 pub use header::{check_header, next_header};
 pub use number::{next_era, next_generation};
+pub use rebasing::{Rebased, rebase};
 pub use starting::{Started, start};
 pub use status::EndStatus;
 pub use wrong::{BadLog, Cause, Wrong};

@@ -4,15 +4,15 @@ use crate::fault::{StartFault, log_fault};
 use crate::place::payload_offset;
 use crate::wrong::{Cause, Wrong};
 use rld_folder::{FileName, Generation};
-use rld_log::{FileLog, Log};
+use rld_log::Log;
 use rld_store::{Refused, StoreFault};
 use std::alloc::Global;
 
 /// The fault of a log that a store refused.
-pub(crate) fn fault_of(
+pub(crate) fn fault_of<L: Log + Drop>(
     alloc: Global,
     generation: Generation,
-    refused: Refused<FileLog>,
+    refused: Refused<L>,
 ) -> StartFault {
     let file = FileName::Log(generation);
     let Refused { mut log, fault } = refused;

@@ -4,34 +4,36 @@ ghost use Rattle.std.specs.Prelude.{◌≡◌, ◌+◌, ◌↔◌, All, IfOk, Is
 ghost use Rattle.rld_start.specs.NextHeaders.{header_after};
 ghost use Rattle.rld_start.specs.Numbers.{IsFirstOrNone, era_of, generation_of, greatest_by};
 
+use crate::behind::behind_books;
 use crate::count::{Found, sessions_in};
 use crate::fault::{StartFault, log_fault};
+use crate::files::{create_log, open_log, read_era, write_era};
 use crate::first::First;
+use crate::gap::check_archive;
 use crate::header::{check_header, next_header};
-use crate::number::{next_era, next_generation};
+use crate::new_era::{FIRST, NewEra, begin_era};
+use crate::number::next_generation;
 use crate::refused::fault_of;
 use crate::table::boot_of;
 use crate::wrong::{Cause, Wrong};
-use md5::{Digest, Md5};
+use rld_books::ServerBooks;
 use rld_era::era_file;
 use rld_folder::{FileName, Folder, Generation, newest_generation};
 use rld_log::{FileLog, Log};
+use rld_pace::{PacedLog, Pacing};
 use rld_spelling::Header;
 use rld_store::{Opened, Store};
 use rsl_accounts::Config;
 use std::alloc::Global;
 use std::fs::{File, Files};
 
-/// The number of an era's first generation.
-const FIRST: u64 = 1;
-
 /// A server that can take up its work.
 #[derive(Drop)]
-pub struct Started {
+pub struct Started<'a> {
     /// Its folder, which is locked as long as this value is there.
     pub folder: Folder,
     /// Its books, and the log of a new generation.
-    pub store: Store<FileLog>,
+    pub store: Store<PacedLog<'a, FileLog>>,
     /// The boot number of the era, with which each Class attribute begins.
     pub boot: u64,
     /// What was found in the folder.
@@ -42,41 +44,74 @@ pub struct Started {
 
 /// A generation that was begun, and its log.
 #[derive(Drop)]
-struct Begun {
-    generation: Generation,
-    header: Header,
-    log: FileLog,
+pub(crate) struct Begun {
+    pub(crate) generation: Generation,
+    pub(crate) header: Header,
+    pub(crate) log: FileLog,
+}
+
+/// What a generation that was begun has.
+#[derive(Drop)]
+pub(crate) struct Reopened<'a> {
+    /// Its books and its log, and what was found there.
+    pub(crate) opened: Opened<PacedLog<'a, FileLog>>,
+    /// The octets of its era's table.
+    pub(crate) table: Vec<u8>,
+    /// The boot number of its era.
+    pub(crate) boot: u64,
+}
+
+/// The generation that counts, if there is one.
+pub(crate) fn generation_in(begun: &Option<Begun>) -> Option<Generation> {
+    match begun {
+        Some(begun) => Some(begun.generation),
+        None => None,
+    }
 }
 
 /// Starts a server from its folder: opens and locks it, and goes on from the newest generation that
 /// was begun, in a new generation. Where none was, a new era begins, whose boot number is `now`, in
-/// seconds since 1970.
+/// seconds since 1970. Its logs are synced to the disk as the pacing says. Where the books' greatest
+/// clock is 60 seconds or more after `now`, what was found says so.
 ///
 /// The faults come in this order. Those of the folder: `busy` where another process has it. `BadLog`
 /// where a log that is looked at, from the newest to the one that counts, has a spoilt frame before a
-/// whole one, or where none counts and one is not the first of its era. Of the one that counts:
+/// whole one, or where none counts and one is not the first of its era; and where a log of the archive
+/// is not before the one that counts, or is there and none counts. Of the one that counts:
 /// `BadLog` where the era's table has no spelling, `OtherAccounts` where it is not that of the
 /// configuration, `BadLog` where the header or anything behind it is of another generation or has no
 /// spelling. Until then nothing has changed in the folder but an empty `lock`. Then come `NoNumber`
 /// and what keeps a file from being made, written or synced; a later start passes over what that
 /// leaves. `NoMemory` comes where memory is refused.
-pub fn start<R: Files<File = File> + Alloc<A = Global> + Clone + Drop>(
+pub fn start<'a, R: Files<File = File> + Alloc<A = Global> + Clone + Drop>(
     rt: &R,
     alloc: Global,
     config: &Config,
     path: &str,
     now: u64,
-) -> Result<Started, StartFault> {
+    pacing: Pacing<'a>,
+) -> Result<Started<'a>, StartFault> {
     let folder = Folder::open(rt, alloc, path)?;
     let files = folder.files(rt)?;
-    match newest_begun(rt, alloc, &folder, files.as_slice())? {
-        Some(begun) => go_on(rt, alloc, config, folder, files.as_slice(), begun),
-        None => begin(rt, alloc, config, folder, files.as_slice(), now),
+    let begun = newest_begun(rt, alloc, &folder, files.as_slice())?;
+    check_archive(folder.archived(rt)?.as_slice(), generation_in(&begun))?;
+    match begun {
+        Some(begun) => go_on(
+            rt,
+            alloc,
+            config,
+            folder,
+            files.as_slice(),
+            begun,
+            now,
+            pacing,
+        ),
+        None => begin(rt, alloc, config, folder, files.as_slice(), now, pacing),
     }
 }
 
 /// The newest generation that was begun, if there is one.
-fn newest_begun<R: Files<File = File>>(
+pub(crate) fn newest_begun<R: Files<File = File>>(
     files: &R,
     alloc: Global,
     folder: &Folder,
@@ -87,7 +122,7 @@ fn newest_begun<R: Files<File = File>>(
         let Some(generation) = newest_generation(names, later) else {
             break;
         };
-        let mut log = folder.open_log(files, alloc, generation)?;
+        let mut log = open_log(files, alloc, folder, generation)?;
         match first_in(alloc, generation, &mut log)? {
             First::Begun(header) => {
                 return Ok(Some(Begun {
@@ -153,42 +188,40 @@ fn none_begun(names: &[FileName]) -> Result<Option<Begun>, StartFault> {
 }
 
 /// Begins an era.
-fn begin<R: Files<File = File>>(
+fn begin<'a, R: Files<File = File>>(
     files: &R,
     alloc: Global,
     config: &Config,
     folder: Folder,
     names: &[FileName],
     boot: u64,
-) -> Result<Started, StartFault>
+    pacing: Pacing<'a>,
+) -> Result<Started<'a>, StartFault>
     ensures boot { IfOk result (λ started. started.boot ≡ boot) }
     ensures era { IfOk result (λ started. started.header.era ≡ greatest_by era_of names.now + 1) }
     ensures first { IfOk result (λ started.
         (started.header.generation ≡ 1) × (started.header.lines ≡ 0)) }
 {
-    let Some(era) = next_era(names) else {
-        return Err(StartFault::NoNumber);
-    };
     let table = era_file(alloc, config, boot)?;
-    folder.write_era(files, alloc, era, table.as_slice())?;
-    let generation = Generation { era, number: FIRST };
-    let log = folder.create_log(files, alloc, generation)?;
-    let header = Header {
-        era,
-        generation: FIRST,
-        digest: Md5::digest(table.as_slice()),
-        lines: 0,
-    };
-    let store = match Store::begin(alloc, config, header, log) {
-        Ok(store) => store,
-        Err(refused) => return Err(fault_of(alloc, generation, refused)),
-    };
+    let books = ServerBooks::new(alloc, config)?;
+    let begun = begin_era(
+        files,
+        alloc,
+        config,
+        &folder,
+        names,
+        table.as_slice(),
+        books,
+        pacing,
+    )?;
+    let NewEra { store, header } = begun;
     let found = Found {
-        era,
+        era: header.era,
         generation: 0,
         moves: 0,
         sessions: 0,
         torn: 0,
+        behind: None,
     };
     Ok(Started {
         folder,
@@ -199,22 +232,16 @@ fn begin<R: Files<File = File>>(
     })
 }
 
-/// Goes on from a generation, in a new one.
-fn go_on<R: Files<File = File>>(
+/// Opens the log of a generation that was begun, whose era goes on with the configuration.
+pub(crate) fn reopen<'a, R: Files<File = File>>(
     files: &R,
     alloc: Global,
     config: &Config,
-    folder: Folder,
-    names: &[FileName],
+    folder: &Folder,
     begun: Begun,
-) -> Result<Started, StartFault>
-    ensures era { IfOk result (λ started. started.found.era ≡ begun.generation.era) }
-    ensures generation { IfOk result (λ started. started.found.generation ≡ begun.generation.number) }
-    ensures moves { IfOk result (λ started. started.found.moves ≡ started.header.lines) }
-    ensures next { IfOk result (λ started. started.header.generation
-        ≡ greatest_by (generation_of started.header.era) names.now + 1) }
-{
-    let table = folder.read_era(files, alloc, begun.generation.era)?;
+    pacing: Pacing<'a>,
+) -> Result<Reopened<'a>, StartFault> {
+    let table = read_era(files, alloc, folder, begun.generation.era)?;
     let boot = boot_of(alloc, config, begun.generation.era, table.as_slice())?;
     if let Err(wrong) = check_header(&begun.header, begun.generation, table.as_slice()) {
         return Err(StartFault::bad(FileName::Log(begun.generation), wrong));
@@ -224,10 +251,35 @@ fn go_on<R: Files<File = File>>(
         log,
         ..
     } = begun;
-    let opened = match Store::open(alloc, config, log) {
-        Ok(opened) => opened,
-        Err(refused) => return Err(fault_of(alloc, generation, refused)),
-    };
+    match Store::open(alloc, config, PacedLog::new(log, pacing)) {
+        Ok(opened) => Ok(Reopened {
+            opened,
+            table,
+            boot,
+        }),
+        Err(refused) => Err(fault_of(alloc, generation, refused)),
+    }
+}
+
+/// Goes on from a generation, in a new one.
+fn go_on<'a, R: Files<File = File>>(
+    files: &R,
+    alloc: Global,
+    config: &Config,
+    folder: Folder,
+    names: &[FileName],
+    begun: Begun,
+    now: u64,
+    pacing: Pacing<'a>,
+) -> Result<Started<'a>, StartFault>
+    ensures era { IfOk result (λ started. started.found.era ≡ begun.generation.era) }
+    ensures generation { IfOk result (λ started. started.found.generation ≡ begun.generation.number) }
+    ensures moves { IfOk result (λ started. started.found.moves ≡ started.header.lines) }
+    ensures next { IfOk result (λ started. started.header.generation
+        ≡ greatest_by (generation_of started.header.era) names.now + 1) }
+{
+    let generation = begun.generation;
+    let Reopened { opened, boot, .. } = reopen(files, alloc, config, &folder, begun, pacing)?;
     let Opened {
         mut store,
         header,
@@ -241,8 +293,9 @@ fn go_on<R: Files<File = File>>(
         moves: header.lines,
         sessions: sessions_in(store.rows(alloc)?.as_slice()),
         torn,
+        behind: behind_books(config, store.books(), now),
     };
-    renew(files, alloc, &folder, &mut store, header)?;
+    renew(files, alloc, &folder, &mut store, header, pacing)?;
     Ok(Started {
         folder,
         store,
@@ -267,19 +320,20 @@ fn following(header: &Header, names: &[FileName], moves: u64) -> Result<Header, 
 }
 
 /// Has a store go on in the log of a new generation.
-fn renew<R: Files<File = File>>(
+fn renew<'a, R: Files<File = File>>(
     files: &R,
     alloc: Global,
     folder: &Folder,
-    store: &mut Store<FileLog>,
+    store: &mut Store<PacedLog<'a, FileLog>>,
     header: Header,
+    pacing: Pacing<'a>,
 ) -> Result<(), StartFault> {
     let generation = Generation {
         era: header.era,
         number: header.generation,
     };
-    let log = folder.create_log(files, alloc, generation)?;
-    match store.roll(alloc, header, log) {
+    let log = create_log(files, alloc, folder, generation)?;
+    match store.roll(alloc, header, PacedLog::new(log, pacing)) {
         Ok(_older) => Ok(()),
         Err(refused) => Err(fault_of(alloc, generation, refused)),
     }

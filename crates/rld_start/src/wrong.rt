@@ -35,6 +35,10 @@ pub enum Cause {
     /// The snapshot is not whole, and no earlier generation is there that has one.
     #[error("no whole snapshot, here or earlier")]
     Alone,
+    /// It stands in the archive, and the folder has no later generation that was begun: the history
+    /// has a gap.
+    #[error("in the archive, and no later generation in the folder")]
+    Gap,
 }
 
 /// What is wrong with a file, and where.

@@ -5,12 +5,18 @@
 
 mod files;
 mod printed;
+mod rolls;
+mod running;
 mod server;
 
 use files::{add, copy, cut, cut_last, empty, spoil};
 use printed::print;
 use rld_folder::Folder;
-use server::{OTHERS, OURS, each_kind, frame_as_id, login, record, record_both, say};
+use rolls::rolls;
+use server::{
+    OTHERS, OURS, cut_books, each_kind, frame_as_id, late_login, login, record, record_both, say,
+    tick,
+};
 use std::{fs, io};
 
 /// Where the four frames of a log begin: a header, a snapshot and two batches.
@@ -25,6 +31,8 @@ fn main(rt: HostRuntime) -> io::Result<()> {
     refuses_a_generation_alone(&rt)?;
     prints_each_kind(&rt)?;
     tells_lengths_from_names(&rt)?;
+    rolls(&rt)?;
+    comes_back_to_the_present(&rt)?;
     keeps_others_out(&rt)
 }
 
@@ -127,10 +135,29 @@ fn tells_lengths_from_names(rt: &HostRuntime) -> io::Result<()> {
     )
 }
 
+/// A clock that was ahead: no tick ends the session, until the books are cut to the present. Of a
+/// rebase that a crash cut short the old era is left.
+fn comes_back_to_the_present(rt: &HostRuntime) -> io::Result<()> {
+    record(rt, "ahead", late_login(rt)?, 999_990)?;
+    say(rt, "a clock that was ahead", "ahead", OURS, 3000)?;
+    record(rt, "ahead", tick(rt, 5000)?, 5000)?;
+    cut_books(rt, "ahead", OTHERS, 6000)?;
+    cut_books(rt, "ahead", OURS, 6000)?;
+    cut(rt, "ahead/log-2-1", 60)?;
+    say(rt, "after half a rebase", "ahead", OURS, 6001)?;
+    cut_books(rt, "ahead", OURS, 6000)?;
+    record(rt, "ahead", tick(rt, 7799)?, 7799)?;
+    say(rt, "before the deadline", "ahead", OURS, 7799)?;
+    record(rt, "ahead", tick(rt, 7800)?, 7800)?;
+    say(rt, "after it", "ahead", OURS, 7800)?;
+    cut_books(rt, "new", OURS, 6000)
+}
+
 /// A second server.
 fn keeps_others_out(rt: &HostRuntime) -> io::Result<()> {
     let held = Folder::open(rt, rt.alloc(), "state");
     say(rt, "while another runs", "state", OURS, 5000)?;
+    cut_books(rt, "state", OURS, 5000)?;
     drop(held);
     say(rt, "in no folder", "none/state", OURS, 5001)
 }

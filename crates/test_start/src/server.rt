@@ -1,7 +1,8 @@
 //! A server that is started and answers a request.
 
 use rld_log::frame_of;
-use rld_start::{StartFault, Started, start};
+use rld_pace::{Pace, Pacing, Ticks};
+use rld_start::{StartFault, Started, rebase, start};
 use rsl_accounts::Config;
 use rsl_event::{Act, Event, Key, Nas, NasName, Note, Source};
 use rsl_shard::Move;
@@ -23,21 +24,31 @@ grace_secs = 900\nclosed_secs = 3600\nkeep_secs = 10\n\
 [[account]]\nname = \"flopsy\"\npassword = \"arctangent\"\nplaces = 1\nports = 1\n";
 
 /// A server that is started with these accounts.
-fn started(
+pub fn started<'a>(
     rt: &HostRuntime,
     folder: &str,
     accounts: &str,
     now: u64,
-) -> Result<Started, StartFault> {
+    ticks: &'a Ticks,
+) -> Result<Started<'a>, StartFault> {
     let Ok(config) = Config::read(rt.alloc(), accounts.as_bytes()) else {
         return Err(StartFault::NoMemory);
     };
-    start(rt, rt.alloc(), &config, folder, now)
+    start(rt, rt.alloc(), &config, folder, now, pacing(ticks))
+}
+
+/// Each sync reaches the disk.
+pub fn pacing(ticks: &Ticks) -> Pacing<'_> {
+    Pacing {
+        pace: Pace::Always,
+        ticks,
+    }
 }
 
 /// Starts a server and says what it found, and in which generation it goes on; or its fault.
 pub fn say(rt: &HostRuntime, when: &str, folder: &str, accounts: &str, now: u64) -> io::Result<()> {
-    match started(rt, folder, accounts, now) {
+    let ticks = Ticks::new();
+    match started(rt, folder, accounts, now, &ticks) {
         Ok(
             Started {
                 found,
@@ -45,17 +56,45 @@ pub fn say(rt: &HostRuntime, when: &str, folder: &str, accounts: &str, now: u64)
                 header,
                 ..
             },
-        ) => println!(rt;
-            "{when}: found {}-{}, moves {}, sessions {}, torn {}; boot {boot}, goes on in {}-{}",
-            found.era,
-            found.generation,
-            found.moves,
-            found.sessions,
-            found.torn,
-            header.era,
-            header.generation
-        ),
+        ) => {
+            println!(rt;
+                "{when}: found {}-{}, moves {}, sessions {}, torn {}; boot {boot}, goes on in {}-{}",
+                found.era,
+                found.generation,
+                found.moves,
+                found.sessions,
+                found.torn,
+                header.era,
+                header.generation
+            )?;
+            say_behind(rt, found.behind)
+        }
         Err(fault) => println!(rt; "{when}: {fault}; status {}", fault.status().number()),
+    }
+}
+
+/// Says by how many seconds the clock is behind, if that was found.
+fn say_behind(rt: &HostRuntime, behind: Option<u64>) -> io::Result<()> {
+    match behind {
+        Some(secs) => println!(rt; "  the clock is {secs} s behind"),
+        None => Ok(()),
+    }
+}
+
+/// Cuts the books of a folder to a moment, and says what was done; or the fault.
+pub fn cut_books(rt: &HostRuntime, folder: &str, accounts: &str, now: u64) -> io::Result<()> {
+    let Ok(config) = Config::read(rt.alloc(), accounts.as_bytes()) else {
+        return Err(io::Error::from(io::ErrorKind::OutOfMemory));
+    };
+    match rebase(rt, rt.alloc(), &config, folder, now) {
+        Ok(done) => println!(rt;
+            "rebased at {now}: {}-{}, moments {}; era {}",
+            done.from.era, done.from.number, done.moments, done.era
+        ),
+        Err(fault) => println!(rt;
+            "rebased at {now}: {fault}; status {}",
+            fault.status().number()
+        ),
     }
 }
 
@@ -157,6 +196,16 @@ pub fn login(rt: &HostRuntime) -> io::Result<Vec<Move>> {
     Ok(vec![in rt.alloc(); ask(rt, 0, 7, 1001)?, alive(rt, b"s1", 1002)?]?)
 }
 
+/// The same by a clock that is ahead.
+pub fn late_login(rt: &HostRuntime) -> io::Result<Vec<Move>> {
+    Ok(vec![in rt.alloc(); ask(rt, 0, 7, 1_000_000)?, alive(rt, b"s1", 1_000_001)?]?)
+}
+
+/// A tick.
+pub fn tick(rt: &HostRuntime, moment: u64) -> io::Result<Vec<Move>> {
+    Ok(vec![in rt.alloc(); Move::Tick { moment }]?)
+}
+
 /// A move of each kind.
 pub fn each_kind(rt: &HostRuntime) -> io::Result<Vec<Move>> {
     let mut moves = login(rt)?;
@@ -181,7 +230,8 @@ pub fn frame_as_id(rt: &HostRuntime) -> io::Result<Vec<Move>> {
 
 /// Starts a server that records a batch of moves, and says what it decided.
 pub fn record(rt: &HostRuntime, folder: &str, moves: Vec<Move>, now: u64) -> io::Result<()> {
-    match started(rt, folder, OURS, now) {
+    let ticks = Ticks::new();
+    match started(rt, folder, OURS, now, &ticks) {
         Ok(mut started) => commit(rt, &mut started, moves),
         Err(fault) => println!(rt; "a start: {fault}"),
     }
@@ -195,7 +245,8 @@ pub fn record_both(
     second: Vec<Move>,
     now: u64,
 ) -> io::Result<()> {
-    match started(rt, folder, OURS, now) {
+    let ticks = Ticks::new();
+    match started(rt, folder, OURS, now, &ticks) {
         Ok(mut started) => {
             commit(rt, &mut started, first)?;
             commit(rt, &mut started, second)
@@ -205,7 +256,7 @@ pub fn record_both(
 }
 
 /// Records a batch of moves, and says what was decided.
-fn commit(rt: &HostRuntime, started: &mut Started, moves: Vec<Move>) -> io::Result<()> {
+fn commit(rt: &HostRuntime, started: &mut Started<'_>, moves: Vec<Move>) -> io::Result<()> {
     match started.store.commit(rt.alloc(), moves) {
         Ok(recorded) => println!(rt; "decisions: {:?}", recorded.decisions()),
         Err(fault) => println!(rt; "a batch: {fault}"),

@@ -1,0 +1,28 @@
+//! A clock of the system that is behind the books: deadlines wait until it is there.
+
+ghost use Rattle.std.specs.Prelude.{◌≡◌, ℕ, length};
+ghost use Rattle.rld_books.specs.Clocks.{IsGreatestClock};
+ghost use Rattle.rld_start.specs.Behind.{behind};
+
+use rld_books::ServerBooks;
+use rsl_accounts::Config;
+
+/// The fewest seconds that are told.
+const TOLD_SECS: u64 = 60;
+
+/// By how many seconds the system's clock is behind another, where these are 60 or more.
+fn behind(now: u64, clock: u64) -> Option<u64>
+    ensures { result ≡ behind now clock }
+{
+    let secs = clock.saturating_sub(now);
+    if secs < TOLD_SECS { None } else { Some(secs) }
+}
+
+/// By how many seconds the system's clock is behind the greatest clock of these books, where these are
+/// 60 or more.
+pub(crate) fn behind_books(config: &Config, books: &ServerBooks, now: u64) -> Option<u64>
+    ensures { (clock : ℕ)
+        × (IsGreatestClock books.now (length config.now.accounts) clock × (result ≡ behind now clock)) }
+{
+    behind(now, books.clock(config))
+}

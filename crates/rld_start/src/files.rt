@@ -1,0 +1,60 @@
+//! The files of a folder, each of whose faults says which file it is.
+
+use crate::fault::{StartFault, file_fault};
+use rld_folder::{FileName, Folder, Generation};
+use rld_log::FileLog;
+use std::alloc::Global;
+use std::fs::{File, Files};
+
+/// The log of a generation that is there.
+pub(crate) fn open_log<R: Files<File = File>>(
+    files: &R,
+    alloc: Global,
+    folder: &Folder,
+    generation: Generation,
+) -> Result<FileLog, StartFault> {
+    match folder.open_log(files, alloc, generation) {
+        Ok(log) => Ok(log),
+        Err(fault) => Err(file_fault(FileName::Log(generation), fault)),
+    }
+}
+
+/// The log of a new generation.
+pub(crate) fn create_log<R: Files<File = File>>(
+    files: &R,
+    alloc: Global,
+    folder: &Folder,
+    generation: Generation,
+) -> Result<FileLog, StartFault> {
+    match folder.create_log(files, alloc, generation) {
+        Ok(log) => Ok(log),
+        Err(fault) => Err(file_fault(FileName::Log(generation), fault)),
+    }
+}
+
+/// The octets of an era's table.
+pub(crate) fn read_era<R: Files<File = File>>(
+    files: &R,
+    alloc: Global,
+    folder: &Folder,
+    era: u64,
+) -> Result<Vec<u8>, StartFault> {
+    match folder.read_era(files, alloc, era) {
+        Ok(table) => Ok(table),
+        Err(fault) => Err(file_fault(FileName::Era(era), fault)),
+    }
+}
+
+/// Writes the table of a new era.
+pub(crate) fn write_era<R: Files<File = File>>(
+    files: &R,
+    alloc: Global,
+    folder: &Folder,
+    era: u64,
+    table: &[u8],
+) -> Result<(), StartFault> {
+    match folder.write_era(files, alloc, era, table) {
+        Ok(()) => Ok(()),
+        Err(fault) => Err(file_fault(FileName::Era(era), fault)),
+    }
+}

@@ -1,0 +1,69 @@
+//! An era that begins.
+
+ghost use Rattle.std.specs.Prelude.{◌≡◌, ◌+◌, IfOk};
+ghost use Rattle.md5.specs.Md5.{md5};
+ghost use Rattle.rld_start.specs.Numbers.{era_of, greatest_by};
+
+use crate::fault::StartFault;
+use crate::files::{create_log, write_era};
+use crate::number::next_era;
+use crate::refused::fault_of;
+use md5::{Digest, Md5};
+use rld_books::ServerBooks;
+use rld_folder::{FileName, Folder, Generation};
+use rld_log::FileLog;
+use rld_pace::{PacedLog, Pacing};
+use rld_spelling::Header;
+use rld_store::Store;
+use rsl_accounts::Config;
+use std::alloc::Global;
+use std::fs::{File, Files};
+
+/// The number of an era's first generation.
+pub(crate) const FIRST: u64 = 1;
+
+/// An era that was begun: its table and its first generation are on the disk.
+#[derive(Drop)]
+pub(crate) struct NewEra<'a> {
+    /// The books that it opens with, and the log of its first generation.
+    pub(crate) store: Store<PacedLog<'a, FileLog>>,
+    /// The header of that generation.
+    pub(crate) header: Header,
+}
+
+/// Begins an era with the table of these octets and with these books, under a number that no file of
+/// the folder has, in a log that is synced as the pacing says. A crash on the way leaves no generation
+/// that was begun, or all of it.
+pub(crate) fn begin_era<'a, R: Files<File = File>>(
+    files: &R,
+    alloc: Global,
+    config: &Config,
+    folder: &Folder,
+    names: &[FileName],
+    table: &[u8],
+    books: ServerBooks,
+    pacing: Pacing<'a>,
+) -> Result<NewEra<'a>, StartFault>
+    ensures era { IfOk result (λ begun. begun.header.era ≡ greatest_by era_of names.now + 1) }
+    ensures first { IfOk result (λ begun.
+        (begun.header.generation ≡ 1) × (begun.header.lines ≡ 0)) }
+    ensures table { IfOk result (λ begun. begun.header.digest ≡ md5 table.now) }
+    ensures books { IfOk result (λ begun. begun.store.books ≡ books) }
+{
+    let Some(era) = next_era(names) else {
+        return Err(StartFault::NoNumber);
+    };
+    write_era(files, alloc, folder, era, table)?;
+    let generation = Generation { era, number: FIRST };
+    let log = create_log(files, alloc, folder, generation)?;
+    let header = Header {
+        era,
+        generation: FIRST,
+        digest: Md5::digest(table),
+        lines: 0,
+    };
+    match Store::begin_with(alloc, config, header, books, PacedLog::new(log, pacing)) {
+        Ok(store) => Ok(NewEra { store, header }),
+        Err(refused) => Err(fault_of(alloc, generation, refused)),
+    }
+}

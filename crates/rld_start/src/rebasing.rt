@@ -1,0 +1,122 @@
+//! How an era follows one whose clock is ahead: with its books, cut to the present.
+
+ghost use Rattle.std.specs.Prelude.{◌≡◌, ◌+◌, ◌<◌, ◌^◌, IfOk};
+ghost use Rattle.rld_books.specs.Cut.{cut_server, late_in_server};
+ghost use Rattle.rld_books.specs.Saved.{IsServerOf};
+ghost use Rattle.rld_start.specs.Numbers.{era_of, greatest_by};
+
+use crate::fault::StartFault;
+use crate::gap::check_archive;
+use crate::new_era::begin_era;
+use crate::starting::{Begun, Reopened, generation_in, newest_begun, reopen};
+use crate::wrong::{Cause, Wrong};
+use rld_books::{CutBooks, ServerBooks, ServerFault};
+use rld_folder::{FileName, Folder, Generation};
+use rld_pace::{Pace, Pacing, Ticks};
+use rsl_accounts::Config;
+use std::alloc::Global;
+use std::fs::{File, Files};
+
+/// What a rebase has done.
+#[derive(Clone, Copy, Debug, PartialEq, Eq)]
+pub struct Rebased {
+    /// The generation whose books were cut.
+    pub from: Generation,
+    /// The number of the era that begins with them.
+    pub era: u64,
+    /// How many moments were later than the present, and were cut: at most 2^64 - 1.
+    pub moments: u64,
+}
+
+/// Begins a new era in the folder of a server that does not run: with the table of the newest
+/// generation that was begun, its boot number too, and with its books cut to `now`, in seconds since
+/// 1970 (`ServerBooks::cut`). The next start goes on from there.
+///
+/// The faults are those of `start`, in their order; `NoHistory` comes where no generation was begun.
+/// Until a fault of a new file nothing has changed in the folder but an empty `lock` and a torn end,
+/// which is cut off. Such a fault leaves the old era, or the new one whole where only its last sync
+/// failed: a later start goes on in that.
+pub fn rebase<R: Files<File = File> + Alloc<A = Global> + Clone + Drop>(
+    rt: &R,
+    alloc: Global,
+    config: &Config,
+    path: &str,
+    now: u64,
+) -> Result<Rebased, StartFault> {
+    let folder = Folder::open(rt, alloc, path)?;
+    let files = folder.files(rt)?;
+    let begun = newest_begun(rt, alloc, &folder, files.as_slice())?;
+    check_archive(folder.archived(rt)?.as_slice(), generation_in(&begun))?;
+    match begun {
+        Some(begun) => rebase_begun(rt, alloc, config, &folder, files.as_slice(), begun, now),
+        None => Err(StartFault::NoHistory),
+    }
+}
+
+/// Begins an era after a generation.
+fn rebase_begun<R: Files<File = File>>(
+    files: &R,
+    alloc: Global,
+    config: &Config,
+    folder: &Folder,
+    names: &[FileName],
+    begun: Begun,
+    now: u64,
+) -> Result<Rebased, StartFault>
+    ensures from { IfOk result (λ rebased. rebased.from ≡ begun.generation) }
+    ensures era { IfOk result (λ rebased. rebased.era ≡ greatest_by era_of names.now + 1) }
+{
+    let from = begun.generation;
+    let ticks = Ticks::new();
+    let pacing = Pacing {
+        pace: Pace::Always,
+        ticks: &ticks,
+    };
+    let Reopened { opened, table, .. } = reopen(files, alloc, config, folder, begun, pacing)?;
+    let books = opened.store.books();
+    let cut = cut_books(alloc, config, from, books, now)?;
+    let CutBooks { books, moments } = cut;
+    let begun = begin_era(
+        files,
+        alloc,
+        config,
+        folder,
+        names,
+        table.as_slice(),
+        books,
+        pacing,
+    )?;
+    Ok(Rebased {
+        from,
+        era: begun.header.era,
+        moments,
+    })
+}
+
+/// The books of a generation, cut to a moment. They are put back as they fit, so `Misfit` comes for
+/// none that a log gave (`rld_books::laws::cut_books_fit`).
+fn cut_books(
+    alloc: Global,
+    config: &Config,
+    generation: Generation,
+    books: &ServerBooks,
+    now: u64,
+) -> Result<CutBooks, StartFault>
+    ensures server { IfOk result (λ cut. IsServerOf config.now cut.books) }
+    ensures cut { IfOk result (λ cut. IsServerOf config.now books.now →
+        cut.books ≡ cut_server now books.now) }
+    ensures moments { IfOk result (λ cut. late_in_server now books.now < 2 ^ 64 →
+        cut.moments ≡ late_in_server now books.now) }
+{
+    match books.cut(alloc, config, now) {
+        Ok(cut) => Ok(cut),
+        Err(ServerFault::NoMemory) => Err(StartFault::NoMemory),
+        Err(fault) => {
+            let wrong = Wrong {
+                offset: 0,
+                cause: Cause::Misfit(fault),
+            };
+            Err(StartFault::bad(FileName::Log(generation), wrong))
+        }
+    }
+}
