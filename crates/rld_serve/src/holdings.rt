@@ -1,23 +1,8 @@
 ghost use Rattle.std.specs.Prelude.{◌≡◌, ◌++◌, IfOk, OnOk, string_bytes};
 ghost use Rattle.rld_serve.specs.Totals.{line_of, no_totals, totals_of, totals_text, with_row};
 
-use rld_log::Log;
-use rld_store::Store;
 use rsl_shard::Row;
-use rsl_wire::NoMemory;
-use std::alloc::{AllocError, Global};
-
-/// What says what each account holds.
-pub trait Holdings {
-    /// What each account holds. It fails only where memory is refused.
-    fn rows(&self, alloc: Global) -> Result<Vec<Row>, NoMemory>;
-}
-
-impl<L: Log> Holdings for Store<L> {
-    fn rows(&self, alloc: Global) -> Result<Vec<Row>, NoMemory> {
-        Store::rows(self, alloc)
-    }
-}
+use std::alloc::AllocError;
 
 /// What all accounts hold, each number at most 2^64 - 1.
 #[derive(Clone, Copy, Debug, PartialEq, Eq)]

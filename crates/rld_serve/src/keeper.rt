@@ -1,39 +1,57 @@
-ghost use Rattle.std.specs.Prelude.{◌≡◌, true, length, Err, IfOk, OnErr, OnOk, List, ◌++◌, ◌||◌, false};
+ghost use Rattle.std.specs.Prelude.{◌≡◌, true, length, Err, IfOk, IsErrOf, OnErr, OnOk, List, [], ◌++◌, ◌||◌, false, IsTrue};
 ghost use Rattle.rld_books.specs.Server.{decisions_of, replay};
-ghost use Rattle.rld_serve.specs.Keeping.{is_ended, is_failed};
+ghost use Rattle.rld_serve.specs.Keeping.{is_ended, is_failed, is_over, moves_after};
+ghost use Rattle.rld_start.specs.NextHeaders.{header_after};
+ghost use Rattle.rld_store.specs.Premises.{Only};
+ghost use Rattle.rld_store.specs.Standing.{StandsFor};
 ghost use Rattle.rld_turn.specs.declared.fault.RecordFault.TheVariants.{Ended as over};
 ghost use Rattle.rsl_accounts.specs.Configuration.{Configuration};
+ghost use Rattle.rsl_shard.specs.Restep.{BooksSeen};
 ghost use Rattle.rsl_shard.specs.declared.moved.Move.{Move as OneMove};
 
+use crate::rolled::RollFault;
+use rld_log::{FileLog, Log};
+use rld_pace::{PacedLog, Pacing};
+use rld_spelling::Header;
+use rld_start::{Generations, NextLog, StartFault, next_header};
+use rld_store::Store;
 use rld_turn::{RecordFault, Recorded, Recorder};
 use rsl_shard::Move;
 use std::alloc::Global;
 
 /// What stands behind the lock of a server: its recorder, which is asked no more once it can record
-/// nothing more, and whether a batch was not recorded lately.
+/// nothing more; the header of the generation that it writes, and how many moves that has; and whether
+/// a batch was not recorded lately.
 #[derive(Drop)]
 pub(crate) struct Keeper<S: Recorder> {
     recorder: S,
+    header: Header,
+    moves: u64,
     has_ended: bool,
     has_failed: bool,
 }
 
 impl<S: Recorder> Keeper<S> {
-    /// Of a recorder that was not asked yet.
-    pub(crate) fn new(recorder: S) -> Keeper<S>
+    /// Of a recorder that was not asked yet, and that writes the generation of this header, of which
+    /// it has no move.
+    pub(crate) fn new(recorder: S, header: Header) -> Keeper<S>
         ensures recorder { result.recorder ≡ recorder }
+        ensures header { result.header ≡ header }
+        ensures moves { result.moves ≡ 0 }
         ensures has_ended { result.has_ended ≡ false }
         ensures has_failed { result.has_failed ≡ false }
     {
         Keeper {
             recorder,
+            header,
+            moves: 0,
             has_ended: false,
             has_failed: false,
         }
     }
 
-    /// Records a batch as the recorder does. `Ended` comes where it has come before, and then the
-    /// recorder is not asked.
+    /// Records a batch as the recorder does, and counts its moves. `Ended` comes where it has come
+    /// before, and then the recorder is not asked.
     pub(crate) fn record(
         &mut self,
         alloc: Global,
@@ -43,6 +61,8 @@ impl<S: Recorder> Keeper<S> {
         ensures given_up { self.old.has_ended ≡ true → (result ≡ Err over) × (self.new ≡ self.old) }
         ensures ended { self.new.has_ended ≡ (self.old.has_ended || is_ended result) }
         ensures failed { self.new.has_failed ≡ (self.old.has_failed || is_failed result) }
+        ensures moves { self.new.moves ≡ moves_after self.old.moves (length batch.items) result }
+        ensures header { self.new.header ≡ self.old.header }
 
         // What the recorder promises of a batch.
         ensures telling { S.tells self.new.recorder ≡ true → S.tells self.old.recorder ≡ true }
@@ -53,31 +73,34 @@ impl<S: Recorder> Keeper<S> {
         ensures same { S.tells self.new.recorder ≡ true →
             OnErr result (S.books self.new.recorder ≡ S.books self.old.recorder) }
         ensures recorded { S.tells self.new.recorder ≡ true →
-            (config : Configuration) (history : List OneMove) →
-            S.stands self.old.recorder config history →
-            OnOk result (S.stands self.new.recorder config (history ++ batch.items)) }
+            (config : Configuration) (opening : List BooksSeen) (history : List OneMove) →
+            S.stands self.old.recorder config opening history →
+            OnOk result (S.stands self.new.recorder config opening (history ++ batch.items)) }
         ensures unrecorded { S.tells self.new.recorder ≡ true →
-            (config : Configuration) (history : List OneMove) →
-            S.stands self.old.recorder config history →
-            OnErr result (S.stands self.new.recorder config history) }
+            (config : Configuration) (opening : List BooksSeen) (history : List OneMove) →
+            S.stands self.old.recorder config opening history →
+            OnErr result (S.stands self.new.recorder config opening history) }
     {
         if self.has_ended {
             drop(batch);
             return Err(RecordFault::Ended);
         }
+        let count = batch.len() as u64;
         let outcome = self.recorder.record(alloc, batch);
-        self.note(&outcome);
+        self.note(&outcome, count);
         outcome
     }
 
-    /// Notes how a call of the recorder ended.
-    fn note(&mut self, outcome: &Result<Recorded, RecordFault>)
+    /// Notes how a call of the recorder ended for a batch of so many moves.
+    fn note(&mut self, outcome: &Result<Recorded, RecordFault>, count: u64)
         ensures recorder { self.new.recorder ≡ self.old.recorder }
+        ensures header { self.new.header ≡ self.old.header }
+        ensures moves { self.new.moves ≡ moves_after self.old.moves count outcome.now }
         ensures ended { self.new.has_ended ≡ (self.old.has_ended || is_ended outcome.now) }
         ensures failed { self.new.has_failed ≡ (self.old.has_failed || is_failed outcome.now) }
     {
         match outcome {
-            Ok(_) => {}
+            Ok(_) => self.moves = self.moves.saturating_add(count),
             Err(RecordFault::Failed) => self.has_failed = true,
             Err(RecordFault::Ended) => self.has_ended = true,
         }
@@ -90,6 +113,20 @@ impl<S: Recorder> Keeper<S> {
         self.has_ended
     }
 
+    /// How many moves the generation has that the recorder writes; at most 2^64 - 1.
+    pub(crate) fn moves(&self) -> u64
+        ensures { result ≡ self.now.moves }
+    {
+        self.moves
+    }
+
+    /// The header of that generation.
+    pub(crate) fn header(&self) -> Header
+        ensures { result ≡ self.now.header }
+    {
+        self.header
+    }
+
     /// The recorder, to look at.
     pub(crate) fn recorder(&self) -> &S
         ensures { result.now ≡ self.now.recorder }
@@ -100,12 +137,89 @@ impl<S: Recorder> Keeper<S> {
     /// Whether a batch was not recorded since this was asked last.
     pub(crate) fn take_failed(&mut self) -> bool
         ensures found { result ≡ self.old.has_failed }
-        ensures taken { self.new.has_failed ≡ false }
-        ensures ended { self.new.has_ended ≡ self.old.has_ended }
-        ensures recorder { self.new.recorder ≡ self.old.recorder }
+        ensures same { self.new ≡ record self.old { has_failed = false } }
     {
         let has_failed = self.has_failed;
         self.has_failed = false;
         has_failed
+    }
+}
+
+impl<L: Log + Drop> Keeper<Store<L>> {
+    /// Goes on in the generation of this number, in an empty log: its header counts the moves of the
+    /// present one, and it has none yet. The present one's log is handed out.
+    fn begin(&mut self, alloc: Global, number: u64, log: L) -> Result<L, RollFault>
+        ensures header { OnOk result
+            (self.new.header ≡ header_after self.old.header number self.old.moves) }
+        ensures moves { OnOk result (self.new.moves ≡ 0) }
+        ensures ended { self.new.has_ended ≡ self.old.has_ended }
+        ensures failed { self.new.has_failed ≡ self.old.has_failed }
+        ensures going_on { IsErrOf result RollFault.Ended → ⊥ }
+        ensures err { OnErr result (self.new ≡ self.old) }
+
+        // The store stands for the same history, by the next log alone.
+        ensures books { self.new.recorder.books ≡ self.old.recorder.books }
+        ensures stands { IsTrue (L.tells self.new.recorder.log) → Only (L.seen log) (L.may_leave log) →
+            (config : Configuration) (opening : List BooksSeen) (history unanswered : List OneMove) →
+            StandsFor config opening self.old.recorder.counts L.tears self.old.recorder.end (L.seen self.old.recorder.log)
+            (L.may_leave self.old.recorder.log) self.old.recorder.whole self.old.recorder.books history unanswered →
+            OnOk result (StandsFor config opening self.new.recorder.counts L.tears self.new.recorder.end (L.seen self.new.recorder.log)
+            (L.may_leave self.new.recorder.log) self.new.recorder.whole self.new.recorder.books history []) }
+    {
+        let Some(header) = next_header(&self.header, number, self.moves) else {
+            return Err(RollFault::Start(StartFault::NoNumber));
+        };
+        match self.recorder.roll(alloc, header, log) {
+            Ok(older) => {
+                self.header = header;
+                self.moves = 0;
+                Ok(older)
+            }
+            Err(refused) => Err(RollFault::Store(refused.fault)),
+        }
+    }
+}
+
+impl<'p> Keeper<Store<PacedLog<'p, FileLog>>> {
+    /// Goes on in the generation of a log that was made for it, which is synced as the pacing says: its
+    /// header counts the moves of the present one, and it has none yet.
+    ///
+    /// Where that fails the log is removed before anything more is recorded, since its snapshot may
+    /// stand there whole, and a start would go on from it: then the present generation goes on. `Ended`
+    /// comes where the log cannot be removed for good, and where nothing more could be recorded before:
+    /// then nothing more is recorded.
+    pub(crate) fn roll<G: Generations>(
+        &mut self,
+        alloc: Global,
+        generations: &G,
+        next: NextLog,
+        pacing: Pacing<'p>,
+    ) -> Result<(), RollFault>
+        ensures header { OnOk result (self.new.header
+            ≡ header_after self.old.header next.generation.number self.old.moves) }
+        ensures moves { OnOk result (self.new.moves ≡ 0) }
+        ensures ended { self.new.has_ended ≡ (self.old.has_ended || is_over result) }
+        ensures failed { self.new.has_failed ≡ self.old.has_failed }
+        ensures books { self.new.recorder.books ≡ self.old.recorder.books }
+
+        // Where it fails the present generation stays, with its log and its count.
+        ensures same { OnErr result (self.new.recorder ≡ self.old.recorder) }
+        ensures same_header { OnErr result (self.new.header ≡ self.old.header) }
+        ensures same_moves { OnErr result (self.new.moves ≡ self.old.moves) }
+    {
+        if self.has_ended() {
+            return Err(RollFault::Ended);
+        }
+        let NextLog { generation, log } = next;
+        match self.begin(alloc, generation.number, PacedLog::new(log, pacing)) {
+            Ok(_older) => Ok(()),
+            Err(fault) => {
+                if generations.remove(alloc, generation).is_err() {
+                    self.has_ended = true;
+                    return Err(RollFault::Ended);
+                }
+                Err(fault)
+            }
+        }
     }
 }

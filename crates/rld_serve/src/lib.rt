@@ -17,14 +17,17 @@ mod job;
 mod keeper;
 mod readiness;
 mod receiver_port;
+mod rolled;
+mod rolling;
 mod server;
 mod shared_recorder;
 mod shutdown;
 mod sockets;
+mod status;
+mod timer;
 mod trouble;
 
 pub use control::Control;
 pub use fault::RunFault;
-pub use holdings::Holdings;
 pub use server::{Plan, serve};
 pub use sockets::Sockets;

@@ -1,19 +1,27 @@
 use crate::control::{Control, answer, asked};
 use crate::fault::{RunFault, outcome_of};
-use crate::holdings::{Holdings, Totals};
+use crate::holdings::Totals;
 use crate::job::Job;
 use crate::keeper::Keeper;
 use crate::readiness::Readiness;
 use crate::receiver_port::ReceiverPort;
+use crate::rolling::Rolls;
 use crate::shared_recorder::SharedRecorder;
 use crate::shutdown::{Shutdown, Start};
 use crate::sockets::Sockets;
+use crate::status::status_text;
 use crate::trouble::Trouble;
 use rld_control::Command;
-use rld_turn::{ReceiveFault, RecordFault, Recorder, receive, tick};
+use rld_log::FileLog;
+use rld_pace::{PacedLog, Pacing};
+use rld_spelling::Header;
+use rld_start::Generations;
+use rld_store::Store;
+use rld_turn::{ReceiveFault, RecordFault, Unwatched, receive, tick};
 use rsl_accounts::Config;
 use rsl_edges::SystemClock;
 use rsl_event::Port;
+use rsl_receive::Clock;
 use rsl_wire::NoMemory;
 use std::alloc::Global;
 use std::net::{Net, TcpListener, TcpStream, UdpSocket};
@@ -32,7 +40,7 @@ const TURNS: u64 = 1 << 57;
 
 const _: () = prove!(TURNS < 1 << 58);
 
-/// What a server is started with, but for its sockets and its recorder.
+/// What a server is started with, but for its sockets, its store and its folder.
 #[derive(Clone, Copy)]
 pub struct Plan<'a> {
     /// Its accounts, clients and rules.
@@ -41,19 +49,22 @@ pub struct Plan<'a> {
     pub boot: u64,
     /// The second of its start, since 1970: the moment where the clock cannot be read.
     pub start: u64,
+    /// When its logs are synced to the disk, and the ticks that it makes.
+    pub pacing: Pacing<'a>,
+    /// The header of the generation that its store writes, of which it has no move.
+    pub header: Header,
     /// What is said on standard error once all workers have started.
     pub greeting: &'a str,
-    /// The lines that say of the server what stays the same while it runs: they begin its status.
-    pub about: &'a str,
 }
 
 /// A running server: what its workers share.
 #[derive(Drop)]
-struct Server<'a, S: Recorder, R> {
-    rt: &'a R,
-    alloc: Global,
-    plan: Plan<'a>,
-    keeper: Mutex<Keeper<S>>,
+pub(crate) struct Server<'a, G, R> {
+    pub(crate) rt: &'a R,
+    pub(crate) alloc: Global,
+    pub(crate) plan: Plan<'a>,
+    pub(crate) generations: &'a G,
+    pub(crate) keeper: Mutex<Keeper<Store<PacedLog<'a, FileLog>>>>,
     shutdown: Shutdown,
 }
 
@@ -61,23 +72,29 @@ struct Server<'a, S: Recorder, R> {
 /// answers each once its move is recorded, and makes a tick each second. Each receiver has a thread of
 /// its own, and so has the worker that makes ticks, and the one that answers at the control.
 ///
+/// The next generation begins after 1,000,000 moves or ten minutes, whichever comes first. Where it
+/// cannot begin the present one goes on, and it is tried again a minute later. At the start, and once a
+/// generation has begun, the logs before it are put away.
+///
 /// `greeting` is said on standard error once all of them have started. A batch that is not recorded is
-/// said there when it begins, and when batches are recorded again.
+/// said there when it begins, and when batches are recorded again; so is a generation that cannot
+/// begin, and logs that cannot be put away.
 ///
 /// `Threads` comes where a worker has not started within some five seconds, `Down` where a socket
-/// fails, `Unsynced` where the recorder can record nothing more, and `NoMemory` where memory is refused
+/// fails, `Unsynced` where the store can record nothing more, and `NoMemory` where memory is refused
 /// at the start. All workers end then: no receiver goes on alone. Where several faults come, the
 /// gravest is given.
-pub fn serve<S, R>(
-    rt: &R,
+pub fn serve<'a, G, R>(
+    rt: &'a R,
     alloc: Global,
-    plan: Plan<'_>,
+    plan: Plan<'a>,
     sockets: &Sockets,
     control: &Control,
-    recorder: S,
+    generations: &'a G,
+    store: Store<PacedLog<'a, FileLog>>,
 ) -> Result<(), RunFault>
 where
-    S: Recorder + Holdings + Send + Drop,
+    G: Generations + Sync,
     R: Net<Listener = TcpListener, Stream = TcpStream>
         + Eprint
         + time::Clock
@@ -90,7 +107,8 @@ where
         rt,
         alloc,
         plan,
-        keeper: Mutex::new(Keeper::new(recorder)),
+        generations,
+        keeper: Mutex::new(Keeper::new(store, plan.header)),
         shutdown: Shutdown::new(jobs.len()),
     };
     run_jobs(&server, jobs.as_slice())
@@ -98,9 +116,9 @@ where
 
 /// Has each job done on a thread of its own, and gives what they came to. That nothing more can be
 /// recorded is said also where each worker met another fault.
-fn run_jobs<S, R>(server: &Server<'_, S, R>, jobs: &[Job<'_>]) -> Result<(), RunFault>
+fn run_jobs<G, R>(server: &Server<'_, G, R>, jobs: &[Job<'_>]) -> Result<(), RunFault>
 where
-    S: Recorder + Holdings + Send + Drop,
+    G: Generations + Sync,
     R: Net<Listener = TcpListener, Stream = TcpStream>
         + Eprint
         + time::Clock
@@ -120,7 +138,7 @@ where
     outcome_of(ended.as_slice())
 }
 
-impl<S: Recorder + Holdings, R: Net + Eprint + time::Clock + Wait> Server<'_, S, R> {
+impl<'a, G: Generations, R: Net + Eprint + time::Clock + Wait> Server<'a, G, R> {
     /// Does a job until the server shall end or the job fails, and then tells the others to end.
     fn work(&self, job: Option<&Job<'_>>) -> Result<(), RunFault> {
         let outcome = match job {
@@ -144,7 +162,7 @@ impl<S: Recorder + Holdings, R: Net + Eprint + time::Clock + Wait> Server<'_, S,
     }
 
     /// The recorder, as this worker sees it.
-    fn recorder(&self) -> SharedRecorder<'_, S, R> {
+    fn recorder(&self) -> SharedRecorder<'_, Store<PacedLog<'a, FileLog>>, R> {
         SharedRecorder::new(self.rt, &self.keeper)
     }
 
@@ -164,6 +182,7 @@ impl<S: Recorder + Holdings, R: Net + Eprint + time::Clock + Wait> Server<'_, S,
             &mut datagrams,
             &mut recorder,
             &mut clock,
+            &mut Unwatched,
             TURNS,
         );
         match received {
@@ -210,14 +229,16 @@ impl<S: Recorder + Holdings, R: Net + Eprint + time::Clock + Wait> Server<'_, S,
 
     /// What the server is, and what its accounts hold in all.
     fn status(&self) -> Result<String, NoMemory> {
-        let rows = self.keeper.lock(self.rt).recorder().rows(self.alloc)?;
-        let mut text = String::from_str(self.alloc, self.plan.about)?;
-        Totals::of(rows.as_slice()).write(&mut text)?;
-        text.push_str("ok\n")?;
-        Ok(text)
+        let keeper = self.keeper.lock(self.rt);
+        let header = keeper.header();
+        let rows = keeper.recorder().rows(self.alloc)?;
+        drop(keeper);
+        let totals = Totals::of(rows.as_slice());
+        Ok(status_text(self.alloc, self.plan.start, &header, &totals)?)
     }
 
-    /// Makes a tick each second, and tells the operator of what is not recorded.
+    /// Makes a tick each second, begins the next generation where it is due, and tells the operator of
+    /// what goes wrong.
     fn tick(&self) -> Result<(), RunFault> {
         if !self.has_started()? {
             return Ok(());
@@ -226,6 +247,8 @@ impl<S: Recorder + Holdings, R: Net + Eprint + time::Clock + Wait> Server<'_, S,
         let mut recorder = self.recorder();
         let mut clock = SystemClock::new(self.rt, self.plan.start);
         let mut trouble = Trouble::new();
+        let mut rolls = Rolls::new();
+        self.put_away(&mut rolls, clock.now());
         for _ in self.rt.forever() {
             if self.shutdown.is_over() {
                 break;
@@ -234,6 +257,7 @@ impl<S: Recorder + Holdings, R: Net + Eprint + time::Clock + Wait> Server<'_, S,
             if let Some(news) = trouble.news(has_failed) {
                 let _ = self.rt.eprintln(news);
             }
+            self.roll_if_due(&mut rolls, clock.now())?;
             thread::sleep(self.rt, Duration::from_secs(TICK_SECS));
         }
         Ok(())
@@ -243,9 +267,10 @@ impl<S: Recorder + Holdings, R: Net + Eprint + time::Clock + Wait> Server<'_, S,
     /// recorded.
     fn tick_once(
         &self,
-        recorder: &mut SharedRecorder<'_, S, R>,
+        recorder: &mut SharedRecorder<'_, Store<PacedLog<'a, FileLog>>, R>,
         clock: &mut SystemClock<'_, R>,
     ) -> Result<bool, RunFault> {
+        self.plan.pacing.ticks.begin();
         let has_failed = match tick(self.alloc, recorder, clock) {
             Ok(()) => false,
             Err(RecordFault::Failed) => true,

@@ -1,0 +1,24 @@
+-- When the next generation of a running server begins.
+use Rattle.std.specs.Prelude.{◌≡◌, ◌⊎◌, ℕ, ◌-◌, ◌≤◌}
+use Rattle.rld_serve.specs.Totals.{plus}
+use Rattle.rld_serve.specs.declared.timer.RollTimer.{RollTimer}
+
+-- a generation has had so many moves, or has lasted for so many seconds
+abbrev pub IsFull : (moves seconds : ℕ) → Type 0
+IsFull moves seconds = (1000000 ≤ moves) ⊎ (600 ≤ seconds)
+
+-- and no begin of the next one has failed lately
+abbrev pub IsDue : RollTimer → (moves : ℕ) → Type 0
+IsDue timer moves = (timer.pause ≡ 0) × IsFull moves timer.seconds
+
+-- a second later
+abbrev pub second_later : RollTimer → RollTimer
+second_later timer = record { seconds = plus timer.seconds 1; pause = timer.pause - 1 }
+
+-- a generation that has just begun
+abbrev pub just_begun : RollTimer
+just_begun = record { seconds = 0; pause = 0 }
+
+-- after a begin of the next one that failed
+abbrev pub put_off : RollTimer → RollTimer
+put_off timer = record { seconds = timer.seconds; pause = 60 }

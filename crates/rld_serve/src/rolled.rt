@@ -1,0 +1,80 @@
+ghost use Rattle.std.specs.Prelude.{◌≡◌};
+ghost use Rattle.rld_serve.specs.declared.rolled.RollFault.TheVariants.{Start as unmade, Store as unbegun};
+
+use crate::trouble::{News, Trouble};
+use rld_folder::FolderFault;
+use rld_start::StartFault;
+use rld_store::StoreFault;
+use thiserror::Error;
+
+/// Why the next generation has not begun.
+#[derive(Clone, Copy, Debug, PartialEq, Eq, Error)]
+pub(crate) enum RollFault {
+    /// Its log could not be made.
+    #[error("{0}")]
+    Start(StartFault),
+    /// Its header or its snapshot could not be written and synced. Its log is gone.
+    #[error("{0}")]
+    Store(StoreFault),
+    /// Nothing more can be recorded: it could be no more before, or the log of the next generation
+    /// could not be removed.
+    #[error("nothing more can be recorded")]
+    Ended,
+}
+
+impl From<StartFault> for RollFault {
+    ghost from_gives = { λ fault made. made ≡ unmade fault };
+
+    fn from(fault: StartFault) -> RollFault {
+        RollFault::Start(fault)
+    }
+}
+
+impl From<StoreFault> for RollFault {
+    ghost from_gives = { λ fault made. made ≡ unbegun fault };
+
+    fn from(fault: StoreFault) -> RollFault {
+        RollFault::Store(fault)
+    }
+}
+
+/// What an operator is told of generations and of old logs. It prints as a line of standard error.
+#[derive(Clone, Copy, Debug, PartialEq, Eq, Error)]
+pub(crate) enum Notice {
+    /// The next generation could not begin; it is tried again each minute.
+    #[error("no next generation yet: {0}")]
+    NotBegun(RollFault),
+    /// It has begun.
+    #[error("the next generation has begun")]
+    Begun,
+    /// Old logs stay where they are; they are tried again with the next generation.
+    #[error("old logs are not put away: {0}")]
+    NotPutAway(FolderFault),
+    /// They are put away again.
+    #[error("old logs are put away again")]
+    PutAway,
+}
+
+/// What is to be told of a begin that came to this.
+pub(crate) fn notice_of_roll(
+    trouble: &mut Trouble,
+    rolled: Result<(), RollFault>,
+) -> Option<Notice> {
+    match (trouble.news(rolled.is_err()), rolled) {
+        (Some(News::Began), Err(fault)) => Some(Notice::NotBegun(fault)),
+        (Some(News::Over), _) => Some(Notice::Begun),
+        _ => None,
+    }
+}
+
+/// What is to be told of old logs that were put away, or not.
+pub(crate) fn notice_of_archive(
+    trouble: &mut Trouble,
+    outcome: Result<(), FolderFault>,
+) -> Option<Notice> {
+    match (trouble.news(outcome.is_err()), outcome) {
+        (Some(News::Began), Err(fault)) => Some(Notice::NotPutAway(fault)),
+        (Some(News::Over), _) => Some(Notice::PutAway),
+        _ => None,
+    }
+}

@@ -1,0 +1,81 @@
+//! How one generation follows another while the server runs.
+
+use crate::fault::RunFault;
+use crate::rolled::{Notice, RollFault, notice_of_archive, notice_of_roll};
+use crate::server::Server;
+use crate::timer::RollTimer;
+use crate::trouble::Trouble;
+use rld_folder::Generation;
+use rld_start::Generations;
+use std::sync::Wait;
+
+/// What the worker that makes ticks knows of the generations.
+#[derive(Drop)]
+pub(crate) struct Rolls {
+    timer: RollTimer,
+    begins: Trouble,
+    archive: Trouble,
+}
+
+impl Rolls {
+    /// Of a server that has just begun a generation.
+    pub(crate) fn new() -> Rolls {
+        Rolls {
+            timer: RollTimer::new(),
+            begins: Trouble::new(),
+            archive: Trouble::new(),
+        }
+    }
+}
+
+impl<G: Generations, R: Eprint + Wait> Server<'_, G, R> {
+    /// A second passes: where the next generation is due it begins, and old logs are put away. What goes
+    /// wrong is told. `Unsynced` comes where nothing more can be recorded.
+    pub(crate) fn roll_if_due(&self, rolls: &mut Rolls, now: u64) -> Result<(), RunFault> {
+        rolls.timer.pass_second();
+        let moves = self.keeper.lock(self.rt).moves();
+        if !rolls.timer.is_due(moves) {
+            return Ok(());
+        }
+        let rolled = self.roll();
+        self.tell(notice_of_roll(&mut rolls.begins, rolled));
+        match rolled {
+            Ok(()) => {
+                rolls.timer = RollTimer::new();
+                self.put_away(rolls, now);
+                Ok(())
+            }
+            Err(RollFault::Ended) => Err(RunFault::Unsynced),
+            Err(_) => {
+                rolls.timer.put_off();
+                Ok(())
+            }
+        }
+    }
+
+    /// Begins the next generation. Its log is made before the lock is taken.
+    fn roll(&self) -> Result<(), RollFault> {
+        let era = self.keeper.lock(self.rt).header().era;
+        let next = self.generations.next_log(self.alloc, era)?;
+        let mut keeper = self.keeper.lock(self.rt);
+        keeper.roll(self.alloc, self.generations, next, self.plan.pacing)
+    }
+
+    /// Puts old logs away, and tells where that fails.
+    pub(crate) fn put_away(&self, rolls: &mut Rolls, now: u64) {
+        let header = self.keeper.lock(self.rt).header();
+        let newest = Generation {
+            era: header.era,
+            number: header.generation,
+        };
+        let outcome = self.generations.put_away(self.alloc, newest, now);
+        self.tell(notice_of_archive(&mut rolls.archive, outcome));
+    }
+
+    /// Tells the operator, if there is something to tell.
+    fn tell(&self, notice: Option<Notice>) {
+        if let Some(notice) = notice {
+            let _ = self.rt.eprintln(notice);
+        }
+    }
+}

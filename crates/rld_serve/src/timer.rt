@@ -1,0 +1,52 @@
+ghost use Rattle.std.specs.Prelude.{◌≡◌, ◌↔◌, IsTrue};
+ghost use Rattle.rld_serve.specs.Due.{IsDue, just_begun, put_off, second_later};
+
+/// After how many moves a generation has to end.
+const MOST_MOVES: u64 = 1_000_000;
+
+/// After how many seconds it has to end.
+const MOST_SECS: u64 = 600;
+
+/// How long the next generation waits after a begin that failed, in seconds.
+const PAUSE_SECS: u64 = 60;
+
+/// How long the generation of a running server has lasted, and how long the next one has still to wait.
+#[derive(Clone, Copy, Debug, PartialEq, Eq)]
+pub(crate) struct RollTimer {
+    seconds: u64,
+    pause: u64,
+}
+
+impl RollTimer {
+    /// Of a generation that has just begun.
+    pub(crate) fn new() -> RollTimer
+        ensures { result ≡ just_begun }
+    {
+        RollTimer {
+            seconds: 0,
+            pause: 0,
+        }
+    }
+
+    /// A second passes.
+    pub(crate) fn pass_second(&mut self)
+        ensures { self.new ≡ second_later self.old }
+    {
+        self.seconds = self.seconds.saturating_add(1);
+        self.pause = self.pause.saturating_sub(1);
+    }
+
+    /// Whether the next generation shall begin, after so many moves of this one.
+    pub(crate) fn is_due(&self, moves: u64) -> bool
+        ensures { IsTrue result ↔ IsDue self.now moves }
+    {
+        self.pause == 0 && (moves >= MOST_MOVES || self.seconds >= MOST_SECS)
+    }
+
+    /// The next generation could not begin: it is tried again a minute later.
+    pub(crate) fn put_off(&mut self)
+        ensures { self.new ≡ put_off self.old }
+    {
+        self.pause = PAUSE_SECS;
+    }
+}
