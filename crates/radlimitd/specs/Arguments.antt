@@ -1,7 +1,7 @@
 -- What the arguments of the program ask for.
 use Rattle.std.specs.Prelude.{ℕ, List, [], ◌∷◌, codes, bytes_eq, if◌then◌else◌, Option, None, Some}
 use Rattle.radlimitd.specs.declared.command.Command.{Command}
-use Rattle.radlimitd.specs.declared.command.Command.TheVariants.{Check, Lines, Run, Status, Stop, Version, Help}
+use Rattle.radlimitd.specs.declared.command.Command.TheVariants.{Check, Lines, Run, Rebase, Status, Stop, Version, Help}
 
 -- a word alone
 abbrev pub command_of_word : (word : List ℕ) → Option Command
@@ -21,6 +21,7 @@ command_of_file word =
     else if bytes_eq word (codes "run") then Some Run
     else if bytes_eq word (codes "status") then Some Status
     else if bytes_eq word (codes "stop") then Some Stop
+    else if bytes_eq word (codes "rebase") then Some Rebase
     else command_of_files word
 
 -- the arguments behind the name of the program

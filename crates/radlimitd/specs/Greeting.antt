@@ -1,6 +1,5 @@
 -- What a server says as it starts, of what it found in its folder.
-use Rattle.std.specs.Prelude.{ℕ, List, [], ◌++◌, ◌==◌, if◌then◌else◌, codes, decimal}
-use Rattle.rld_spelling.specs.declared.header.Header.{Header}
+use Rattle.std.specs.Prelude.{ℕ, List, [], ◌++◌, ◌==◌, if◌then◌else◌, codes, decimal, Option, None, Some}
 use Rattle.rld_start.specs.declared.count.Found.{Found}
 
 -- a text and a number
@@ -17,6 +16,12 @@ abbrev pub torn_text : (torn : ℕ) → List ℕ
 torn_text torn =
     if torn == 0 then [] else numbered (codes ", torn end of ") torn ++ codes " octets cut off"
 
+-- by how many seconds the system's clock is behind what the folder has, on a line of its own
+abbrev pub behind_text : (behind : Option ℕ) → List ℕ
+behind_text None = []
+behind_text (Some secs) =
+    numbered (codes "\nclock ") secs ++ codes " s behind: no deadline passes until it is there"
+
 abbrev pub greeting : Found → List ℕ
 greeting found =
     numbered (codes "era ") found.era
@@ -24,11 +29,4 @@ greeting found =
     ++ numbered (codes ": ") found.sessions
     ++ codes " sessions"
     ++ torn_text found.torn
-
--- what begins the status of a server that started at this second
-abbrev pub about : (start : ℕ) → Header → List ℕ
-about start header =
-    numbered (codes "since ") start
-    ++ numbered (codes "\nera ") header.era
-    ++ numbered (codes "\ngeneration ") header.generation
-    ++ codes "\n"
+    ++ behind_text found.behind

@@ -1,3 +1,5 @@
 pub mod Arguments
 pub mod Greeting
+pub mod Paces
+pub mod Rebased
 pub mod Status

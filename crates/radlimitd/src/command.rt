@@ -10,6 +10,8 @@ pub(crate) enum Command {
     Run,
     /// To print the moves of logs, which the words behind the first name.
     Lines,
+    /// To cut the books of the state folder of a file to the present.
+    Rebase,
     /// To say of the running server of a file since when it runs, and what its accounts hold.
     Status,
     /// To end the running server of a file.
@@ -53,6 +55,7 @@ impl Command {
             "run" => Some(Command::Run),
             "status" => Some(Command::Status),
             "stop" => Some(Command::Stop),
+            "rebase" => Some(Command::Rebase),
             _ => Command::of_files(word),
         }
     }

@@ -14,7 +14,7 @@ use thiserror::Error;
 #[derive(Debug, Drop, Error)]
 pub(crate) enum Fault {
     /// The arguments are wrong.
-    #[error("usage: radlimitd check FILE or radlimitd run FILE or radlimitd lines FILE.. or radlimitd status FILE or radlimitd stop FILE or radlimitd version or radlimitd help")]
+    #[error("usage: radlimitd check FILE or radlimitd run FILE or radlimitd lines FILE.. or radlimitd status FILE or radlimitd stop FILE or radlimitd rebase FILE or radlimitd version or radlimitd help")]
     Usage,
     /// The server's file is wrong, or the account file that it names.
     #[error("{0}")]

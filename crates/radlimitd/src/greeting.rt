@@ -1,13 +1,14 @@
 ghost use Rattle.std.specs.Prelude.{◌≡◌, ◌++◌, IfOk, OnOk, string_bytes};
-ghost use Rattle.radlimitd.specs.Greeting.{about, generation_text, greeting, numbered, torn_text};
+ghost use Rattle.radlimitd.specs.Greeting.{behind_text, generation_text, greeting, numbered, torn_text};
+ghost use Rattle.radlimitd.specs.Rebased.{rebased};
 
-use rld_spelling::Header;
-use rld_start::Found;
+use rld_start::{Found, Rebased};
 use std::alloc::{AllocError, Global};
 
 /// What is said of the folder that a server starts from: its era, the generation that it goes on from
 /// or that the era is new, the sessions that have a place, and the octets of a torn end, if there was
-/// one. It fails only where memory is refused.
+/// one; and on a line of its own by how much the system's clock is behind, if it is told. It fails only
+/// where memory is refused.
 pub(crate) fn greeting(alloc: Global, found: &Found) -> Result<String, AllocError>
     ensures { IfOk result (λ text. string_bytes text ≡ greeting found.now) }
 {
@@ -17,6 +18,7 @@ pub(crate) fn greeting(alloc: Global, found: &Found) -> Result<String, AllocErro
     write_number(&mut text, ": ", found.sessions)?;
     write_text(&mut text, " sessions")?;
     write_torn(&mut text, found.torn)?;
+    write_behind(&mut text, found.behind)?;
     Ok(text)
 }
 
@@ -43,6 +45,19 @@ fn write_torn(text: &mut String, torn: usize) -> Result<(), AllocError>
     write_text(text, " octets cut off")
 }
 
+/// Writes by how many seconds the system's clock is behind, if it is told.
+fn write_behind(text: &mut String, behind: Option<u64>) -> Result<(), AllocError>
+    ensures { OnOk result (string_bytes text.new ≡ string_bytes text.old ++ behind_text behind) }
+{
+    match behind {
+        None => Ok(()),
+        Some(secs) => {
+            write_number(text, "\nclock ", secs)?;
+            write_text(text, " s behind: no deadline passes until it is there")
+        }
+    }
+}
+
 /// Writes a text.
 fn write_text(text: &mut String, more: &str) -> Result<(), AllocError>
     ensures { OnOk result (string_bytes text.new ≡ string_bytes text.old ++ more.now) }
@@ -58,15 +73,17 @@ fn write_number(text: &mut String, before: &str, number: u64) -> Result<(), Allo
     write!(text, "{before}{number}")
 }
 
-/// The lines that begin the status of a server that started at this second since 1970: the second, its
-/// era, and the generation that it writes. It fails only where memory is refused.
-pub(crate) fn about(alloc: Global, start: u64, header: &Header) -> Result<String, AllocError>
-    ensures { IfOk result (λ text. string_bytes text ≡ about start header.now) }
+/// What is said of a rebase: the generation whose books were cut, how many moments were, and the era
+/// that begins with them. It fails only where memory is refused.
+pub(crate) fn rebased(alloc: Global, done: &Rebased) -> Result<String, AllocError>
+    ensures { IfOk result (λ text. string_bytes text ≡ rebased done.now) }
 {
     let mut text = String::new(alloc);
-    write_number(&mut text, "since ", start)?;
-    write_number(&mut text, "\nera ", header.era)?;
-    write_number(&mut text, "\ngeneration ", header.generation)?;
-    write_text(&mut text, "\n")?;
+    write_number(&mut text, "era ", done.from.era)?;
+    write_number(&mut text, ", generation ", done.from.number)?;
+    write_number(&mut text, ": ", done.moments)?;
+    write_text(&mut text, " moments cut; ")?;
+    write_number(&mut text, "era ", done.era)?;
+    write_text(&mut text, " begins\n")?;
     Ok(text)
 }

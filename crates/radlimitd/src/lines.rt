@@ -7,16 +7,17 @@ use rld_lines::{LinesFault, LogFile, write_lines};
 use rld_start as start;
 use rsl_text::{TextFault, read_file};
 use std::alloc::Global;
-use std::fs::Files;
+use std::fs::{self, Files};
 use std::io::Write;
-use std::path::Path;
+use std::path::{Path, PathBuf};
 
 /// Prints each move of these logs with its decision, a line each: those of the first file, then those
 /// of the next. Of each file that ends in a torn end it says so on standard error, with its length.
 ///
-/// Beside a log stands its era's file. A file that has another name than a log, or cannot be read, is
-/// a `BadFile`. One that is damaged is a `BadLog`: with the first place that is wrong. The lines of
-/// the files before it are printed, and of itself those of the batches before that place.
+/// Beside a log stands its era's file, or, of a log in the archive, in the folder above. A file that
+/// has another name than a log, or cannot be read, is a `BadFile`. One that is damaged is a `BadLog`:
+/// with the first place that is wrong. The lines of the files before it are printed, and of itself
+/// those of the batches before that place.
 pub(crate) fn lines<F: Files, W: Write, S: Write>(
     files: &F,
     alloc: Global,
@@ -40,8 +41,7 @@ fn lines_of<F: Files, W: Write, S: Write>(
 ) -> Result<(), Fault> {
     let generation = generation_of(alloc, name)?;
     let octets = octets_of(files, alloc, name)?;
-    let era = FileName::Era(generation.era).text(alloc)?;
-    let era = Path::new(name).with_file_name(alloc, era.as_str())?;
+    let era = era_beside(files, alloc, name, generation.era)?;
     let table = octets_of(files, alloc, era.as_str())?;
     let log = LogFile {
         name,
@@ -69,6 +69,22 @@ fn generation_of(alloc: Global, name: &str) -> Result<Generation, Fault> {
         }
     }
     bad_file(alloc, name, Wrong::NoLog)
+}
+
+/// The path of the era's file of a log: beside it, or in the folder above where that is there and the one
+/// beside it is not.
+fn era_beside<F: Files>(files: &F, alloc: Global, name: &str, era: u64) -> Result<PathBuf, Fault> {
+    let file = FileName::Era(era).text(alloc)?;
+    let beside = Path::new(name).with_file_name(alloc, file.as_str())?;
+    if fs::metadata(files, beside.as_str()).is_ok() {
+        return Ok(beside);
+    }
+    let file = format!(in alloc; "../{file}")?;
+    let above = Path::new(name).with_file_name(alloc, file.as_str())?;
+    match fs::metadata(files, above.as_str()) {
+        Ok(_) => Ok(above),
+        Err(_) => Ok(beside),
+    }
 }
 
 /// The octets of a file.

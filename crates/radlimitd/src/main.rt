@@ -1,6 +1,7 @@
 //! The program `radlimitd`: the server that an operator keeps. `radlimitd run FILE` is the server,
-//! `radlimitd check FILE` says what is wrong with its file, or with the account file that it names, and
-//! `radlimitd lines FILE..` prints the moves of logs of a state folder.
+//! `radlimitd check FILE` says what is wrong with its file, or with the account file that it names,
+//! `radlimitd lines FILE..` prints the moves of logs of a state folder, and `radlimitd rebase FILE` cuts
+//! its books to the present, where a clock that was ahead has led them past it.
 //!
 //! This crate has the edges of the process: its arguments, its files, what it prints and the exit
 //! status, which is that of the fault (`exit_code`).
@@ -15,6 +16,8 @@ mod fault;
 mod files;
 mod greeting;
 mod lines;
+mod pace;
+mod rebase;
 mod run;
 
 use ask::ask;
@@ -23,6 +26,7 @@ use command::Command;
 use exit::exit_code;
 use fault::Fault;
 use lines::lines;
+use rebase::rebase;
 use run::run;
 use std::alloc::Global;
 use std::env::{self, Env};
@@ -44,17 +48,23 @@ radlimitd run FILE      runs the server of this file, until it is killed
 radlimitd lines FILE..  prints the moves of logs of a state folder, each with its decision
 radlimitd status FILE   says since when the server of this file runs, and what its accounts hold
 radlimitd stop FILE     ends it
+radlimitd rebase FILE   cuts its state folder to the present, after a clock was ahead; only while it does not run
 radlimitd version       prints the version
 radlimitd help          prints this
 ";
 
 fn main(rt: HostRuntime) -> ExitCode {
-    let outcome = work(&rt, &mut rt.stdout(), &mut rt.stderr());
+    let outcome = work(&rt, &rt, &mut rt.stdout(), &mut rt.stderr());
     exit_code(&mut rt.stderr(), outcome)
 }
 
 /// Does what the arguments ask for, and writes what it gives.
-fn work<R, W: Write, S: Write>(rt: &R, stdout: &mut W, stderr: &mut S) -> Result<(), Fault>
+fn work<R, W: Write, S: Write>(
+    rt: &R,
+    files: &HostRuntime,
+    stdout: &mut W,
+    stderr: &mut S,
+) -> Result<(), Fault>
 where
     R: Env
         + Files<File = File>
@@ -78,7 +88,8 @@ where
     match (Command::of_words(words.as_slice()), words.as_slice()) {
         (Some(Command::Check), [_, file]) => check(rt, alloc, file.as_str(), stdout),
         (Some(Command::Lines), [_, names @ ..]) => lines(rt, alloc, names, stdout, stderr),
-        (Some(Command::Run), [_, file]) => run(rt, alloc, file.as_str()),
+        (Some(Command::Run), [_, file]) => run(rt, files, alloc, file.as_str()),
+        (Some(Command::Rebase), [_, file]) => rebase(rt, alloc, file.as_str(), stdout),
         (Some(Command::Status), [_, file]) => {
             ask(
                 rt,

@@ -1,10 +1,12 @@
 use crate::fault::Fault;
 use crate::files::{account_file, server_file};
-use crate::greeting::{about, greeting};
+use crate::greeting::greeting;
+use crate::pace::pace_of;
 use rld_config::Paths;
 use rld_folder::{Folder, FolderFault};
+use rld_pace::{Pacing, Ticks};
 use rld_serve::{Control, Plan, Sockets, serve};
-use rld_start::{StartFault, Started, start};
+use rld_start::{FolderGenerations, StartFault, Started, start};
 use std::alloc::Global;
 use std::fs::{File, Files};
 use std::net::{Net, TcpListener, TcpStream};
@@ -19,7 +21,10 @@ use std::time::Clock;
 /// that cannot be bound; a control that cannot be made; and last what is wrong with the files of the
 /// folder. So where an address, a port or a path cannot be had nothing has changed in the folder, but
 /// that it may be new, with an empty `lock` in it.
-pub(crate) fn run<R>(rt: &R, alloc: Global, name: &str) -> Result<(), Fault>
+///
+/// The files of a server that runs are asked of the system by `files`: a thread may be handed no other
+/// handle of files than the system's own.
+pub(crate) fn run<R>(rt: &R, files: &HostRuntime, alloc: Global, name: &str) -> Result<(), Fault>
 where
     R: Files<File = File>
         + Net<Listener = TcpListener, Stream = TcpStream>
@@ -43,23 +48,30 @@ where
         Ok(control) => control,
         Err(_) => return Err(Fault::Control(String::from_str(alloc, paths.control.as_str())?)),
     };
-    let started = start(rt, alloc, &accounts.config, state, now)?;
+    let ticks = Ticks::new();
+    let pacing = Pacing {
+        pace: pace_of(server.sync),
+        ticks: &ticks,
+    };
+    let started = start(rt, alloc, &accounts.config, state, now, pacing)?;
     let greeting = greeting(alloc, &started.found)?;
-    let about = about(alloc, now, &started.header)?;
     let Started {
-        folder: _locked,
+        folder,
         store,
         boot,
+        header,
         ..
     } = started;
+    let generations = FolderGenerations::new(files, folder, server.archive);
     let plan = Plan {
         config: &accounts.config,
         boot,
         start: now,
+        pacing,
+        header,
         greeting: greeting.as_str(),
-        about: about.as_str(),
     };
-    Ok(serve(rt, alloc, plan, &sockets, &control, store)?)
+    Ok(serve(rt, alloc, plan, &sockets, &control, &generations, store)?)
 }
 
 /// Makes sure that no other process has the state folder, before a socket is bound: the ports of a

@@ -1,0 +1,16 @@
+ghost use Rattle.std.specs.Prelude.{◌≡◌};
+ghost use Rattle.radlimitd.specs.Paces.{pace_of};
+
+use rld_config::SyncPolicy;
+use rld_pace::Pace;
+
+/// The pace of a server's logs, as its file says.
+pub(crate) fn pace_of(sync: SyncPolicy) -> Pace
+    ensures { result ≡ pace_of sync }
+{
+    match sync {
+        SyncPolicy::Always => Pace::Always,
+        SyncPolicy::Second => Pace::Second,
+        SyncPolicy::Never => Pace::Never,
+    }
+}

@@ -1,0 +1,32 @@
+use crate::fault::Fault;
+use crate::files::{account_file, server_file};
+use crate::greeting::rebased;
+use rld_config::Paths;
+use std::alloc::Global;
+use std::fs::{File, Files};
+use std::io::Write;
+use std::time::Clock;
+
+/// Begins a new era in the state folder of a server that does not run, with its books cut to the
+/// present, and writes what was done in one line.
+///
+/// The faults come in this order: the clock, the server's file, the account file; then those of the
+/// folder and its files, as of a start. `Start` with `NoHistory` where the folder has none.
+pub(crate) fn rebase<R, W: Write>(
+    rt: &R,
+    alloc: Global,
+    name: &str,
+    writer: &mut W,
+) -> Result<(), Fault>
+where
+    R: Files<File = File> + Alloc<A = Global> + Clone + Drop + Clock,
+{
+    let now = rt.since_1970()?.as_secs();
+    let server = server_file(rt, alloc, name)?;
+    let paths = Paths::of(alloc, name, &server)?;
+    let accounts = account_file(rt, alloc, paths.accounts.as_str())?;
+    let done = rld_start::rebase(rt, alloc, &accounts.config, paths.state.as_str(), now)?;
+    let text = rebased(alloc, &done)?;
+    writer.write_all(text.as_bytes())?;
+    Ok(writer.flush()?)
+}
