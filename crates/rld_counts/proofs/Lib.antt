@@ -1,0 +1,4 @@
+pub mod Tallies
+pub mod Counting
+pub mod Timing
+pub mod Noting

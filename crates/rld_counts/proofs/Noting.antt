@@ -1,0 +1,159 @@
+-- Laws of a cell.
+use Rattle.std.proofs.Common.{◌≡◌, ℕ, ◌+◌, ◌<◌, Bool, true, false, cond, eqb, List, [], ◌∷◌, ◌++◌, length, get_or, set, map, append-nil, ◌≤◌, Option, Some, None, sym, refl, ap, ◌∙◌, arith, inl, inr}
+use Rattle.std.specs.List.{filter, filter_map}
+use Rattle.std.proofs.lemmas.Bool.{cases_eq, cases_lt, eq-eqb, ne_eqb}
+use Rattle.std.proofs.lemmas.List.{get_or_append_left, get_or-set_same, get_or-set_other, length-set, length_push}
+use Rattle.std.proofs.Math.Seq.{get_or-append_seam}
+use Rattle.std.proofs.lemmas.List.Elements.{filter_map-append}
+use Rattle.std.specs.List.{cons_option}
+use Rattle.rld_counts.specs.Cell.{AreCounted, AreJoined, CellSeen, HasCounted, HasTimes, ends_of, is_of}
+use Rattle.rld_counts.specs.Histogram.{Times, times_of}
+use Rattle.rld_counts.specs.Counts.{counts_of}
+use Rattle.rld_counts.specs.declared.end.End.{End}
+use Rattle.rld_counts.specs.declared.ended.Ended.{Ended}
+
+filter_append : (test : Ended → Bool) (xs ys : List Ended) → filter test (xs ++ ys) ≡ filter test xs ++ filter test ys
+filter_append test [] ys = refl
+filter_append test (x ∷ xs) ys = elim (test x) as (λ (b : Bool). cond b (x ∷ filter test (xs ++ ys)) (filter test (xs ++ ys)) ≡ cond b (x ∷ filter test xs) (filter test xs) ++ filter test ys) [
+  | true ↦ ap (λ (l : List Ended). x ∷ l) (filter_append test xs ys)
+  | false ↦ filter_append test xs ys
+]
+
+pub ends_append : (xs ys : List Ended) → map (λ one. one.end) (xs ++ ys) ≡ map (λ one. one.end) xs ++ map (λ one. one.end) ys
+ends_append [] ys = refl
+ends_append (x ∷ xs) ys = ap (λ (l : List End). x.end ∷ l) (ends_append xs ys)
+
+-- how the datagrams of a client ended, of some and then others
+pub ends_of_append : (client : ℕ) (xs ys : List Ended) → ends_of client (xs ++ ys) ≡ ends_of client xs ++ ends_of client ys
+ends_of_append client xs ys =
+    ap (map (λ one. one.end)) (filter_append (λ one. is_of client one.client) xs ys)
+    ∙ ends_append (filter (λ one. is_of client one.client) xs) (filter (λ one. is_of client one.client) ys)
+
+more_ends : (client : ℕ) (all : List Ended) (ended : Ended) → is_of client ended.client ≡ true → ends_of client (all ++ ended ∷ []) ≡ ends_of client all ++ ended.end ∷ []
+more_ends client all ended is =
+    ends_of_append client all (ended ∷ [])
+    ∙ ap (λ (b : Bool). ends_of client all ++ map (λ one. one.end) (cond b (ended ∷ []) [])) is
+
+same_ends : (client : ℕ) (all : List Ended) (ended : Ended) → is_of client ended.client ≡ false → ends_of client (all ++ ended ∷ []) ≡ ends_of client all
+same_ends client all ended is =
+    ends_of_append client all (ended ∷ [])
+    ∙ ap (λ (b : Bool). ends_of client all ++ map (λ one. one.end) (cond b (ended ∷ []) [])) is
+    ∙ append-nil (ends_of client all)
+
+-- a datagram of no client
+pub none_counted : (all : List Ended) (ended : Ended) (clients : List (List ℕ)) → ended.client ≡ None → AreCounted all clients → AreCounted (all ++ ended ∷ []) clients
+none_counted all ended clients none counted client below =
+    counted client below ∙ ap counts_of (sym (same_ends client all ended (ap (is_of client) none)))
+
+-- one of a client that is not among them
+pub other_counted : (all : List Ended) (ended : Ended) (clients : List (List ℕ)) (one : ℕ) → ended.client ≡ Some one → length clients ≤ one → AreCounted all clients → AreCounted (all ++ ended ∷ []) clients
+other_counted all ended clients one is above counted client below =
+    let no : eqb one client ≡ false = ne_eqb one client (λ e. omega arith) in
+    counted client below ∙ ap counts_of (sym (same_ends client all ended (ap (is_of client) is ∙ no)))
+
+-- one of a client that is among them
+pub client_counted : (all : List Ended) (ended : Ended) (old new : List (List ℕ)) (one : ℕ) (counts : List ℕ) → ended.client ≡ Some one → one < length old
+    → ((ends : List End) → get_or old one [] ≡ counts_of ends → counts ≡ counts_of (ends ++ ended.end ∷ []))
+    → new ≡ set old one counts → AreCounted all old → AreCounted (all ++ ended ∷ []) new
+client_counted all ended old new one counts is in_old noted made counted client below =
+    let len : length new ≡ length old = ap length made ∙ length-set old one counts in
+    let in_clients : client < length old = omega arith in
+    elim (cases_eq one client) [
+      | inl same ↦
+          let now : get_or new client [] ≡ counts =
+          ap (λ (l : List (List ℕ)). get_or l client []) made ∙ ap (λ (j : ℕ). get_or (set old one counts) j []) (sym same) ∙ get_or-set_same old one counts [] in_old in
+          let was : get_or old one [] ≡ counts_of (ends_of client all) = ap (λ (j : ℕ). get_or old j []) same ∙ counted client in_clients in
+          now ∙ noted (ends_of client all) was ∙ ap counts_of (sym (more_ends client all ended (ap (is_of client) is ∙ eq-eqb one client same)))
+      | inr other ↦
+          let now : get_or new client [] ≡ get_or old client [] =
+          ap (λ (l : List (List ℕ)). get_or l client []) made ∙ get_or-set_other old one client counts [] (λ e. other (sym e)) in
+          now ∙ counted client in_clients ∙ ap counts_of (sym (same_ends client all ended (ap (is_of client) is ∙ ne_eqb one client other)))
+    ]
+
+-- ---- times
+
+times_append : (xs ys : List Ended) → filter_map (λ one. one.micros) (xs ++ ys) ≡ filter_map (λ one. one.micros) xs ++ filter_map (λ one. one.micros) ys
+times_append xs ys = filter_map-append (λ (one : Ended). one.micros) xs ys
+
+-- a datagram that was answered, and one that was not
+pub time_counted : (all : List Ended) (ended : Ended) (old new : Times) (micros : ℕ) → ended.micros ≡ Some micros
+    → ((times : List ℕ) → old ≡ times_of times → new ≡ times_of (times ++ micros ∷ []))
+    → HasTimes all old → HasTimes (all ++ ended ∷ []) new
+time_counted all ended old new micros is noted was =
+    noted (filter_map (λ one. one.micros) all) was
+    ∙ ap (λ (o : Option ℕ). times_of (filter_map (λ one. one.micros) all ++ cons_option o [])) (sym is)
+    ∙ ap times_of (sym (times_append all (ended ∷ [])))
+
+pub none_timed : (all : List Ended) (ended : Ended) (times : Times) → ended.micros ≡ None → HasTimes all times → HasTimes (all ++ ended ∷ []) times
+none_timed all ended times none was =
+    was
+    ∙ ap times_of (sym (append-nil (filter_map (λ one. one.micros) all)))
+    ∙ ap (λ (o : Option ℕ). times_of (filter_map (λ one. one.micros) all ++ cons_option o [])) (sym none)
+    ∙ ap times_of (sym (times_append all (ended ∷ [])))
+
+-- ---- whole cells
+
+pub cell_noted : (all : List Ended) (ended : Ended) (old new : CellSeen)
+    → ((ends : List End) → old.counts ≡ counts_of ends → new.counts ≡ counts_of (ends ++ ended.end ∷ []))
+    → (AreCounted all old.clients → AreCounted (all ++ ended ∷ []) new.clients)
+    → (HasTimes all old.times → HasTimes (all ++ ended ∷ []) new.times)
+    → HasCounted all old → HasCounted (all ++ ended ∷ []) new
+cell_noted all ended old new counts clients times was = record {
+  counts = counts (map (λ one. one.end) all) was.counts ∙ ap counts_of (sym (ends_append all (ended ∷ [])));
+  clients = clients was.clients;
+  times = times was.times;
+}
+
+pub cell_joined : (all others : List Ended) (old other new : CellSeen)
+    → AreJoined old.counts other.counts new.counts
+    → length new.clients ≡ length old.clients → length other.clients ≡ length old.clients
+    → ((client : ℕ) → client < length new.clients → AreJoined (get_or old.clients client []) (get_or other.clients client []) (get_or new.clients client []))
+    → ((times more : List ℕ) → old.times ≡ times_of times → other.times ≡ times_of more → new.times ≡ times_of (times ++ more))
+    → HasCounted all old → HasCounted others other → HasCounted (all ++ others) new
+cell_joined all others old other new counts len same clients times was added = record {
+  counts = counts (map (λ one. one.end) all) (map (λ one. one.end) others) was.counts added.counts ∙ ap counts_of (sym (ends_append all others));
+  clients = λ client below.
+      clients client below (ends_of client all) (ends_of client others) (was.clients client (omega arith)) (added.clients client (omega arith))
+      ∙ ap counts_of (sym (ends_of_append client all others));
+  times =
+      times (filter_map (λ one. one.micros) all) (filter_map (λ one. one.micros) others) was.times added.times
+      ∙ ap times_of (sym (times_append all others));
+}
+
+-- ---- clients of which no datagram came
+
+pub new_counted : (clients new : List (List ℕ)) (counts : List ℕ) → counts ≡ counts_of [] → new ≡ clients ++ counts ∷ [] → AreCounted [] clients → AreCounted [] new
+new_counted clients new counts none made counted client below =
+    let long : length new ≡ length clients + 1 = ap length made ∙ length_push clients counts in
+    elim (cases_lt client (length clients)) [
+      | inl less ↦ ap (λ (l : List (List ℕ)). get_or l client []) made ∙ get_or_append_left clients (counts ∷ []) [] client less ∙ counted client less
+      | inr last ↦
+          let here : client ≡ length clients = omega arith in
+          ap (λ (l : List (List ℕ)). get_or l client []) made
+          ∙ ap (λ (n : ℕ). get_or (clients ++ counts ∷ []) n []) here
+          ∙ get_or-append_seam clients counts [] []
+          ∙ none
+    ]
+
+-- ---- one client more is added to
+
+pub joined_more : (first others now : List (List ℕ)) (client : ℕ) (counts : List ℕ) → client < length now
+    → AreJoined (get_or now client []) (get_or others client []) counts
+    → get_or now client [] ≡ get_or first client []
+    → ((k : ℕ) → k < client → AreJoined (get_or first k []) (get_or others k []) (get_or now k []))
+    → (k : ℕ) → k < client + 1 → AreJoined (get_or first k []) (get_or others k []) (get_or (set now client counts) k [])
+joined_more first others now client counts in_now added same before k below =
+    elim (cases_eq k client) [
+      | inl here ↦ λ ends more was and.
+          ap (λ (j : ℕ). get_or (set now client counts) j []) here
+          ∙ get_or-set_same now client counts [] in_now
+          ∙ added ends more (same ∙ ap (λ (j : ℕ). get_or first j []) (sym here) ∙ was) (ap (λ (j : ℕ). get_or others j []) (sym here) ∙ and)
+      | inr other ↦ λ ends more was and.
+          get_or-set_other now client k counts [] other ∙ before k (omega arith) ends more was and
+    ]
+
+pub rest_same : (first now : List (List ℕ)) (client : ℕ) (counts : List ℕ)
+    → ((k : ℕ) → client ≤ k → get_or now k [] ≡ get_or first k [])
+    → (k : ℕ) → client + 1 ≤ k → get_or (set now client counts) k [] ≡ get_or first k []
+rest_same first now client counts rest k above =
+    get_or-set_other now client k counts [] (λ e. omega arith) ∙ rest k (omega arith)

@@ -1,0 +1,14 @@
+-- How many datagrams ended how.
+use Rattle.std.specs.Prelude.{ℕ, List, map, slice_index}
+use Rattle.rld_counts.specs.Ends.{number_of}
+use Rattle.rld_counts.specs.Tally.{tally_of}
+use Rattle.rld_counts.specs.declared.end.End.{End}
+use Rattle.rld_counts.specs.declared.end.TheConstants.{ENDS}
+
+-- the counts of datagrams that ended so, by the numbers of their ends
+abbrev pub counts_of : List End → List ℕ
+counts_of ends = tally_of ENDS (map number_of ends)
+
+-- the count of an end
+abbrev pub count_in : (counts : List ℕ) → End → ℕ
+count_in counts end = slice_index counts (number_of end)

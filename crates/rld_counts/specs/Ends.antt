@@ -1,0 +1,108 @@
+-- How a datagram can end at each port: the number of each end, in the order of the enums, and its name.
+use Rattle.std.specs.Prelude.{ℕ, ◌+◌, List, [], ◌∷◌, codes}
+use Rattle.rld_counts.specs.declared.acct_end.AcctEnd.{AcctEnd}
+use Rattle.rld_counts.specs.declared.acct_end.AcctEnd.TheVariants as acct
+use Rattle.rld_counts.specs.declared.auth_end.AuthEnd.{AuthEnd}
+use Rattle.rld_counts.specs.declared.auth_end.AuthEnd.TheVariants as auth
+use Rattle.rld_counts.specs.declared.end.End.{End}
+use Rattle.rld_counts.specs.declared.end.End.TheVariants.{Auth, Acct}
+
+abbrev pub auth_number : AuthEnd → ℕ
+auth_number auth.Short = 0
+auth_number auth.BadLength = 1
+auth_number auth.UnknownClient = 2
+auth_number auth.WrongCode = 3
+auth_number auth.BadSignature = 4
+auth_number auth.Unsigned = 5
+auth_number auth.ProxyTooLong = 6
+auth_number auth.Refused = 7
+auth_number auth.Unrecorded = 8
+auth_number auth.Unsent = 9
+auth_number auth.Accept = 10
+auth_number auth.LimitReject = 11
+auth_number auth.Malformed = 12
+auth_number auth.NotOneName = 13
+auth_number auth.NotOnePassword = 14
+auth_number auth.SeveralChallenges = 15
+auth_number auth.UnknownAccount = 16
+auth_number auth.WrongPassword = 17
+
+abbrev pub acct_number : AcctEnd → ℕ
+acct_number acct.Short = 0
+acct_number acct.BadLength = 1
+acct_number acct.UnknownClient = 2
+acct_number acct.WrongCode = 3
+acct_number acct.BadAuthenticator = 4
+acct_number acct.Malformed = 5
+acct_number acct.ProxyTooLong = 6
+acct_number acct.NoStatus = 7
+acct_number acct.NoSession = 8
+acct_number acct.Refused = 9
+acct_number acct.Unrecorded = 10
+acct_number acct.Unsent = 11
+acct_number acct.Start = 12
+acct_number acct.Stop = 13
+acct_number acct.InterimUpdate = 14
+acct_number acct.AccountingOn = 15
+acct_number acct.AccountingOff = 16
+acct_number acct.OtherStatus = 17
+
+-- the ends of the accounting port follow those of the authentication port
+abbrev pub number_of : End → ℕ
+number_of (Auth end) = auth_number end
+number_of (Acct end) = 18 + acct_number end
+
+-- all ends of a port, by their numbers
+unfoldable pub auth_ends : List AuthEnd
+auth_ends =
+    auth.Short ∷ auth.BadLength ∷ auth.UnknownClient ∷ auth.WrongCode ∷ auth.BadSignature ∷ auth.Unsigned
+    ∷ auth.ProxyTooLong ∷ auth.Refused ∷ auth.Unrecorded ∷ auth.Unsent ∷ auth.Accept ∷ auth.LimitReject
+    ∷ auth.Malformed ∷ auth.NotOneName ∷ auth.NotOnePassword ∷ auth.SeveralChallenges ∷ auth.UnknownAccount ∷ auth.WrongPassword ∷ []
+
+unfoldable pub acct_ends : List AcctEnd
+acct_ends =
+    acct.Short ∷ acct.BadLength ∷ acct.UnknownClient ∷ acct.WrongCode ∷ acct.BadAuthenticator
+    ∷ acct.Malformed ∷ acct.ProxyTooLong ∷ acct.NoStatus ∷ acct.NoSession ∷ acct.Refused ∷ acct.Unrecorded
+    ∷ acct.Unsent ∷ acct.Start ∷ acct.Stop ∷ acct.InterimUpdate ∷ acct.AccountingOn ∷ acct.AccountingOff
+    ∷ acct.OtherStatus ∷ []
+
+-- the word for an end: all drops begin with `drop_`, and all rejects with `reject_`
+abbrev pub auth_name : AuthEnd → List ℕ
+auth_name auth.Short = codes "drop_short"
+auth_name auth.BadLength = codes "drop_bad_length"
+auth_name auth.UnknownClient = codes "drop_unknown_client"
+auth_name auth.WrongCode = codes "drop_wrong_code"
+auth_name auth.BadSignature = codes "drop_bad_signature"
+auth_name auth.Unsigned = codes "drop_unsigned"
+auth_name auth.ProxyTooLong = codes "drop_proxy_too_long"
+auth_name auth.Refused = codes "refused"
+auth_name auth.Unrecorded = codes "unrecorded"
+auth_name auth.Unsent = codes "unsent"
+auth_name auth.Accept = codes "accept"
+auth_name auth.LimitReject = codes "reject_limit"
+auth_name auth.Malformed = codes "reject_malformed"
+auth_name auth.NotOneName = codes "reject_not_one_name"
+auth_name auth.NotOnePassword = codes "reject_not_one_password"
+auth_name auth.SeveralChallenges = codes "reject_several_challenges"
+auth_name auth.UnknownAccount = codes "reject_unknown_account"
+auth_name auth.WrongPassword = codes "reject_wrong_password"
+
+abbrev pub acct_name : AcctEnd → List ℕ
+acct_name acct.Short = codes "drop_short"
+acct_name acct.BadLength = codes "drop_bad_length"
+acct_name acct.UnknownClient = codes "drop_unknown_client"
+acct_name acct.WrongCode = codes "drop_wrong_code"
+acct_name acct.BadAuthenticator = codes "drop_bad_authenticator"
+acct_name acct.Malformed = codes "drop_malformed"
+acct_name acct.ProxyTooLong = codes "drop_proxy_too_long"
+acct_name acct.NoStatus = codes "drop_no_status"
+acct_name acct.NoSession = codes "drop_no_session"
+acct_name acct.Refused = codes "refused"
+acct_name acct.Unrecorded = codes "unrecorded"
+acct_name acct.Unsent = codes "unsent"
+acct_name acct.Start = codes "start"
+acct_name acct.Stop = codes "stop"
+acct_name acct.InterimUpdate = codes "interim_update"
+acct_name acct.AccountingOn = codes "accounting_on"
+acct_name acct.AccountingOff = codes "accounting_off"
+acct_name acct.OtherStatus = codes "other_status"

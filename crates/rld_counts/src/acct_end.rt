@@ -1,0 +1,127 @@
+ghost use Rattle.std.specs.Prelude.{◌≡◌, ◌<◌, Some, slice_get};
+ghost use Rattle.rld_counts.specs.Ends.{acct_ends, acct_name, acct_number};
+ghost use Rattle.rld_counts.specs.declared.acct_end.AcctEnd.{AcctEnd as OneEnd};
+
+/// How a datagram that came to the accounting port ended.
+#[derive(Clone, Copy, Debug, PartialEq, Eq)]
+pub enum AcctEnd {
+    /// It was dropped: it has fewer than 20 octets.
+    Short,
+    /// It was dropped: its Length is under 20, over 4,096 or over the datagram.
+    BadLength,
+    /// It was dropped: no client has the source's address.
+    UnknownClient,
+    /// It was dropped: it is no Accounting-Request.
+    WrongCode,
+    /// It was dropped: its Request Authenticator is wrong.
+    BadAuthenticator,
+    /// It was dropped: its attributes are malformed.
+    Malformed,
+    /// It was dropped: its Proxy-State attributes have over 3,900 octets.
+    ProxyTooLong,
+    /// It was dropped: it has no Acct-Status-Type, or the first does not have 4 octets.
+    NoStatus,
+    /// It was dropped: it is of a session, and has no Acct-Session-Id, or the first is empty.
+    NoSession,
+    /// Memory for it was refused.
+    Refused,
+    /// Its batch was not recorded.
+    Unrecorded,
+    /// Its answer could not be sent.
+    Unsent,
+    /// An Accounting-Response was sent, to a Start.
+    Start,
+    /// An Accounting-Response was sent, to a Stop.
+    Stop,
+    /// An Accounting-Response was sent, to an Interim-Update.
+    InterimUpdate,
+    /// An Accounting-Response was sent, to an Accounting-On.
+    AccountingOn,
+    /// An Accounting-Response was sent, to an Accounting-Off.
+    AccountingOff,
+    /// An Accounting-Response was sent, to a request of any other status.
+    OtherStatus,
+}
+
+impl AcctEnd {
+    /// Its number, in the order above.
+    pub(crate) fn number(self) -> usize
+        ensures number { result ≡ acct_number self }
+        ensures below { result < 18 }
+    {
+        match self {
+            AcctEnd::Short => 0,
+            AcctEnd::BadLength => 1,
+            AcctEnd::UnknownClient => 2,
+            AcctEnd::WrongCode => 3,
+            AcctEnd::BadAuthenticator => 4,
+            AcctEnd::Malformed => 5,
+            AcctEnd::ProxyTooLong => 6,
+            AcctEnd::NoStatus => 7,
+            AcctEnd::NoSession => 8,
+            AcctEnd::Refused => 9,
+            AcctEnd::Unrecorded => 10,
+            AcctEnd::Unsent => 11,
+            AcctEnd::Start => 12,
+            AcctEnd::Stop => 13,
+            AcctEnd::InterimUpdate => 14,
+            AcctEnd::AccountingOn => 15,
+            AcctEnd::AccountingOff => 16,
+            AcctEnd::OtherStatus => 17,
+        }
+    }
+
+    /// All ends of the port, by their numbers.
+    #[tactic(auto, unfolding(crate::specs::Ends::acct_ends))]
+    pub fn all() -> [AcctEnd; 18]
+        ensures all { result ≡ acct_ends }
+        ensures each { (end : OneEnd) → slice_get result (acct_number end) ≡ Some end }
+    {
+        [
+            AcctEnd::Short,
+            AcctEnd::BadLength,
+            AcctEnd::UnknownClient,
+            AcctEnd::WrongCode,
+            AcctEnd::BadAuthenticator,
+            AcctEnd::Malformed,
+            AcctEnd::ProxyTooLong,
+            AcctEnd::NoStatus,
+            AcctEnd::NoSession,
+            AcctEnd::Refused,
+            AcctEnd::Unrecorded,
+            AcctEnd::Unsent,
+            AcctEnd::Start,
+            AcctEnd::Stop,
+            AcctEnd::InterimUpdate,
+            AcctEnd::AccountingOn,
+            AcctEnd::AccountingOff,
+            AcctEnd::OtherStatus,
+        ]
+    }
+
+    /// The word for it. All drops begin with `drop_`, and all rejects with `reject_`.
+    pub fn name(self) -> &'static str
+        ensures { result.now ≡ acct_name self }
+    {
+        match self {
+            AcctEnd::Short => "drop_short",
+            AcctEnd::BadLength => "drop_bad_length",
+            AcctEnd::UnknownClient => "drop_unknown_client",
+            AcctEnd::WrongCode => "drop_wrong_code",
+            AcctEnd::BadAuthenticator => "drop_bad_authenticator",
+            AcctEnd::Malformed => "drop_malformed",
+            AcctEnd::ProxyTooLong => "drop_proxy_too_long",
+            AcctEnd::NoStatus => "drop_no_status",
+            AcctEnd::NoSession => "drop_no_session",
+            AcctEnd::Refused => "refused",
+            AcctEnd::Unrecorded => "unrecorded",
+            AcctEnd::Unsent => "unsent",
+            AcctEnd::Start => "start",
+            AcctEnd::Stop => "stop",
+            AcctEnd::InterimUpdate => "interim_update",
+            AcctEnd::AccountingOn => "accounting_on",
+            AcctEnd::AccountingOff => "accounting_off",
+            AcctEnd::OtherStatus => "other_status",
+        }
+    }
+}

@@ -1,0 +1,25 @@
+//! How the datagrams of each port ended, and how long answers took: counts that a receiver keeps, and
+//! that can be added up.
+//!
+//! The promise: for whatever datagrams were noted, a count is how many of them ended so, the counts of a
+//! cell add up to all that were noted, and two cells added are the cell of the datagrams of both
+//! (`specs/Tally.antt`, `specs/Counts.antt`, `specs/Histogram.antt`, `specs/Cell.antt`). A number stops
+//! at 2^64 - 1.
+#![tactic(auto)]
+
+mod acct_end;
+mod auth_end;
+mod cell;
+mod counts;
+mod end;
+mod ended;
+mod histogram;
+mod tally;
+
+pub use acct_end::AcctEnd;
+pub use auth_end::AuthEnd;
+pub use cell::Cell;
+pub use counts::Counts;
+pub use end::{ENDS, End};
+pub use ended::Ended;
+pub use histogram::{BUCKETS, Histogram, bound_of};
