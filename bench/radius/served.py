@@ -31,9 +31,12 @@ REQUEST = bytes.fromhex(
 SECRET, PASSWORD = b"xyzzy5461", b"arctangent"
 COUNTS = re.compile(r"^(auth|acct) received (\d+) answered (\d+) dropped (\d+) refused (\d+) unsent (\d+)$", re.M)
 
+POLICIES = ("always", "second", "never")  # of the key `sync` of a server's file
+
 DAEMON_FILE = """accounts = "accounts.toml"
 state = "state"
 listen = [{{ address = "{}", auth = {}, acct = {}, receivers = {} }}]
+sync = "{}"
 """
 
 HEAD = """version = 1
@@ -191,11 +194,11 @@ class Server:
         return resident(self.process)
 
 
-def daemon_file(folder, ports, receivers):
+def daemon_file(folder, ports, receivers, sync="always"):
     """Writes the file of a `radlimitd` whose account file is accounts.toml of the folder, and gives its name."""
     path = os.path.join(folder, "radlimitd.toml")
     with open(path, "w", encoding="ascii") as file:
-        file.write(DAEMON_FILE.format(HOST, *ports, receivers))
+        file.write(DAEMON_FILE.format(HOST, *ports, receivers, sync))
     return path
 
 
