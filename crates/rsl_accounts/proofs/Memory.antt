@@ -6,9 +6,10 @@ use Rattle.rsl_accounts.specs.declared.entry.Entry.{Entry}
 use Rattle.rsl_accounts.specs.declared.fault.ConfigFault.{ConfigFault}
 use Rattle.rsl_accounts.specs.declared.fault.ConfigFault.TheVariants.{NoMemory}
 use Rattle.rsl_accounts.specs.declared.field.Field.{Field}
+use Rattle.rsl_accounts.specs.declared.field.Field.TheVariants.{InterimSecs}
 use Rattle.rsl_accounts.specs.declared.settings.Settings.{Settings}
 use Rattle.rsl_accounts.specs.Version.{knows_own_times}
-use Rattle.rsl_accounts.specs.Walk.{fault_unless, number_fault, text_fault, count_fault, option_fault, walk_over, settings_checks, count_checks, client_checks, common_checks, own_times_checks, own_checks, account_checks, first_fault}
+use Rattle.rsl_accounts.specs.Walk.{fault_unless, number_fault, text_fault, count_fault, option_fault, interim_fault, walk_over, settings_checks, count_checks, client_checks, common_checks, own_times_checks, own_checks, account_checks, first_fault}
 
 abbrev Not : Option ConfigFault → Type 0
 Not x = x ≡ Some NoMemory → ⊥
@@ -36,6 +37,13 @@ option : (f : Field) (n : Option ℕ) → Not (option_fault f n)
 option f None is = cc
 option f (Some n) is = number f n is
 
+interim : (version : ℕ) (n : Option ℕ) → Not (interim_fault version n)
+interim version n = by (knows_own_times version) refl
+  where
+    by : (known : Bool) → knows_own_times version ≡ known → Not (interim_fault version n)
+    by true known = rw known (option InterimSecs n)
+    by false known = rw known (λ is. cc)
+
 never-all : (xs : List (Option ConfigFault)) → AllByRecursion Not xs → Never xs
 never-all [] each is = cc
 never-all (None ∷ xs) each is = never-all xs each.1 is
@@ -52,7 +60,7 @@ never-flat_map f one (x ∷ xs) is = never-append (f x) (flat_map f xs) (one x) 
 
 of_settings : (settings : Settings) → Never (settings_checks settings)
 unfolding settings_checks
-of_settings settings = never-all (settings_checks settings) (number _ _, (number _ _, (number _ _, (number _ _, (number _ _, (number _ _, (number _ _, tt)))))))
+of_settings settings = never-all (settings_checks settings) (number _ _, (number _ _, (number _ _, (number _ _, (number _ _, (number _ _, (number _ _, (interim _ _, tt))))))))
 
 of_counts : (clients accounts : ℕ) → Never (count_checks clients accounts)
 unfolding count_checks
@@ -71,7 +79,7 @@ unfolding own_checks own_times_checks
 of_own version entry = by (knows_own_times version) refl
   where
     by : (known : Bool) → knows_own_times version ≡ known → Never (own_checks version entry)
-    by true known = rw known (never-all (own_times_checks entry) (option _ _, (option _ _, tt)))
+    by true known = rw known (never-all (own_times_checks entry) (option _ _, (option _ _, (option _ _, tt))))
     by false known = rw known (never-all [] tt)
 
 of_account : (version : ℕ) (entry : Entry) → Never (account_checks version entry)

@@ -8,6 +8,7 @@ use Rattle.toml.specs.Data.{Data, string, integer, float, boolean, datetime, arr
 use Rattle.toml.specs.View.{view, items_view}
 use Rattle.toml.specs.declared.value.Value.{Value}
 use Rattle.rsl_accounts.specs.declared.field.Field.{Field}
+use Rattle.rsl_accounts.specs.declared.field.Field.TheVariants.{InterimSecs}
 use Rattle.rsl_accounts.specs.Field.{is_between, takes_number, takes_count}
 use Rattle.rsl_accounts.specs.File.{list_of, tables_of, tables_of_list}
 use Rattle.rsl_accounts.specs.Walk.{number_fault}
@@ -53,6 +54,12 @@ module _ (f : Field) (values : List Value) where
 
   pub wrong_count : true ≡ are_all → false ≡ takes_count f (length values) → None ≡ tables_of_list f (map view values)
   wrong_count all counted = sym (looked_at ∙ rw (← all, ← counted))
+
+-- seconds between interim updates have 32 bits
+pub interval_has_32_bits : (n : ℕ) → number_fault InterimSecs n ≡ None → n < 2 ^ 32
+interval_has_32_bits n none =
+    let most : n ≤ 86400 = (between 60 86400 n (right_number InterimSecs n none)).1 in
+    omega arith
 
 -- a number that the field may have has 32 bits
 pub has_32_bits : (f : Field) → ((n : ℕ) → takes_number f n ≡ is_between 1 4294967295 n) → (n : ℕ) → number_fault f n ≡ None → n < 2 ^ 32

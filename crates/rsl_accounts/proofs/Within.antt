@@ -5,6 +5,7 @@ use Rattle.std.proofs.lemmas.List.{length-map}
 use Rattle.std.proofs.lemmas.List.Elements.{All-nil, All-cons, All-map}
 use Rattle.std.proofs.lemmas.List.Sums.{AllPass-from_list_all}
 use Rattle.std.specs.List.{flat_map, AllByRecursion}
+use Rattle.std.specs.Option.{option_or}
 use Rattle.rsl_accounts.specs.declared.client.Client.{Client}
 use Rattle.rsl_accounts.specs.declared.entry.Entry.{Entry}
 use Rattle.rsl_accounts.specs.declared.fault.ConfigFault.{ConfigFault}
@@ -13,10 +14,10 @@ use Rattle.rsl_accounts.specs.declared.field.Field.TheVariants as field
 use Rattle.rsl_accounts.specs.declared.settings.Settings.{Settings}
 use Rattle.rsl_accounts.specs.Configuration.{with_times, comes_twice, addresses, names}
 use Rattle.rsl_accounts.specs.Field.{is_between, is_secret, is_name, has_no_nul, is_visible, takes_number, takes_count, takes_text}
-use Rattle.rsl_accounts.specs.Limits.{IsTime, SettingsFit, IsSecret, IsName, IsAccount, IsConfiguration}
-use Rattle.rsl_accounts.specs.Settings.{own_time}
+use Rattle.rsl_accounts.specs.Limits.{IsTime, IsInterval, SettingsFit, IsSecret, IsName, IsAccount, IsConfiguration}
+use Rattle.rsl_accounts.specs.Settings.{own_time, interim_of}
 use Rattle.rsl_accounts.specs.Version.{knows_own_times}
-use Rattle.rsl_accounts.specs.Walk.{walk_over, settings_checks, count_checks, client_checks, common_checks, own_times_checks, own_checks, account_checks, first_fault, fault_unless, number_fault, text_fault, count_fault, option_fault}
+use Rattle.rsl_accounts.specs.Walk.{walk_over, settings_checks, count_checks, client_checks, common_checks, own_times_checks, own_checks, account_checks, first_fault, fault_unless, interim_fault, number_fault, text_fault, count_fault, option_fault}
 use Rattle.rsl_accounts.proofs.Made.{made}
 
 -- checks without a fault have all passed
@@ -63,6 +64,12 @@ time seconds right =
     let (low, high) = between 1 86400 seconds right in
     record { some = low; within_a_day = high }
 
+interval : (asked : Option ℕ) → option_fault field.InterimSecs asked ≡ None → IfSome asked IsInterval
+interval None none = tt
+interval (Some seconds) none =
+    let (low, high) = between 60 86400 seconds (right_number field.InterimSecs seconds none) in
+    record { a_minute = low; within_a_day = high }
+
 -- what the head of a file has that passes
 record HeadFits (settings : Settings) (client_count account_count : ℕ) : Type 0 where
   version : (1 ≤ settings.version) × (settings.version ≤ 2)
@@ -72,6 +79,7 @@ record HeadFits (settings : Settings) (client_count account_count : ℕ) : Type 
   grace : IsTime settings.grace
   closed : IsTime settings.closed
   keep : IsTime settings.keep
+  interim : knows_own_times settings.version ≡ true → IfSome settings.interim IsInterval
   clients : (1 ≤ client_count) × (client_count ≤ 256)
   accounts : (1 ≤ account_count) × (account_count ≤ 16384)
 
@@ -88,6 +96,7 @@ head_fits settings clients accounts none counts =
       grace = time settings.grace (right_number field.GraceSecs settings.grace p.1.1.1.1.0);
       closed = time settings.closed (right_number field.ClosedSecs settings.closed p.1.1.1.1.1.0);
       keep = time settings.keep (right_number field.KeepSecs settings.keep p.1.1.1.1.1.1.0);
+      interim = λ known. interval settings.interim (rw known at p.1.1.1.1.1.1.1.0);
       clients = between 1 256 clients (right_count field.Client clients q.0);
       accounts = between 1 16384 accounts (right_count field.Account accounts q.1.0);
     }
@@ -133,6 +142,11 @@ own_fits : (f : Field) → ((n : ℕ) → takes_number f n ≡ is_between 1 8640
 own_fits f takes None common fits none = fits
 own_fits f takes (Some n) common fits none = time n (sym (takes n) ∙ right_number f n none)
 
+-- the account's own interval, or else the file's
+either_interval : (own common : Option ℕ) → IfSome own IsInterval → IfSome common IsInterval → IfSome (option_or own common) IsInterval
+either_interval None common own_fits_ common_fits = common_fits
+either_interval (Some n) common own_fits_ common_fits = own_fits_
+
 module _ (settings : Settings) (fits : SettingsFit settings) (entry : Entry) (none : first_fault (account_checks settings.version entry) ≡ None) where
   both : (first_fault (common_checks entry) ≡ None) × (first_fault (own_checks settings.version entry) ≡ None)
   unfolding account_checks
@@ -150,6 +164,18 @@ module _ (settings : Settings) (fits : SettingsFit settings) (entry : Entry) (no
           let p = passed (own_times_checks entry) own in
           rw known (own_fits field.OwnLive (λ n. refl) entry.own_live settings.live fits.live p.0, own_fits field.OwnGrace (λ n. refl) entry.own_grace settings.grace fits.grace p.1.0)
       by false known = rw known (fits.live, fits.grace)
+
+  interim_fits : IfSome (interim_of settings entry) IsInterval
+  unfolding own_checks own_times_checks
+  interim_fits = by (knows_own_times settings.version) refl
+    where
+      by : (known : Bool) → knows_own_times settings.version ≡ known → IfSome (interim_of settings entry) IsInterval
+      by true known =
+          let both_ = both in
+          let own : first_fault (own_times_checks entry) ≡ None = rw known at both_.1 in
+          let p = passed (own_times_checks entry) own in
+          rw known (either_interval entry.interim settings.interim (interval entry.interim p.1.1.0) (fits.interim known))
+      by false known = rw known tt
 
   entry_fits : IsAccount settings (with_times settings entry)
   unfolding common_checks
@@ -176,6 +202,7 @@ module _ (settings : Settings) (fits : SettingsFit settings) (entry : Entry) (no
         framed_protocol = optional field.FramedProtocol (λ n. refl) entry.framed_protocol p.1.1.1.1.1.0;
         session_timeout = optional field.SessionTimeout (λ n. refl) entry.session_timeout p.1.1.1.1.1.1.0;
         idle_timeout = optional field.IdleTimeout (λ n. refl) entry.idle_timeout p.1.1.1.1.1.1.1.0;
+        interim = interim_fits;
       }
 
 -- the times leave the names
@@ -205,6 +232,7 @@ made_fits settings clients accounts none differ differ_too short =
       closed = fits.closed;
       keep = fits.keep;
       keep_within_reserve = short;
+      interim = fits.interim;
     } in
     let each_client = passed-flat_map client_checks clients clients_pass in
     let each_entry = passed-flat_map (account_checks settings.version) accounts accounts_pass in

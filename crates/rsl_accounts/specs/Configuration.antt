@@ -1,14 +1,15 @@
 -- The configuration of some settings, clients and accounts: the checks that they have to pass, and
 -- what is looked up in it.
-use Rattle.std.specs.Prelude.{◌≡◌, ℕ, Bool, false, ◌||◌, if◌then◌else◌, nat_lt, nat_eq, List, [], ◌∷◌, ◌++◌, map, position, Option, None, Some, Result, Ok, Err}
+use Rattle.std.specs.Prelude.{◌≡◌, ℕ, Bool, false, ◌||◌, if◌then◌else◌, nat_lt, nat_eq, List, [], ◌∷◌, ◌++◌, ◌*◌, map, position, Option, None, Some, Result, Ok, Err}
 use Rattle.std.specs.Cmp.Lexicographic.{pointwise}
 use Rattle.std.specs.List.{list_any}
+use Rattle.std.specs.Option.{option_map_or}
 use Rattle.rsl_accounts.specs.declared.client.Client.{Client}
 use Rattle.rsl_accounts.specs.declared.entry.Entry.{Entry}
 use Rattle.rsl_accounts.specs.declared.fault.ConfigFault.{ConfigFault}
 use Rattle.rsl_accounts.specs.declared.fault.ConfigFault.TheVariants.{TwiceClient, TwiceAccount, KeepTooLong}
 use Rattle.rsl_accounts.specs.declared.settings.Settings.{Settings}
-use Rattle.rsl_accounts.specs.Settings.{rules_of}
+use Rattle.rsl_accounts.specs.Settings.{rules_of, interim_of}
 use Rattle.rsl_accounts.specs.Walk.{walk_over, first_fault}
 
 -- clients and accounts stand in the order of the file, in which they are numbered from 0
@@ -49,9 +50,10 @@ PassesBeforeNames settings clients accounts =
     (first_fault (walk_over settings clients accounts) ≡ None)
     × (comes_twice (addresses clients) ≡ false)
 
--- the account, with its times
+-- the account, with its times and the seconds between its interim updates
 abbrev pub with_times : Settings → Entry → Entry
-with_times settings entry = record entry { rules = rules_of settings entry }
+with_times settings entry =
+    record entry { rules = rules_of settings entry; interim = interim_of settings entry }
 
 -- the fault, if there is one
 abbrev pub fault_or : {T : Type 0} → Option ConfigFault → Result T ConfigFault
@@ -66,6 +68,12 @@ configuration_of settings clients accounts =
     fault_or (first_fault (checks_of settings clients accounts))
     (Ok (record
     { settings = settings; clients = clients; accounts = map (with_times settings) accounts }))
+
+-- whether an account counts as live for under two of the intervals that its accepts ask for: then
+-- one update that is lost lets it lapse
+abbrev pub has_short_live : Entry → Bool
+has_short_live entry =
+    option_map_or (λ seconds. nat_lt entry.rules.live (2 * seconds)) entry.interim false
 
 -- the number of the client with the address
 abbrev pub client_number : Configuration → List ℕ → Option ℕ

@@ -2,7 +2,7 @@
 use Rattle.std.specs.Prelude.{ℕ, List, Bool, false, not, ◌==◌, ◌&&◌, nat_le, length, codes}
 use Rattle.std.specs.List.{list_all}
 use Rattle.rsl_accounts.specs.declared.field.Field.{Field}
-use Rattle.rsl_accounts.specs.declared.field.Field.TheVariants.{Version, Shards, ReserveSecs, LiveSecs, GraceSecs, ClosedSecs, KeepSecs, Client, Account, Address, Secret, Name, Password, Signed, Places, Ports, ServiceType, FramedProtocol, SessionTimeout, IdleTimeout, OwnLive, OwnGrace}
+use Rattle.rsl_accounts.specs.declared.field.Field.TheVariants.{Version, Shards, ReserveSecs, LiveSecs, GraceSecs, ClosedSecs, KeepSecs, Client, Account, Address, Secret, Name, Password, Signed, Places, Ports, ServiceType, FramedProtocol, SessionTimeout, IdleTimeout, OwnLive, OwnGrace, InterimSecs}
 
 -- the key under which the field stands in the file
 abbrev pub field_key : Field → List ℕ
@@ -28,6 +28,7 @@ field_key SessionTimeout = codes "session_timeout"
 field_key IdleTimeout = codes "idle_timeout"
 field_key OwnLive = codes "live_secs"
 field_key OwnGrace = codes "grace_secs"
+field_key InterimSecs = codes "interim_secs"
 
 abbrev pub is_between : ℕ → ℕ → ℕ → Bool
 is_between least most number = nat_le least number && nat_le number most
@@ -49,6 +50,7 @@ takes_number SessionTimeout number = is_between 1 4294967295 number
 takes_number IdleTimeout number = is_between 1 4294967295 number
 takes_number OwnLive number = is_between 1 86400 number
 takes_number OwnGrace number = is_between 1 86400 number
+takes_number InterimSecs number = is_between 60 86400 number
 takes_number _ number = false
 
 -- how many tables the field may have

@@ -91,7 +91,7 @@ signed_in value =
     result_map_both (λ flag. unwrap_or flag false) (λ fault. fault)
     (optional field.Signed boolean_value (member_in value field.Signed))
 
--- a time of an account's own, which version 1 does not know
+-- a time of an account's own, or the seconds between interim updates: version 1 knows neither
 unfoldable pub own_in : (version : ℕ) → Data → Field → Result (Option ℕ) ConfigFault
 own_in version value field = if knows_own_times version then option_in value field else Ok None
 
@@ -111,6 +111,7 @@ settings_in value =
     and_then (number_in value field.GraceSecs) (λ grace.
     and_then (number_in value field.ClosedSecs) (λ closed.
     and_then (number_in value field.KeepSecs) (λ keep.
+    and_then (own_in version value field.InterimSecs) (λ interim.
     Ok (record {
       version = version;
       shards = shards;
@@ -119,7 +120,8 @@ settings_in value =
       grace = grace;
       closed = closed;
       keep = keep;
-    }))))))))
+      interim = interim;
+    })))))))))
 
 unfoldable pub client_in : Data → Result Client ConfigFault
 client_in value =
@@ -128,7 +130,7 @@ client_in value =
     and_then (signed_in value) (λ signed.
     Ok (record { address = address; secret = secret; signed = signed }))))
 
--- the times of the rules are filled in later
+-- the times of the rules are filled in later, and so is the file's own `interim_secs`
 unfoldable pub entry_in : (version : ℕ) → Data → Result Entry ConfigFault
 entry_in version value =
     and_then (text_in value field.Name) (λ name.
@@ -141,6 +143,7 @@ entry_in version value =
     and_then (option_in value field.IdleTimeout) (λ idle_timeout.
     and_then (own_in version value field.OwnLive) (λ own_live.
     and_then (own_in version value field.OwnGrace) (λ own_grace.
+    and_then (own_in version value field.InterimSecs) (λ interim.
     Ok (record {
       name = name;
       password = password;
@@ -151,7 +154,8 @@ entry_in version value =
       idle_timeout = idle_timeout;
       own_live = own_live;
       own_grace = own_grace;
-    })))))))))))
+      interim = interim;
+    }))))))))))))
 
 -- what each value is, or the first fault
 abbrev pub each : {T : Type 0} → (Data → Result T ConfigFault) → List Data

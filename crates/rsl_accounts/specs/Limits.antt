@@ -1,14 +1,20 @@
 -- The limits of an account's rules, and of a whole configuration.
-use Rattle.std.specs.Prelude.{◌≡◌, ◌≢◌, ℕ, ◌≤◌, List, All, IfSome, length as length_of, false}
+use Rattle.std.specs.Prelude.{◌≡◌, ◌≢◌, ℕ, ◌≤◌, List, All, IfSome, length as length_of, false, true}
 use Rattle.rsl_accounts.specs.declared.entry.Entry.{Entry}
 use Rattle.rsl_accounts.specs.declared.rules.Rules.{Rules}
 use Rattle.rsl_accounts.specs.declared.settings.Settings.{Settings}
 use Rattle.rsl_accounts.specs.Configuration.{Configuration, addresses, names, comes_twice}
 use Rattle.rsl_accounts.specs.Settings.{rules_of}
+use Rattle.rsl_accounts.specs.Version.{knows_own_times}
 
 -- a number of seconds that a rule may have
 pub record IsTime (seconds : ℕ) : Type 0 where
   pub some : 1 ≤ seconds
+  pub within_a_day : seconds ≤ 86400
+
+-- a number of seconds between interim updates (RFC 2869 section 5.16: at least 60)
+pub record IsInterval (seconds : ℕ) : Type 0 where
+  pub a_minute : 60 ≤ seconds
   pub within_a_day : seconds ≤ 86400
 
 -- every number of the rules is within its limits
@@ -35,6 +41,7 @@ pub record SettingsFit (settings : Settings) : Type 0 where
   pub closed : IsTime settings.closed
   pub keep : IsTime settings.keep
   pub keep_within_reserve : settings.keep ≤ settings.reserve
+  pub interim : knows_own_times settings.version ≡ true → IfSome settings.interim IsInterval
 
 -- 1 to 128 octets without NUL, as a secret or a password has
 pub record IsSecret (text : List ℕ) : Type 0 where
@@ -58,6 +65,7 @@ pub record IsAccount (settings : Settings) (entry : Entry) : Type 0 where
   pub framed_protocol : IfSome entry.framed_protocol (λ number. 1 ≤ number)
   pub session_timeout : IfSome entry.session_timeout (λ number. 1 ≤ number)
   pub idle_timeout : IfSome entry.idle_timeout (λ number. 1 ≤ number)
+  pub interim : IfSome entry.interim IsInterval
 
 -- all of the configuration is within its limits, no address is that of two clients, and no name
 -- that of two accounts

@@ -1,5 +1,6 @@
 -- The session limit of an account, and the times that the settings give it.
-use Rattle.std.specs.Prelude.{ℕ, if◌then◌else◌, Option, unwrap_or}
+use Rattle.std.specs.Prelude.{ℕ, if◌then◌else◌, Option, None, unwrap_or}
+use Rattle.std.specs.Option.{option_or}
 use Rattle.rsl_accounts.specs.declared.entry.Entry.{Entry}
 use Rattle.rsl_accounts.specs.declared.rules.Rules.{Rules}
 use Rattle.rsl_accounts.specs.declared.settings.Settings.{Settings}
@@ -20,6 +21,12 @@ rules_of_places places ports = record {
 -- a time of an account: its own where the version knows one, else the file's
 abbrev pub own_time : (version : ℕ) → (own : Option ℕ) → (common : ℕ) → ℕ
 own_time version own common = if knows_own_times version then unwrap_or own common else common
+
+-- the seconds between the interim updates that an account's accepts ask for: its own, else the
+-- file's, and none where the version knows none
+abbrev pub interim_of : Settings → Entry → Option ℕ
+interim_of settings entry =
+    if knows_own_times settings.version then option_or entry.interim settings.interim else None
 
 -- the session limit of an account, with its times
 abbrev pub rules_of : Settings → Entry → Rules

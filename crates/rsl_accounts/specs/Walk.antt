@@ -29,6 +29,11 @@ abbrev pub option_fault : Field → Option ℕ → Option ConfigFault
 option_fault field None = None
 option_fault field (Some number) = number_fault field number
 
+-- the same of the seconds between interim updates, which version 1 does not know
+abbrev pub interim_fault : (version : ℕ) → Option ℕ → Option ConfigFault
+interim_fault version interim =
+    if knows_own_times version then option_fault field.InterimSecs interim else None
+
 -- the checks of the settings, each the fault of a field or `None`
 unfoldable pub settings_checks : Settings → List (Option ConfigFault)
 settings_checks settings =
@@ -39,6 +44,7 @@ settings_checks settings =
     ∷ number_fault field.GraceSecs settings.grace
     ∷ number_fault field.ClosedSecs settings.closed
     ∷ number_fault field.KeepSecs settings.keep
+    ∷ interim_fault settings.version settings.interim
     ∷ []
 
 -- the checks of how many clients and accounts there are
@@ -66,7 +72,10 @@ common_checks entry =
 -- the checks of an account's own times, which version 1 does not know
 unfoldable pub own_times_checks : Entry → List (Option ConfigFault)
 own_times_checks entry =
-    option_fault field.OwnLive entry.own_live ∷ option_fault field.OwnGrace entry.own_grace ∷ []
+    option_fault field.OwnLive entry.own_live
+    ∷ option_fault field.OwnGrace entry.own_grace
+    ∷ option_fault field.InterimSecs entry.interim
+    ∷ []
 
 unfoldable pub own_checks : (version : ℕ) → Entry → List (Option ConfigFault)
 own_checks version entry = if knows_own_times version then own_times_checks entry else []

@@ -9,6 +9,7 @@ ghost use Rattle.std.specs.Prelude.{
   IfOk,
   IfErr,
   IfSome,
+  count_by,
   position,
   length,
   slice_get,
@@ -25,6 +26,7 @@ ghost use Rattle.rsl_accounts.specs.Configuration.{
   addresses,
   names,
   with_times,
+  has_short_live,
 };
 ghost use Rattle.rsl_accounts.specs.File.{configuration_of_text};
 ghost use Rattle.rsl_accounts.specs.Keys.{AreKeysOf};
@@ -72,7 +74,8 @@ impl Model for Config {
 impl Config {
     /// The configuration of these settings, clients and accounts. The rules of each account get its
     /// times: those of the settings, but in version 2 its own live and grace times where it has
-    /// them.
+    /// them. Its Acct-Interim-Interval is in version 2 its own, else that of the settings, and none
+    /// in version 1.
     ///
     /// The faults come in this order: `BadValue` of the first field of the walk with a wrong value,
     /// `TwiceClient`, `TwiceAccount`, `KeepTooLong`. `NoMemory` comes where memory is refused, and
@@ -206,6 +209,29 @@ impl Config {
         self.accounts.len() as u32
     }
 
+    /// The number of the first account whose live time is under two of the intervals that its
+    /// accepts ask for, so that one lost interim update lets its sessions lapse; none if there is no
+    /// such account.
+    pub fn first_short_live(&self) -> Option<u32>
+        ensures number { result ≡ position has_short_live self.now.accounts }
+        ensures within { IfSome result (λ number. number < length self.now.accounts) }
+        ensures limits { IsConfiguration self.now }
+    {
+        let number = position_of_short_live(self.accounts.as_slice())?;
+        Some(number as u32)
+    }
+
+    /// How many such accounts there are.
+    pub fn short_lives(&self) -> u32
+        ensures number { result ≡ count_by has_short_live self.now.accounts }
+        ensures limits { IsConfiguration self.now }
+    {
+        self.accounts
+            .iter()
+            .filter(|entry| has_short_live(entry))
+            .count() as u32
+    }
+
     /// How many shards the accounts are spread over: 1 to 4.
     pub fn shards(&self) -> u32
         ensures number { result ≡ self.now.settings.shards }
@@ -220,6 +246,24 @@ impl Config {
         ensures shard { result < self.now.settings.shards }
     {
         account % self.shards()
+    }
+}
+
+/// The index of the first account whose live time is under two intervals.
+fn position_of_short_live(accounts: &[Entry]) -> Option<usize>
+    ensures index { result ≡ position has_short_live accounts.now }
+    ensures within { IfSome result (λ index. index < length accounts.now) }
+{
+    accounts.iter().position(|entry| has_short_live(entry))
+}
+
+/// Whether an account's live time is under two of the intervals that its accepts ask for.
+fn has_short_live(entry: &Entry) -> bool
+    ensures { result ≡ has_short_live entry.now }
+{
+    match entry.interim {
+        Some(seconds) => entry.rules.live < 2 * u64::from(seconds),
+        None => false,
     }
 }
 
@@ -280,12 +324,13 @@ fn index_names(alloc: Global, accounts: &[Entry]) -> Result<IndexSet<Vec<u8>>, C
     Ok(index)
 }
 
-/// The accounts with their times.
+/// The accounts with their times and the seconds between their interim updates.
 fn fill_times(settings: &Settings, mut accounts: Vec<Entry>) -> Vec<Entry>
     ensures { result.items ≡ map (with_times settings.now) accounts.items }
 {
     for account in accounts.iter_mut() {
         account.rules = settings.rules_of(account);
+        account.interim = settings.interim_of(account);
     }
     accounts
 }

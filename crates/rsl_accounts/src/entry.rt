@@ -27,6 +27,10 @@ pub struct Entry {
     pub session_timeout: Option<u32>,
     /// The Idle-Timeout of the account's accepts in seconds (RFC 2865 section 5.28), at least 1.
     pub idle_timeout: Option<u32>,
+    /// The Acct-Interim-Interval of the account's accepts (RFC 2869 section 5.16): the seconds
+    /// between its interim updates, 60 to 86,400. `Config::make` fills in that of the settings where
+    /// the account has none of its own; in version 1 it takes it away.
+    pub interim: Option<u32>,
     /// The session limit.
     pub rules: Rules,
     /// The User-Name: 1 to 64 octets, each 0x21 to 0x7E.
@@ -63,7 +67,7 @@ impl Entry {
         Field::IdleTimeout.check_short(self.idle_timeout)
     }
 
-    /// The same of its own times.
+    /// The same of its own times, and of the seconds between its interim updates.
     #[tactic(auto, unfolding(crate::specs::Walk::own_checks, crate::specs::Walk::own_times_checks))]
     fn check_own_times(&self, version: u64) -> Result<(), ConfigFault>
         ensures { result_err result ≡ first_fault (own_checks version self.now) }
@@ -72,6 +76,7 @@ impl Entry {
             return Ok(());
         }
         Field::OwnLive.check_option(self.own_live)?;
-        Field::OwnGrace.check_option(self.own_grace)
+        Field::OwnGrace.check_option(self.own_grace)?;
+        Field::InterimSecs.check_short(self.interim)
     }
 }

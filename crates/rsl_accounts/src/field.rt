@@ -14,7 +14,7 @@ ghost use Rattle.rsl_accounts.specs.Field.{
 };
 
 use crate::fault::ConfigFault;
-use crate::rules::{MAX_PLACES, MAX_PORTS, MAX_TIME, MIN_PORTS, MIN_TIME};
+use crate::rules::{MAX_PLACES, MAX_PORTS, MAX_TIME, MIN_INTERIM, MIN_PORTS, MIN_TIME};
 use crate::settings::{MAX_VERSION, MIN_VERSION};
 use std::fmt;
 
@@ -83,6 +83,8 @@ pub enum Field {
     OwnLive,
     /// The grace time of an account's own, under the key of `GraceSecs`.
     OwnGrace,
+    /// Seconds between the interim updates that accepts ask for, of the file or of an account.
+    InterimSecs,
 }
 
 impl Field {
@@ -113,6 +115,7 @@ impl Field {
             Field::IdleTimeout => "idle_timeout",
             Field::OwnLive => "live_secs",
             Field::OwnGrace => "grace_secs",
+            Field::InterimSecs => "interim_secs",
         }
     }
 
@@ -130,6 +133,7 @@ impl Field {
             | Field::KeepSecs
             | Field::OwnLive
             | Field::OwnGrace => is_between(MIN_TIME, MAX_TIME, number),
+            Field::InterimSecs => is_between(MIN_INTERIM, MAX_TIME, number),
             Field::Places => is_between(0, MAX_PLACES, number),
             Field::Ports => is_between(MIN_PORTS, MAX_PORTS, number),
             Field::ServiceType

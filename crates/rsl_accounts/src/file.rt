@@ -18,7 +18,7 @@ use crate::field::Field;
 use crate::rules::Rules;
 use crate::secret::Secret;
 use crate::settings::Settings;
-use crate::table::{address, number, own_time, short_number, signed, text};
+use crate::table::{address, interim, number, own_time, short_number, signed, text};
 use std::alloc::Global;
 use toml::Value;
 
@@ -41,14 +41,16 @@ pub(crate) fn settings(file: &Value) -> Result<Settings, ConfigFault>
     ensures value { result ≡ settings_in (view file.now) }
     ensures right { IfOk result (λ settings. first_fault (settings_checks settings) ≡ None) }
 {
+    let version = number(file, Field::Version)?;
     Ok(Settings {
-        version: number(file, Field::Version)?,
+        version,
         shards: number(file, Field::Shards)?,
         reserve: number(file, Field::ReserveSecs)?,
         live: number(file, Field::LiveSecs)?,
         grace: number(file, Field::GraceSecs)?,
         closed: number(file, Field::ClosedSecs)?,
         keep: number(file, Field::KeepSecs)?,
+        interim: interim(version, file)?,
     })
 }
 
@@ -102,6 +104,7 @@ fn entry(alloc: Global, version: u64, table: &Value) -> Result<Entry, ConfigFaul
         idle_timeout: short_number(table, Field::IdleTimeout)?,
         own_live: own_time(version, table, Field::OwnLive)?,
         own_grace: own_time(version, table, Field::OwnGrace)?,
+        interim: interim(version, table)?,
     })
 }
 

@@ -17,6 +17,9 @@ pub(crate) const MIN_TIME: u64 = 1;
 /// The most seconds that a time can have: a day.
 pub(crate) const MAX_TIME: u64 = 86_400;
 
+/// The fewest seconds between interim updates (RFC 2869 section 5.16).
+pub(crate) const MIN_INTERIM: u64 = 60;
+
 /// The session limit of one account: how many places it has, and for how long a place is kept.
 #[derive(Clone, Copy, Debug, PartialEq, Eq)]
 pub struct Rules {

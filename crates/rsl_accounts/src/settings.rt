@@ -2,7 +2,7 @@ ghost use Rattle.std.specs.Prelude.{◌≡◌};
 ghost use Rattle.std.specs.Result.{result_err};
 ghost use Rattle.rsl_accounts.specs.Settings.{own_time};
 ghost use Rattle.rsl_accounts.specs.Version.{knows_own_times};
-ghost use Rattle.rsl_accounts.specs.Walk.{settings_checks, first_fault};
+ghost use Rattle.rsl_accounts.specs.Walk.{interim_fault, settings_checks, first_fault};
 
 use crate::entry::Entry;
 use crate::fault::ConfigFault;
@@ -15,13 +15,14 @@ pub(crate) const MIN_VERSION: u64 = 1;
 /// The last one.
 pub(crate) const MAX_VERSION: u64 = 2;
 
-/// The version in which an account can have times of its own.
+/// The version in which an account can have times of its own, and `interim_secs` is known.
 const OWN_TIMES_VERSION: u64 = 2;
 
 /// What an account file says once, for all accounts.
 #[derive(Clone, Copy, Debug, PartialEq, Eq)]
 pub struct Settings {
-    /// The version of the file's format: 1 or 2. In version 2 an account can have times of its own.
+    /// The version of the file's format: 1 or 2. In version 2 an account can have times of its own,
+    /// and accepts can have an Acct-Interim-Interval.
     pub version: u64,
     /// How many shards the accounts are spread over: 1 to 4.
     pub shards: u64,
@@ -35,6 +36,9 @@ pub struct Settings {
     pub closed: u64,
     /// Seconds for which an answer is given again to the repeats of its ask: at most `reserve`.
     pub keep: u64,
+    /// Seconds between the interim updates that accepts ask for, where the account has none of its
+    /// own: 60 to 86,400; in version 1 it is passed over.
+    pub interim: Option<u32>,
 }
 
 impl Settings {
@@ -49,10 +53,11 @@ impl Settings {
         Field::LiveSecs.check_number(self.live)?;
         Field::GraceSecs.check_number(self.grace)?;
         Field::ClosedSecs.check_number(self.closed)?;
-        Field::KeepSecs.check_number(self.keep)
+        Field::KeepSecs.check_number(self.keep)?;
+        check_interim(self.version, self.interim)
     }
 
-    ghost use Rattle.rsl_accounts.specs.Settings.{rules_of};
+    ghost use Rattle.rsl_accounts.specs.Settings.{interim_of, rules_of};
 
     /// The session limit of the account, with its times: its own where the version knows them and
     /// the account has them, else those of the settings.
@@ -69,9 +74,31 @@ impl Settings {
             keep: self.keep,
         }
     }
+
+    /// The seconds between the interim updates that the account's accepts ask for: its own, else
+    /// those of the settings, and none where the version knows none.
+    pub(crate) fn interim_of(&self, entry: &Entry) -> Option<u32>
+        ensures { result ≡ interim_of self.now entry.now }
+    {
+        if knows_own_times(self.version) {
+            entry.interim.or(self.interim)
+        } else {
+            None
+        }
+    }
 }
 
-/// Whether an account can have times of its own.
+/// `BadValue` of the seconds between interim updates where the version knows them.
+fn check_interim(version: u64, interim: Option<u32>) -> Result<(), ConfigFault>
+    ensures { result_err result ≡ interim_fault version interim }
+{
+    if !knows_own_times(version) {
+        return Ok(());
+    }
+    Field::InterimSecs.check_short(interim)
+}
+
+/// Whether an account can have times of its own, and `interim_secs` is known.
 pub(crate) fn knows_own_times(version: u64) -> bool
     ensures { result ≡ knows_own_times version }
 {

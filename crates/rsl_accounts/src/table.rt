@@ -33,7 +33,13 @@ ghost use Rattle.rsl_accounts.specs.File.{
   own_in,
   tables_in,
 };
-ghost use Rattle.rsl_accounts.specs.Walk.{number_fault, option_fault, text_fault, count_fault};
+ghost use Rattle.rsl_accounts.specs.Walk.{
+  number_fault,
+  option_fault,
+  interim_fault,
+  text_fault,
+  count_fault,
+};
 
 use crate::address::address_of;
 use crate::fault::ConfigFault;
@@ -127,6 +133,20 @@ pub(crate) fn own_time(
 {
     if knows_own_times(version) {
         optional_number(table, field)
+    } else {
+        Ok(None)
+    }
+}
+
+/// The seconds between interim updates, which version 1 does not know.
+#[tactic(auto, unfolding(crate::specs::File::own_in))]
+pub(crate) fn interim(version: u64, table: &Value) -> Result<Option<u32>, ConfigFault>
+    ensures value { result ≡ own_in version (view table.now) Field.InterimSecs }
+    ensures right { IfOk result (λ number. option_fault Field.InterimSecs number ≡ None) }
+    ensures known { IfOk result (λ number. interim_fault version number ≡ None) }
+{
+    if knows_own_times(version) {
+        short_number(table, Field::InterimSecs)
     } else {
         Ok(None)
     }

@@ -20,7 +20,7 @@ use Rattle.rsl_event.specs.Prepared.{HasRoomFor}
 use Rattle.rsl_event.specs.declared.meaning_kind.MeaningKind.{MeaningKind}
 use Rattle.rsl_event.specs.declared.meaning_kind.MeaningKind.TheVariants as kinds
 use Rattle.rsl_event.specs.declared.words.Said.{Said}
-use Rattle.rsl_event.specs.declared.codes.TheConstants.{PORT_LIMIT, SERVICE_TYPE, FRAMED_PROTOCOL, SESSION_TIMEOUT, IDLE_TIMEOUT}
+use Rattle.rsl_event.specs.declared.codes.TheConstants.{PORT_LIMIT, SERVICE_TYPE, FRAMED_PROTOCOL, SESSION_TIMEOUT, IDLE_TIMEOUT, ACCT_INTERIM_INTERVAL}
 
 -- a draft with other attributes
 abbrev pub with_attributes : Begun → List ℕ → Begun
@@ -36,16 +36,17 @@ one_octets : (attribute : Attribute) → attribute_octets attribute ≡ list_oct
 one_octets attribute = sym (append-nil (attribute_octets attribute))
 
 -- the parts of an accept, written one after another
-pub accept_written : (boot number : ℕ) (entry : Entry) (start a b c d e f : Begun)
+pub accept_written : (boot number : ℕ) (entry : Entry) (start a b c d e f g : Begun)
     → a ≡ with_attributes start (start.attributes ++ attribute_octets (class_attribute boot number))
     → b ≡ with_attributes a (a.attributes ++ attribute_octets (number_attribute PORT_LIMIT entry.rules.ports))
     → c ≡ with_attributes b (b.attributes ++ list_octets (optional_attribute SERVICE_TYPE entry.service_type))
     → d ≡ with_attributes c (c.attributes ++ list_octets (optional_attribute FRAMED_PROTOCOL entry.framed_protocol))
     → e ≡ with_attributes d (d.attributes ++ list_octets (optional_attribute SESSION_TIMEOUT entry.session_timeout))
     → f ≡ with_attributes e (e.attributes ++ list_octets (optional_attribute IDLE_TIMEOUT entry.idle_timeout))
-    → f ≡ with_attributes start (start.attributes ++ list_octets (accept_attributes boot number entry))
+    → g ≡ with_attributes f (f.attributes ++ list_octets (optional_attribute ACCT_INTERIM_INTERVAL entry.interim))
+    → g ≡ with_attributes start (start.attributes ++ list_octets (accept_attributes boot number entry))
 unfolding accept_attributes
-accept_written boot number entry start a b c d e f ea eb ec ed ee ef =
+accept_written boot number entry start a b c d e f g ea eb ec ed ee ef eg =
     let front = start.attributes in
     let class = class_attribute boot number in
     let port = number_attribute PORT_LIMIT entry.rules.ports in
@@ -53,14 +54,16 @@ accept_written boot number entry start a b c d e f ea eb ec ed ee ef =
     let p = optional_attribute FRAMED_PROTOCOL entry.framed_protocol in
     let t = optional_attribute SESSION_TIMEOUT entry.session_timeout in
     let i = optional_attribute IDLE_TIMEOUT entry.idle_timeout in
+    let u = optional_attribute ACCT_INTERIM_INTERVAL entry.interim in
     let a_is : a.attributes ≡ front ++ list_octets (class ∷ []) = ap (λ (x : Begun). x.attributes) ea ∙ ap (λ (x : List ℕ). front ++ x) (one_octets class) in
     let b_is : b.attributes ≡ front ++ list_octets (class ∷ port ∷ []) = ap (λ (x : Begun). x.attributes) eb ∙ ap (λ (x : List ℕ). a.attributes ++ x) (one_octets port) ∙ then_octets front (class ∷ []) (port ∷ []) a.attributes a_is in
     let c_is : c.attributes ≡ front ++ list_octets (class ∷ port ∷ s) = ap (λ (x : Begun). x.attributes) ec ∙ then_octets front (class ∷ port ∷ []) s b.attributes b_is in
     let d_is : d.attributes ≡ front ++ list_octets (class ∷ port ∷ s ++ p) = ap (λ (x : Begun). x.attributes) ed ∙ then_octets front (class ∷ port ∷ s) p c.attributes c_is in
     let e_is : e.attributes ≡ front ++ list_octets (class ∷ port ∷ s ++ p ++ t) = ap (λ (x : Begun). x.attributes) ee ∙ then_octets front (class ∷ port ∷ s ++ p) t d.attributes d_is in
     let f_is : f.attributes ≡ front ++ list_octets (class ∷ port ∷ s ++ p ++ t ++ i) = ap (λ (x : Begun). x.attributes) ef ∙ then_octets front (class ∷ port ∷ s ++ p ++ t) i e.attributes e_is in
-    let id_is : f.id ≡ start.id = ap (λ (x : Begun). x.id) ef ∙ ap (λ (x : Begun). x.id) ee ∙ ap (λ (x : Begun). x.id) ed ∙ ap (λ (x : Begun). x.id) ec ∙ ap (λ (x : Begun). x.id) eb ∙ ap (λ (x : Begun). x.id) ea in
-    λ k. record { id = id_is k; attributes = f_is k }
+    let g_is : g.attributes ≡ front ++ list_octets (class ∷ port ∷ s ++ p ++ t ++ i ++ u) = ap (λ (x : Begun). x.attributes) eg ∙ then_octets front (class ∷ port ∷ s ++ p ++ t ++ i) u f.attributes f_is in
+    let id_is : g.id ≡ start.id = ap (λ (x : Begun). x.id) eg ∙ ap (λ (x : Begun). x.id) ef ∙ ap (λ (x : Begun). x.id) ee ∙ ap (λ (x : Begun). x.id) ed ∙ ap (λ (x : Begun). x.id) ec ∙ ap (λ (x : Begun). x.id) eb ∙ ap (λ (x : Begun). x.id) ea in
+    λ k. record { id = id_is k; attributes = g_is k }
 
 -- the octets of Proxy-States are as many as they are counted
 pub length-proxy_states : (attributes : List Attribute) → length (list_octets (proxy_states attributes)) ≡ proxy_len attributes

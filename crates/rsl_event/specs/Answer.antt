@@ -18,7 +18,7 @@ use Rattle.rsl_event.specs.declared.meaning_kind.MeaningKind.TheVariants as kind
 use Rattle.rsl_event.specs.declared.meaning.Meaning.{Meaning}
 use Rattle.rsl_event.specs.declared.words.Said.{Said}
 use Rattle.rsl_event.specs.declared.words.Said.TheVariants as words
-use Rattle.rsl_event.specs.declared.codes.TheConstants.{ACCESS_ACCEPT, ACCESS_REJECT, ACCOUNTING_RESPONSE, CLASS, PORT_LIMIT, SERVICE_TYPE, FRAMED_PROTOCOL, SESSION_TIMEOUT, IDLE_TIMEOUT, REPLY_MESSAGE}
+use Rattle.rsl_event.specs.declared.codes.TheConstants.{ACCESS_ACCEPT, ACCESS_REJECT, ACCOUNTING_RESPONSE, CLASS, PORT_LIMIT, SERVICE_TYPE, FRAMED_PROTOCOL, SESSION_TIMEOUT, IDLE_TIMEOUT, ACCT_INTERIM_INTERVAL, REPLY_MESSAGE}
 
 -- the word for a decision on an ask; one that is merely done was not accepted
 abbrev pub said_of : Decision → Said
@@ -72,6 +72,7 @@ accept_attributes boot number entry =
     ++ optional_attribute FRAMED_PROTOCOL entry.framed_protocol
     ++ optional_attribute SESSION_TIMEOUT entry.session_timeout
     ++ optional_attribute IDLE_TIMEOUT entry.idle_timeout
+    ++ optional_attribute ACCT_INTERIM_INTERVAL entry.interim
 
 -- what a limit reject says
 abbrev pub limit_attributes : List Attribute

@@ -47,6 +47,8 @@ pub const CHAP_CHALLENGE: u8 = 60;
 pub const PORT_LIMIT: u8 = 62;
 /// Message-Authenticator (RFC 3579 section 3.2).
 pub const MESSAGE_AUTHENTICATOR: u8 = 80;
+/// Acct-Interim-Interval (RFC 2869 section 5.16).
+pub const ACCT_INTERIM_INTERVAL: u8 = 85;
 
 /// Acct-Status-Type Start: the session begins (RFC 2866 section 5.1).
 pub const START: u32 = 1;
@@ -74,7 +76,7 @@ const _: () = prove!(
         && ACCOUNTING_REQUEST == 4
         && ACCOUNTING_RESPONSE == 5
 );
-// Types (RFC 2865 section 5, RFC 2866 section 5, RFC 3579 section 3.2).
+// Types (RFC 2865 section 5, RFC 2866 section 5, RFC 3579 section 3.2, RFC 2869 section 5.16).
 const _: () = prove!(
     USER_NAME == 1
         && USER_PASSWORD == 2
@@ -94,6 +96,7 @@ const _: () = prove!(
         && CHAP_CHALLENGE == 60
         && PORT_LIMIT == 62
         && MESSAGE_AUTHENTICATOR == 80
+        && ACCT_INTERIM_INTERVAL == 85
 );
 // Values of Acct-Status-Type (RFC 2866 section 5.1).
 const _: () = prove!(

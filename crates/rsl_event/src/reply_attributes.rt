@@ -15,8 +15,8 @@ ghost use Rattle.rsl_event.specs.Draft.{with_more};
 ghost use Rattle.rsl_event.specs.Request.{proxy_states, proxy_len};
 
 use crate::codes::{
-    CLASS, CLASS_LEN, FRAMED_PROTOCOL, IDLE_TIMEOUT, PORT_LIMIT, PROXY_STATE, REPLY_MESSAGE,
-    SERVICE_TYPE, SESSION_TIMEOUT,
+    ACCT_INTERIM_INTERVAL, CLASS, CLASS_LEN, FRAMED_PROTOCOL, IDLE_TIMEOUT, PORT_LIMIT,
+    PROXY_STATE, REPLY_MESSAGE, SERVICE_TYPE, SESSION_TIMEOUT,
 };
 use rsl_accounts::Entry;
 use rsl_wire::{Attrs, Draft};
@@ -27,7 +27,7 @@ pub(crate) fn push_accept(draft: &mut Draft, boot: u64, number: u64, entry: &Ent
     requires limits { RulesFit entry.now.rules }
     ensures written { draft.new ≡ with_more draft.old
         (list_octets (accept_attributes boot number entry.now)) }
-    ensures short { length draft.new.attributes ≤ 66 }
+    ensures short { length draft.new.attributes ≤ 72 }
 {
     push_class(draft, boot, number);
     push_number(draft, PORT_LIMIT, entry.rules.ports as u32);
@@ -35,13 +35,14 @@ pub(crate) fn push_accept(draft: &mut Draft, boot: u64, number: u64, entry: &Ent
     push_optional(draft, FRAMED_PROTOCOL, entry.framed_protocol);
     push_optional(draft, SESSION_TIMEOUT, entry.session_timeout);
     push_optional(draft, IDLE_TIMEOUT, entry.idle_timeout);
+    push_optional(draft, ACCT_INTERIM_INTERVAL, entry.interim);
 }
 
 /// Writes what a limit reject says.
 pub(crate) fn push_limit_message(draft: &mut Draft)
     requires room { length draft.old.attributes ≤ 18 }
     ensures written { draft.new ≡ with_more draft.old (list_octets limit_attributes) }
-    ensures short { length draft.new.attributes ≤ 66 }
+    ensures short { length draft.new.attributes ≤ 72 }
 {
     draft.push(REPLY_MESSAGE, b"Session limit reached").unwrap();
 }

@@ -191,7 +191,7 @@ fn write_said(config: &Config, boot: u64, kind: MeaningKind, decision: Decision,
     requires room { length draft.old.attributes ≤ 18 }
     ensures written { draft.new ≡ with_more draft.old
         (list_octets (said_attributes config.now boot kind decision)) }
-    ensures short { length draft.new.attributes ≤ 66 }
+    ensures short { length draft.new.attributes ≤ 72 }
     ensures kept { length draft.old.attributes ≤ length draft.new.attributes }
 {
     if let MeaningKind::Ask(account) = kind {
@@ -204,7 +204,7 @@ fn write_repeated(request: &Option<Attrs<'_>>, kind: MeaningKind, draft: &mut Dr
     requires each { IfSome request.now (AllByRecursion IsAttribute) }
     requires room { (kind ≡ kinds.Bare → ⊥) →
         proxy_len (unwrap_or request.now []) ≤ MAX_PROXY_STATE_LEN }
-    requires short { length draft.old.attributes ≤ 66 }
+    requires short { length draft.old.attributes ≤ 72 }
     ensures written { draft.new ≡ with_more draft.old (list_octets (repeated_attributes
         (unwrap_or request.now []) kind)) }
     ensures kept { length draft.old.attributes ≤ length draft.new.attributes }
@@ -223,7 +223,7 @@ fn write_decision(config: &Config, boot: u64, account: u32, decision: Decision, 
     requires room { length draft.old.attributes ≤ 18 }
     ensures written { draft.new ≡ with_more draft.old
         (list_octets (decided_attributes config.now boot account decision)) }
-    ensures short { length draft.new.attributes ≤ 66 }
+    ensures short { length draft.new.attributes ≤ 72 }
 {
     match decision {
         Decision::Accept(number) => push_accept(draft, boot, number, config.entry(account)),

@@ -59,6 +59,7 @@ account_with name password places options = record {
   idle_timeout = None;
   own_live = options.live;
   own_grace = options.grace;
+  interim = None;
 }
 
 -- an account: NAME PASSWORD PLACES, and what it may have

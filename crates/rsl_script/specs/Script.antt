@@ -76,6 +76,7 @@ contents_of said = record {
     grace = setting_in Grace 900 said;
     closed = setting_in Closed 3600 said;
     keep = setting_in Keep 10 said;
+    interim = None;
   };
   clients = filter_map client_said said;
   accounts = filter_map account_said said;

@@ -14,6 +14,7 @@ with_setting settings line = record {
   grace = unwrap_or (value_said Grace line) settings.grace;
   closed = unwrap_or (value_said Closed line) settings.closed;
   keep = unwrap_or (value_said Keep line) settings.keep;
+  interim = settings.interim;
 }
 
 abbrev pub contents_with : Contents → ScriptLine → Contents

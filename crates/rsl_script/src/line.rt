@@ -186,5 +186,6 @@ fn account_with(
         idle_timeout: None,
         own_live: options.live,
         own_grace: options.grace,
+        interim: None,
     })
 }

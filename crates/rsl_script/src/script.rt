@@ -56,6 +56,7 @@ impl Script {
                 grace: 900,
                 closed: 3600,
                 keep: 10,
+                interim: None,
             },
             clients: Vec::new(alloc),
             accounts: Vec::new(alloc),

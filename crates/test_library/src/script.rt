@@ -204,10 +204,12 @@ fn settings_are_those_of_their_last_lines(rt: HostRuntime) -> Result<(), Fail> {
         &Set,
         "
 none | \
-    | Settings { version: 2, shards: 1, reserve: 60, live: 900, grace: 900, closed: 3600, keep: 10 }
+    | Settings { version: 2, shards: 1, reserve: 60, live: 900, grace: 900, closed: 3600, keep: 10, \
+      interim: None }
 all, one twice \
     | set shards 4/set reserve 1/set live 2/set grace 3/set closed 4/set keep 6/set keep 005/ \
-    | Settings { version: 2, shards: 4, reserve: 1, live: 2, grace: 3, closed: 4, keep: 5 }
+    | Settings { version: 2, shards: 4, reserve: 1, live: 2, grace: 3, closed: 4, keep: 5, \
+      interim: None }
 ",
     )
 }

@@ -52,6 +52,7 @@ fn settings(version: u64) -> Settings {
         grace: 900,
         closed: 3600,
         keep: 10,
+        interim: None,
     }
 }
 
@@ -75,6 +76,7 @@ fn entry(alloc: Global, name: &str, password: &str) -> Result<Entry, Fail> {
         idle_timeout: None,
         own_live: None,
         own_grace: None,
+        interim: None,
     })
 }
 

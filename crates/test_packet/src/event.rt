@@ -52,7 +52,7 @@ const STRANGER: Source = Source {
 /// The clients, of which the first has the secret of RFC 2865 section 7.1, and the accounts, of
 /// which the first is that of its request.
 const FILE: &str = r#"
-version = 1
+version = 2
 shards = 1
 reserve_secs = 60
 live_secs = 900
@@ -106,6 +106,24 @@ service_type = 2
 framed_protocol = 1
 session_timeout = 3600
 idle_timeout = 600
+
+[[account]]
+name = "told"
+password = "arctangent"
+places = 64
+ports = 16
+service_type = 2
+framed_protocol = 1
+session_timeout = 3600
+idle_timeout = 600
+interim_secs = 600
+
+[[account]]
+name = "asks"
+password = "arctangent"
+places = 1
+ports = 1
+interim_secs = 60
 "#;
 
 /// Words of rows, a line each, and what stands for each: what an ask and an alive of nemo mean,

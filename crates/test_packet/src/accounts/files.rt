@@ -238,6 +238,69 @@ fn own_times_are_those_of_version_2(rt: HostRuntime) -> Result<(), Fail> {
     check_rows(&rt, &TimesRows, rows.as_str())
 }
 
+/// The seconds between the interim updates of the first account, the first account whose live time
+/// is under two of its intervals, and how many there are.
+struct IntervalRows;
+
+impl Subject for IntervalRows {
+    fn found(&self, alloc: Global, fields: &[&str]) -> Result<String, Fail> {
+        let text = file_of(alloc, fields)?;
+        match Config::read(alloc, text.as_bytes()) {
+            Ok(config) => intervals(alloc, &config),
+            Err(fault) => shown(alloc, &fault),
+        }
+    }
+}
+
+fn intervals(alloc: Global, config: &Config) -> Result<String, Fail> {
+    let _accounts = config.accounts();
+    let interim = config.entry(0).interim;
+    let short = (config.first_short_live(), config.short_lives());
+    printed(alloc, &(interim, short))
+}
+
+/// In version 2 an account has its own `interim_secs`, else that of the head; version 1 does not
+/// know the key.
+#[test]
+fn seconds_between_interim_updates_are_those_of_version_2(rt: HostRuntime) -> Result<(), Fail> {
+    let rows = r#"
+        none in version 1 | (None, (None, 0))
+        in version 1 | <head> 600\n | => interim_secs = 600\n | (None, (None, 0))
+        wrong in version 1 | <head> 59\n | => interim_secs = "x"\n | (None, (None, 0))
+        none | <2> | (None, (None, 0))
+        of the head, half of the live time | <2> | <head> 450\n | (Some(450), (None, 0))
+        one second more | <2> | <head> 451\n | (Some(451), (Some(0), 1))
+        the least | <2> | <head> 60\n | (Some(60), (None, 0))
+        the most | <2> | <head> 86400\n | (Some(86400), (Some(0), 1))
+        an account's own | <2> | => interim_secs = 60\n | (Some(60), (None, 0))
+        its own and the head's | <2> | <head> 60\n | => interim_secs = 86400\n | (Some(86400), (Some(0), 1))
+        the other way | <2> | <head> 86400\n | => interim_secs = 60\n | (Some(60), (None, 0))
+        its own live time | <2> | <head> 600\n | => live_secs = 1200\n | (Some(600), (None, 0))
+        a shorter one | <2> | <head> 450\n | => live_secs = 899\n | (Some(450), (Some(0), 1))
+        the second account | <2> | <head> 600\n | => live_secs = 1200\n<second> | (Some(600), (Some(1), 1))
+        both accounts | <2> | <head> 600\n | => <second> | (Some(600), (Some(0), 2))
+        59 in the head | <2> | <head> 59\n | BadValue interim_secs
+        86401 in the head | <2> | <head> 86401\n | BadValue interim_secs
+        59 of an account | <2> | => interim_secs = 59\n | BadValue interim_secs
+        86401 of an account | <2> | => interim_secs = 86401\n | BadValue interim_secs
+        a text | <2> | <head> "600"\n | BadValue interim_secs
+        true of an account | <2> | => interim_secs = true\n | BadValue interim_secs
+        600.0 | <2> | <head> 600.0\n | BadValue interim_secs
+        below 0 | <2> | => interim_secs = -600\n | BadValue interim_secs
+        2^32 and 600 | <2> | <head> 4294967896\n | BadValue interim_secs
+        after the keep time | <2> | keep_secs = 10\n => keep_secs = 0\ninterim_secs = 59\n | BadValue keep_secs
+        before the clients | <2> | <head> 59\n | [[client]] => [[customer]] | BadValue interim_secs
+        after the grace time | <2> | => interim_secs = 59\ngrace_secs = 0\n | BadValue grace_secs
+        before a long keep time | <2> | keep_secs = 10\n => keep_secs = 61\n | => interim_secs = 59\n | BadValue interim_secs
+        version 3 | version = 1 => version = 3 | <head> 59\n | BadValue version
+    "#;
+    let words = r#"<2> = version = 1 => version = 2
+<head> = keep_secs = 10\n => keep_secs = 10\ninterim_secs =
+<second> = \n[[account]]\nname = "b"\npassword = "p"\nplaces = 1\nports = 1\n"#;
+    let rows = replaced(rt.alloc(), rows, words)?;
+    check_rows(&rt, &IntervalRows, rows.as_str())
+}
+
 /// What the first client and the first account of a file have.
 struct ContentRows;
 

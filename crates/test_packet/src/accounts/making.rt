@@ -53,6 +53,7 @@ fn set_setting(settings: &mut Settings, key: &str, number: u64) {
         "grace_secs" => settings.grace = number,
         "closed_secs" => settings.closed = number,
         "keep_secs" => settings.keep = number,
+        "interim_secs" => settings.interim = u32::try_from(number).ok(),
         _ => {}
     }
 }
@@ -74,6 +75,7 @@ fn set_attribute(nemo: &mut Entry, key: &str, number: u64) {
         "idle_timeout" => nemo.idle_timeout = short,
         "own live_secs" => nemo.own_live = Some(number),
         "own grace_secs" => nemo.own_grace = Some(number),
+        "own interim_secs" => nemo.interim = short,
         _ => {}
     }
 }
@@ -101,6 +103,10 @@ fn numbers_are_taken_up_to_their_limits(rt: HostRuntime) -> Result<(), Fail> {
           BadValue live_secs, Ok, Ok, BadValue live_secs
         own grace time | own grace_secs | 0 1 86400 86401 | \
           BadValue grace_secs, Ok, Ok, BadValue grace_secs
+        interval | interim_secs | 0 59 60 86400 86401 | \
+          BadValue interim_secs, BadValue interim_secs, Ok, Ok, BadValue interim_secs
+        own interval | own interim_secs | 0 59 60 86400 86401 | \
+          BadValue interim_secs, BadValue interim_secs, Ok, Ok, BadValue interim_secs
     ";
     check_rows(&rt, &NumberRows, rows)
 }

@@ -36,13 +36,15 @@ fn faults_are_printed_with_the_key_of_their_field(rt: HostRuntime) -> Result<(),
         ConfigFault::BadValue(Field::IdleTimeout),
         ConfigFault::BadValue(Field::OwnLive),
         ConfigFault::BadValue(Field::OwnGrace),
+        ConfigFault::BadValue(Field::InterimSecs),
     ];
     let expected = "NotToml, TwiceClient, TwiceAccount, KeepTooLong, NoMemory, Missing version, \
         Missing shards, Missing reserve_secs, Missing live_secs, Missing grace_secs, \
         Missing closed_secs, BadValue keep_secs, BadValue client, BadValue account, \
         BadValue address, BadValue secret, BadValue signed, BadValue name, BadValue password, \
         BadValue places, BadValue ports, BadValue service_type, BadValue framed_protocol, \
-        BadValue session_timeout, BadValue idle_timeout, BadValue live_secs, BadValue grace_secs, ";
+        BadValue session_timeout, BadValue idle_timeout, BadValue live_secs, BadValue grace_secs, \
+        BadValue interim_secs, ";
     let found = all_shown(rt.alloc(), &faults)?;
     assert_eq!(rt; found.as_str(), expected);
     Ok(())

@@ -1,7 +1,7 @@
 use super::{ACCT, AUTH, CLIENT, OTHER, check_replies};
 use std::test::Fail;
 
-// RFC 2865 sections 3 and 5.33.
+// RFC 2865 sections 3 and 5.33, and RFC 2869 section 5.16.
 #[test]
 fn reply_has_the_attributes_of_its_decision_and_then_the_proxy_states(
     rt: HostRuntime,
@@ -52,6 +52,35 @@ fn reply_has_the_attributes_of_its_decision_and_then_the_proxy_states(
           Accept(0) \
           02000f806c743f962b098b15b7fbfbba44f11f651912000000000000000100000000000000003e06000000\
           100606000000020706000000011b0600000e101c0600000258<3900>
+        an accept with the seconds between interim updates | \
+          0100002c0f403f9473978057bd83d5cb98f4227a0106746f6c6402120dbe708d93d413ce3196e43f782a0a\
+          ee | Accept 7 | \
+          Accept(7) \
+          0200004ae0f98838b958b542b23dc49716e34af71912000000000000000100000000000000073e06000000\
+          100606000000020706000000011b0600000e101c0600000258550600000258
+        the same before Proxy-States | \
+          010000310f403f9473978057bd83d5cb98f4227a0106746f6c6402120dbe708d93d413ce3196e43f782a0a\
+          ee2103702102 | Accept 7 | \
+          Accept(7) \
+          0200004f4efe398b14c4a26f8364befe60fcdcdc1912000000000000000100000000000000073e06000000\
+          100606000000020706000000011b0600000e101c06000002585506000002582103702102
+        these and no other attribute of the account | \
+          0100002f0f403f9473978057bd83d5cb98f4227a010661736b7302120dbe708d93d413ce3196e43f782a0a\
+          ee210370 | Accept 0 | \
+          Accept(0) \
+          020000355954c64cb8766badd8dd9b9c1e62edea1912000000000000000100000000000000003e06000000\
+          0155060000003c210370
+        a limit reject of an account that has them | \
+          0100002c0f403f9473978057bd83d5cb98f4227a0106746f6c6402120dbe708d93d413ce3196e43f782a0a\
+          ee | LimitReject | \
+          LimitReject \
+          0300002b7fd581ea748d151b6509911236d3d392121753657373696f6e206c696d69742072656163686564
+        the longest accept with them | \
+          01000f680f403f9473978057bd83d5cb98f4227a<3900>0106746f6c6402120dbe708d93d413ce3196e43f\
+          782a0aee | Accept 0 | \
+          Accept(0) \
+          02000f862a439cd10130d85d802af7b3fae3e2871912000000000000000100000000000000003e06000000\
+          100606000000020706000000011b0600000e101c0600000258550600000258<3900>
     ";
     check_replies(&rt, CLIENT, AUTH, rows)
 }

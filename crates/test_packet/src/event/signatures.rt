@@ -139,7 +139,7 @@ fn message_authenticator_in_accounting_is_ignored(rt: HostRuntime) -> Result<(),
 }
 
 // The Message-Authenticator stands first: the accept's 62 octets begin with 0201003e, and have 5012
-// at octet 20. The longest reply has 3,986 octets.
+// at octet 20. The longest reply has 3,992 octets.
 #[test]
 fn reply_to_a_signed_request_is_signed(rt: HostRuntime) -> Result<(), Fail> {
     let rows = "
@@ -166,6 +166,20 @@ fn reply_to_a_signed_request_is_signed(rt: HostRuntime) -> Result<(), Fail> {
           02000f9215bf99bce0ec01584eb0915d747dabaf5012ccfe022a384cb4abf9fff0ff4de240051912000000\
           000000000100000000000000003e06000000100606000000020706000000011b0600000e101c0600000258\
           <3900>
+        the longest accept with the seconds between interim updates | \
+          01000f7a0f403f9473978057bd83d5cb98f4227a<3900>0106746f6c6402120dbe708d93d413ce3196e43f\
+          782a0aee5012c3582fbda05cc1b4bc913ef3a01389da | Accept 0 | \
+          Accept(0) \
+          02000f9812ebbd098748940dc7c10deeb6b808d050120be717c46ae9d2f8afecc031a78bc0541912000000\
+          000000000100000000000000003e06000000100606000000020706000000011b0600000e101c0600000258\
+          550600000258<3900>
+        an accept with the seconds between interim updates and a Proxy-State | \
+          010000410f403f9473978057bd83d5cb98f4227a0106746f6c6402120dbe708d93d413ce3196e43f782a0a\
+          ee5012ab027b6f39ec7c2b9d25283dc93d990a210370 | Accept 7 | \
+          Accept(7) \
+          0200005fa6c56d75c843a171ec517a13752936535012ecdc124fc65363b75eff752d76b0c5901912000000\
+          000000000100000000000000073e06000000100606000000020706000000011b0600000e101c0600000258\
+          550600000258210370
     ";
     check_replies(&rt, SIGNED, AUTH, rows)
 }

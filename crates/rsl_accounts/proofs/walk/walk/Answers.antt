@@ -26,3 +26,14 @@ returns-in_err-check_counts c =
     let accounts = flat_map (account_checks c.args.settings.now.version) c.args.accounts.now in
     rw (p.1, p.2)
     (checks_here (settings ++ counts ++ clients) accounts (checks_here (settings ++ counts) clients (checks_next settings counts c.in_ok-check.ensures c.in_err-check_counts.ensures)))
+
+pub returns-in_err-check_clients : goal.returns-in_err-check_clients
+unfolding walk_over
+returns-in_err-check_clients c =
+    let p = err_from_is_err_and c.from_residual-in_err-check_clients.result c.from_residual-in_err-check_clients.ensures.1 in
+    let settings = settings_checks c.args.settings.now in
+    let counts = count_checks (length c.args.clients.now) (length c.args.accounts.now) in
+    let clients = flat_map client_checks c.args.clients.now in
+    let accounts = flat_map (account_checks c.args.settings.now.version) c.args.accounts.now in
+    rw (p.1, p.2)
+    (checks_here (settings ++ counts ++ clients) accounts (checks_next (settings ++ counts) clients (checks_next settings counts c.in_ok-check.ensures c.in_ok-check_counts.ensures) c.in_err-check_clients.ensures))
