@@ -20,7 +20,7 @@ use Rattle.rsl_shard.specs.declared.moved.Move.TheVariants.{Own, Sweep, Tick, St
 use Rattle.rld_books.specs.Server.{decision_in, replay, server_after}
 use Rattle.rld_spelling.specs.Moves.{moves_field}
 use Rattle.rld_store.specs.Generations.{counts_of}
-use Rattle.rld_lines.specs.Values.{dotted, escaped, hex}
+use Rattle.rld_values.specs.Values.{dotted, escaped, hex}
 
 -- a space, a key, `=` and a value
 abbrev pub word : (key value : List ℕ) → List ℕ

@@ -2,14 +2,13 @@
 //!
 //! The promise: a line has the octets of `specs/Lines.antt`, and its decision is that of the books at
 //! that point, which are replayed from the log's own snapshot. No name can forge a word or a line: a
-//! value has no space and no line feed in it (`specs/Values.antt`).
+//! value has no space and no line feed in it (`rld_values`).
 #![tactic(auto)]
 
 mod accounts;
 mod fault;
 mod line;
 mod replay;
-mod value;
 mod words;
 
 pub use fault::LinesFault;

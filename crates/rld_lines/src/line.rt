@@ -3,12 +3,12 @@
 ghost use Rattle.std.specs.Prelude.{◌≡◌, ◌++◌, ◌∷◌, [], OnOk, codes};
 ghost use Rattle.std.specs.Fmt.{decimal};
 ghost use Rattle.rld_lines.specs.Lines.{decision_text, line, moment_of, move_text};
-ghost use Rattle.rld_lines.specs.Values.{escaped};
+ghost use Rattle.rld_values.specs.Values.{escaped};
 ghost use Rattle.rld_spelling.specs.Moves.{MoveFits};
 ghost use Rattle.rld_store.specs.Generations.{counts_of};
 
-use crate::value::{push_decimal, push_escaped};
 use crate::words::push_move;
+use rld_values::{push_decimal, push_escaped};
 use rsl_accounts::Config;
 use rsl_event::Decision;
 use rsl_shard::Move;

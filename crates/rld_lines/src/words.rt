@@ -16,11 +16,11 @@ ghost use Rattle.rld_lines.specs.Lines.{
   word,
   word_if,
 };
-ghost use Rattle.rld_lines.specs.Values.{dotted, escaped, hex};
+ghost use Rattle.rld_values.specs.Values.{dotted, escaped, hex};
 ghost use Rattle.rld_spelling.specs.Moves.{MoveFits, OwnFits};
 ghost use Rattle.rld_store.specs.Generations.{counts_of};
 
-use crate::value::{push_decimal, push_dotted, push_escaped, push_hex};
+use rld_values::{push_decimal, push_dotted, push_escaped, push_hex};
 use rsl_accounts::Config;
 use rsl_event::{Act, Key, Nas, NasName, Note, Source};
 use rsl_shard::Move;

@@ -1,8 +1,8 @@
-//! How values stand in a line.
+//! How values are written in a line.
 
 ghost use Rattle.std.specs.Prelude.{◌≡◌, ◌++◌, ◌∷◌, ◌<◌, [], OnOk};
 ghost use Rattle.std.specs.Fmt.{decimal};
-ghost use Rattle.rld_lines.specs.Values.{dotted, dotted_pair, escaped, escaped_octet, hex, hex_digit, hex_octet, is_plain};
+ghost use Rattle.rld_values.specs.Values.{dotted, dotted_pair, escaped, escaped_octet, hex, hex_digit, hex_octet, is_between, is_letter_or_digit, is_mark, is_plain, word};
 
 use std::alloc::{AllocError, Global};
 
@@ -27,8 +27,8 @@ fn push_hex_octet(out: &mut Vec<u8>, octet: u8) -> Result<(), AllocError>
     Ok(())
 }
 
-/// Writes octets as hexadecimal digits.
-pub(crate) fn push_hex(out: &mut Vec<u8>, octets: &[u8]) -> Result<(), AllocError>
+/// Writes octets as hexadecimal digits. It fails only where memory is refused.
+pub fn push_hex(out: &mut Vec<u8>, octets: &[u8]) -> Result<(), AllocError>
     ensures { OnOk result (out.new.items ≡ out.old.items ++ hex octets.now) }
 {
     for octet in octets {
@@ -37,11 +37,37 @@ pub(crate) fn push_hex(out: &mut Vec<u8>, octets: &[u8]) -> Result<(), AllocErro
     Ok(())
 }
 
-/// Whether an octet is a visible character of ASCII, and no backslash.
+/// Whether an octet is one of these and those between them.
+pub(crate) fn is_between(first: u8, last: u8, octet: u8) -> bool
+    ensures { result ≡ is_between first last octet }
+{
+    first <= octet && octet <= last
+}
+
+/// Whether an octet is a letter or a digit.
+fn is_letter_or_digit(octet: u8) -> bool
+    ensures { result ≡ is_letter_or_digit octet }
+{
+    is_between(48, 57, octet) || is_between(65, 90, octet) || is_between(97, 122, octet)
+}
+
+/// Whether an octet is a mark that stands for itself.
+fn is_mark(octet: u8) -> bool
+    ensures { result ≡ is_mark octet }
+{
+    is_between(43, 47, octet)
+        || octet == 37
+        || octet == 58
+        || octet == 61
+        || octet == 64
+        || octet == 95
+}
+
+/// Whether an octet stands for itself.
 fn is_plain(octet: u8) -> bool
     ensures { result ≡ is_plain octet }
 {
-    33 <= octet && octet <= 126 && octet != 92
+    is_letter_or_digit(octet) || is_mark(octet)
 }
 
 /// Writes an octet as it is, or as a backslash, an `x` and its two digits.
@@ -56,8 +82,9 @@ fn push_escaped_octet(out: &mut Vec<u8>, octet: u8) -> Result<(), AllocError>
     push_hex_octet(out, octet)
 }
 
-/// Writes octets in one word.
-pub(crate) fn push_escaped(out: &mut Vec<u8>, octets: &[u8]) -> Result<(), AllocError>
+/// Writes octets behind a key and `=`: letters, digits and `%+,-./:=@_` as they are, and any other as a
+/// backslash, an `x` and two hexadecimal digits. It fails only where memory is refused.
+pub fn push_escaped(out: &mut Vec<u8>, octets: &[u8]) -> Result<(), AllocError>
     ensures { OnOk result (out.new.items ≡ out.old.items ++ escaped octets.now) }
 {
     for octet in octets {
@@ -66,8 +93,19 @@ pub(crate) fn push_escaped(out: &mut Vec<u8>, octets: &[u8]) -> Result<(), Alloc
     Ok(())
 }
 
-/// Writes a number.
-pub(crate) fn push_decimal(alloc: Global, out: &mut Vec<u8>, number: u64) -> Result<(), AllocError>
+/// Writes octets as a word of their own: as behind a key, but no octets as `\e`. It fails only where
+/// memory is refused.
+pub fn push_word(out: &mut Vec<u8>, octets: &[u8]) -> Result<(), AllocError>
+    ensures { OnOk result (out.new.items ≡ out.old.items ++ word octets.now) }
+{
+    match octets {
+        [] => out.extend_from_slice(b"\\e"),
+        [_, ..] => push_escaped(out, octets),
+    }
+}
+
+/// Writes a number. It fails only where memory is refused.
+pub fn push_decimal(alloc: Global, out: &mut Vec<u8>, number: u64) -> Result<(), AllocError>
     ensures { OnOk result (out.new.items ≡ out.old.items ++ decimal number) }
 {
     let text = format!(in alloc; "{number}")?;
@@ -83,13 +121,9 @@ fn push_pair(alloc: Global, out: &mut Vec<u8>, some: u8, other: u8) -> Result<()
     push_decimal(alloc, out, u64::from(other))
 }
 
-/// Writes an address.
+/// Writes an IPv4 address as four numbers with dots between them. It fails only where memory is refused.
 #[tactic(auto, unfolding(crate::specs::Values::dotted))]
-pub(crate) fn push_dotted(
-    alloc: Global,
-    out: &mut Vec<u8>,
-    address: [u8; 4],
-) -> Result<(), AllocError>
+pub fn push_dotted(alloc: Global, out: &mut Vec<u8>, address: [u8; 4]) -> Result<(), AllocError>
     ensures { OnOk result (out.new.items ≡ out.old.items ++ dotted address) }
 {
     push_pair(alloc, out, address[0], address[1])?;

@@ -1,6 +1,6 @@
 use Rattle.std.proofs.Common.{◌≡◌, ◌++◌, take}
-use Rattle.rld_lines.specs.Values.{hex}
-use Rattle.rld_lines.proofs.value.push_hex.Given as goal
+use Rattle.rld_values.specs.Values.{hex}
+use Rattle.rld_values.proofs.spelling.push_hex.Given as goal
 
 -- the digits of the octets that were looked at
 abbrev pub invariant-loop-octet : goal.invariant-loop-octet

@@ -1,6 +1,6 @@
 use Rattle.std.proofs.Common.{◌≡◌, ◌++◌, take}
-use Rattle.rld_lines.specs.Values.{escaped}
-use Rattle.rld_lines.proofs.value.push_escaped.Given as goal
+use Rattle.rld_values.specs.Values.{escaped}
+use Rattle.rld_values.proofs.spelling.push_escaped.Given as goal
 
 -- the octets that were looked at, escaped
 abbrev pub invariant-loop-octet : goal.invariant-loop-octet

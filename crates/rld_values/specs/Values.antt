@@ -1,5 +1,6 @@
--- How values stand in a line: no value has a space or a line feed in it.
-use Rattle.std.specs.Prelude.{ℕ, ◌+◌, ◌/◌, ◌%◌, ◌==◌, List, [], ◌∷◌, ◌++◌, Bool, not, ◌&&◌, nat_le, nat_lt, if◌then◌else◌, slice_index_or}
+-- How values stand in a line: no value has a space, a line feed or a quotation mark in it, nor anything
+-- else that a shell takes for more than itself within single quotation marks.
+use Rattle.std.specs.Prelude.{ℕ, ◌+◌, ◌/◌, ◌%◌, ◌==◌, List, [], ◌∷◌, ◌++◌, Bool, ◌&&◌, ◌||◌, nat_le, nat_lt, codes, if◌then◌else◌, slice_index_or}
 use Rattle.std.specs.Fmt.{decimal}
 use Rattle.std.specs.List.{flat_map}
 
@@ -15,17 +16,34 @@ hex_octet octet = hex_digit (octet / 16) ∷ hex_digit (octet % 16) ∷ []
 abbrev pub hex : List ℕ → List ℕ
 hex octets = flat_map hex_octet octets
 
--- a visible character of ASCII, and no backslash
+abbrev pub is_between : (first last octet : ℕ) → Bool
+is_between first last octet = nat_le first octet && nat_le octet last
+
+-- a letter or a digit
+abbrev pub is_letter_or_digit : ℕ → Bool
+is_letter_or_digit octet = is_between 48 57 octet || is_between 65 90 octet || is_between 97 122 octet
+
+-- one of %+,-./:=@_
+abbrev pub is_mark : ℕ → Bool
+is_mark octet =
+    is_between 43 47 octet || octet == 37 || octet == 58 || octet == 61 || octet == 64 || octet == 95
+
+-- what stands for itself: a letter, a digit or one of those marks
 abbrev pub is_plain : ℕ → Bool
-is_plain octet = nat_le 33 octet && (nat_le octet 126 && not (octet == 92))
+is_plain octet = is_letter_or_digit octet || is_mark octet
 
 -- an octet as it is, or as a backslash, an `x` and its two digits
 abbrev pub escaped_octet : ℕ → List ℕ
 escaped_octet octet = if is_plain octet then octet ∷ [] else 92 ∷ 120 ∷ hex_octet octet
 
--- octets in one word
+-- octets behind a key and `=`, where none may stand
 abbrev pub escaped : List ℕ → List ℕ
 escaped octets = flat_map escaped_octet octets
+
+-- octets as a word of their own: none are `\e`, which no other octets are
+abbrev pub word : List ℕ → List ℕ
+word [] = 92 ∷ 101 ∷ []
+word (octet ∷ octets) = escaped (octet ∷ octets)
 
 -- two numbers with a dot between them
 abbrev pub dotted_pair : (some other : ℕ) → List ℕ
