@@ -1,6 +1,6 @@
 pub mod Files
 pub mod Names
 pub mod Tables
-pub mod Ports
+pub mod Taken
 pub mod Parts
 pub mod Told

@@ -2,9 +2,9 @@
 use Rattle.std.specs.Prelude.{ℕ, List, [], ◌∷◌, Bool, false, not, ◌==◌, ◌&&◌, nat_le, length, codes, bytes_eq}
 use Rattle.std.specs.List.{list_all, list_any}
 use Rattle.rld_config.specs.declared.key.Key.{Key}
-use Rattle.rld_config.specs.declared.key.Key.TheVariants.{Accounts, State, Sync, Archive, Listen, Control, Web, Address, Auth, Acct, Receivers, Socket, Port}
+use Rattle.rld_config.specs.declared.key.Key.TheVariants.{Accounts, State, Sync, Archive, Listen, Network, Control, Web, Address, Auth, Acct, Receivers, StatusServer, Prefix, Client, Socket, Port}
 use Rattle.rld_config.specs.declared.part.Part.{Part}
-use Rattle.rld_config.specs.declared.part.Part.TheVariants.{Head, Listen as OfListen, Control as OfControl, Web as OfWeb}
+use Rattle.rld_config.specs.declared.part.Part.TheVariants.{Head, Listen as OfListen, Network as OfNetwork, Control as OfControl, Web as OfWeb}
 
 -- the key as it stands in the file
 abbrev pub key_name : Key → List ℕ
@@ -13,19 +13,24 @@ key_name State = codes "state"
 key_name Sync = codes "sync"
 key_name Archive = codes "archive"
 key_name Listen = codes "listen"
+key_name Network = codes "network"
 key_name Control = codes "control"
 key_name Web = codes "web"
 key_name Address = codes "address"
 key_name Auth = codes "auth"
 key_name Acct = codes "acct"
 key_name Receivers = codes "receivers"
+key_name StatusServer = codes "status_server"
+key_name Prefix = codes "prefix"
+key_name Client = codes "client"
 key_name Socket = codes "socket"
 key_name Port = codes "port"
 
 -- the keys that a table may have
 abbrev pub keys_of : Part → List Key
-keys_of Head = Accounts ∷ State ∷ Sync ∷ Archive ∷ Listen ∷ Control ∷ Web ∷ []
-keys_of (OfListen number) = Address ∷ Auth ∷ Acct ∷ Receivers ∷ []
+keys_of Head = Accounts ∷ State ∷ Sync ∷ Archive ∷ Listen ∷ Network ∷ Control ∷ Web ∷ []
+keys_of (OfListen number) = Address ∷ Auth ∷ Acct ∷ Receivers ∷ StatusServer ∷ []
+keys_of (OfNetwork number) = Prefix ∷ Client ∷ []
 keys_of OfControl = Socket ∷ []
 keys_of OfWeb = Address ∷ Port ∷ []
 

@@ -1,15 +1,14 @@
 -- The server's file: what it says, or its first fault.
-use Rattle.std.specs.Prelude.{ℕ, ◌+◌, Bool, ◌==◌, ◌&&◌, ◌||◌, if◌then◌else◌, List, [], ◌∷◌, ◌++◌, length, Option, None, Some, option_map, ok_or, Result, Ok, Err}
+use Rattle.std.specs.Prelude.{ℕ, ◌+◌, Bool, false, not, ◌==◌, ◌&&◌, ◌||◌, if◌then◌else◌, List, [], ◌∷◌, ◌++◌, length, Option, None, Some, option_map, ok_or, is_some, position, Result, Ok, Err}
 use Rattle.std.specs.List.{list_any}
 use Rattle.std.specs.Str.{is_utf8}
-use Rattle.std.specs.Cmp.Lexicographic.{pointwise}
-use Rattle.std.specs.Prelude.{nat_eq}
+use Rattle.std.specs.declared.net.ip_addr.IpAddr.{IpAddr}
 use Rattle.toml.specs.Data.{Data, table}
 use Rattle.toml.specs.Parse.{parse_document}
 use Rattle.rld_config.specs.declared.archive.Archive.{Archive}
 use Rattle.rld_config.specs.declared.archive.Archive.TheVariants.{Days}
 use Rattle.rld_config.specs.declared.fault.ServerFault.{ServerFault}
-use Rattle.rld_config.specs.declared.fault.ServerFault.TheVariants.{NotToml, BadValue, TakenPort}
+use Rattle.rld_config.specs.declared.fault.ServerFault.TheVariants.{NotToml, BadValue, TakenPort, TakenPrefix, UnknownClient}
 use Rattle.rld_config.specs.declared.head.Head.{Head}
 use Rattle.rld_config.specs.declared.key.Key.{Key}
 use Rattle.rld_config.specs.declared.key.Key.TheVariants as key
@@ -20,7 +19,12 @@ use Rattle.rld_config.specs.declared.server.ServerFile.{ServerFile}
 use Rattle.rld_config.specs.declared.sync.SyncPolicy.{SyncPolicy}
 use Rattle.rld_config.specs.declared.sync.SyncPolicy.TheVariants.{Always}
 use Rattle.rld_config.specs.declared.web.Web.{Web}
-use Rattle.rld_config.specs.Value.{member_in, number_of, path_of, address_value, sync_value, archive_value, tables_of, required, or_default, unknown_in, and_then, fault_or}
+use Rattle.rld_networks.specs.Address.{covers, ipv4, same_address}
+use Rattle.rld_networks.specs.Prefix.{same_prefix}
+use Rattle.rld_networks.specs.declared.network.Network.{Network}
+use Rattle.rld_networks.specs.declared.prefix.Prefix.{Prefix}
+use Rattle.rsl_accounts.specs.Configuration.{Configuration, client_number}
+use Rattle.rld_config.specs.Value.{member_in, number_of, path_of, address_value, ip_address_value, prefix_value, flag_value, sync_value, archive_value, tables_of, required, or_default, unknown_in, and_then, fault_or}
 
 -- what a server's file says
 pub record Server : Type 0 where
@@ -29,6 +33,7 @@ pub record Server : Type 0 where
   pub sync : SyncPolicy
   pub archive : Archive
   pub listens : List Listen
+  pub networks : List Network
   pub control : Option (List ℕ)
   pub web : Option Web
 
@@ -39,20 +44,27 @@ server_in file = record {
   sync = file.sync;
   archive = file.archive;
   listens = file.listens.items;
+  networks = file.networks.items;
   control = file.control;
   web = file.web;
 }
 
--- the address that means every address of the machine, and that of the machine itself
-abbrev pub any_address : List ℕ
-any_address = 0 ∷ 0 ∷ 0 ∷ 0 ∷ []
+-- the address that means every IPv4 address of the machine, and that of the machine itself
+abbrev pub any_address : IpAddr
+any_address = ipv4 (0 ∷ 0 ∷ 0 ∷ 0 ∷ [])
 
 abbrev pub own_address : List ℕ
 own_address = 127 ∷ 0 ∷ 0 ∷ 1 ∷ []
 
 -- where a server listens that does not say it
 abbrev pub default_listen : Listen
-default_listen = record { address = any_address; auth = 1812; acct = 1813; receivers = 1 }
+default_listen = record {
+  address = any_address;
+  auth = 1812;
+  acct = 1813;
+  receivers = 1;
+  status_server = false;
+}
 
 -- what each key of a table says
 unfoldable pub path_in : Part → Data → Key → Result (List ℕ) ServerFault
@@ -67,6 +79,21 @@ needed_port_in part value key = required part key (number_of key) (member_in val
 unfoldable pub address_in : Part → Data → (default : List ℕ) → Result (List ℕ) ServerFault
 address_in part value default =
     or_default part key.Address address_value default (member_in value key.Address)
+
+unfoldable pub ip_address_in : Part → Data → Result IpAddr ServerFault
+ip_address_in part value =
+    or_default part key.Address ip_address_value any_address (member_in value key.Address)
+
+-- Status-Server is not answered if the file does not say otherwise
+unfoldable pub status_in : Part → Data → Result Bool ServerFault
+status_in part value =
+    or_default part key.StatusServer flag_value false (member_in value key.StatusServer)
+
+unfoldable pub prefix_in : Part → Data → Result Prefix ServerFault
+prefix_in part value = required part key.Prefix prefix_value (member_in value key.Prefix)
+
+unfoldable pub client_in : Part → Data → Result (List ℕ) ServerFault
+client_in part value = required part key.Client address_value (member_in value key.Client)
 
 -- each answer is synced if the file does not say otherwise
 unfoldable pub sync_in : Data → Result SyncPolicy ServerFault
@@ -89,29 +116,40 @@ head_in file =
 unfoldable pub listen_in : (number : ℕ) → Data → Result Listen ServerFault
 listen_in number value =
     fault_or (unknown_in (part.Listen number) value)
-    (and_then (address_in (part.Listen number) value any_address) (λ address.
+    (and_then (ip_address_in (part.Listen number) value) (λ address.
     and_then (port_in (part.Listen number) value key.Auth 1812) (λ auth.
     and_then (port_in (part.Listen number) value key.Acct 1813) (λ acct.
     and_then (port_in (part.Listen number) value key.Receivers 1) (λ receivers.
-    Ok (record { address = address; auth = auth; acct = acct; receivers = receivers }))))))
+    and_then (status_in (part.Listen number) value) (λ status.
+    Ok (record {
+      address = address;
+      auth = auth;
+      acct = acct;
+      receivers = receivers;
+      status_server = status;
+    })))))))
+
+unfoldable pub network_in : (number : ℕ) → Data → Result Network ServerFault
+network_in number value =
+    fault_or (unknown_in (part.Network number) value)
+    (and_then (prefix_in (part.Network number) value) (λ prefix.
+    and_then (client_in (part.Network number) value) (λ client.
+    Ok (record { prefix = prefix; client = client }))))
 
 -- what each table says, in the file's order, numbered from this number, or the first fault
-abbrev pub each_listen : (number : ℕ) → List Data → Result (List Listen) ServerFault
-each_listen number [] = Ok []
-each_listen number (value ∷ values) =
-    and_then (listen_in number value) (λ listen.
-    and_then (each_listen (number + 1) values) (λ listens.
-    Ok (listen ∷ listens)))
+abbrev pub each : {T : Type 0} → (ℕ → Data → Result T ServerFault) → (number : ℕ) → List Data
+    → Result (List T) ServerFault
+each says number [] = Ok []
+each says number (value ∷ values) =
+    and_then (says number value) (λ said.
+    and_then (each says (number + 1) values) (λ others.
+    Ok (said ∷ others)))
 
-abbrev pub same_address : List ℕ → List ℕ → Bool
-same_address = pointwise nat_eq
+-- whether two sockets cannot both be had: one takes what comes to the other's address and port
+abbrev pub addresses_meet : IpAddr → IpAddr → Bool
+addresses_meet one other = covers one other || covers other one
 
--- whether two sockets cannot both be had: one address and port, where every address means each
-abbrev pub addresses_meet : List ℕ → List ℕ → Bool
-addresses_meet one other =
-    same_address one other || same_address one any_address || same_address other any_address
-
-abbrev pub takes_port : (address : List ℕ) → (port : ℕ) → Listen → Bool
+abbrev pub takes_port : (address : IpAddr) → (port : ℕ) → Listen → Bool
 takes_port address port listen =
     addresses_meet address listen.address && (port == listen.auth || port == listen.acct)
 
@@ -124,27 +162,49 @@ taken_port before listen =
     then Some (TakenPort (part.Listen (length before + 1)) key.Acct)
     else None
 
+-- the prefix of a table, if a table before it has it
+abbrev pub taken_prefix : (before : List Network) → Network → Option ServerFault
+taken_prefix before network =
+    if list_any (λ other. same_prefix network.prefix other.prefix) before
+    then Some (TakenPrefix (part.Network (length before + 1)) key.Prefix)
+    else None
+
 abbrev pub first_of : Option ServerFault → Option ServerFault → Option ServerFault
 first_of None other = other
 first_of (Some fault) other = Some fault
 
-abbrev pub first_taken : (before listens : List Listen) → Option ServerFault
-first_taken before [] = None
-first_taken before (listen ∷ listens) =
-    first_of (taken_port before listen) (first_taken (before ++ listen ∷ []) listens)
+-- the first fault of tables, each by those before it
+abbrev pub first_taken : {T : Type 0} → (List T → T → Option ServerFault) → (before tables : List T)
+    → Option ServerFault
+first_taken taken before [] = None
+first_taken taken before (first ∷ rest) =
+    first_of (taken before first) (first_taken taken (before ++ first ∷ []) rest)
 
 unfoldable pub listens_of : List Data → Result (List Listen) ServerFault
 listens_of tables =
-    and_then (each_listen 1 tables) (λ listens.
-    fault_or (first_taken [] listens) (Ok listens))
+    and_then (each listen_in 1 tables) (λ listens.
+    fault_or (first_taken taken_port [] listens) (Ok listens))
 
 abbrev pub listens_at : Option Data → Result (List Listen) ServerFault
 listens_at None = Ok (default_listen ∷ [])
 listens_at (Some value) =
-    and_then (ok_or (tables_of value) (BadValue part.Head key.Listen)) listens_of
+    and_then (ok_or (tables_of 16 value) (BadValue part.Head key.Listen)) listens_of
 
 unfoldable pub listens_in : Data → Result (List Listen) ServerFault
 listens_in file = listens_at (member_in file key.Listen)
+
+unfoldable pub networks_of : List Data → Result (List Network) ServerFault
+networks_of tables =
+    and_then (each network_in 1 tables) (λ networks.
+    fault_or (first_taken taken_prefix [] networks) (Ok networks))
+
+abbrev pub networks_at : Option Data → Result (List Network) ServerFault
+networks_at None = Ok []
+networks_at (Some value) =
+    and_then (ok_or (tables_of 256 value) (BadValue part.Head key.Network)) networks_of
+
+unfoldable pub networks_in : Data → Result (List Network) ServerFault
+networks_in file = networks_at (member_in file key.Network)
 
 -- the table that the file may have under a key
 abbrev pub table_of : Data → Option Data
@@ -175,12 +235,13 @@ page_in value =
 unfoldable pub web_in : Data → Result (Option Web) ServerFault
 web_in file = option_at key.Web page_in (member_in file key.Web)
 
--- what the file says, or its first fault: of the head, of the tables `listen` in their order, of
--- `control`, of `web`
+-- what the file says, or its first fault: of the head, of the tables `listen` in their order, of the
+-- tables `network`, of `control`, of `web`
 unfoldable pub server_of_file : Data → Result Server ServerFault
 server_of_file file =
     and_then (head_in file) (λ head.
     and_then (listens_in file) (λ listens.
+    and_then (networks_in file) (λ networks.
     and_then (control_in file) (λ control.
     and_then (web_in file) (λ web.
     Ok (record {
@@ -189,9 +250,10 @@ server_of_file file =
       sync = head.sync;
       archive = head.archive;
       listens = listens;
+      networks = networks;
       control = control;
       web = web;
-    })))))
+    }))))))
 
 -- the table that the text is, if it is UTF-8 and TOML
 unfoldable pub file_of : List ℕ → Option Data
@@ -204,3 +266,14 @@ server_of_parsed (Some file) = server_of_file file
 -- what the text of a server's file says
 abbrev pub server_of_text : List ℕ → Result Server ServerFault
 server_of_text text = server_of_parsed (file_of text)
+
+-- the fault of the network of this number, counted from 0
+abbrev pub unknown_client_at : Option ℕ → Option ServerFault
+unknown_client_at None = None
+unknown_client_at (Some index) = Some (UnknownClient (part.Network (index + 1)) key.Client)
+
+-- the first network of which the client is none of a configuration
+unfoldable pub unknown_client : List Network → Configuration → Option ServerFault
+unknown_client networks config =
+    unknown_client_at
+    (position (λ network. not (is_some (client_number config network.client))) networks)

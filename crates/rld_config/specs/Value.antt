@@ -1,8 +1,12 @@
 -- What a value of TOML is under a key of the server's file, or the fault of that key.
-use Rattle.std.specs.Prelude.{ℕ, pos, Bool, ◌&&◌, if◌then◌else◌, List, [], ◌∷◌, length, codes, bytes_eq, Option, None, Some, ok_or, is_some, Result, Ok, Err}
+use Rattle.std.specs.Prelude.{ℕ, pos, Bool, ◌&&◌, if◌then◌else◌, List, [], ◌∷◌, length, codes, bytes_eq, Option, None, Some, ok_or, is_some, option_map, Result, Ok, Err}
 use Rattle.std.specs.List.{list_all}
-use Rattle.toml.specs.Data.{Data, string, integer, array, table, Items, no_items, item, Members, no_members, member, get, as_table}
+use Rattle.toml.specs.Data.{Data, string, integer, boolean, array, table, Items, no_items, item, Members, no_members, member, get, as_table}
+use Rattle.std.specs.declared.net.ip_addr.IpAddr.{IpAddr}
 use Rattle.rsl_accounts.specs.Address.{address_of}
+use Rattle.rld_networks.specs.Address.{canonical, ip_address_of}
+use Rattle.rld_networks.specs.Prefix.{prefix_of}
+use Rattle.rld_networks.specs.declared.prefix.Prefix.{Prefix}
 use Rattle.rld_config.specs.declared.archive.Archive.{Archive}
 use Rattle.rld_config.specs.declared.archive.Archive.TheVariants.{Keep, Nothing, Days}
 use Rattle.rld_config.specs.declared.fault.ServerFault.{ServerFault}
@@ -18,7 +22,8 @@ use Rattle.rld_config.specs.Key.{key_name, knows, takes_number, is_between, is_p
 abbrev pub member_in : Data → Key → Option Data
 member_in value key = get (key_name key) value
 
--- the number, the path, the address, the word and the table that a value is, if the key may have it
+-- the number, the path, the address, the prefix, the word and the table that a value is, if the key
+-- may have it
 abbrev pub number_of : Key → Data → Option ℕ
 number_of key (integer (pos number)) = if takes_number key number then Some number else None
 number_of key _ = None
@@ -30,6 +35,19 @@ path_of _ = None
 abbrev pub address_value : Data → Option (List ℕ)
 address_value (string text) = address_of text
 address_value _ = None
+
+-- an IPv4 or IPv6 address: ::ffff:a.b.c.d is a.b.c.d
+abbrev pub ip_address_value : Data → Option IpAddr
+ip_address_value (string text) = option_map canonical (ip_address_of text)
+ip_address_value _ = None
+
+abbrev pub prefix_value : Data → Option Prefix
+prefix_value (string text) = prefix_of text
+prefix_value _ = None
+
+abbrev pub flag_value : Data → Option Bool
+flag_value (boolean flag) = Some flag
+flag_value _ = None
 
 abbrev pub sync_word : List ℕ → Option SyncPolicy
 sync_word text =
@@ -62,14 +80,14 @@ list_of (item value rest) = value ∷ list_of rest
 abbrev pub are_tables : List Data → Bool
 are_tables items = list_all (λ value. is_some (as_table value)) items
 
--- 1 to 16 tables
-abbrev pub tables_of_list : List Data → Option (List Data)
-tables_of_list items =
-    if are_tables items && is_between 1 16 (length items) then Some items else None
+-- one table or more, but no more than so many
+abbrev pub tables_of_list : (most : ℕ) → List Data → Option (List Data)
+tables_of_list most items =
+    if are_tables items && is_between 1 most (length items) then Some items else None
 
-abbrev pub tables_of : Data → Option (List Data)
-tables_of (array items) = tables_of_list (list_of items)
-tables_of _ = None
+abbrev pub tables_of : (most : ℕ) → Data → Option (List Data)
+tables_of most (array items) = tables_of_list most (list_of items)
+tables_of most _ = None
 
 -- the value of a key that a table must have, and of one that it may leave out, or the fault
 abbrev pub required : {T : Type 0} → Part → Key → (Data → Option T) → Option Data

@@ -1,5 +1,5 @@
 -- What an operator is told of an account file that is right.
-use Rattle.std.specs.Prelude.{ℕ, ◌+◌, ◌*◌, Bool, not, ◌==◌, nat_lt, bit_and, if◌then◌else◌, List, [], ◌∷◌, ◌++◌, length}
+use Rattle.std.specs.Prelude.{ℕ, ◌+◌, ◌*◌, Bool, not, ◌==◌, nat_lt, bit_and, if◌then◌else◌, List, [], ◌∷◌, ◌++◌, length, map}
 use Rattle.std.specs.List.{flat_map}
 use Rattle.std.specs.Prelude.{◌/◌}
 use Rattle.rsl_accounts.specs.Configuration.{Configuration}
@@ -7,7 +7,8 @@ use Rattle.rsl_accounts.specs.declared.client.Client.{Client}
 use Rattle.rsl_accounts.specs.declared.entry.Entry.{Entry}
 use Rattle.rsl_accounts.specs.declared.rules.Rules.{Rules}
 use Rattle.rld_config.specs.declared.warning.Warning.{Warning}
-use Rattle.rld_config.specs.declared.warning.Warning.TheVariants.{NotSigned, ShortSecret, OthersRead, Memory}
+use Rattle.rld_config.specs.declared.warning.Warning.TheVariants.{NotSigned, ShortSecret, Prefixed, OthersRead, Memory}
+use Rattle.rld_networks.specs.declared.network.Network.{Network}
 
 -- a client whose requests need no signature, and one whose secret has under 16 octets (RFC 2865
 -- section 3)
@@ -20,6 +21,10 @@ secret_warning client =
 
 abbrev pub client_warnings : Client → List Warning
 client_warnings client = signed_warning client ++ secret_warning client
+
+-- a network: the access servers behind it that do not name themselves count as one
+abbrev pub network_warnings : List Network → List Warning
+network_warnings networks = map (λ network. Prefixed network.prefix) networks
 
 -- whether the mode of a file lets everybody read it
 abbrev pub others_read : (mode : ℕ) → Bool
@@ -40,9 +45,10 @@ books_octets (entry ∷ entries) = book_octets entry.rules + books_octets entrie
 abbrev pub megabytes : ℕ → ℕ
 megabytes octets = (octets + 999999) / 1000000
 
--- what is told: of each client in the file's order, of the file, of its accounts
-unfoldable pub warnings_of : Configuration → (mode : ℕ) → List Warning
-warnings_of config mode =
+-- what is told: of each client in the file's order, of each network, of the file, of its accounts
+unfoldable pub warnings_of : Configuration → List Network → (mode : ℕ) → List Warning
+warnings_of config networks mode =
     flat_map client_warnings config.clients
+    ++ network_warnings networks
     ++ mode_warning mode
     ++ Memory (megabytes (books_octets config.accounts)) ∷ []

@@ -27,6 +27,12 @@ pub enum ServerFault {
     /// The port is one that stands before it in the file, at an address that meets its own.
     #[error("TakenPort {0}{1}")]
     TakenPort(Part, Key),
+    /// The prefix is one that stands before it in the file.
+    #[error("TakenPrefix {0}{1}")]
+    TakenPrefix(Part, Key),
+    /// The account file has no client of this address.
+    #[error("UnknownClient {0}{1}")]
+    UnknownClient(Part, Key),
     /// Memory was refused.
     #[error("NoMemory")]
     NoMemory,

@@ -28,11 +28,13 @@ pub enum Key {
     Archive,
     /// Where packets come to, as an array of tables.
     Listen,
+    /// Which addresses stand for clients, as an array of tables.
+    Network,
     /// Where the running server is asked, as a table.
     Control,
     /// Where its page is served, as a table.
     Web,
-    /// The IPv4 address of a `listen` or of `web`.
+    /// The address of a `listen` or of `web`.
     Address,
     /// The UDP port for Access-Requests.
     Auth,
@@ -40,6 +42,12 @@ pub enum Key {
     Acct,
     /// How many receivers take from each of both ports.
     Receivers,
+    /// Whether Status-Server packets are answered on both ports.
+    StatusServer,
+    /// The prefix of a `network`.
+    Prefix,
+    /// The IPv4 address of the client that a `network` stands for.
+    Client,
     /// The path of the control's socket.
     Socket,
     /// The TCP port of the page.
@@ -57,12 +65,16 @@ impl Key {
             Key::Sync => "sync",
             Key::Archive => "archive",
             Key::Listen => "listen",
+            Key::Network => "network",
             Key::Control => "control",
             Key::Web => "web",
             Key::Address => "address",
             Key::Auth => "auth",
             Key::Acct => "acct",
             Key::Receivers => "receivers",
+            Key::StatusServer => "status_server",
+            Key::Prefix => "prefix",
+            Key::Client => "client",
             Key::Socket => "socket",
             Key::Port => "port",
         }

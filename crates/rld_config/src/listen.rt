@@ -3,7 +3,6 @@ ghost use Rattle.std.specs.Prelude.{◌≡◌, ◌+◌, ◌<◌, ◌^◌, [], le
 ghost use Rattle.std.specs.List.{list_any};
 ghost use Rattle.rld_config.specs.Server.{
   addresses_meet,
-  any_address,
   default_listen,
   first_taken,
   taken_port,
@@ -13,9 +12,9 @@ ghost use Rattle.rld_config.specs.Server.{
 use crate::fault::ServerFault;
 use crate::key::Key;
 use crate::part::Part;
-
-/// The address that means every address of the machine.
-pub(crate) const ANY_ADDRESS: [u8; 4] = [0, 0, 0, 0];
+use crate::value::ANY_ADDRESS;
+use rld_networks::covers;
+use std::net::{IpAddr, Ipv4Addr};
 
 /// The port of Access-Requests (RFC 2865 section 3).
 pub(crate) const AUTH_PORT: u16 = 1812;
@@ -26,47 +25,50 @@ pub(crate) const ACCT_PORT: u16 = 1813;
 /// Two ports of an address that packets come to.
 #[derive(Clone, Copy, Debug, PartialEq, Eq)]
 pub struct Listen {
-    /// An IPv4 address of this machine, or 0.0.0.0 for all of them.
-    pub address: [u8; 4],
+    /// An address of this machine, or 0.0.0.0 for all its IPv4 addresses, or :: for all addresses.
+    pub address: IpAddr,
     /// The UDP port for Access-Requests, at least 1.
     pub auth: u16,
     /// The UDP port for Accounting-Requests, at least 1.
     pub acct: u16,
     /// How many receivers take from each of both ports: 1 to 16.
     pub receivers: u16,
+    /// Whether Status-Server packets are answered on both (RFC 5997).
+    pub status_server: bool,
 }
 
 impl Listen {
-    /// Where a server listens whose file does not say it: 1812 and 1813 of all addresses, with one
-    /// receiver each.
+    /// Where a server listens whose file does not say it: 1812 and 1813 of all IPv4 addresses, with
+    /// one receiver each.
     pub(crate) fn standard() -> Listen
         ensures { result ≡ default_listen }
     {
         Listen {
-            address: ANY_ADDRESS,
+            address: IpAddr::V4(Ipv4Addr::from_octets(ANY_ADDRESS)),
             auth: AUTH_PORT,
             acct: ACCT_PORT,
             receivers: 1,
+            status_server: false,
         }
     }
 
     /// Whether one of the ports is this one, at an address that meets this one.
-    fn takes_port(&self, address: [u8; 4], port: u16) -> bool
+    fn takes_port(&self, address: IpAddr, port: u16) -> bool
         ensures { result ≡ takes_port address port self.now }
     {
         addresses_meet(address, self.address) && (port == self.auth || port == self.acct)
     }
 }
 
-/// Whether one port cannot be had at both addresses: they are the same, or one means every address.
-fn addresses_meet(one: [u8; 4], other: [u8; 4]) -> bool
+/// Whether one port cannot be had at both addresses: a socket at one takes what comes to the other.
+fn addresses_meet(one: IpAddr, other: IpAddr) -> bool
     ensures { result ≡ addresses_meet one other }
 {
-    one == other || one == ANY_ADDRESS || other == ANY_ADDRESS
+    covers(one, other) || covers(other, one)
 }
 
 /// Whether one of the tables takes the port.
-fn is_taken(tables: &[Listen], address: [u8; 4], port: u16) -> bool
+fn is_taken(tables: &[Listen], address: IpAddr, port: u16) -> bool
     ensures { result ≡ list_any (takes_port address port) tables.now }
 {
     tables.iter().any(|table| table.takes_port(address, port))
@@ -88,9 +90,9 @@ fn taken_port(before: &[Listen], table: &Listen) -> Option<ServerFault>
 }
 
 /// The first port of the tables that another socket has before it.
-pub(crate) fn first_taken(tables: &[Listen]) -> Option<ServerFault>
+pub(crate) fn first_taken_port(tables: &[Listen]) -> Option<ServerFault>
     requires { length tables.now < 2 ^ 32 }
-    ensures { result ≡ first_taken [] tables.now }
+    ensures { result ≡ first_taken taken_port [] tables.now }
 {
     for (number, table) in tables.iter().enumerate() {
         if let Some(fault) = taken_port(&tables[..number], table) {

@@ -14,6 +14,8 @@ pub enum Part {
     Head,
     /// The table `listen` of this number, from 1 in the order of the file.
     Listen(u64),
+    /// The table `network` of this number, from 1 in the order of the file.
+    Network(u64),
     /// The table `control`.
     Control,
     /// The table `web`.
@@ -32,10 +34,18 @@ impl Part {
                 Key::Sync,
                 Key::Archive,
                 Key::Listen,
+                Key::Network,
                 Key::Control,
                 Key::Web,
             ],
-            Part::Listen(_) => &[Key::Address, Key::Auth, Key::Acct, Key::Receivers],
+            Part::Listen(_) => &[
+                Key::Address,
+                Key::Auth,
+                Key::Acct,
+                Key::Receivers,
+                Key::StatusServer,
+            ],
+            Part::Network(_) => &[Key::Prefix, Key::Client],
             Part::Control => &[Key::Socket],
             Part::Web => &[Key::Address, Key::Port],
         }
@@ -54,6 +64,7 @@ impl fmt::Display for Part {
         match self {
             Part::Head => Ok(()),
             Part::Listen(number) => write!(f, "listen {number} "),
+            Part::Network(number) => write!(f, "network {number} "),
             Part::Control => f.write_str("control "),
             Part::Web => f.write_str("web "),
         }

@@ -4,12 +4,15 @@ ghost use Rattle.std.specs.Prelude.{◌≡◌, ◌≢◌, ◌≤◌, Some, None,
 ghost use Rattle.toml.specs.View.{view};
 ghost use Rattle.rld_config.specs.Server.{
   control_in,
-  each_listen,
+  each,
   file_of,
   head_in,
   listen_in,
   listens_in,
   listens_of,
+  network_in,
+  networks_in,
+  networks_of,
   page_in,
   server_in,
   server_of_file,
@@ -17,22 +20,30 @@ ghost use Rattle.rld_config.specs.Server.{
   socket_in,
   web_in,
 };
-ghost use Rattle.rld_config.specs.Value.{tables_of};
 
 use crate::archive::Archive;
 use crate::fault::ServerFault;
 use crate::head::Head;
 use crate::key::Key;
-use crate::listen::{ACCT_PORT, ANY_ADDRESS, AUTH_PORT, Listen, first_taken};
+use crate::listen::{ACCT_PORT, AUTH_PORT, Listen, first_taken_port};
+use crate::network::first_taken_prefix;
 use crate::part::Part;
 use crate::sync::SyncPolicy;
 use crate::value::{
-    address, archive, check_names, member, needed_number, number, path, sync, tables_of,
+    address, archive, check_names, client, ip_address, member, needed_number, number, path, prefix,
+    status_server, sync, tables_of,
 };
 use crate::web::Web;
+use rld_networks::Network;
 use rsl_accounts::Text;
 use std::alloc::Global;
 use toml::Value;
+
+/// The most tables that the array `listen` may have.
+const MAX_LISTENS: u64 = 16;
+
+/// The most tables that the array `network` may have: as many as there may be clients.
+const MAX_NETWORKS: u64 = 256;
 
 /// The address of the machine itself, which no other machine can ask.
 const OWN_ADDRESS: [u8; 4] = [127, 0, 0, 1];
@@ -50,6 +61,8 @@ pub struct ServerFile {
     pub archive: Archive,
     /// Where packets come to: 1 to 16, no two on one port.
     pub listens: Vec<Listen>,
+    /// Which addresses stand for clients: at most 256, no two with one prefix.
+    pub networks: Vec<Network>,
     /// The path of the control's socket, if the file has one.
     pub control: Option<Text>,
     /// Where the page is served, if it is.
@@ -60,8 +73,8 @@ impl ServerFile {
     /// What the text of a server's file says. The faults come in this order: `NotToml`; of the
     /// head, the first name that is not known, then the first key that is absent or has a wrong
     /// value; the same of each table `listen`, in the file's order, then `TakenPort`; the same of
-    /// `control` and of `web`. `NoMemory` comes where memory is refused, before the checks that
-    /// follow.
+    /// each table `network`, then `TakenPrefix`; the same of `control` and of `web`. `NoMemory` comes
+    /// where memory is refused, before the checks that follow.
     pub fn read(alloc: Global, text: &[u8]) -> Result<ServerFile, ServerFault>
         ensures ok { IfOk result (λ file. server_of_text text.now ≡ Ok (server_in file)) }
         ensures fault { IfErr result (λ fault. fault ≢ ServerFault.NoMemory →
@@ -80,6 +93,7 @@ impl ServerFile {
     {
         let head = head(alloc, file)?;
         let listens = listens(alloc, file)?;
+        let networks = networks(alloc, file)?;
         let control = control(alloc, file)?;
         let web = web(alloc, file)?;
         Ok(ServerFile {
@@ -88,6 +102,7 @@ impl ServerFile {
             sync: head.sync,
             archive: head.archive,
             listens,
+            networks,
             control,
             web,
         })
@@ -133,19 +148,20 @@ fn listen(alloc: Global, number_of_table: u64, table: &Value) -> Result<Listen, 
     let part = Part::Listen(number_of_table);
     check_names(alloc, part, table)?;
     Ok(Listen {
-        address: address(part, table, ANY_ADDRESS)?,
+        address: ip_address(part, table)?,
         auth: number(part, table, Key::Auth, AUTH_PORT)?,
         acct: number(part, table, Key::Acct, ACCT_PORT)?,
         receivers: number(part, table, Key::Receivers, 1)?,
+        status_server: status_server(part, table)?,
     })
 }
 
 /// What each table `listen` says, in the file's order.
 fn listens_of_tables(alloc: Global, tables: &[Value]) -> Result<Vec<Listen>, ServerFault>
     requires { length tables.now ≤ 16 }
-    ensures ok { IfOk result (λ listens. each_listen 1 (map view tables.now) ≡ Ok listens.items) }
+    ensures ok { IfOk result (λ listens. each listen_in 1 (map view tables.now) ≡ Ok listens.items) }
     ensures fault { IfErr result (λ fault. fault ≢ ServerFault.NoMemory →
-        each_listen 1 (map view tables.now) ≡ Err fault) }
+        each listen_in 1 (map view tables.now) ≡ Err fault) }
     ensures few { IfOk result (λ listens. length listens.items ≤ 16) }
 {
     let mut listens = Vec::with_capacity(alloc, tables.len())?;
@@ -164,7 +180,7 @@ fn listens_apart(alloc: Global, tables: &[Value]) -> Result<Vec<Listen>, ServerF
         listens_of (map view tables.now) ≡ Err fault) }
 {
     let listens = listens_of_tables(alloc, tables)?;
-    match first_taken(listens.as_slice()) {
+    match first_taken_port(listens.as_slice()) {
         Some(fault) => Err(fault),
         None => Ok(listens),
     }
@@ -178,11 +194,74 @@ fn listens(alloc: Global, file: &Value) -> Result<Vec<Listen>, ServerFault>
         listens_in (view file.now) ≡ Err fault) }
 {
     match member(file, Key::Listen) {
-        Some(value) => match tables_of(value) {
+        Some(value) => match tables_of(value, MAX_LISTENS) {
             Some(tables) => listens_apart(alloc, tables),
             None => Err(ServerFault::BadValue(Part::Head, Key::Listen)),
         },
         None => Ok(vec![in alloc; Listen::standard()]?),
+    }
+}
+
+/// What a table `network` says.
+#[tactic(auto, unfolding(crate::specs::Server::network_in))]
+fn network(alloc: Global, number_of_table: u64, table: &Value) -> Result<Network, ServerFault>
+    ensures ok { IfOk result (λ network. network_in number_of_table (view table.now) ≡ Ok network) }
+    ensures fault { IfErr result (λ fault. fault ≢ ServerFault.NoMemory →
+        network_in number_of_table (view table.now) ≡ Err fault) }
+{
+    let part = Part::Network(number_of_table);
+    check_names(alloc, part, table)?;
+    Ok(Network {
+        prefix: prefix(part, table)?,
+        client: client(part, table)?,
+    })
+}
+
+/// What each table `network` says, in the file's order.
+fn networks_of_tables(alloc: Global, tables: &[Value]) -> Result<Vec<Network>, ServerFault>
+    requires { length tables.now ≤ 256 }
+    ensures ok { IfOk result (λ networks.
+        each network_in 1 (map view tables.now) ≡ Ok networks.items) }
+    ensures fault { IfErr result (λ fault. fault ≢ ServerFault.NoMemory →
+        each network_in 1 (map view tables.now) ≡ Err fault) }
+    ensures few { IfOk result (λ networks. length networks.items ≤ 256) }
+{
+    let mut networks = Vec::with_capacity(alloc, tables.len())?;
+    for (number, table) in tables.iter().enumerate() {
+        networks.push(network(alloc, number as u64 + 1, table)?)?;
+    }
+    Ok(networks)
+}
+
+/// The same, if no two networks have one prefix.
+#[tactic(auto, unfolding(crate::specs::Server::networks_of))]
+fn networks_apart(alloc: Global, tables: &[Value]) -> Result<Vec<Network>, ServerFault>
+    requires { length tables.now ≤ 256 }
+    ensures ok { IfOk result (λ networks.
+        networks_of (map view tables.now) ≡ Ok networks.items) }
+    ensures fault { IfErr result (λ fault. fault ≢ ServerFault.NoMemory →
+        networks_of (map view tables.now) ≡ Err fault) }
+{
+    let networks = networks_of_tables(alloc, tables)?;
+    match first_taken_prefix(networks.as_slice()) {
+        Some(fault) => Err(fault),
+        None => Ok(networks),
+    }
+}
+
+/// Which addresses stand for clients.
+#[tactic(auto, unfolding(crate::specs::Server::networks_in))]
+fn networks(alloc: Global, file: &Value) -> Result<Vec<Network>, ServerFault>
+    ensures ok { IfOk result (λ networks. networks_in (view file.now) ≡ Ok networks.items) }
+    ensures fault { IfErr result (λ fault. fault ≢ ServerFault.NoMemory →
+        networks_in (view file.now) ≡ Err fault) }
+{
+    match member(file, Key::Network) {
+        Some(value) => match tables_of(value, MAX_NETWORKS) {
+            Some(tables) => networks_apart(alloc, tables),
+            None => Err(ServerFault::BadValue(Part::Head, Key::Network)),
+        },
+        None => Ok(Vec::new(alloc)),
     }
 }
 

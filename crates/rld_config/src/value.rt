@@ -22,6 +22,9 @@ ghost use Rattle.toml.specs.View.{view};
 ghost use Rattle.rld_config.specs.Value.{
   address_value,
   archive_value,
+  flag_value,
+  ip_address_value,
+  prefix_value,
   member_in,
   number_of,
   path_of,
@@ -33,6 +36,10 @@ ghost use Rattle.rld_config.specs.Value.{
 ghost use Rattle.rld_config.specs.Server.{
   address_in,
   archive_in,
+  client_in,
+  ip_address_in,
+  prefix_in,
+  status_in,
   needed_port_in,
   path_in,
   port_in,
@@ -44,12 +51,14 @@ use crate::fault::ServerFault;
 use crate::key::{Key, is_between, is_path};
 use crate::part::Part;
 use crate::sync::SyncPolicy;
+use rld_networks::{Prefix, canonical, ip_address_of, prefix_of};
 use rsl_accounts::{Text, address_of};
 use std::alloc::Global;
+use std::net::{IpAddr, Ipv4Addr};
 use toml::Value;
 
-/// The most tables that the array `listen` may have.
-const MAX_LISTENS: u64 = 16;
+/// The address that means every IPv4 address of the machine.
+pub(crate) const ANY_ADDRESS: [u8; 4] = [0, 0, 0, 0];
 
 /// How long an archive is kept if the file does not say it, in days.
 const ARCHIVE_DAYS: u16 = 7;
@@ -156,6 +165,77 @@ pub(crate) fn address(part: Part, table: &Value, default: [u8; 4]) -> Result<[u8
     }
 }
 
+/// The IPv4 or IPv6 address that a value is the text of: a.b.c.d for ::ffff:a.b.c.d.
+fn ip_address_value(value: &Value) -> Option<IpAddr>
+    ensures { result ≡ ip_address_value (view value.now) }
+{
+    Some(canonical(ip_address_of(value.as_str()?.as_bytes())?))
+}
+
+/// The address of a table `listen`: every IPv4 address if the table does not say it.
+#[tactic(auto, unfolding(crate::specs::Server::ip_address_in))]
+pub(crate) fn ip_address(part: Part, table: &Value) -> Result<IpAddr, ServerFault>
+    ensures { result ≡ ip_address_in part (view table.now) }
+{
+    match member(table, Key::Address) {
+        Some(value) => match ip_address_value(value) {
+            Some(address) => Ok(address),
+            None => Err(ServerFault::BadValue(part, Key::Address)),
+        },
+        None => Ok(IpAddr::V4(Ipv4Addr::from_octets(ANY_ADDRESS))),
+    }
+}
+
+/// Whether Status-Server packets are answered: not if the table does not say it.
+#[tactic(auto, unfolding(crate::specs::Server::status_in))]
+pub(crate) fn status_server(part: Part, table: &Value) -> Result<bool, ServerFault>
+    ensures { result ≡ status_in part (view table.now) }
+{
+    match member(table, Key::StatusServer) {
+        Some(value) => match flag_value(value) {
+            Some(flag) => Ok(flag),
+            None => Err(ServerFault::BadValue(part, Key::StatusServer)),
+        },
+        None => Ok(false),
+    }
+}
+
+/// What a value is, if it is true or false.
+fn flag_value(value: &Value) -> Option<bool>
+    ensures { result ≡ flag_value (view value.now) }
+{
+    value.as_bool()
+}
+
+/// The prefix that a value is the text of.
+fn prefix_value(value: &Value) -> Option<Prefix>
+    ensures { result ≡ prefix_value (view value.now) }
+{
+    prefix_of(value.as_str()?.as_bytes())
+}
+
+/// The prefix of a table `network`.
+#[tactic(auto, unfolding(crate::specs::Server::prefix_in))]
+pub(crate) fn prefix(part: Part, table: &Value) -> Result<Prefix, ServerFault>
+    ensures { result ≡ prefix_in part (view table.now) }
+{
+    match prefix_value(present(part, table, Key::Prefix)?) {
+        Some(prefix) => Ok(prefix),
+        None => Err(ServerFault::BadValue(part, Key::Prefix)),
+    }
+}
+
+/// The client of a table `network`.
+#[tactic(auto, unfolding(crate::specs::Server::client_in))]
+pub(crate) fn client(part: Part, table: &Value) -> Result<[u8; 4], ServerFault>
+    ensures { result ≡ client_in part (view table.now) }
+{
+    match address_value(present(part, table, Key::Client)?) {
+        Some(address) => Ok(address),
+        None => Err(ServerFault::BadValue(part, Key::Client)),
+    }
+}
+
 /// The policy that a value is the word of.
 fn sync_value(value: &Value) -> Option<SyncPolicy>
     ensures { result ≡ sync_value (view value.now) }
@@ -201,21 +281,22 @@ pub(crate) fn archive(file: &Value) -> Result<Archive, ServerFault>
     }
 }
 
-/// The tables that a value is, if they are 1 to 16.
-pub(crate) fn tables_of(value: &Value) -> Option<&[Value]>
-    ensures value { option_map (λ tables. map view tables.now) result ≡ tables_of (view value.now) }
-    ensures few { IfSome result (λ tables. length tables.now ≤ 16) }
+/// The tables that a value is, if there is one and there are no more than so many.
+pub(crate) fn tables_of(value: &Value, most: u64) -> Option<&[Value]>
+    ensures value { option_map (λ tables. map view tables.now) result
+        ≡ tables_of most (view value.now) }
+    ensures few { IfSome result (λ tables. length tables.now ≤ most) }
 {
-    tables_of_list(value.as_array()?.as_slice())
+    tables_of_list(value.as_array()?.as_slice(), most)
 }
 
-/// The items of an array, if they are 1 to 16 tables.
-fn tables_of_list(items: &[Value]) -> Option<&[Value]>
+/// The items of an array, if they are tables, one or more, but no more than so many.
+fn tables_of_list(items: &[Value], most: u64) -> Option<&[Value]>
     ensures value { option_map (λ tables. map view tables.now) result
-        ≡ tables_of_list (map view items.now) }
-    ensures few { IfSome result (λ tables. length tables.now ≤ 16) }
+        ≡ tables_of_list most (map view items.now) }
+    ensures few { IfSome result (λ tables. length tables.now ≤ most) }
 {
-    if are_tables(items) && is_between(1, MAX_LISTENS, items.len() as u64) {
+    if are_tables(items) && is_between(1, most, items.len() as u64) {
         Some(items)
     } else {
         None

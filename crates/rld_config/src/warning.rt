@@ -8,12 +8,14 @@ ghost use Rattle.rld_config.specs.Warning.{
   client_warnings,
   megabytes,
   mode_warning,
+  network_warnings,
   others_read,
   secret_warning,
   signed_warning,
   warnings_of,
 };
 
+use rld_networks::{Network, Prefix};
 use rsl_accounts::{Client, Config, Rules};
 use rsl_wire::NoMemory;
 use std::alloc::Global;
@@ -41,6 +43,9 @@ pub enum Warning {
     NotSigned([u8; 4]),
     /// The secret of the client of this address has under 16 octets.
     ShortSecret([u8; 4]),
+    /// The addresses of this prefix stand for one client, so the access servers behind it that name
+    /// themselves neither by NAS-Identifier nor by NAS-IP-Address count as one.
+    Prefixed(Prefix),
     /// Everybody can read the account file.
     OthersRead,
     /// What the books of the accounts take, in millions of octets, rounded up.
@@ -57,6 +62,10 @@ impl fmt::Display for Warning {
             Warning::ShortSecret([a, b, c, d]) => {
                 write!(f, "client {a}.{b}.{c}.{d}: its secret has under 16 octets")
             }
+            Warning::Prefixed(prefix) => write!(
+                f,
+                "network {prefix}: access servers without NAS-Identifier and NAS-IP-Address count as one"
+            ),
             Warning::OthersRead => f.write_str("accounts: everybody can read the file"),
             Warning::Memory(megabytes) => {
                 write!(f, "accounts: their places take {megabytes} MB of memory")
@@ -65,14 +74,21 @@ impl fmt::Display for Warning {
     }
 }
 
-/// What is to be known of an account file that is right, and has this mode: of each client in the
-/// file's order whether it need not sign and whether its secret is short; whether everybody can
-/// read the file; what the accounts' places take. It fails only where memory is refused.
+/// What is to be known of an account file that is right, and has this mode, and of the networks of the
+/// server's file: of each client in the file's order whether it need not sign and whether its secret
+/// is short; each network; whether everybody can read the account file; what the accounts' places
+/// take. It fails only where memory is refused.
 #[tactic(auto, unfolding(crate::specs::Warning::warnings_of))]
-pub fn warnings(alloc: Global, config: &Config, mode: u32) -> Result<Vec<Warning>, NoMemory>
-    ensures { IfOk result (λ warnings. warnings.items ≡ warnings_of config.now mode) }
+pub fn warnings(
+    alloc: Global,
+    config: &Config,
+    networks: &[Network],
+    mode: u32,
+) -> Result<Vec<Warning>, NoMemory>
+    ensures { IfOk result (λ warnings. warnings.items ≡ warnings_of config.now networks.now mode) }
 {
     let mut warnings = warnings_of_clients(alloc, config)?;
+    warn_of_networks(networks, &mut warnings)?;
     warn_of_mode(mode, &mut warnings)?;
     warnings.push(Warning::Memory(megabytes(books_octets(config))))?;
     Ok(warnings)
@@ -117,6 +133,17 @@ fn warn_of_secret(client: &Client, warnings: &mut Vec<Warning>) -> Result<(), No
 {
     if client.secret.expose().len() < SECRET_LEN {
         warnings.push(Warning::ShortSecret(client.address))?;
+    }
+    Ok(())
+}
+
+/// Adds what is to be known of networks.
+fn warn_of_networks(networks: &[Network], warnings: &mut Vec<Warning>) -> Result<(), NoMemory>
+    ensures { OnOk result
+        (warnings.new.items ≡ warnings.old.items ++ network_warnings networks.now) }
+{
+    for network in networks {
+        warnings.push(Warning::Prefixed(network.prefix))?;
     }
     Ok(())
 }

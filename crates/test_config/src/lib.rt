@@ -5,6 +5,8 @@
 #[cfg(test)]
 mod breaks;
 #[cfg(test)]
+mod networks;
+#[cfg(test)]
 mod paths;
 #[cfg(test)]
 mod server_file;

@@ -76,7 +76,17 @@ fn the_first_fault_of_the_tables_is_named(rt: HostRuntime) -> Result<(), Fail> {
         a number | accounts = "a" | state = "s" | listen = [1] | BadValue listen
         an empty table | accounts = "a" | state = "s" | [[listen]] | Ok
         another name | accounts = "a" | state = "s" | [[listen]] | port = 1 | Unknown listen 1 "port"
-        no address | accounts = "a" | state = "s" | [[listen]] | address = "::1" | BadValue listen 1 address
+        no address | accounts = "a" | state = "s" | [[listen]] | address = "[::1]" | BadValue listen 1 address
+        an IPv6 address | accounts = "a" | state = "s" | [[listen]] | address = "::1" | Ok
+        no flag | accounts = "a" | state = "s" | [[listen]] | status_server = 1 | BadValue listen 1 status_server
+        a network as a table | accounts = "a" | state = "s" | [network] | BadValue network
+        no network | accounts = "a" | state = "s" | network = [] | BadValue network
+        no prefix | accounts = "a" | state = "s" | [[network]] | client = "192.0.2.1" | Missing network 1 prefix
+        no client | accounts = "a" | state = "s" | [[network]] | prefix = "::/0" | Missing network 1 client
+        another name | accounts = "a" | state = "s" | [[network]] | address = "::/0" | Unknown network 1 "address"
+        no prefix by its text | accounts = "a" | state = "s" | [[network]] | prefix = "::" | BadValue network 1 prefix
+        an IPv6 client | accounts = "a" | state = "s" | [[network]] | prefix = "::/0" | client = "::1" | BadValue network 1 client
+        a second | accounts = "a" | state = "s" | [[network]] | prefix = "::/0" | client = "192.0.2.1" | [[network]] | prefix = 1 | BadValue network 2 prefix
         port 0 | accounts = "a" | state = "s" | [[listen]] | auth = 0 | BadValue listen 1 auth
         port 65535 | accounts = "a" | state = "s" | [[listen]] | acct = 65535 | Ok
         port 65536 | accounts = "a" | state = "s" | [[listen]] | acct = 65536 | BadValue listen 1 acct
@@ -94,6 +104,8 @@ fn the_first_fault_of_the_tables_is_named(rt: HostRuntime) -> Result<(), Fail> {
         no address | accounts = "a" | state = "s" | [web] | address = "a" | BadValue web address
         a page at port 0 | accounts = "a" | state = "s" | [web] | port = 0 | BadValue web port
         a listen before the rest | accounts = "a" | state = "s" | [web] | [control] | [[listen]] | auth = 0 | BadValue listen 1 auth
+        a listen before a network | accounts = "a" | state = "s" | [[network]] | [[listen]] | auth = 0 | BadValue listen 1 auth
+        a network before the control | accounts = "a" | state = "s" | [control] | [[network]] | Missing network 1 prefix
         the control before the page | accounts = "a" | state = "s" | [web] | [control] | Missing control socket
     "#;
     check_rows(&rt, &Faults, rows)
@@ -109,6 +121,11 @@ fn no_two_sockets_have_one_port(rt: HostRuntime) -> Result<(), Fail> {
         two addresses | accounts = "a" | state = "s" | [[listen]] | address = "127.0.0.1" | [[listen]] | address = "127.0.0.2" | Ok
         one of all | accounts = "a" | state = "s" | [[listen]] | address = "127.0.0.1" | [[listen]] | TakenPort listen 2 auth
         all of them, then one | accounts = "a" | state = "s" | [[listen]] | [[listen]] | address = "127.0.0.1" | TakenPort listen 2 auth
+        all of both kinds | accounts = "a" | state = "s" | [[listen]] | address = "::" | [[listen]] | TakenPort listen 2 auth
+        IPv4, and all of both | accounts = "a" | state = "s" | [[listen]] | address = "127.0.0.1" | [[listen]] | address = "::" | TakenPort listen 2 auth
+        one of each kind | accounts = "a" | state = "s" | [[listen]] | address = "127.0.0.1" | [[listen]] | address = "::1" | Ok
+        all of IPv4, and one of IPv6 | accounts = "a" | state = "s" | [[listen]] | [[listen]] | address = "::1" | Ok
+        an IPv4 address in IPv6 | accounts = "a" | state = "s" | [[listen]] | address = "127.0.0.1" | [[listen]] | address = "::ffff:127.0.0.1" | TakenPort listen 2 auth
         a value before them | accounts = "a" | state = "s" | [[listen]] | [[listen]] | [[listen]] | auth = 0 | BadValue listen 3 auth
         them before the page | accounts = "a" | state = "s" | [[listen]] | [[listen]] | [web] | TakenPort listen 2 auth
         the page's own port | accounts = "a" | state = "s" | [web] | port = 1812 | Ok
@@ -159,18 +176,50 @@ impl Subject for Tables {
 fn tables_say_what_stands_in_them(rt: HostRuntime) -> Result<(), Fail> {
     let rows = "
         none | accounts = 'a' | state = 's' | \
-          ([Listen { address: [0, 0, 0, 0], auth: 1812, acct: 1813, receivers: 1 }], no socket, None)
+          ([Listen { address: 0.0.0.0, auth: 1812, acct: 1813, receivers: 1, status_server: false }], no socket, None)
         an empty one | accounts = 'a' | state = 's' | [[listen]] | \
-          ([Listen { address: [0, 0, 0, 0], auth: 1812, acct: 1813, receivers: 1 }], no socket, None)
+          ([Listen { address: 0.0.0.0, auth: 1812, acct: 1813, receivers: 1, status_server: false }], no socket, None)
         all | accounts = 'a' | state = 's' | [[listen]] | address = '192.0.2.10' | auth = 1645 | acct = 1646 | \
-          receivers = 2 | [[listen]] | address = '192.0.2.11' | [control] | socket = '/run/c' | [web] | \
+          receivers = 2 | status_server = true | [[listen]] | address = '192.0.2.11' | [control] | socket = '/run/c' | [web] | \
           address = '192.0.2.1' | port = 8612 | \
-          ([Listen { address: [192, 0, 2, 10], auth: 1645, acct: 1646, receivers: 2 }, \
-          Listen { address: [192, 0, 2, 11], auth: 1812, acct: 1813, receivers: 1 }], /run/c, \
+          ([Listen { address: 192.0.2.10, auth: 1645, acct: 1646, receivers: 2, status_server: true }, \
+          Listen { address: 192.0.2.11, auth: 1812, acct: 1813, receivers: 1, status_server: false }], /run/c, \
           Some(Web { address: [192, 0, 2, 1], port: 8612 }))
         a page of the machine itself | listen = [{ auth = 1 }] | accounts = 'a' | state = 's' | [web] | port = 80 | \
-          ([Listen { address: [0, 0, 0, 0], auth: 1, acct: 1813, receivers: 1 }], no socket, \
+          ([Listen { address: 0.0.0.0, auth: 1, acct: 1813, receivers: 1, status_server: false }], no socket, \
           Some(Web { address: [127, 0, 0, 1], port: 80 }))
     ";
     check_rows(&rt, &Tables, rows)
+}
+
+#[test]
+fn no_two_networks_have_one_prefix(rt: HostRuntime) -> Result<(), Fail> {
+    let rows = r#"
+        two prefixes | accounts = "a" | state = "s" | [[network]] | prefix = "10.0.0.0/8" | client = "192.0.2.1" | [[network]] | prefix = "10.0.0.0/9" | client = "192.0.2.1" | Ok
+        one twice | accounts = "a" | state = "s" | [[network]] | prefix = "2001:db8::/32" | client = "192.0.2.1" | [[network]] | prefix = "2001:0DB8::0/32" | client = "192.0.2.2" | TakenPrefix network 2 prefix
+        all of each kind | accounts = "a" | state = "s" | [[network]] | prefix = "0.0.0.0/0" | client = "192.0.2.1" | [[network]] | prefix = "::/0" | client = "192.0.2.1" | Ok
+        a value before them | accounts = "a" | state = "s" | [[network]] | prefix = "::/0" | client = "192.0.2.1" | [[network]] | prefix = "::/0" | client = "192.0.2.1" | [[network]] | client = "192.0.2.1" | Missing network 3 prefix
+    "#;
+    check_rows(&rt, &Faults, rows)
+}
+
+/// Which networks a file says.
+struct Networks;
+
+impl Subject for Networks {
+    fn found(&self, alloc: Global, fields: &[&str]) -> Result<String, Fail> {
+        printed(alloc, &read(alloc, fields)?.networks.as_slice())
+    }
+}
+
+#[test]
+fn networks_say_which_addresses_stand_for_which_client(rt: HostRuntime) -> Result<(), Fail> {
+    let rows = "
+        none | accounts = 'a' | state = 's' | []
+        two | accounts = 'a' | state = 's' | [[network]] | prefix = '2001:db8:7::/64' | client = '10.255.0.7' | \
+          [[network]] | client = '10.255.0.8' | prefix = '192.0.2.0/24' | \
+          [Network { prefix: Prefix { address: 2001:db8:7::, len: 64 }, client: [10, 255, 0, 7] }, \
+          Network { prefix: Prefix { address: 192.0.2.0, len: 24 }, client: [10, 255, 0, 8] }]
+    ";
+    check_rows(&rt, &Networks, rows)
 }

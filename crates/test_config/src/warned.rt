@@ -2,11 +2,12 @@
 //! behind those of the head.
 
 use crate::server_file::text_of;
-use rld_config::warnings;
+use rld_config::{unknown_client, warnings};
+use rld_networks::{Network, prefix_of};
 use rsl_accounts::Config;
 use std::alloc::Global;
 use std::test::Fail;
-use test_rows::{Subject, check_rows, printed};
+use test_rows::{Subject, check_rows, printed, shown};
 
 const HEAD: &str = "
 version = 1
@@ -30,7 +31,7 @@ impl Subject for Warned {
         let Ok(config) = Config::read(alloc, text.as_bytes()) else {
             return Err("the account file is refused")?;
         };
-        printed(alloc, &warnings(alloc, &config, self.mode)?.as_slice())
+        printed(alloc, &warnings(alloc, &config, &[], self.mode)?.as_slice())
     }
 }
 
@@ -65,4 +66,62 @@ fn an_operator_is_told_that_everybody_can_read_the_file(rt: HostRuntime) -> Resu
           [OthersRead, Memory(2)]
     ";
     check_rows(&rt, &Warned { mode: 0o100604 }, rows)
+}
+
+/// An account file with one client, 192.0.2.1.
+const ACCOUNTS: &str = "
+[[client]]
+address = '192.0.2.1'
+secret = '0123456789abcdef'
+signed = true
+[[account]]
+name = 'a'
+password = 'p'
+places = 1
+ports = 1
+";
+
+/// What is told of a network of a prefix for a client, or the fault where the client is missing.
+struct Networked;
+
+impl Subject for Networked {
+    fn found(&self, alloc: Global, fields: &[&str]) -> Result<String, Fail> {
+        let [prefix, a, b] = fields else {
+            return Err("not a prefix and the last numbers of two clients")?;
+        };
+        let text = format!(in alloc; "{HEAD}{ACCOUNTS}")?;
+        let Ok(config) = Config::read(alloc, text.as_bytes()) else {
+            return Err("the account file is refused")?;
+        };
+        let networks = [network(prefix, a)?, network(prefix, b)?];
+        match unknown_client(&networks, &config) {
+            Some(fault) => shown(alloc, &fault),
+            None => printed(
+                alloc,
+                &warnings(alloc, &config, &networks, 0o100640)?.as_slice(),
+            ),
+        }
+    }
+}
+
+/// The network of a prefix, for the client of this last number.
+fn network(prefix: &str, client: &str) -> Result<Network, Fail> {
+    match (prefix_of(prefix.as_bytes()), client.parse::<u8>()) {
+        (Some(prefix), Ok(last)) => Ok(Network {
+            prefix,
+            client: [192, 0, 2, last],
+        }),
+        _ => Err("no network")?,
+    }
+}
+
+#[test]
+fn an_operator_is_told_of_networks(rt: HostRuntime) -> Result<(), Fail> {
+    let rows = "
+        two | 2001:db8::/32 | 1 | 1 | [Prefixed(Prefix { address: 2001:db8::, len: 32 }), \
+          Prefixed(Prefix { address: 2001:db8::, len: 32 }), Memory(1)]
+        a client that is missing | ::/0 | 2 | 3 | UnknownClient network 1 client
+        a second that is missing | ::/0 | 1 | 3 | UnknownClient network 2 client
+    ";
+    check_rows(&rt, &Networked, rows)
 }

@@ -7,5 +7,5 @@ use Rattle.rld_config.proofs.value.tables_of.Goals as goal
 pub returns-clause-value : goal.returns-clause-value
 returns-clause-value c =
     c.tables_of_list.ensures.value
-    ∙ ap (λ items. tables_of_list (map view items)) c.as_slice.ensures.value
-    ∙ sym (tables_of-array (view c.args.value.now) c.in_ok-as_array.field-0.now.items (sym c.in_ok-as_array.ensures))
+    ∙ ap (λ items. tables_of_list c.args.most (map view items)) c.as_slice.ensures.value
+    ∙ sym (tables_of-array c.args.most (view c.args.value.now) c.in_ok-as_array.field-0.now.items (sym c.in_ok-as_array.ensures))

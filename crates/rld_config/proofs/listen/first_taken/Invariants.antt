@@ -1,6 +1,0 @@
-use Rattle.std.proofs.Common.{◌≡◌, [], take, drop}
-use Rattle.rld_config.specs.Server.{first_taken}
-use Rattle.rld_config.proofs.listen.first_taken.Given as goal
-
-abbrev pub invariant-loop-number : goal.invariant-loop-number
-invariant-loop-number l = first_taken [] l.tables ≡ first_taken (take l.number l.tables) (drop l.number l.tables)

@@ -1,0 +1,74 @@
+//! The networks of a server's file: no prefix twice, and none of which the client is missing.
+ghost use Rattle.std.specs.Prelude.{◌≡◌, ◌<◌, ◌^◌, [], IfSome, is_some, length, not, position};
+ghost use Rattle.std.specs.List.{list_any};
+ghost use Rattle.rld_networks.specs.Prefix.{same_prefix};
+ghost use Rattle.rsl_accounts.specs.Configuration.{client_number};
+ghost use Rattle.rld_networks.specs.declared.network.Network.{Network as OneNetwork};
+ghost use Rattle.rld_config.specs.Server.{first_taken, taken_prefix, unknown_client};
+
+use crate::fault::ServerFault;
+use crate::key::Key;
+use crate::part::Part;
+use rld_networks::{Network, Prefix};
+use rsl_accounts::Config;
+
+/// Whether one of the networks has the prefix.
+fn has_prefix(networks: &[Network], prefix: &Prefix) -> bool
+    ensures { result ≡ list_any (λ (other : OneNetwork). same_prefix prefix.now other.prefix) networks.now }
+{
+    networks.iter().any(|other| prefix.is_same(&other.prefix))
+}
+
+/// The prefix of a network, if one before it has the same.
+fn taken_prefix(before: &[Network], network: &Network) -> Option<ServerFault>
+    requires { length before.now < 2 ^ 32 }
+    ensures { result ≡ taken_prefix before.now network.now }
+{
+    if has_prefix(before, &network.prefix) {
+        let part = Part::Network(before.len() as u64 + 1);
+        Some(ServerFault::TakenPrefix(part, Key::Prefix))
+    } else {
+        None
+    }
+}
+
+/// The first prefix of the networks that another has before it.
+pub(crate) fn first_taken_prefix(networks: &[Network]) -> Option<ServerFault>
+    requires { length networks.now < 2 ^ 32 }
+    ensures { result ≡ first_taken taken_prefix [] networks.now }
+{
+    for (number, network) in networks.iter().enumerate() {
+        if let Some(fault) = taken_prefix(&networks[..number], network) {
+            return Some(fault);
+        }
+    }
+    None
+}
+
+/// `UnknownClient` of the first network of a server's file whose client the account file does not
+/// have.
+#[tactic(auto, unfolding(crate::specs::Server::unknown_client))]
+pub fn unknown_client(networks: &[Network], config: &Config) -> Option<ServerFault>
+    ensures { result ≡ unknown_client networks.now config.now }
+{
+    let index = first_lacking(networks, config)?;
+    let part = Part::Network(index as u64 + 1);
+    Some(ServerFault::UnknownClient(part, Key::Client))
+}
+
+/// The index of the first network whose client is missing.
+fn first_lacking(networks: &[Network], config: &Config) -> Option<usize>
+    ensures index { result ≡ position
+        (λ (network : OneNetwork). not (is_some (client_number config.now network.client)))
+        networks.now }
+    ensures within { IfSome result (λ index. index < length networks.now) }
+{
+    networks.iter().position(|network| lacks(config, network))
+}
+
+/// Whether the client of a network is missing.
+fn lacks(config: &Config, network: &Network) -> bool
+    ensures { result ≡ not (is_some (client_number config.now network.now.client)) }
+{
+    config.client(network.client).is_none()
+}

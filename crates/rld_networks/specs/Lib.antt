@@ -1,0 +1,3 @@
+pub mod Address
+pub mod Networks
+pub mod Prefix
