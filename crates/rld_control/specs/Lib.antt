@@ -1,2 +1,5 @@
 pub mod Command
+pub mod Laws
+pub mod Named
 pub mod Reply
+pub mod Words

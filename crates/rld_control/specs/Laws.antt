@@ -1,0 +1,33 @@
+-- What is asked by its line is what was meant.
+use Rattle.std.specs.Prelude.{◌≡◌, ◌<◌, length, List, ℕ, Some}
+use Rattle.rsl_event.specs.declared.nas.NasName.{NasName}
+use Rattle.rsl_event.specs.declared.nas.NasName.TheVariants.{Identifier, Address, Unnamed}
+use Rattle.rld_values.specs.Laws.{AreOctets}
+use Rattle.rld_control.specs.Command.{command_of, line_of}
+use Rattle.rld_control.specs.declared.command.Command.{Command}
+use Rattle.rld_control.specs.declared.command.Command.TheVariants.{Status, Accounts, Sessions, Free, Reload, Stop}
+use Rattle.rld_control.specs.declared.named.NamedSession.{NamedSession}
+
+abbrev pub IsNasName : NasName → Type 0
+IsNasName (Identifier name) = AreOctets name
+IsNasName (Address address) = AreOctets address
+IsNasName Unnamed = Unit {0}
+
+pub record IsNamedSession (named : NamedSession) : Type 0 where
+  pub account : AreOctets named.account
+  pub four : length named.client ≡ 4
+  pub client : AreOctets named.client
+  pub nas : IsNasName named.nas
+  pub session : AreOctets named.session
+
+-- names, addresses and ids are octets
+abbrev pub IsCommand : Command → Type 0
+IsCommand (Sessions account) = AreOctets account
+IsCommand (Free session) = IsNamedSession session
+IsCommand Status = Unit {0}
+IsCommand Accounts = Unit {0}
+IsCommand Reload = Unit {0}
+IsCommand Stop = Unit {0}
+
+abbrev pub IsReadBack : Type 0
+IsReadBack = (command : Command) → IsCommand command → command_of (line_of command) ≡ Some command
