@@ -1,3 +1,4 @@
+pub mod Callers
 pub mod Tallies
 pub mod Counting
 pub mod Timing

@@ -1,12 +1,12 @@
 -- Laws of a cell.
-use Rattle.std.proofs.Common.{◌≡◌, ℕ, ◌+◌, ◌<◌, Bool, true, false, cond, eqb, List, [], ◌∷◌, ◌++◌, length, get_or, set, map, append-nil, ◌≤◌, Option, Some, None, sym, refl, ap, ◌∙◌, arith, inl, inr}
+use Rattle.std.proofs.Common.{◌≡◌, ℕ, ◌+◌, ◌<◌, Bool, true, false, cond, eqb, List, [], ◌∷◌, ◌++◌, length, get_or, set, map, append-nil, ◌≤◌, Option, Some, None, sym, refl, ap, subst, ◌∙◌, arith, inl, inr}
 use Rattle.std.specs.List.{filter, filter_map}
 use Rattle.std.proofs.lemmas.Bool.{cases_eq, cases_lt, eq-eqb, ne_eqb}
 use Rattle.std.proofs.lemmas.List.{get_or_append_left, get_or-set_same, get_or-set_other, length-set, length_push}
 use Rattle.std.proofs.Math.Seq.{get_or-append_seam}
 use Rattle.std.proofs.lemmas.List.Elements.{filter_map-append}
 use Rattle.std.specs.List.{cons_option}
-use Rattle.rld_counts.specs.Cell.{AreCounted, AreJoined, CellSeen, HasCounted, HasTimes, ends_of, is_of}
+use Rattle.rld_counts.specs.Cell.{AreCounted, AreJoined, CellSeen, HasCounted, HasTimes, ends_of, is_of, without_clients}
 use Rattle.rld_counts.specs.Histogram.{Times, times_of}
 use Rattle.rld_counts.specs.Counts.{counts_of}
 use Rattle.rld_counts.specs.declared.end.End.{End}
@@ -157,3 +157,48 @@ pub rest_same : (first now : List (List ℕ)) (client : ℕ) (counts : List ℕ)
     → (k : ℕ) → client + 1 ≤ k → get_or (set now client counts) k [] ≡ get_or first k []
 rest_same first now client counts rest k above =
     get_or-set_other now client k counts [] (λ e. omega arith) ∙ rest k (omega arith)
+
+-- ---- datagrams whose clients count no more
+
+ends_without : (all : List Ended) → map (λ one. one.end) (without_clients all) ≡ map (λ one. one.end) all
+ends_without [] = refl
+ends_without (one ∷ all) = ap (λ (l : List End). one.end ∷ l) (ends_without all)
+
+times_without : (all : List Ended) → filter_map (λ one. one.micros) (without_clients all) ≡ filter_map (λ one. one.micros) all
+times_without [] = refl
+times_without (one ∷ all) = ap (λ (l : List ℕ). cons_option one.micros l) (times_without all)
+
+-- none of them is a client's
+none_without : (client : ℕ) (all : List Ended) → ends_of client (without_clients all) ≡ []
+none_without client [] = refl
+none_without client (one ∷ all) = none_without client all
+
+pub cell_renewed : (all : List Ended) (old new : CellSeen) → new.counts ≡ old.counts → AreCounted [] new.clients → new.times ≡ old.times
+    → HasCounted all old → HasCounted (without_clients all) new
+cell_renewed all old new counts clients times was = record {
+  counts = counts ∙ was.counts ∙ ap counts_of (sym (ends_without all));
+  clients = λ client below. clients client below ∙ ap counts_of (sym (none_without client all));
+  times = times ∙ was.times ∙ ap times_of (sym (times_without all));
+}
+
+pub cell_joined_in_all : (all others : List Ended) (old other new : CellSeen)
+    → AreJoined old.counts other.counts new.counts
+    → new.clients ≡ old.clients
+    → ((times more : List ℕ) → old.times ≡ times_of times → other.times ≡ times_of more → new.times ≡ times_of (times ++ more))
+    → HasCounted all old → HasCounted others other → HasCounted (all ++ without_clients others) new
+cell_joined_in_all all others old other new counts same times was added = record {
+  counts =
+      counts (map (λ one. one.end) all) (map (λ one. one.end) others) was.counts added.counts
+      ∙ ap (λ (l : List End). counts_of (map (λ one. one.end) all ++ l)) (sym (ends_without others))
+      ∙ ap counts_of (sym (ends_append all (without_clients others)));
+  clients = λ client below.
+      ap (λ (l : List (List ℕ)). get_or l client []) same
+      ∙ was.clients client (subst (λ (l : List (List ℕ)). client < length l) same below)
+      ∙ ap counts_of (sym (append-nil (ends_of client all)))
+      ∙ ap (λ (l : List End). counts_of (ends_of client all ++ l)) (sym (none_without client others))
+      ∙ ap counts_of (sym (ends_of_append client all (without_clients others)));
+  times =
+      times (filter_map (λ one. one.micros) all) (filter_map (λ one. one.micros) others) was.times added.times
+      ∙ ap (λ (l : List ℕ). times_of (filter_map (λ one. one.micros) all ++ l)) (sym (times_without others))
+      ∙ ap times_of (sym (times_append all (without_clients others)));
+}

@@ -36,6 +36,13 @@ pub record HasCounted (all : List Ended) (cell : CellSeen) : Type 0 where
   pub clients : AreCounted all cell.clients
   pub times : HasTimes all cell.times
 
+-- the same datagram, and the same datagrams, of no client: counted in all alone
+abbrev pub without_client : Ended → Ended
+without_client one = record { end = one.end; client = None; micros = one.micros }
+
+abbrev pub without_clients : List Ended → List Ended
+without_clients all = map without_client all
+
 -- counts that are those of datagrams, and others that are, become those of both
 abbrev pub AreJoined : (one other both : List ℕ) → Type 0
 AreJoined one other both =

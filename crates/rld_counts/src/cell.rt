@@ -1,7 +1,8 @@
 ghost use Rattle.std.specs.Prelude.{◌≡◌, ◌<◌, ◌∷◌, ◌++◌, [], IfOk, List, length, slice_get, slice_index_or, ℕ};
-ghost use Rattle.rld_counts.specs.Cell.{AreCounted, AreJoined, HasCounted, HasTimes};
+ghost use Rattle.rld_counts.specs.Cell.{AreCounted, AreJoined, HasCounted, HasTimes, without_clients};
 ghost use Rattle.rld_counts.specs.declared.ended.Ended.{Ended as OneEnded};
 
+use crate::client_counts::ClientCounts;
 use crate::counts::Counts;
 use crate::ended::Ended;
 use crate::histogram::Histogram;
@@ -36,10 +37,10 @@ impl Cell {
         ensures none { IfOk result (HasCounted []) }
         ensures clients { IfOk result (λ cell. length cell.clients ≡ clients) }
     {
-        let clients = new_clients(alloc, clients)?;
+        let clients = ClientCounts::new(alloc, clients)?;
         Ok(Cell {
             counts: Counts::new(),
-            clients,
+            clients: clients.into_each(),
             times: Histogram::new(),
         })
     }
@@ -55,7 +56,17 @@ impl Cell {
         note_time(&mut self.times, ended);
     }
 
-    /// Adds what another receiver has counted.
+    /// Begins to count by client anew, as client numbers mean other clients from now on. The counts in
+    /// all and the times go on; what was counted of a client is from now on of none.
+    pub fn renew(&mut self, clients: ClientCounts)
+        ensures anew { (all : List OneEnded) → HasCounted all self.old →
+            HasCounted (without_clients all) self.new }
+        ensures clients { length self.new.clients ≡ clients }
+    {
+        self.clients = clients.into_each();
+    }
+
+    /// Adds what another receiver has counted of the same clients.
     pub fn add(&mut self, other: &Cell)
         requires { length other.now.clients ≡ length self.old.clients }
         ensures joined { (all others : List OneEnded) → HasCounted all self.old →
@@ -64,6 +75,17 @@ impl Cell {
     {
         self.counts.add(&other.counts);
         add_clients(&mut self.clients, other.clients.as_slice());
+        self.times.add(&other.times);
+    }
+
+    /// Adds what another receiver has counted of other clients: to the counts in all and the times
+    /// alone.
+    pub fn add_in_all(&mut self, other: &Cell)
+        ensures joined { (all others : List OneEnded) → HasCounted all self.old →
+            HasCounted others other.now → HasCounted (all ++ without_clients others) self.new }
+        ensures clients { length self.new.clients ≡ length self.old.clients }
+    {
+        self.counts.add(&other.counts);
         self.times.add(&other.times);
     }
 
@@ -94,18 +116,6 @@ impl Cell {
     {
         self.times
     }
-}
-
-/// The counts of so many clients, of which no datagram came.
-fn new_clients(alloc: Global, clients: u32) -> Result<Vec<Counts>, AllocError>
-    ensures len { IfOk result (λ each. length each.items ≡ clients) }
-    ensures none { IfOk result (λ each. AreCounted [] each.items) }
-{
-    let mut each = Vec::new(alloc);
-    for _ in 0..clients {
-        each.push(Counts::new())?;
-    }
-    Ok(each)
 }
 
 /// Counts a datagram for its client.

@@ -2,14 +2,15 @@
 //! that can be added up.
 //!
 //! The promise: for whatever datagrams were noted, a count is how many of them ended so, the counts of a
-//! cell add up to all that were noted, and two cells added are the cell of the datagrams of both
-//! (`specs/Tally.antt`, `specs/Counts.antt`, `specs/Histogram.antt`, `specs/Cell.antt`). A number stops
+//! cell add up to all that were noted, and two cells added are the cell of the datagrams of both. Where
+//! counting by client begins anew, the counts in all and the times go on (`specs/Tally.antt`, `specs/Counts.antt`, `specs/Histogram.antt`, `specs/Cell.antt`). A number stops
 //! at 2^64 - 1.
 #![tactic(auto)]
 
 mod acct_end;
 mod auth_end;
 mod cell;
+mod client_counts;
 mod counts;
 mod end;
 mod ended;
@@ -19,6 +20,7 @@ mod tally;
 pub use acct_end::AcctEnd;
 pub use auth_end::AuthEnd;
 pub use cell::Cell;
+pub use client_counts::ClientCounts;
 pub use counts::Counts;
 pub use end::{ENDS, End};
 pub use ended::Ended;

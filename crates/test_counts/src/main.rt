@@ -1,9 +1,13 @@
 //! The program `test_counts`: counts what two receivers took, adds it up, and prints it: a line for
-//! each client, and the metrics.
+//! each client, lines of cells that begin to count by client anew, and the metrics.
 #![tactic(auto)]
 
-use rld_counts::{AcctEnd, AuthEnd, Cell, Counts, End, Ended, Histogram};
-use rld_metrics::{ClientCounts, Metrics};
+use rld_counts::{AcctEnd, AuthEnd, Cell, ClientCounts, Counts, End, Ended, Histogram};
+use rld_look::{AccountLook, ClientLook, Look, Recording, SocketLook};
+use rld_metrics::push_metrics;
+use rsl_accounts::Text;
+use rsl_shard::Row;
+use std::alloc::{AllocError, Global};
 use std::io::{self, Write};
 
 /// How many clients there are.
@@ -15,12 +19,8 @@ fn main(rt: HostRuntime) -> io::Result<()> {
     let mut acct = Cell::new(rt.alloc(), CLIENTS)?;
     note_acct(&mut acct);
     let mut all = Cell::new(rt.alloc(), CLIENTS)?;
-    if all.clients() == auth.clients() {
-        all.add(&auth);
-    }
-    if all.clients() == acct.clients() {
-        all.add(&acct);
-    }
+    join(&mut all, &auth);
+    join(&mut all, &acct);
     for client in 0..CLIENTS + 1 {
         print_client(&rt, &all, client)?;
     }
@@ -29,7 +29,19 @@ fn main(rt: HostRuntime) -> io::Result<()> {
         all.counts().received(),
         all.times().samples()
     )?;
+    for clients in [1, 3, 0, CLIENTS] {
+        print_renewed(&rt, clients)?;
+    }
     print_metrics(&rt, &all, auth.times(), acct.times())
+}
+
+/// Adds what another receiver has counted: by client if it is for as many.
+fn join(all: &mut Cell, other: &Cell) {
+    if all.clients() == other.clients() {
+        all.add(other);
+    } else {
+        all.add_in_all(other);
+    }
 }
 
 /// What the receiver of the authentication port took.
@@ -75,6 +87,40 @@ fn print_client(rt: &HostRuntime, cell: &Cell, client: u32) -> io::Result<()> {
     )
 }
 
+/// Prints what a cell has counted that began to count by client anew, for so many clients, after it had
+/// counted the logins; and what one for CLIENTS clients has to which it is added. Each then took the
+/// accounting.
+fn print_renewed(rt: &HostRuntime, clients: u32) -> io::Result<()> {
+    let mut cell = Cell::new(rt.alloc(), CLIENTS)?;
+    note_auth(&mut cell);
+    cell.renew(ClientCounts::new(rt.alloc(), clients)?);
+    note_acct(&mut cell);
+    print!(rt; "anew for {clients}: ")?;
+    print_cell(rt, &cell)?;
+    let mut all = Cell::new(rt.alloc(), CLIENTS)?;
+    note_acct(&mut all);
+    join(&mut all, &cell);
+    print!(rt; "added to one for {CLIENTS}: ")?;
+    print_cell(rt, &all)
+}
+
+/// Prints what a cell has in all, and how many datagrams of each of four clients, if it is for that.
+fn print_cell(rt: &HostRuntime, cell: &Cell) -> io::Result<()> {
+    print!(rt;
+        "received {}, accept {}, samples {}, by client",
+        cell.counts().received(),
+        cell.counts().count(End::Auth(AuthEnd::Accept)),
+        cell.times().samples()
+    )?;
+    for client in 0..4 {
+        match cell.client(client) {
+            Some(counts) => print!(rt; " {}", counts.received())?,
+            None => print!(rt; " -")?,
+        }
+    }
+    println!(rt; "")
+}
+
 /// Prints the metrics.
 fn print_metrics(
     rt: &HostRuntime,
@@ -82,30 +128,64 @@ fn print_metrics(
     auth_times: Histogram,
     acct_times: Histogram,
 ) -> io::Result<()> {
-    let clients = [
-        client_counts(all, 0, "10.0.0.1"),
-        client_counts(all, 1, "a \"quoted\" \\ of two\nlines"),
-    ];
-    let metrics = Metrics {
-        counts: all.counts(),
-        clients: &clients,
-        auth_times,
-        acct_times,
-        places: 4096,
-        held: 17,
+    let alloc = rt.alloc();
+    let look = Look {
+        start: 1_790_000_000,
+        now: 1_790_000_060,
         era: 3,
         generation: u64::MAX,
-        start_secs: 1_790_000_000,
+        moves: 12,
+        recording: Recording::Recorded,
+        counts: all.counts(),
+        clients: vec![in alloc;
+            client(all, 0, [10, 0, 0, 1]),
+            client(all, 1, [192, 0, 2, 255]),
+        ]?,
+        auth_times,
+        acct_times,
+        accounts: accounts(alloc)?,
+        minutes: Vec::new(alloc),
+        sockets: vec![in alloc; socket(1812, 0, 3), socket(1813, 512, 4)]?,
+        refusals: Vec::new(alloc),
     };
-    let mut text = Vec::new(rt.alloc());
-    metrics.write(rt.alloc(), &mut text)?;
+    let mut text = Vec::new(alloc);
+    push_metrics(alloc, &mut text, &look)?;
     rt.stdout().write_all(text.as_slice())
 }
 
-/// The counts of a client under a name.
-fn client_counts<'a>(cell: &Cell, client: u32, name: &'a str) -> ClientCounts<'a> {
-    ClientCounts {
-        name,
-        counts: cell.client(client).unwrap_or(Counts::new()),
+/// The counts of a client at an address.
+fn client(cell: &Cell, number: u32, address: [u8; 4]) -> ClientLook {
+    ClientLook {
+        address,
+        counts: cell.client(number).unwrap_or(Counts::new()),
     }
+}
+
+/// What waits at a socket.
+fn socket(port: u16, waiting: u64, dropped: u64) -> SocketLook {
+    SocketLook {
+        port,
+        waiting,
+        dropped,
+    }
+}
+
+/// Three accounts, of which two have no free place.
+fn accounts(alloc: Global) -> Result<Vec<AccountLook>, AllocError> {
+    let mut accounts = Vec::new(alloc);
+    for (places, held) in [(4_000u32, 15u32), (2, 2), (0, 0)] {
+        accounts.push(AccountLook {
+            name: Text::from(String::new(alloc)),
+            row: Row {
+                account: 0,
+                places,
+                held,
+                reserved: 0,
+                live: held,
+                stale: 0,
+                over: 0,
+            },
+        })?;
+    }
+    Ok(accounts)
 }

@@ -1,7 +1,7 @@
 use Rattle.std.proofs.Common.{◌+◌, length, ap, ◌∙◌, List, ℕ}
 use Rattle.std.proofs.lemmas.List.{length_push}
 use Rattle.rld_counts.proofs.Noting.{new_counted}
-use Rattle.rld_counts.proofs.cell.new_clients.Goals as goal
+use Rattle.rld_counts.proofs.client_counts.new_clients.Goals as goal
 
 pub loop-preserved : goal.loop-preserved
 loop-preserved c = record {

@@ -1,6 +1,6 @@
 use Rattle.std.proofs.Common.{◌≡◌, [], length}
 use Rattle.rld_counts.specs.Cell.{AreCounted}
-use Rattle.rld_counts.proofs.cell.new_clients.Given as goal
+use Rattle.rld_counts.proofs.client_counts.new_clients.Given as goal
 
 abbrev pub invariant-loop : goal.invariant-loop
 invariant-loop l = record {

@@ -1,0 +1,12 @@
+use Rattle.std.proofs.Common.{refl, sym, subst}
+use Rattle.rld_counts.specs.Cell.{CellSeen, HasCounted}
+use Rattle.rld_counts.proofs.Noting.{cell_renewed}
+use Rattle.rld_counts.proofs.cell.Cell.renew.Goals as goal
+
+pub returns-clause-anew : goal.returns-clause-anew
+returns-clause-anew c = λ all was.
+    cell_renewed all
+    (record { counts = c.self.inside.counts; clients = c.self.inside.clients.items; times = c.self.inside.times })
+    (record { counts = c.self.inside.counts; clients = c.into_each.result.items; times = c.self.inside.times })
+    refl c.into_each.ensures.none refl
+    (subst (λ (cell : CellSeen). HasCounted all cell) (sym c.self.view_is) was)

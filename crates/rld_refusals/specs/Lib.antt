@@ -1,0 +1,4 @@
+pub mod Refusal
+pub mod Backlog
+pub mod Lately
+pub mod Line

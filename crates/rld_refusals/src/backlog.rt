@@ -1,0 +1,127 @@
+ghost use Rattle.std.specs.Prelude.{◌≡◌, ◌∷◌, ◌++◌, [], List, OnErr, OnOk};
+ghost use Rattle.rld_counts.specs.declared.end.End.{End as OneEnd};
+ghost use Rattle.rld_refusals.specs.Backlog.{HasNoted, IsNoted, empty_backlog};
+ghost use Rattle.rld_refusals.specs.Refusal.{refusal_of};
+
+use crate::refusal::{Refusal, Refused};
+use rld_counts::Counts;
+use rsl_wire::NoMemory;
+use std::alloc::Global;
+use std::marker::Model;
+use std::mem;
+
+/// How many refusals of a cause get lines each time that lines are written.
+pub const MOST_LINES: u64 = 20;
+
+const _: () = prove!(MOST_LINES == 20);
+
+/// What became of a refusal that was noted.
+#[derive(Clone, Copy, Debug, PartialEq, Eq)]
+pub enum Noted {
+    /// It waits for its line.
+    Waits,
+    /// It is left out: as many of its cause wait as may.
+    LeftOut,
+    /// It is left out, since memory for it was refused.
+    NoMemory,
+}
+
+/// The refusals that wait for their lines, and how many of each cause get none. A contract sees the
+/// list of those that wait, the oldest first, and the counts of the others.
+#[derive(Debug, Drop)]
+pub struct Backlog {
+    waiting: Vec<Refusal>,
+    lines: Counts,
+    left_out: Counts,
+}
+
+impl Model for Backlog {
+    ghost use Rattle.std.specs.Prelude.{◌≡◌};
+    ghost use Rattle.rld_counts.specs.Counts.{counts_of};
+    ghost use Rattle.rld_refusals.specs.Backlog.{BacklogSeen, ends_of};
+
+    ghost Value = { BacklogSeen };
+
+    ghost view = { λ it. record { waiting = it.waiting.items; left_out = it.left_out } };
+
+    ghost invariant = { λ it. it.lines ≡ counts_of (ends_of it.waiting.items) };
+}
+
+/// What was taken from a backlog.
+#[derive(Debug, Drop)]
+pub struct Taken {
+    /// The refusals that waited, the oldest first: at most `MOST_LINES` of each cause.
+    pub waited: Vec<Refusal>,
+    /// How many more of each cause there were.
+    pub left_out: Counts,
+}
+
+impl Backlog {
+    /// Nothing waits.
+    pub fn new(alloc: Global) -> Backlog
+        ensures none { result ≡ empty_backlog }
+        ensures noted { HasNoted [] result }
+    {
+        Backlog {
+            waiting: Vec::new(alloc),
+            lines: Counts::new(),
+            left_out: Counts::new(),
+        }
+    }
+
+    /// Notes a datagram that was refused. It waits for its line where fewer than `MOST_LINES` of its
+    /// cause do; else it is left out, and counted.
+    pub fn note(&mut self, alloc: Global, refused: &Refused<'_>) -> Noted
+        ensures noted { IsNoted (refusal_of refused.now) self.old self.new result }
+        ensures all { (ends : List OneEnd) → HasNoted ends self.old →
+            HasNoted (ends ++ refused.now.end ∷ []) self.new }
+    {
+        if self.lines.count(refused.end) >= MOST_LINES {
+            self.left_out.note(refused.end);
+            return Noted::LeftOut;
+        }
+        match push_refusal(alloc, &mut self.waiting, refused) {
+            Ok(()) => {
+                self.lines.note(refused.end);
+                Noted::Waits
+            }
+            Err(NoMemory) => {
+                self.left_out.note(refused.end);
+                Noted::NoMemory
+            }
+        }
+    }
+
+    /// Takes all that waits, and the counts of what was left out. Nothing waits then.
+    pub fn take(&mut self, alloc: Global) -> Taken
+        ensures waited { result.waited.items ≡ self.old.waiting }
+        ensures left_out { result.left_out ≡ self.old.left_out }
+        ensures none { self.new ≡ empty_backlog }
+    {
+        let taken = mem::replace(self, Backlog::new(alloc));
+        let Backlog {
+            waiting,
+            lines: _,
+            left_out,
+        } = taken;
+        Taken {
+            waited: waiting,
+            left_out,
+        }
+    }
+}
+
+/// Adds what is told of a datagram. It fails only where memory is refused.
+fn push_refusal(
+    alloc: Global,
+    waiting: &mut Vec<Refusal>,
+    refused: &Refused<'_>,
+) -> Result<(), NoMemory>
+    ensures ok { OnOk result
+        (waiting.new.items ≡ waiting.old.items ++ refusal_of refused.now ∷ []) }
+    ensures err { OnErr result (waiting.new.items ≡ waiting.old.items) }
+{
+    let refusal = Refusal::of(alloc, refused)?;
+    waiting.push(refusal)?;
+    Ok(())
+}
