@@ -1,7 +1,7 @@
 -- What is written piece by piece.
 use Rattle.std.proofs.Common.{◌≡◌, ℕ, List, ◌++◌, ap, ◌∙◌, append_assoc}
 
-written_2 : (old t1 new x1 x2 : List ℕ) → t1 ≡ old ++ x1 → new ≡ t1 ++ x2 → new ≡ old ++ (x1 ++ x2)
+pub written_2 : (old t1 new x1 x2 : List ℕ) → t1 ≡ old ++ x1 → new ≡ t1 ++ x2 → new ≡ old ++ (x1 ++ x2)
 written_2 old t1 new x1 x2 first second = second ∙ ap (λ (l : List ℕ). l ++ x2) first ∙ append_assoc old x1 x2
 
 pub written_3 : (old t1 t2 new x1 x2 x3 : List ℕ)

@@ -1,5 +1,5 @@
 -- The metrics of a running server.
-use Rattle.std.specs.Prelude.{ℕ, ◌+◌, ◌^◌, List, ◌++◌, codes, sum, take}
+use Rattle.std.specs.Prelude.{ℕ, ◌+◌, ◌^◌, nat_le, List, [], ◌∷◌, ◌++◌, codes, sum, take, if◌then◌else◌}
 use Rattle.std.specs.Fmt.{decimal}
 use Rattle.std.specs.List.{flat_map, range_with_len}
 use Rattle.rld_counts.specs.Counts.{count_in}
@@ -9,9 +9,16 @@ use Rattle.rld_counts.specs.Tally.{kept}
 use Rattle.rld_counts.specs.declared.acct_end.AcctEnd.{AcctEnd}
 use Rattle.rld_counts.specs.declared.auth_end.AuthEnd.{AuthEnd}
 use Rattle.rld_counts.specs.declared.end.End.TheVariants.{Auth, Acct}
+use Rattle.rld_look.specs.Totals.{plus, totals_of}
+use Rattle.rld_look.specs.declared.look.AccountLook.{AccountLook}
+use Rattle.rld_look.specs.declared.look.ClientLook.{ClientLook}
+use Rattle.rld_look.specs.declared.look.Look.{Look}
+use Rattle.rld_look.specs.declared.look.Recording.{Recording}
+use Rattle.rld_look.specs.declared.look.Recording.TheVariants.{Recorded, Failing}
+use Rattle.rld_look.specs.declared.look.SocketLook.{SocketLook}
+use Rattle.rld_look.specs.declared.totals.Totals.{Totals}
+use Rattle.rld_values.specs.Values.{dotted}
 use Rattle.rld_metrics.specs.Text.{head_of, label, seconds}
-use Rattle.rld_metrics.specs.declared.metrics.ClientCounts.{ClientCounts}
-use Rattle.rld_metrics.specs.declared.metrics.Metrics.{Metrics}
 
 -- ---- how the datagrams ended
 
@@ -29,8 +36,8 @@ clients_head =
 abbrev pub all_front : List ℕ
 all_front = codes "radlimitd_datagrams_total{"
 
-unfoldable pub client_front : (name : List ℕ) → List ℕ
-client_front name = codes "radlimitd_client_datagrams_total{" ++ (label (codes "client") name ++ codes ",")
+unfoldable pub client_front : (address : List ℕ) → List ℕ
+client_front address = codes "radlimitd_client_datagrams_total{client=\"" ++ (dotted address ++ codes "\",")
 
 -- so many datagrams of a port ended so
 unfoldable pub datagrams_line : (front port end : List ℕ) → (number : ℕ) → List ℕ
@@ -51,8 +58,13 @@ acct_lines front counts ends =
 unfoldable pub ends_lines : (front counts : List ℕ) → List ℕ
 ends_lines front counts = auth_lines front counts auth_ends ++ acct_lines front counts acct_ends
 
-abbrev pub client_lines : ClientCounts → List ℕ
-client_lines client = ends_lines (client_front client.name.now) client.counts
+abbrev pub client_lines : ClientLook → List ℕ
+client_lines client = ends_lines (client_front client.address) client.counts
+
+-- how all datagrams ended, and those of each client
+unfoldable pub ends_text : Look → List ℕ
+ends_text look =
+    datagrams_head ++ (ends_lines all_front look.counts ++ (clients_head ++ flat_map client_lines look.clients.items))
 
 -- ---- how long the answers took
 
@@ -90,25 +102,71 @@ times_lines port times =
     ++ (bucket_line port (codes "+Inf") (kept (sum times.buckets))
     ++ times_end port times.micros (kept (sum times.buckets)))
 
+-- the histograms of both ports
+unfoldable pub times_text : Look → List ℕ
+times_text look =
+    times_head ++ (times_lines (codes "auth") look.auth_times ++ times_lines (codes "acct") look.acct_times)
+
 -- ---- numbers of the whole server
 
-unfoldable pub gauge : (name help : List ℕ) → (number : ℕ) → List ℕ
-gauge name help number =
-    head_of name (codes "gauge") help ++ (name ++ (codes " " ++ (decimal number ++ codes "\n")))
+-- a number by itself: a gauge may go up and down, a counter goes up
+unfoldable pub sample : (kind name help : List ℕ) → (number : ℕ) → List ℕ
+sample kind name help number =
+    head_of name kind help ++ (name ++ (codes " " ++ (decimal number ++ codes "\n")))
 
-unfoldable pub gauges : Metrics → List ℕ
-gauges metrics =
-    gauge (codes "radlimitd_places") (codes "Places of all accounts.") metrics.places
-    ++ (gauge (codes "radlimitd_places_held") (codes "Places that are held.") metrics.held
-    ++ (gauge (codes "radlimitd_era") (codes "Number of the era.") metrics.era
-    ++ (gauge (codes "radlimitd_generation") (codes "Number of the generation.") metrics.generation
-    ++ gauge (codes "radlimitd_start_time_seconds") (codes "When the server started, in seconds since 1970.")
-    metrics.start_secs)))
+abbrev pub gauge : (name help : List ℕ) → (number : ℕ) → List ℕ
+gauge = sample (codes "gauge")
+
+-- so many accounts, and with those of a list that have no free place
+abbrev pub full_after : ℕ → List AccountLook → ℕ
+full_after number [] = number
+full_after number (account ∷ accounts) =
+    full_after (if nat_le account.row.places account.row.held then plus number 1 else number) accounts
+
+-- what all accounts hold, and how many have no free place
+unfoldable pub holdings : Totals → (full : ℕ) → List ℕ
+holdings totals full =
+    gauge (codes "radlimitd_places") (codes "Places of all accounts.") totals.places
+    ++ (gauge (codes "radlimitd_places_held") (codes "Places that are held.") totals.held
+    ++ (gauge (codes "radlimitd_accounts") (codes "Accounts that there are.") totals.accounts
+    ++ gauge (codes "radlimitd_accounts_full") (codes "Accounts that have no free place.") full))
+
+-- 1 where batches are being recorded, else 0
+abbrev pub recording_of : Recording → ℕ
+recording_of Recorded = 1
+recording_of Failing = 0
+
+-- what the server writes, and since when
+unfoldable pub writing : (era generation start recording : ℕ) → List ℕ
+writing era generation start recording =
+    gauge (codes "radlimitd_era") (codes "Number of the era.") era
+    ++ (gauge (codes "radlimitd_generation") (codes "Number of the generation.") generation
+    ++ (gauge (codes "radlimitd_start_time_seconds") (codes "When the server started, in seconds since 1970.") start
+    ++ gauge (codes "radlimitd_recording") (codes "1 where batches are being recorded, else 0.") recording))
+
+-- so many octets, and with those that wait at the sockets of a list
+abbrev pub waiting_after : ℕ → List SocketLook → ℕ
+waiting_after number [] = number
+waiting_after number (socket ∷ sockets) = waiting_after (plus number socket.waiting) sockets
+
+-- so many datagrams, and with those that were dropped at the sockets of a list
+abbrev pub dropped_after : ℕ → List SocketLook → ℕ
+dropped_after number [] = number
+dropped_after number (socket ∷ sockets) = dropped_after (plus number socket.dropped) sockets
+
+-- what waits at the sockets, and what was dropped there
+unfoldable pub at_sockets : (waiting dropped : ℕ) → List ℕ
+at_sockets waiting dropped =
+    gauge (codes "radlimitd_sockets_waiting_octets") (codes "Octets that wait in the room of the UDP sockets.") waiting
+    ++ sample (codes "counter") (codes "radlimitd_sockets_dropped_total")
+    (codes "Datagrams that the system dropped at the UDP sockets for want of room.") dropped
+
+unfoldable pub numbers_text : Look → List ℕ
+numbers_text look =
+    holdings (totals_of look.accounts.items) (full_after 0 look.accounts.items)
+    ++ (writing look.era look.generation look.start (recording_of look.recording)
+    ++ at_sockets (waiting_after 0 look.sockets.items) (dropped_after 0 look.sockets.items))
 
 -- all of them
-unfoldable pub metrics_text : Metrics → List ℕ
-metrics_text metrics =
-    datagrams_head ++ (ends_lines all_front metrics.counts
-    ++ (clients_head ++ (flat_map client_lines metrics.clients.now
-    ++ (times_head ++ (times_lines (codes "auth") metrics.auth_times
-    ++ (times_lines (codes "acct") metrics.acct_times ++ gauges metrics))))))
+unfoldable pub metrics_text : Look → List ℕ
+metrics_text look = ends_text look ++ (times_text look ++ numbers_text look)

@@ -1,16 +1,32 @@
 ghost use Rattle.std.specs.Prelude.{◌≡◌, ◌++◌, OnOk};
 ghost use Rattle.std.specs.List.{flat_map};
 ghost use Rattle.rld_counts.specs.Ends.{acct_ends, auth_ends};
-ghost use Rattle.rld_metrics.specs.Metrics.{acct_lines, all_front, auth_lines, client_front, client_lines, clients_head, datagrams_head, datagrams_line, ends_lines};
+ghost use Rattle.rld_metrics.specs.Metrics.{acct_lines, all_front, auth_lines, client_front, client_lines, clients_head, datagrams_head, datagrams_line, ends_lines, ends_text};
 
-use crate::metrics::ClientCounts;
 use crate::text::{Head, push_decimal, push_head, push_label, push_octets, push_text};
 use rld_counts::{AcctEnd, AuthEnd, Counts, End};
+use rld_look::{ClientLook, Look};
+use rld_values::push_dotted;
 use std::alloc::{AllocError, Global};
+
+/// Writes how all datagrams ended, and those of each client.
+#[tactic(auto, unfolding(crate::specs::Metrics::ends_text))]
+pub(crate) fn push_ends_text(
+    alloc: Global,
+    out: &mut Vec<u8>,
+    look: &Look,
+) -> Result<(), AllocError>
+    ensures { OnOk result (out.new.items ≡ out.old.items ++ ends_text look.entry.now) }
+{
+    push_datagrams_head(out)?;
+    push_all(alloc, out, &look.counts)?;
+    push_clients_head(out)?;
+    push_clients(alloc, out, look.clients.as_slice())
+}
 
 /// Writes how all datagrams ended.
 #[tactic(auto, unfolding(crate::specs::Metrics::datagrams_head))]
-pub(crate) fn push_datagrams_head(out: &mut Vec<u8>) -> Result<(), AllocError>
+fn push_datagrams_head(out: &mut Vec<u8>) -> Result<(), AllocError>
     ensures { OnOk result (out.new.items ≡ out.old.items ++ datagrams_head) }
 {
     push_head(
@@ -25,7 +41,7 @@ pub(crate) fn push_datagrams_head(out: &mut Vec<u8>) -> Result<(), AllocError>
 
 /// Writes what stands before the counts of clients.
 #[tactic(auto, unfolding(crate::specs::Metrics::clients_head))]
-pub(crate) fn push_clients_head(out: &mut Vec<u8>) -> Result<(), AllocError>
+fn push_clients_head(out: &mut Vec<u8>) -> Result<(), AllocError>
     ensures { OnOk result (out.new.items ≡ out.old.items ++ clients_head) }
 {
     push_head(
@@ -39,18 +55,14 @@ pub(crate) fn push_clients_head(out: &mut Vec<u8>) -> Result<(), AllocError>
 }
 
 /// Writes how the datagrams of all clients ended, and those of none.
-pub(crate) fn push_all(alloc: Global, out: &mut Vec<u8>, counts: &Counts) -> Result<(), AllocError>
+fn push_all(alloc: Global, out: &mut Vec<u8>, counts: &Counts) -> Result<(), AllocError>
     ensures { OnOk result (out.new.items ≡ out.old.items ++ ends_lines all_front counts.now) }
 {
     push_ends(alloc, out, b"radlimitd_datagrams_total{", counts)
 }
 
 /// Writes how the datagrams of each client ended.
-pub(crate) fn push_clients(
-    alloc: Global,
-    out: &mut Vec<u8>,
-    clients: &[ClientCounts<'_>],
-) -> Result<(), AllocError>
+fn push_clients(alloc: Global, out: &mut Vec<u8>, clients: &[ClientLook]) -> Result<(), AllocError>
     ensures { OnOk result (out.new.items ≡ out.old.items ++ flat_map client_lines clients.now) }
 {
     for client in clients {
@@ -60,26 +72,22 @@ pub(crate) fn push_clients(
 }
 
 /// Writes how the datagrams of a client ended.
-fn push_client(
-    alloc: Global,
-    out: &mut Vec<u8>,
-    client: &ClientCounts<'_>,
-) -> Result<(), AllocError>
+fn push_client(alloc: Global, out: &mut Vec<u8>, client: &ClientLook) -> Result<(), AllocError>
     ensures { OnOk result (out.new.items ≡ out.old.items ++ client_lines client.now) }
 {
     let mut front = Vec::new(alloc);
-    push_client_front(&mut front, client.name)?;
+    push_client_front(alloc, &mut front, client.address)?;
     push_ends(alloc, out, front.as_slice(), &client.counts)
 }
 
 /// Writes how the lines of a client begin.
 #[tactic(auto, unfolding(crate::specs::Metrics::client_front))]
-fn push_client_front(out: &mut Vec<u8>, name: &str) -> Result<(), AllocError>
-    ensures { OnOk result (out.new.items ≡ out.old.items ++ client_front name.now) }
+fn push_client_front(alloc: Global, out: &mut Vec<u8>, address: [u8; 4]) -> Result<(), AllocError>
+    ensures { OnOk result (out.new.items ≡ out.old.items ++ client_front address) }
 {
-    push_text(out, "radlimitd_client_datagrams_total{")?;
-    push_label(out, "client", name)?;
-    push_text(out, ",")?;
+    push_text(out, "radlimitd_client_datagrams_total{client=\"")?;
+    push_dotted(alloc, out, address)?;
+    push_text(out, "\",")?;
     Ok(())
 }
 

@@ -1,4 +1,5 @@
-//! The metrics of a running server, as Prometheus reads them: its text format, version 0.0.4.
+//! The metrics of a running server that was looked at, as Prometheus reads them: its text format,
+//! version 0.0.4.
 //!
 //! The promise: what is written has the octets of `specs/Metrics.antt`, and nothing else. A value of a
 //! label may have any text; the buckets of a histogram are cumulative.
@@ -7,7 +8,8 @@
 mod datagrams;
 mod gauges;
 mod metrics;
+mod sums;
 mod text;
 mod times;
 
-pub use metrics::{ClientCounts, Metrics};
+pub use metrics::push_metrics;

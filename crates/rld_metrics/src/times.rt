@@ -1,14 +1,29 @@
 ghost use Rattle.std.specs.Prelude.{◌≡◌, ◌++◌, OnOk, codes};
-ghost use Rattle.rld_metrics.specs.Metrics.{bucket_line, bucket_lines, times_end, times_head, times_lines};
+ghost use Rattle.rld_metrics.specs.Metrics.{bucket_line, bucket_lines, times_end, times_head, times_lines, times_text};
 ghost use Rattle.rld_metrics.specs.Text.{seconds};
 
 use crate::text::{Head, push_decimal, push_head, push_label, push_seconds, push_text};
 use rld_counts::{BUCKETS, Histogram, bound_of};
+use rld_look::Look;
 use std::alloc::{AllocError, Global};
+
+/// Writes the histograms of both ports.
+#[tactic(auto, unfolding(crate::specs::Metrics::times_text))]
+pub(crate) fn push_times_text(
+    alloc: Global,
+    out: &mut Vec<u8>,
+    look: &Look,
+) -> Result<(), AllocError>
+    ensures { OnOk result (out.new.items ≡ out.old.items ++ times_text look.entry.now) }
+{
+    push_times_head(out)?;
+    push_times(alloc, out, "auth", &look.auth_times)?;
+    push_times(alloc, out, "acct", &look.acct_times)
+}
 
 /// Writes what stands before the histograms.
 #[tactic(auto, unfolding(crate::specs::Metrics::times_head))]
-pub(crate) fn push_times_head(out: &mut Vec<u8>) -> Result<(), AllocError>
+fn push_times_head(out: &mut Vec<u8>) -> Result<(), AllocError>
     ensures { OnOk result (out.new.items ≡ out.old.items ++ times_head) }
 {
     push_head(
@@ -106,7 +121,7 @@ fn push_end(
 
 /// Writes the histogram of a port.
 #[tactic(auto, unfolding(crate::specs::Metrics::times_lines))]
-pub(crate) fn push_times(
+fn push_times(
     alloc: Global,
     out: &mut Vec<u8>,
     port: &str,

@@ -6,4 +6,4 @@ pub returns : goal.returns
 unfolding client_front
 returns c =
     written_3 _ _ _ _ _ _ _
-    c.in_ok-push_text.ensures c.in_ok-push_label.ensures c.in_ok-push_text-2.ensures
+    c.in_ok-push_text.ensures c.in_ok-push_dotted.ensures c.in_ok-push_text-2.ensures

@@ -1,0 +1,4 @@
+pub mod Totals
+pub mod History
+pub mod Clients
+pub mod Accounts

@@ -1,0 +1,40 @@
+-- What all accounts hold.
+use Rattle.std.specs.Prelude.{ℕ, ◌+◌, ◌-◌, ◌^◌, min, List, [], ◌∷◌}
+use Rattle.rsl_shard.specs.declared.row.Row.{Row}
+use Rattle.rld_look.specs.declared.look.AccountLook.{AccountLook}
+use Rattle.rld_look.specs.declared.totals.Totals.{Totals}
+
+-- a sum, at most the greatest number of 64 bits
+abbrev pub plus : ℕ → ℕ → ℕ
+plus a b = min (a + b) (2 ^ 64 - 1)
+
+abbrev pub no_totals : Totals
+no_totals = record {
+  accounts = 0;
+  places = 0;
+  held = 0;
+  reserved = 0;
+  live = 0;
+  stale = 0;
+  over = 0;
+}
+
+-- with what one account more holds
+abbrev pub with_row : Totals → Row → Totals
+with_row totals row = record {
+  accounts = plus totals.accounts 1;
+  places = plus totals.places row.places;
+  held = plus totals.held row.held;
+  reserved = plus totals.reserved row.reserved;
+  live = plus totals.live row.live;
+  stale = plus totals.stale row.stale;
+  over = plus totals.over row.over;
+}
+
+-- after those that were found before
+abbrev pub totals_after : Totals → List AccountLook → Totals
+totals_after totals [] = totals
+totals_after totals (account ∷ accounts) = totals_after (with_row totals account.row) accounts
+
+abbrev pub totals_of : List AccountLook → Totals
+totals_of accounts = totals_after no_totals accounts

@@ -1,0 +1,202 @@
+ghost use Rattle.std.specs.Prelude.{◌≡◌, ◌≢◌, ◌/◌, ◌↔◌, [], IsTrue, IfOk, OnOk, OnErr, map};
+ghost use Rattle.rld_look.specs.History.{
+  accounting_ends,
+  came_in,
+  kept_minutes,
+  minute_of,
+  no_came,
+  nothing_yet,
+  reject_ends,
+  total_of,
+  with_minute,
+};
+
+use crate::look::Minute;
+use rld_counts::{AcctEnd, AuthEnd, Counts, End};
+use std::alloc::{AllocError, Global};
+use std::marker::Model;
+
+/// How many minutes are kept.
+const MINUTES: usize = 60;
+
+/// How long a minute is, in seconds.
+const MINUTE_SECS: u64 = 60;
+
+const _: () = prove!(MINUTES == 60 && MINUTE_SECS == 60);
+
+/// What came in each of the last minutes: the last 60 whole ones, as the clock divides hours. The minute
+/// in which a server starts is none of them.
+///
+/// Where the clock is set the minute in which that happens has another length.
+#[derive(Drop)]
+pub struct History {
+    minutes: Vec<Minute>,
+    current: u64,
+    is_whole: bool,
+    before: Came,
+}
+
+impl Model for History {
+    ghost use Rattle.rld_look.specs.History.{HistorySeen};
+
+    ghost Value = { HistorySeen };
+
+    ghost view = { λ history. record {
+      minutes = history.minutes.items;
+      current = history.current;
+      is_whole = history.is_whole;
+      before = history.before;
+    } };
+}
+
+impl History {
+    /// That of a server that starts at this second since 1970. It fails only where memory is refused.
+    pub fn new(alloc: Global, now: u64) -> Result<History, AllocError>
+        ensures { IfOk result (λ history. history ≡ nothing_yet now) }
+    {
+        Ok(History {
+            minutes: Vec::with_capacity(alloc, MINUTES)?,
+            current: now / MINUTE_SECS,
+            is_whole: false,
+            before: Came::new(),
+        })
+    }
+
+    /// Whether another minute has begun at this second.
+    pub fn has_passed(&self, now: u64) -> bool
+        ensures { IsTrue result ↔ (now / 60 ≢ self.now.current) }
+    {
+        now / MINUTE_SECS != self.current
+    }
+
+    /// Ends the minute that is going on, and begins that of this second: all datagrams until then
+    /// have ended so, and so many places are held.
+    pub fn begin_minute(&mut self, now: u64, counts: &Counts, held: u64) -> Result<(), AllocError>
+        ensures ok { OnOk result (self.new
+            ≡ with_minute self.old (now / 60) (came_in counts.now) held) }
+        ensures err { OnErr result (self.new ≡ self.old) }
+    {
+        let came = Came::of(counts);
+        let minute = self.minute(&came, held);
+        keep_last(&mut self.minutes, minute, self.is_whole)?;
+        self.current = now / MINUTE_SECS;
+        self.is_whole = true;
+        self.before = came;
+        Ok(())
+    }
+
+    /// The minute that is going on, at its end.
+    fn minute(&self, came: &Came, held: u64) -> Minute
+        ensures { result ≡ minute_of self.now.current self.now.before came.now held }
+    {
+        let before = self.before;
+        Minute {
+            start: self.current.saturating_mul(MINUTE_SECS),
+            accepts: came.accepts.saturating_sub(before.accepts),
+            limit_rejects: came.limit_rejects.saturating_sub(before.limit_rejects),
+            rejects: came.rejects.saturating_sub(before.rejects),
+            accounting: came.accounting.saturating_sub(before.accounting),
+            held,
+        }
+    }
+
+    /// The last whole minutes, at most 60, the oldest first.
+    pub fn minutes(&self) -> &[Minute]
+        ensures { result.now ≡ self.now.minutes }
+    {
+        self.minutes.as_slice()
+    }
+}
+
+/// What had come at a moment.
+#[derive(Clone, Copy, Debug, PartialEq, Eq)]
+pub(crate) struct Came {
+    pub(crate) accepts: u64,
+    pub(crate) limit_rejects: u64,
+    pub(crate) rejects: u64,
+    pub(crate) accounting: u64,
+}
+
+impl Came {
+    /// Nothing.
+    fn new() -> Came
+        ensures { result ≡ no_came }
+    {
+        Came {
+            accepts: 0,
+            limit_rejects: 0,
+            rejects: 0,
+            accounting: 0,
+        }
+    }
+
+    /// What these counts say.
+    fn of(counts: &Counts) -> Came
+        ensures { result ≡ came_in counts.now }
+    {
+        Came {
+            accepts: counts.count(End::Auth(AuthEnd::Accept)),
+            limit_rejects: counts.count(End::Auth(AuthEnd::LimitReject)),
+            rejects: total_of(counts, &rejects()),
+            accounting: total_of(counts, &answered_requests()),
+        }
+    }
+}
+
+/// How many datagrams ended in any of these ways, at most 2^64 - 1.
+fn total_of(counts: &Counts, ends: &[End]) -> u64
+    ensures { result ≡ total_of counts.now ends.now }
+{
+    let mut total = 0u64;
+    for end in ends {
+        total = total.saturating_add(counts.count(*end));
+    }
+    total
+}
+
+/// The ends of a request that was rejected, but not for want of a place.
+#[tactic(auto, unfolding(crate::specs::History::reject_ends))]
+fn rejects() -> [End; 6]
+    ensures { result ≡ reject_ends }
+{
+    [
+        End::Auth(AuthEnd::Malformed),
+        End::Auth(AuthEnd::NotOneName),
+        End::Auth(AuthEnd::NotOnePassword),
+        End::Auth(AuthEnd::SeveralChallenges),
+        End::Auth(AuthEnd::UnknownAccount),
+        End::Auth(AuthEnd::WrongPassword),
+    ]
+}
+
+/// The ends of an accounting request that was answered.
+#[tactic(auto, unfolding(crate::specs::History::accounting_ends))]
+fn answered_requests() -> [End; 6]
+    ensures { result ≡ accounting_ends }
+{
+    [
+        End::Acct(AcctEnd::Start),
+        End::Acct(AcctEnd::Stop),
+        End::Acct(AcctEnd::InterimUpdate),
+        End::Acct(AcctEnd::AccountingOn),
+        End::Acct(AcctEnd::AccountingOff),
+        End::Acct(AcctEnd::OtherStatus),
+    ]
+}
+
+/// Adds a minute behind those that are kept, if it was whole: the oldest then makes room.
+fn keep_last(minutes: &mut Vec<Minute>, minute: Minute, is_whole: bool) -> Result<(), AllocError>
+    ensures ok { OnOk result (minutes.new.items
+        ≡ kept_minutes minutes.old.items minute is_whole) }
+    ensures err { OnErr result (minutes.new.items ≡ minutes.old.items) }
+{
+    if !is_whole {
+        return Ok(());
+    }
+    minutes.push(minute)?;
+    let len = minutes.len();
+    if len > MINUTES {
+        minutes.drain(..len - MINUTES);
+    }
+    Ok(())
+}

@@ -1,0 +1,106 @@
+ghost use Rattle.std.specs.Prelude.{◌≡◌};
+ghost use Rattle.rld_look.specs.Totals.{totals_of};
+
+use crate::totals::Totals;
+use rld_counts::{Counts, Histogram};
+use rld_refusals::Refusal;
+use rsl_accounts::Text;
+use rsl_shard::Row;
+
+/// What a running server shows of itself at a moment. A second is one since 1970.
+#[derive(Drop)]
+pub struct Look {
+    /// The second of its start.
+    pub start: u64,
+    /// The second in which it was looked at.
+    pub now: u64,
+    /// The number of its era.
+    pub era: u64,
+    /// The number of the generation that it writes.
+    pub generation: u64,
+    /// How many moves that generation has.
+    pub moves: u64,
+    /// Whether batches are being recorded.
+    pub recording: Recording,
+    /// How the datagrams of both ports ended.
+    pub counts: Counts,
+    /// How those of each client ended, in file order.
+    pub clients: Vec<ClientLook>,
+    /// How long the answers of the authentication port took.
+    pub auth_times: Histogram,
+    /// How long those of the accounting port took.
+    pub acct_times: Histogram,
+    /// What each account holds, in file order.
+    pub accounts: Vec<AccountLook>,
+    /// The last whole minutes, at most 60, the oldest first.
+    pub minutes: Vec<Minute>,
+    /// The datagrams that were refused lately, the oldest first.
+    pub refusals: Vec<Refusal>,
+    /// What waits at each socket, in the order of the server's file. None where the system does not
+    /// tell it.
+    pub sockets: Vec<SocketLook>,
+}
+
+/// How the datagrams of a client ended.
+#[derive(Clone, Copy, Debug, PartialEq, Eq)]
+pub struct ClientLook {
+    /// The client's address.
+    pub address: [u8; 4],
+    /// How its datagrams ended.
+    pub counts: Counts,
+}
+
+/// What an account holds.
+#[derive(Drop)]
+pub struct AccountLook {
+    /// Its name.
+    pub name: Text,
+    /// What it holds.
+    pub row: Row,
+}
+
+/// What came in a minute, and what was held at its end.
+#[derive(Clone, Copy, Debug, PartialEq, Eq)]
+pub struct Minute {
+    /// The second in which it began.
+    pub start: u64,
+    /// How many Access-Accepts were sent.
+    pub accepts: u64,
+    /// How many Access-Rejects were sent because no place was free.
+    pub limit_rejects: u64,
+    /// How many Access-Rejects were sent for any other cause.
+    pub rejects: u64,
+    /// How many Accounting-Responses were sent.
+    pub accounting: u64,
+    /// How many places were held at its end.
+    pub held: u64,
+}
+
+/// What waits at a UDP socket, as the system tells it.
+#[derive(Clone, Copy, Debug, PartialEq, Eq)]
+pub struct SocketLook {
+    /// The socket's UDP port.
+    pub port: u16,
+    /// How much of its room is taken by datagrams that wait, in octets.
+    pub waiting: u64,
+    /// How many datagrams the system dropped since the socket was bound, since there was no room.
+    pub dropped: u64,
+}
+
+/// Whether batches are being recorded.
+#[derive(Clone, Copy, Debug, PartialEq, Eq)]
+pub enum Recording {
+    /// They are.
+    Recorded,
+    /// One was not, lately: the disk is full or fails, or memory is refused.
+    Failing,
+}
+
+impl Look {
+    /// What all accounts hold.
+    pub fn totals(&self) -> Totals
+        ensures { result ≡ totals_of self.entry.now.accounts.items }
+    {
+        Totals::of(self.accounts.as_slice())
+    }
+}

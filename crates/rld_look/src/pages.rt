@@ -1,0 +1,24 @@
+//! How a running server is shown to those who ask for it.
+
+use crate::look::Look;
+use rsl_wire::NoMemory;
+use std::io;
+use std::net::Net;
+use std::sync::Wait;
+use std::time::Clock;
+
+/// A server that is shown.
+pub trait Shown {
+    /// What it shows of itself now. It fails only where memory is refused.
+    fn take_look(&self) -> Result<Look, NoMemory>;
+
+    /// Whether it shall end.
+    fn is_over(&self) -> bool;
+}
+
+/// What shows a server to those who ask, from a thread of its own.
+pub trait Pages {
+    /// Shows a server until it shall end, which is noticed within a second. The error is the system's:
+    /// nobody who asks could be waited for.
+    fn show<S: Shown, R: Net + Clock + Wait>(&self, rt: &R, server: &S) -> io::Result<()>;
+}

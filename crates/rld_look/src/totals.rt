@@ -1,0 +1,67 @@
+ghost use Rattle.std.specs.Prelude.{◌≡◌};
+ghost use Rattle.rld_look.specs.Totals.{no_totals, totals_of, with_row};
+
+use crate::look::AccountLook;
+use rsl_shard::Row;
+
+/// What all accounts hold, each number at most 2^64 - 1.
+#[derive(Clone, Copy, Debug, PartialEq, Eq)]
+pub struct Totals {
+    /// How many accounts there are.
+    pub accounts: u64,
+    /// The places that they have.
+    pub places: u64,
+    /// The places that they hold.
+    pub held: u64,
+    /// How many of their links are reserved.
+    pub reserved: u64,
+    /// How many of their links are bound and live.
+    pub live: u64,
+    /// How many of their links are bound and stale.
+    pub stale: u64,
+    /// How many of their alives were over.
+    pub over: u64,
+}
+
+impl Totals {
+    /// Those of no account.
+    pub(crate) fn new() -> Totals
+        ensures { result ≡ no_totals }
+    {
+        Totals {
+            accounts: 0,
+            places: 0,
+            held: 0,
+            reserved: 0,
+            live: 0,
+            stale: 0,
+            over: 0,
+        }
+    }
+
+    /// Those of all of these accounts.
+    pub(crate) fn of(accounts: &[AccountLook]) -> Totals
+        ensures { result ≡ totals_of accounts.now }
+    {
+        let mut totals = Totals::new();
+        for account in accounts {
+            totals = totals.with(&account.row);
+        }
+        totals
+    }
+
+    /// Those with one account more.
+    fn with(self, row: &Row) -> Totals
+        ensures { result ≡ with_row self row.now }
+    {
+        Totals {
+            accounts: self.accounts.saturating_add(1),
+            places: self.places.saturating_add(u64::from(row.places)),
+            held: self.held.saturating_add(u64::from(row.held)),
+            reserved: self.reserved.saturating_add(u64::from(row.reserved)),
+            live: self.live.saturating_add(u64::from(row.live)),
+            stale: self.stale.saturating_add(u64::from(row.stale)),
+            over: self.over.saturating_add(row.over),
+        }
+    }
+}
