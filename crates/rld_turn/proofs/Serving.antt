@@ -67,6 +67,15 @@ none_served service port counts state stands none =
       numbers = no_numbers;
     })
 
+-- a watcher that was told nothing more when the turn began
+pub turned_since : (service : ServiceSeen) (port : Port) (ends : Ends) (taken sent : List Datagram) (shown : Option (List ℕ))
+    (before begun : Option (List Told)) (books : List BooksSeen) (new : State)
+    (stood stands : Configuration → List BooksSeen → List Move → Type 0) → begun ≡ before
+    → HasTurned service port ends (state_of taken sent shown begun books) new stood stands
+    → HasTurned service port ends (state_of taken sent shown before books) new stood stands
+turned_since service port ends taken sent shown before begun books new stood stands same =
+    subst (λ (told : Option (List Told)). HasTurned service port ends (state_of taken sent shown told books) new stood stands) same
+
 -- a turn more
 pub served_more : (service : ServiceSeen) (port : Port) (ends : Ends) (counts after : Counts)
     (old mid new : State) (stood between stands : Configuration → List BooksSeen → List Move → Type 0) → after ≡ counted ends counts

@@ -58,7 +58,7 @@ pub(crate) struct Receiver<'a> {
 /// datagram is then answered, in the order in which they were taken; one that has a move only if the
 /// batch was recorded. Where an answer cannot be sent what was recorded stands, and the next turn
 /// follows; so it does where memory is refused or a batch is not recorded. How each datagram ended is
-/// told to `watch`, in that order.
+/// told to `watch`, in that order, and before that when the first of a turn was taken.
 ///
 /// `Down` comes where a call that takes a datagram fails, and `Ended` where nothing more can be
 /// recorded, with the counts up to then; what was taken in that turn is answered first. `NoMemory`
@@ -150,6 +150,7 @@ impl Receiver<'_> {
     {
         match datagrams.receive(buffer) {
             Ok(Some((len, source))) => {
+                watch.begin();
                 let moment = clock.now();
                 let mut batch = Vec::new(self.alloc);
                 let entry = self.enter(moment, source, buffer, len, &mut batch);

@@ -21,10 +21,15 @@ pub struct Ended<'a> {
 /// A watcher over memory also reports to contracts what it was told, in that order. Another reports
 /// nothing.
 pub trait Watch {
-    ghost use Rattle.std.specs.Prelude.{List, [], ◌∷◌, Option, None};
+    ghost use Rattle.std.specs.Prelude.{◌≡◌, List, [], ◌∷◌, Option, None};
     ghost use Rattle.rld_turn.specs.Told.{HasTold, Told as OneTold, told_as};
 
     ghost told: { Self → Option (List OneTold) } = { λ _. None };
+
+    /// Notes that a turn has taken its first datagram. A receiver calls it once in each turn that takes
+    /// one, before it reads its clock.
+    fn begin(&mut self)
+        ensures told { told self.new ≡ told self.old };
 
     /// Notes that a datagram has ended. A receiver calls it once for each datagram that it took, in the
     /// order in which it took them, after the answer was handed to the port.
@@ -37,5 +42,7 @@ pub trait Watch {
 pub struct Unwatched;
 
 impl Watch for Unwatched {
+    fn begin(&mut self) {}
+
     fn note(&mut self, _ended: Ended<'_>) {}
 }

@@ -1,7 +1,7 @@
-//! Tests of `rld_turn`: what turns make of what waits at a port of memory, what a watcher is told of
-//! it, and what a loss of power leaves of their batches on a disk of memory; and of `rld_why`. They are
-//! rows of text (`test_rows`). Expected values come from the session rule, worked by hand, and the
-//! octets from Python's hashlib.
+//! Tests of `rld_turn` and `rld_watch`: what turns make of what waits at a port of memory, what a watcher
+//! is told of it and counts, and what a loss of power leaves of their batches on a disk of memory; and of
+//! `rld_why`. They are rows of text (`test_rows`). Expected values come from the session rule, worked by
+//! hand, and the octets from Python's hashlib. Also of `rld_look`: sockets and minutes.
 #![tactic(auto)]
 
 #[cfg(test)]
@@ -9,7 +9,11 @@ mod clock;
 #[cfg(test)]
 mod coming;
 #[cfg(test)]
+mod counted;
+#[cfg(test)]
 mod disk;
+#[cfg(test)]
+mod looks;
 #[cfg(test)]
 mod notes;
 #[cfg(test)]

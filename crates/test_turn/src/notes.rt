@@ -5,8 +5,8 @@ use rld_why::why_rejected;
 use rsl_accounts::Config;
 use std::alloc::Global;
 
-/// What a watcher was told: for each datagram the port that it came from, the number of the client,
-/// how it ended and, where it can be a reject, why.
+/// What a watcher was told: that a turn has begun, and for each datagram the port that it came from, the
+/// number of the client, how it ended and, where it can be a reject, why.
 #[derive(Drop)]
 pub(crate) struct Notes<'a> {
     config: &'a Config,
@@ -29,6 +29,10 @@ impl<'a> Notes<'a> {
 }
 
 impl Watch for Notes<'_> {
+    fn begin(&mut self) {
+        let _ = write!(self.text, " begin");
+    }
+
     fn note(&mut self, ended: Ended<'_>) {
         let cause = why_rejected(self.config, ended.source, ended.octets);
         let told = (ended.source.port, ended.client, ended.end, cause);

@@ -45,18 +45,18 @@ impl Subject for Turns {
 
 /// What a row says.
 #[derive(Clone, Copy)]
-struct Scene<'a> {
-    shards: &'a str,
-    port: &'a str,
-    turns: &'a str,
-    coming: &'a str,
-    failing: &'a str,
-    clock: &'a str,
-    disk: &'a str,
+pub(crate) struct Scene<'a> {
+    pub(crate) shards: &'a str,
+    pub(crate) port: &'a str,
+    pub(crate) turns: &'a str,
+    pub(crate) coming: &'a str,
+    pub(crate) failing: &'a str,
+    pub(crate) clock: &'a str,
+    pub(crate) disk: &'a str,
 }
 
 /// A row, of its fields.
-fn scene_of<'a>(fields: &[&'a str]) -> Result<Scene<'a>, Fail> {
+pub(crate) fn scene_of<'a>(fields: &[&'a str]) -> Result<Scene<'a>, Fail> {
     let [shards, port, turns, coming, failing, clock, disk] = fields else {
         return Err("a row with other fields")?;
     };
@@ -72,7 +72,7 @@ fn scene_of<'a>(fields: &[&'a str]) -> Result<Scene<'a>, Fail> {
 }
 
 /// The port of a word.
-fn port_of(word: &str) -> Result<Port, Fail> {
+pub(crate) fn port_of(word: &str) -> Result<Port, Fail> {
     match word {
         "auth" => Ok(Port::Auth),
         "acct" => Ok(Port::Acct),
@@ -114,7 +114,7 @@ impl Subject for Watched {
 }
 
 /// Takes the turns of a row, and tells the counts. Gives the port.
-fn served<W: Watch>(
+pub(crate) fn served<W: Watch>(
     alloc: Global,
     config: &Config,
     scene: Scene<'_>,
@@ -249,17 +249,17 @@ rejects alone are not recorded | 1 | auth | 2 | wrong*65 | | 5 1 | \
     | [2, 65, 0, 0, 0, 65, 0] [65, 66, 0, 65, 0]
 ";
 
-/// What a watcher is told: the port that each datagram came from, its client, how it ended, and why it
-/// is rejected, if it is.
+/// What a watcher is told: that a turn has begun, and the port that each datagram came from, its client,
+/// how it ended, and why it is rejected, if it is.
 const WATCHED: &str = "
 each end, in the order of the datagrams | 1 | auth | 1 | ask short:1025 wrong:1026 half bare:1027 ask:1028 \
-    | | 5 1 | | (1024, Some(0), Answered(Accept(0)), None) (1025, Some(0), Dropped(Short), None) \
+    | | 5 1 | | begin (1024, Some(0), Answered(Accept(0)), None) (1025, Some(0), Dropped(Short), None) \
     (1026, Some(0), Answered(Reject), Some(WrongPassword)) (1024, Some(0), Dropped(BadLength), None) \
     (1027, Some(0), Answered(Reject), Some(Malformed)) (1028, Some(0), Answered(LimitReject), None)
 an answer that could not be sent | 1 | auth | 1 | ask wrong | 0 1 | 5 1 | \
-    | (1024, Some(0), Unsent(Accept(0)), None) (1024, Some(0), Unsent(Reject), Some(WrongPassword))
+    | begin (1024, Some(0), Unsent(Accept(0)), None) (1024, Some(0), Unsent(Reject), Some(WrongPassword))
 a batch that is not recorded | 1 | auth | 1 | ask wrong short | | 5 1 | append 0 \
-    | (1024, Some(0), Unrecorded, None) (1024, Some(0), Answered(Reject), Some(WrongPassword)) \
+    | begin (1024, Some(0), Unrecorded, None) (1024, Some(0), Answered(Reject), Some(WrongPassword)) \
     (1024, Some(0), Dropped(Short), None)
 ";
 

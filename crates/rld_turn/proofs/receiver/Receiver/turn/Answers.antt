@@ -3,7 +3,7 @@ use Rattle.std.specs.Prelude.{Ok, Some}
 use Rattle.rsl_receive.specs.Told.{datagram_of}
 use Rattle.rld_turn.proofs.Calling.{room_turn, turn_called}
 use Rattle.rld_turn.proofs.Entering.{batch_entered, none_came, none_failed, one_taken}
-use Rattle.rld_turn.proofs.Serving.{none_turned, turned_by}
+use Rattle.rld_turn.proofs.Serving.{none_turned, turned_by, turned_since}
 use Rattle.rld_turn.specs.Turned.{service_of}
 use Rattle.rld_turn.specs.declared.entry.Entry.{Entry}
 use Rattle.rld_turn.proofs.receiver.Receiver.turn.Goals as goal
@@ -41,7 +41,8 @@ returns-in-Ok-Some-clause-turned g c = λ told recorder_told.
     c.in-Ok-Some.is ∙ ap (λ o. Ok o) c.in-Ok-Some.field-0-is in
     let mid = c.finish.ensures.port_tells told in
     let first = c.gather-taking.ensures.telling mid in
-    turned_by service c.args.self.now.port c.now-moment.result one gathered.taken c.gather-taking.new.batch.items c.finish.result.ends
+    turned_since service c.args.self.now.port c.finish.result.ends _ _ _ _ _ _ _ _ _ c.begin.ensures.told
+    (turned_by service c.args.self.now.port c.now-moment.result one gathered.taken c.gather-taking.new.batch.items c.finish.result.ends
     _ _ _ _ _ _ _ _ _ _ _ _ _ _ c.now-moment.ensures.shown
     (one_taken c.in-Ok-Some.len c.in-Ok-Some.source c.receive.result c.receive.new.buffer _ _ got (c.receive.ensures.taken first))
     (c.finish.ensures.taken told ∙ gathered.told mid)
@@ -50,7 +51,7 @@ returns-in-Ok-Some-clause-turned g c = λ told recorder_told.
     (batch_entered service c.args.self.now.port c.now-moment.result _
     one c.enter-entry.result _ _ c.args.queue.now.items c.push_back_reserved.new.self.items c.gather-taking.new.queue.items
     c.new-batch.result.items c.enter-entry.new.batch.items c.gather-taking.new.batch.items
-    c.requires.empty c.new-batch.ensures.items c.enter-entry.ensures c.push_back_reserved.ensures.items gathered))
+    c.requires.empty c.new-batch.ensures.items c.enter-entry.ensures c.push_back_reserved.ensures.items gathered)))
 
 pub returns-in-Ok-Some-clause-calls : goal.returns-in-Ok-Some-clause-calls
 returns-in-Ok-Some-clause-calls g c =

@@ -1,0 +1,126 @@
+-- What a count says of the datagrams that are counted there, by what they mean.
+use Rattle.std.specs.Prelude.{◌≡◌, ℕ, ⊤, Bool, List, [], ◌∷◌, Option, Some, None, IsSomeAnd, Ok, Err}
+use Rattle.rsl_event.specs.Meaning.{meaning}
+use Rattle.rsl_event.specs.declared.event.Act.TheVariants.{Ask}
+use Rattle.rsl_event.specs.declared.event.Key.{Key}
+use Rattle.rsl_event.specs.declared.meaning.Dropped.{Dropped}
+use Rattle.rsl_event.specs.declared.meaning.Dropped.TheVariants as drops
+use Rattle.rsl_event.specs.declared.meaning.Meaning.{Meaning}
+use Rattle.rsl_event.specs.declared.meaning.Meaning.TheVariants.{Bare, Reject, Own}
+use Rattle.rsl_event.specs.declared.meaning.Port.{Port}
+use Rattle.rsl_event.specs.declared.meaning.Port.TheVariants as ports
+use Rattle.rsl_event.specs.declared.nas.Nas.{Nas}
+use Rattle.rsl_event.specs.declared.status.Status.{Status}
+use Rattle.rsl_event.specs.declared.status.Status.TheVariants as statuses
+use Rattle.rsl_receive.specs.declared.datagram_port.Datagram.{Datagram}
+use Rattle.rsl_service.specs.Service.{ServiceSeen}
+use Rattle.rsl_shard.specs.Restep.{BooksSeen}
+use Rattle.rsl_shard.specs.declared.moved.Move.{Move}
+use Rattle.rld_counts.specs.declared.acct_end.AcctEnd.{AcctEnd}
+use Rattle.rld_counts.specs.declared.acct_end.AcctEnd.TheVariants as acct
+use Rattle.rld_counts.specs.declared.auth_end.AuthEnd.{AuthEnd}
+use Rattle.rld_counts.specs.declared.auth_end.AuthEnd.TheVariants as auth
+use Rattle.rld_counts.specs.declared.end.End.{End}
+use Rattle.rld_counts.specs.declared.end.End.TheVariants.{Auth, Acct}
+use Rattle.rld_turn.specs.Told.{Told}
+use Rattle.rld_turn.specs.Turned.{Turned}
+use Rattle.rld_watch.specs.Ending.{end_at, request_status}
+use Rattle.rld_why.specs.Cause.{reject_cause}
+use Rattle.rld_why.specs.declared.cause.RejectCause.{RejectCause}
+use Rattle.rld_why.specs.declared.cause.RejectCause.TheVariants as causes
+
+-- a datagram has no meaning at a port, for this cause
+abbrev pub IsDroppedBy : ServiceSeen → Port → Datagram → Dropped → Type 0
+IsDroppedBy service port one cause =
+    meaning service.config service.boot port one.source one.octets ≡ Err cause
+
+-- it means this there
+abbrev pub Means : ServiceSeen → Port → Datagram → Meaning → Type 0
+Means service port one meant =
+    meaning service.config service.boot port one.source one.octets ≡ Ok meant
+
+-- it means something there
+pub record HasMeaning (service : ServiceSeen) (port : Port) (one : Datagram) : Type 0 where
+  pub meant : Meaning
+  pub means : Means service port one meant
+
+-- it asks for an account with the right password
+pub record Asks (service : ServiceSeen) (one : Datagram) : Type 0 where
+  pub account : ℕ
+  pub key : Key
+  pub nas : Nas
+  pub means : Means service ports.Auth one (Own account (Ask key nas))
+
+-- it is well formed, and rejected for this cause
+pub record IsRejectedFor (service : ServiceSeen) (one : Datagram) (cause : RejectCause) : Type 0 where
+  pub means : Means service ports.Auth one Reject
+  pub is_cause : reject_cause service.config one.source one.octets ≡ Some cause
+
+-- it is an accounting request of this status
+pub record HasStatus (service : ServiceSeen) (one : Datagram) (status : Option Status) : Type 0 where
+  pub meaning : HasMeaning service ports.Acct one
+  pub is_status : request_status one.octets ≡ status
+
+-- what an end at the authentication port says of a datagram
+abbrev pub AuthSays : ServiceSeen → Datagram → AuthEnd → Type 0
+AuthSays service one auth.Short = IsDroppedBy service ports.Auth one drops.Short
+AuthSays service one auth.BadLength = IsDroppedBy service ports.Auth one drops.BadLength
+AuthSays service one auth.UnknownClient = IsDroppedBy service ports.Auth one drops.UnknownClient
+AuthSays service one auth.WrongCode = IsDroppedBy service ports.Auth one drops.WrongCode
+AuthSays service one auth.BadSignature = IsDroppedBy service ports.Auth one drops.BadSignature
+AuthSays service one auth.Unsigned = IsDroppedBy service ports.Auth one drops.Unsigned
+AuthSays service one auth.ProxyTooLong = IsDroppedBy service ports.Auth one drops.ProxyTooLong
+AuthSays service one auth.Refused = HasMeaning service ports.Auth one
+AuthSays service one auth.Unrecorded = HasMeaning service ports.Auth one
+AuthSays service one auth.Unsent = HasMeaning service ports.Auth one
+AuthSays service one auth.Accept = Asks service one
+AuthSays service one auth.LimitReject = Asks service one
+AuthSays service one auth.Malformed = Means service ports.Auth one Bare
+AuthSays service one auth.NotOneName = IsRejectedFor service one causes.NotOneName
+AuthSays service one auth.NotOnePassword = IsRejectedFor service one causes.NotOnePassword
+AuthSays service one auth.SeveralChallenges = IsRejectedFor service one causes.SeveralChallenges
+AuthSays service one auth.UnknownAccount = IsRejectedFor service one causes.UnknownAccount
+AuthSays service one auth.WrongPassword = IsRejectedFor service one causes.WrongPassword
+
+-- what an end at the accounting port says of a datagram
+abbrev pub AcctSays : ServiceSeen → Datagram → AcctEnd → Type 0
+AcctSays service one acct.Short = IsDroppedBy service ports.Acct one drops.Short
+AcctSays service one acct.BadLength = IsDroppedBy service ports.Acct one drops.BadLength
+AcctSays service one acct.UnknownClient = IsDroppedBy service ports.Acct one drops.UnknownClient
+AcctSays service one acct.WrongCode = IsDroppedBy service ports.Acct one drops.WrongCode
+AcctSays service one acct.BadAuthenticator = IsDroppedBy service ports.Acct one drops.BadAuthenticator
+AcctSays service one acct.Malformed = IsDroppedBy service ports.Acct one drops.Malformed
+AcctSays service one acct.ProxyTooLong = IsDroppedBy service ports.Acct one drops.ProxyTooLong
+AcctSays service one acct.NoStatus = IsDroppedBy service ports.Acct one drops.NoStatus
+AcctSays service one acct.NoSession = IsDroppedBy service ports.Acct one drops.NoSession
+AcctSays service one acct.Refused = HasMeaning service ports.Acct one
+AcctSays service one acct.Unrecorded = HasMeaning service ports.Acct one
+AcctSays service one acct.Unsent = HasMeaning service ports.Acct one
+AcctSays service one acct.Start = HasStatus service one (Some statuses.Start)
+AcctSays service one acct.Stop = HasStatus service one (Some statuses.Stop)
+AcctSays service one acct.InterimUpdate = HasStatus service one (Some statuses.InterimUpdate)
+AcctSays service one acct.AccountingOn = HasStatus service one (Some statuses.AccountingOn)
+AcctSays service one acct.AccountingOff = HasStatus service one (Some statuses.AccountingOff)
+AcctSays service one acct.OtherStatus = HasStatus service one None
+
+-- what an end says of a datagram that came to a port: it is an end of that port
+abbrev pub Says : ServiceSeen → Port → Datagram → End → Type 0
+Says service ports.Auth one (Auth end) = AuthSays service one end
+Says service ports.Acct one (Acct end) = AcctSays service one end
+Says service _ one _ = ⊥
+
+-- each of these datagrams has an end, by what was told of it, and that says the truth of it
+abbrev pub HaveEnds : ServiceSeen → Port → (told : List Told) → (taken : List Datagram) → Type 0
+HaveEnds service port [] [] = ⊤
+HaveEnds service port (told ∷ more) (one ∷ taken) =
+    IsSomeAnd (end_at service.config port told) (Says service port one)
+    × HaveEnds service port more taken
+HaveEnds service port _ _ = ⊥
+
+-- so it is of the datagrams of each turn
+abbrev pub EndsAreTrue : Type 0
+EndsAreTrue =
+    (service : ServiceSeen) (port : Port) (moment : ℕ) (recorded : Bool) (begun : List BooksSeen)
+    (told : List Told) (taken : List Datagram) (batch : List Move) (sent : List Datagram)
+    → Turned service port moment recorded begun told taken batch sent
+    → HaveEnds service port told taken

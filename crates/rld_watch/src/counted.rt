@@ -1,0 +1,85 @@
+ghost use Rattle.std.specs.Prelude.{◌≡◌, ◌≢◌, ◌∷◌, ◌++◌, [], IfOk, List, length};
+ghost use Rattle.rld_counts.specs.Cell.{HasCounted, without_clients};
+ghost use Rattle.rld_counts.specs.declared.ended.Ended.{Ended as OneEnded};
+ghost use Rattle.rld_watch.specs.Counted.{AreCounts, IsCount};
+
+use rld_counts::{Cell, ClientCounts, Counts, Ended};
+use std::alloc::{AllocError, Global};
+
+/// What stands behind the lock of a receiver: whenever it is looked at, it has counted some datagrams,
+/// and nothing else.
+#[derive(Drop)]
+pub(crate) struct Counted {
+    cell: Cell,
+    ghost is_count: { ∥ IsCount cell ∥₁ },
+}
+
+impl Counted {
+    /// Nothing, for so many clients. It fails only where memory is refused.
+    #[tactic(auto, using(crate::proofs::Counting::counting))]
+    pub(crate) fn new(alloc: Global, clients: u32) -> Result<Counted, AllocError>
+        ensures none { IfOk result (λ counted. HasCounted [] counted.cell) }
+        ensures clients { IfOk result (λ counted. length counted.cell.clients ≡ clients) }
+    {
+        let cell = Cell::new(alloc, clients)?;
+        Ok(Counted { cell })
+    }
+
+    /// Counts a datagram.
+    #[tactic(auto, using(crate::proofs::Counting::counting))]
+    pub(crate) fn note(&mut self, ended: Ended)
+        ensures { (all : List OneEnded) → HasCounted all self.old.cell →
+            HasCounted (all ++ ended ∷ []) self.new.cell }
+    {
+        self.cell.note(ended);
+    }
+
+    /// How all datagrams ended.
+    #[tactic(auto, using(crate::proofs::Counting::counting))]
+    pub(crate) fn counts(&self) -> Counts
+        ensures counts { result ≡ self.now.cell.counts }
+        ensures are { ∥ AreCounts result ∥₁ }
+    {
+        self.cell.counts()
+    }
+
+    /// Begins to count by client anew. The counts in all and the times go on; what was counted of a
+    /// client is from now on of none.
+    #[tactic(auto, using(crate::proofs::Counting::counting))]
+    pub(crate) fn renew(&mut self, clients: ClientCounts)
+        ensures anew { (all : List OneEnded) → HasCounted all self.old.cell →
+            HasCounted (without_clients all) self.new.cell }
+        ensures clients { length self.new.cell.clients ≡ clients }
+    {
+        self.cell.renew(clients);
+    }
+
+    /// Adds what another has counted. Where that is for another number of clients, its client numbers
+    /// mean other clients, so it is added to the counts in all and the times alone.
+    #[tactic(auto, using(crate::proofs::Counting::counting))]
+    pub(crate) fn add(&mut self, other: &Counted)
+        ensures same { (all others : List OneEnded) →
+            length other.now.cell.clients ≡ length self.old.cell.clients →
+            HasCounted all self.old.cell → HasCounted others other.now.cell →
+            HasCounted (all ++ others) self.new.cell }
+        ensures other { (all others : List OneEnded) →
+            length other.now.cell.clients ≢ length self.old.cell.clients →
+            HasCounted all self.old.cell → HasCounted others other.now.cell →
+            HasCounted (all ++ without_clients others) self.new.cell }
+        ensures clients { length self.new.cell.clients ≡ length self.old.cell.clients }
+    {
+        if other.cell.clients() == self.cell.clients() {
+            self.cell.add(&other.cell);
+        } else {
+            self.cell.add_in_all(&other.cell);
+        }
+    }
+
+    /// The cell alone.
+    pub(crate) fn into_cell(self) -> Cell
+        ensures cell { result ≡ self.cell }
+        ensures is_count { ∥ IsCount result ∥₁ }
+    {
+        self.cell
+    }
+}

@@ -1,0 +1,17 @@
+//! What the receivers of a server count of the datagrams that they took, and what a look finds of it.
+//!
+//! The promise: a datagram is counted by how it ended, as `specs/Ending.antt` defines it, and that says
+//! the truth of what the datagram means (`specs/Laws.antt`, `laws`); whatever a look finds of a
+//! receiver, or of all receivers of a port, is the count of some datagrams, each by its end, its client
+//! and its time, and of nothing else (`specs/Counted.antt`).
+#![tactic(auto)]
+
+mod board;
+mod counted;
+mod ending;
+pub mod laws;
+mod watcher;
+
+pub use board::Board;
+pub use ending::end_at;
+pub use watcher::{Desk, Watcher};

@@ -1,0 +1,139 @@
+ghost use Rattle.std.specs.Prelude.{◌≡◌};
+ghost use Rattle.rld_turn.specs.Told.{is_answered, told_as};
+ghost use Rattle.rld_watch.specs.Counted.{count_of, time_if};
+
+use crate::board::{Board, Place};
+use crate::ending::end_at;
+use rld_counts::{End as CountedEnd, Ended as CountedEnded};
+use rld_refusals::{Refusals, Refused, is_refusal};
+use rld_turn::{End, Ended, Watch};
+use rsl_accounts::Config;
+use rsl_event::Port;
+use std::alloc::Global;
+use std::sync::Wait;
+use std::time::{Clock, Duration, Instant};
+
+/// What all watchers of a server share.
+#[derive(Clone, Copy)]
+pub struct Desk<'a> {
+    /// Its accounts and clients.
+    pub config: &'a Config,
+    /// Where its receivers count.
+    pub board: &'a Board,
+    /// Where its refusals wait for their lines.
+    pub refusals: &'a Refusals,
+}
+
+/// Who is told how the datagrams of a receiver ended: counts each at the receiver's place of the board,
+/// and notes it among the refusals, if it is one.
+///
+/// The time of an answer is that from its turn's first datagram until the answer was sent. How long a
+/// datagram waited in its socket's room before is not in it.
+#[derive(Drop)]
+pub struct Watcher<'a, R: Wait + Clock> {
+    rt: &'a R,
+    alloc: Global,
+    desk: Desk<'a>,
+    place: &'a Place,
+    begun: Option<Instant>,
+}
+
+impl<'a, R: Wait + Clock> Watcher<'a, R> {
+    /// That of the receiver with this number, if the board has a place for it.
+    pub fn new(
+        rt: &'a R,
+        alloc: Global,
+        desk: Desk<'a>,
+        receiver: usize,
+    ) -> Option<Watcher<'a, R>> {
+        let place = desk.board.places.as_slice().get(receiver)?;
+        Some(Watcher {
+            rt,
+            alloc,
+            desk,
+            place,
+            begun: None,
+        })
+    }
+
+    /// How long the turn has taken until now, in microseconds, if the clock can be read.
+    fn micros(&self) -> Option<u64> {
+        let begun = self.begun?;
+        match begun.elapsed(self.rt) {
+            Ok(passed) => Some(micros_of(passed)),
+            Err(_) => None,
+        }
+    }
+
+    /// Notes a datagram among the refusals, if it is one.
+    fn note_refusal(&self, ended: &Ended<'_>, end: CountedEnd) {
+        if !is_refusal(end) {
+            return;
+        }
+        let moment = match self.rt.since_1970() {
+            Ok(now) => now.as_secs(),
+            Err(_) => 0,
+        };
+        let refused = Refused {
+            moment,
+            source: ended.source,
+            client: ended.client,
+            octets: ended.octets,
+            end,
+        };
+        self.desk.refusals.note(self.rt, self.alloc, &refused);
+    }
+}
+
+impl<R: Wait + Clock> Watch for Watcher<'_, R> {
+    fn begin(&mut self) {
+        self.begun = match Instant::now(self.rt) {
+            Ok(now) => Some(now),
+            Err(_) => None,
+        };
+    }
+
+    fn note(&mut self, ended: Ended<'_>) {
+        let micros = self.micros();
+        if let Some(counted) = count_of(self.desk.config, self.place.port, &ended, micros) {
+            self.place.note(self.rt, counted);
+            self.note_refusal(&ended, counted.end);
+        }
+    }
+}
+
+/// What is counted of a datagram that came to this port, by what a receiver tells of it, if its answer
+/// took so long. There is always something, as `laws` says.
+fn count_of(
+    config: &Config,
+    port: Port,
+    ended: &Ended<'_>,
+    micros: Option<u64>,
+) -> Option<CountedEnded>
+    ensures { result ≡ count_of config.now port (told_as ended.now) micros }
+{
+    let end = end_at(config, port, ended)?;
+    Some(CountedEnded {
+        end,
+        client: ended.client,
+        micros: time_if(ended.end, micros),
+    })
+}
+
+/// How long the answer took, if one was sent.
+fn time_if(end: End, micros: Option<u64>) -> Option<u64>
+    ensures { result ≡ time_if (is_answered end) micros }
+{
+    match end {
+        End::Answered(_) => micros,
+        End::Dropped(_) | End::Refused | End::Unrecorded | End::Unsent(_) => None,
+    }
+}
+
+/// A time in microseconds, at most 2^64 - 1.
+fn micros_of(passed: Duration) -> u64 {
+    passed
+        .as_secs()
+        .saturating_mul(1_000_000)
+        .saturating_add(u64::from(passed.subsec_micros()))
+}

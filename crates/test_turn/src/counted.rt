@@ -1,0 +1,181 @@
+//! What is counted of turns, at a receiver's place of a board.
+
+use crate::coming::config_of;
+use crate::disk::store_of;
+use crate::turns::{Scene, port_of, scene_of, served};
+use rld_counts::{AcctEnd, AuthEnd, Cell, Counts, End};
+use rld_log::MemoryLog;
+use rld_refusals::Refusals;
+use rld_store::Store;
+use rld_watch::{Board, Desk, Watcher};
+use rsl_event::Port;
+use std::alloc::Global;
+use std::sync::Wait;
+use std::test::Fail;
+use std::time::Clock;
+use test_rows::{Subject, check_rows, short_number};
+
+/// The counts of the turns of rows.
+#[derive(Clone, Copy)]
+struct Counted<'a, R: Wait + Clock> {
+    rt: &'a R,
+}
+
+impl<R: Wait + Clock> Subject for Counted<'_, R> {
+    fn found(&self, alloc: Global, fields: &[&str]) -> Result<String, Fail> {
+        let scene = scene_of(fields)?;
+        let config = config_of(alloc, scene.shards)?;
+        let mut store = store_of(alloc, &config, scene.disk)?;
+        let port = port_of(scene.port)?;
+        let board = Board::new(alloc, config.clients(), &[port])?;
+        let refusals = Refusals::new(alloc);
+        let desk = Desk {
+            config: &config,
+            board: &board,
+            refusals: &refusals,
+        };
+        let Some(mut watcher) = Watcher::new(self.rt, alloc, desk, 0) else {
+            return Err("no place")?;
+        };
+        let mut counts = String::new(alloc);
+        served(alloc, &config, scene, &mut store, &mut watcher, &mut counts)?;
+        let mut text = String::new(alloc);
+        push_cell(
+            &mut text,
+            &board.cell(self.rt, alloc, port, config.clients())?,
+            port,
+        )?;
+        Ok(text)
+    }
+}
+
+/// The counts of the turns of rows that two receivers take, one after the other, before and after they
+/// begin to count by client anew. A row has first for how many clients, and for how many one looks.
+#[derive(Clone, Copy)]
+struct Renewed<'a, R: Wait + Clock> {
+    rt: &'a R,
+}
+
+impl<R: Wait + Clock> Subject for Renewed<'_, R> {
+    fn found(&self, alloc: Global, fields: &[&str]) -> Result<String, Fail> {
+        let [clients, looked, scene @ ..] = fields else {
+            return Err("a row with other fields")?;
+        };
+        let scene = scene_of(scene)?;
+        let config = config_of(alloc, scene.shards)?;
+        let mut store = store_of(alloc, &config, scene.disk)?;
+        let port = port_of(scene.port)?;
+        let board = Board::new(alloc, config.clients(), &[port, port])?;
+        let refusals = Refusals::new(alloc);
+        let desk = Desk {
+            config: &config,
+            board: &board,
+            refusals: &refusals,
+        };
+        served_by_two(self.rt, alloc, desk, scene, &mut store)?;
+        let counts = board.counts_for(alloc, short_number(clients)?)?;
+        board.renew(self.rt, counts);
+        served_by_two(self.rt, alloc, desk, scene, &mut store)?;
+        let cell = board.cell(self.rt, alloc, port, short_number(looked)?)?;
+        let mut text = String::new(alloc);
+        push_cell(&mut text, &cell, port)?;
+        Ok(text)
+    }
+}
+
+/// Takes the turns of a row at the first receiver's place, and then at the second one's.
+fn served_by_two<R: Wait + Clock>(
+    rt: &R,
+    alloc: Global,
+    desk: Desk<'_>,
+    scene: Scene<'_>,
+    store: &mut Store<MemoryLog>,
+) -> Result<(), Fail> {
+    for receiver in 0..2 {
+        let Some(mut watcher) = Watcher::new(rt, alloc, desk, receiver) else {
+            return Err("no place")?;
+        };
+        let mut counts = String::new(alloc);
+        served(alloc, desk.config, scene, store, &mut watcher, &mut counts)?;
+    }
+    Ok(())
+}
+
+/// Tells each count that is not 0, how many there are of the client, and how many are timed.
+fn push_cell(text: &mut String, cell: &Cell, port: Port) -> Result<(), Fail> {
+    match port {
+        Port::Auth => push_auth(text, cell.counts())?,
+        Port::Acct => push_acct(text, cell.counts())?,
+    }
+    let of_client = match cell.client(0) {
+        Some(counts) => counts.received(),
+        None => 0,
+    };
+    let timed = cell.times().samples();
+    write!(text, "client={of_client} timed={timed}")?;
+    Ok(())
+}
+
+/// Tells the counts of the authentication port.
+fn push_auth(text: &mut String, counts: Counts) -> Result<(), Fail> {
+    for end in AuthEnd::all() {
+        push_count(text, end.name(), counts.count(End::Auth(end)))?;
+    }
+    Ok(())
+}
+
+/// Tells those of the accounting port.
+fn push_acct(text: &mut String, counts: Counts) -> Result<(), Fail> {
+    for end in AcctEnd::all() {
+        push_count(text, end.name(), counts.count(End::Acct(end)))?;
+    }
+    Ok(())
+}
+
+/// Tells a count, unless it is 0.
+fn push_count(text: &mut String, name: &str, count: u64) -> Result<(), Fail> {
+    if count > 0 {
+        write!(text, "{name}={count} ")?;
+    }
+    Ok(())
+}
+
+/// What is counted: each datagram by its end, all of the one client, and those whose answer was sent
+/// with a time.
+const COUNTED: &str = "
+requests by their ends | 1 | auth | 1 | ask short:1025 wrong:1026 half bare:1027 ask:1028 | | 5 1 | \
+    | drop_short=1 drop_bad_length=1 accept=1 reject_limit=1 reject_malformed=1 reject_wrong_password=1 \
+    client=6 timed=4
+over several turns | 1 | auth | 2 | ask*65 | | 5 1 | | accept=65 client=65 timed=65
+answers that could not be sent | 1 | auth | 1 | ask wrong | 0 1 | 5 1 | | unsent=2 client=2 timed=0
+a batch that is not recorded | 1 | auth | 1 | ask wrong short | | 5 1 | append 0 \
+    | drop_short=1 unrecorded=1 reject_wrong_password=1 client=3 timed=1
+accounting by its status | 1 | acct | 1 | start stop on stray forged short | | 5 1 | \
+    | drop_short=1 drop_bad_authenticator=1 start=2 stop=1 accounting_on=1 client=6 timed=4
+a request at the other port | 1 | acct | 1 | ask | | 5 1 | | drop_wrong_code=1 client=1 timed=0
+";
+
+#[test]
+fn datagrams_are_counted_by_their_ends(rt: HostRuntime) -> Result<(), Fail> {
+    check_rows(&rt, &Counted { rt: &rt }, COUNTED)
+}
+
+/// What was counted of the one client before is counted of none; what is counted of it afterwards is, if
+/// the cells are for it, and if one looks for as many clients.
+const RENEWED: &str = "
+for as many clients | 1 | 1 | 1 | auth | 1 | ask wrong short | | 5 1 | \
+    | drop_short=4 accept=4 reject_wrong_password=4 client=6 timed=8
+for more | 3 | 3 | 1 | auth | 1 | ask wrong short | | 5 1 | \
+    | drop_short=4 accept=4 reject_wrong_password=4 client=6 timed=8
+for none | 0 | 0 | 1 | auth | 1 | ask wrong short | | 5 1 | \
+    | drop_short=4 accept=4 reject_wrong_password=4 client=0 timed=8
+for more, as one looks for the former ones | 3 | 1 | 1 | auth | 1 | ask wrong short | | 5 1 | \
+    | drop_short=4 accept=4 reject_wrong_password=4 client=0 timed=8
+at the other port | 2 | 2 | 1 | acct | 1 | start on short | | 5 1 | \
+    | drop_short=4 start=4 accounting_on=4 client=6 timed=8
+";
+
+#[test]
+fn counts_by_client_begin_anew(rt: HostRuntime) -> Result<(), Fail> {
+    check_rows(&rt, &Renewed { rt: &rt }, RENEWED)
+}
