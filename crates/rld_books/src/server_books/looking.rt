@@ -4,7 +4,8 @@ ghost use Rattle.std.specs.Prelude.{◌≡◌, IfNone, IfOk, IfSome, None, Some,
 ghost use Rattle.std.specs.Option.{option_map};
 ghost use Rattle.rld_books.specs.Clocks.{IsGreatestClock, clock_in};
 ghost use Rattle.rld_books.specs.Saved.{book_in, links_in, rows_in};
-ghost use Rattle.rsl_saved.specs.Saved.{saved_links};
+ghost use Rattle.rsl_book.specs.Restored.{saved};
+ghost use Rattle.rsl_saved.specs.Saved.{saved_book, saved_links};
 
 use crate::server_books::ServerBooks;
 use rsl_accounts::Config;
@@ -72,6 +73,18 @@ impl ServerBooks {
         ensures { IfOk result (λ rows. rows.items ≡ rows_in self.now) }
     {
         rows_of(alloc, &self.shards)
+    }
+
+    /// What is saved of the book of an account; none where there is no such account. It fails only
+    /// where memory is refused.
+    pub fn save_book(&self, alloc: Global, account: u32) -> Result<Option<SavedBook>, NoMemory>
+        ensures { IfOk result (λ kept.
+            option_map saved_book kept ≡ option_map saved (book_in self.now account)) }
+    {
+        let Some(book) = self.book(account) else {
+            return Ok(None);
+        };
+        Ok(Some(book.save(alloc)?))
     }
 
     /// The links of an account, in the order in which they opened; none where there is no such

@@ -1,0 +1,5 @@
+pub mod Admitted
+pub mod Begun
+pub mod Carried
+pub mod Laws
+pub mod Numbers

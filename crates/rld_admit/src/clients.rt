@@ -1,0 +1,34 @@
+//! The numbers of clients in two eras.
+
+ghost use Rattle.std.specs.Prelude.{◌≡◌, IfOk};
+ghost use Rattle.rld_admit.specs.Numbers.{next_numbers, number_in};
+
+use rsl_accounts::Config;
+use rsl_wire::NoMemory;
+use std::alloc::Global;
+
+/// The number that each client has in the configuration that follows, by its address, in the order of
+/// the clients.
+pub(crate) fn next_numbers(
+    alloc: Global,
+    old: &Config,
+    new: &Config,
+) -> Result<Vec<Option<u32>>, NoMemory>
+    ensures { IfOk result (λ numbers. numbers.items ≡ next_numbers old.now new.now) }
+{
+    let mut numbers = Vec::new(alloc);
+    for number in 0..old.clients() {
+        numbers.push(new.client(old.client_at(number).address))?;
+    }
+    Ok(numbers)
+}
+
+/// The number that a client has in the era that follows, if it goes on.
+pub(crate) fn number_in(numbers: &[Option<u32>], client: u32) -> Option<u32>
+    ensures { result ≡ number_in numbers.now client }
+{
+    match numbers.get(client as usize) {
+        Some(number) => *number,
+        None => None,
+    }
+}

@@ -1,0 +1,54 @@
+//! Laws of what goes on into the era that follows. Each is the contract of a function that does
+//! nothing.
+
+ghost use Rattle.rld_admit.specs.Laws.{
+  CarriedBooksFit,
+  ClientsKeepTheirAddress,
+  ClosedSessionsStay,
+  NobodyNewComesIn,
+  NothingGoneIsLeft,
+  PlacesStayWithinTheLimit,
+  RepeatsOpenNothing,
+  SessionsStay,
+};
+
+/// An account that stays with its rules keeps each link at a client that goes on: its session, its
+/// bundle and its last touch.
+pub fn sessions_stay()
+    ensures { SessionsStay }
+{}
+
+/// A session that was closed is closed, and no other is.
+pub fn closed_sessions_stay()
+    ensures { ClosedSessionsStay }
+{}
+
+/// A request that is sent again is decided as before, and opens nothing.
+pub fn repeats_open_nothing()
+    ensures { RepeatsOpenNothing }
+{}
+
+/// No account holds more places than its rules have, whatever it held before.
+pub fn places_stay_within_the_limit()
+    ensures { PlacesStayWithinTheLimit }
+{}
+
+/// Where a link found no place, each place is held.
+pub fn nobody_new_comes_in()
+    ensures { NobodyNewComesIn }
+{}
+
+/// Nothing of a client that is gone is left.
+pub fn nothing_gone_is_left()
+    ensures { NothingGoneIsLeft }
+{}
+
+/// What goes on of a book can be put back.
+pub fn carried_books_fit()
+    ensures { CarriedBooksFit }
+{}
+
+/// A client keeps its address, and no two become one.
+pub fn clients_keep_their_address()
+    ensures { ClientsKeepTheirAddress }
+{}
