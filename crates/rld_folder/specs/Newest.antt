@@ -1,5 +1,5 @@
 -- Which generation is the newest.
-use Rattle.std.specs.Prelude.{◌≡◌, ◌⊎◌, ⊤, ℕ, ◌<◌, ◌&&◌, ◌||◌, ◌==◌, Bool, nat_lt, List, Option, Some, None, All, Contains}
+use Rattle.std.specs.Prelude.{◌≡◌, ◌⊎◌, ⊤, ◌<◌, ◌&&◌, ◌||◌, ◌==◌, Bool, nat_lt, List, Option, Some, None, All, Contains}
 use Rattle.rld_folder.specs.declared.name.Generation.{Generation}
 use Rattle.rld_folder.specs.declared.name.FileName.{FileName}
 use Rattle.rld_folder.specs.declared.name.FileName.TheVariants.{Lock, Era, Log}

@@ -1,6 +1,6 @@
 -- Which files of a folder no start needs any more, and how long they are kept.
-use Rattle.std.specs.Prelude.{ℕ, ◌+◌, ◌*◌, ◌<◌, List, if◌then◌else◌, Option, Some, None}
-use Rattle.std.specs.List.{filter_map}
+use Rattle.std.specs.Prelude.{ℕ, ◌+◌, ◌*◌, ◌<◌, ◌==◌, ◌||◌, ◌&&◌, Bool, false, not, nat_lt, List, if◌then◌else◌, Option, Some, None}
+use Rattle.std.specs.List.{filter_map, list_any}
 use Rattle.rld_folder.specs.Newest.{precedes}
 use Rattle.rld_folder.specs.declared.name.Generation.{Generation}
 use Rattle.rld_folder.specs.declared.name.FileName.{FileName}
@@ -15,6 +15,31 @@ older_log newest (Log generation) = if precedes generation newest then Some gene
 -- those of all files: not the newest one, and none that is newer
 abbrev pub older_logs : (newest : Generation) → List FileName → List Generation
 older_logs newest files = filter_map (older_log newest) files
+
+-- the log of a generation of this era
+abbrev pub is_log_of : (era : ℕ) → FileName → Bool
+is_log_of era Lock = false
+is_log_of era (Era other) = false
+is_log_of era (Log generation) = generation.era == era
+
+-- a log of this era is in the folder or in its archive
+abbrev pub has_log : (files archived : List FileName) → (era : ℕ) → Bool
+has_log files archived era = list_any (is_log_of era) files || list_any (is_log_of era) archived
+
+-- an era before that of the newest generation, of which no log is left
+abbrev pub is_logless : (files archived : List FileName) → (newest : Generation) → (era : ℕ) → Bool
+is_logless files archived newest era = nat_lt era newest.era && not (has_log files archived era)
+
+-- the era that a file is the table of, where it is such a one
+abbrev pub logless_era : (files archived : List FileName) → (newest : Generation) → FileName → Option ℕ
+logless_era files archived newest Lock = None
+logless_era files archived newest (Log generation) = None
+logless_era files archived newest (Era era) =
+    if is_logless files archived newest era then Some era else None
+
+-- those of all files of the folder
+abbrev pub logless_eras : (files archived : List FileName) → (newest : Generation) → List ℕ
+logless_eras files archived newest = filter_map (logless_era files archived newest) files
 
 -- a file that changed last at this second is kept for so many days, of 86,400 seconds
 abbrev pub IsExpired : (days changed now : ℕ) → Type 0

@@ -1,5 +1,5 @@
 //! What becomes of the logs that no start needs any more: they go to a folder of their own beside the
-//! others, `archive`, or they are removed.
+//! others, `archive`, or they are removed, and so are the tables of eras of which no log is left.
 
 use crate::fault::FolderFault;
 use crate::folder::{Folder, files_among, make_folder, path_in, sync_names};
@@ -113,6 +113,36 @@ impl Folder {
             outcome = first_fault(outcome, self.remove_log(files, alloc, *generation));
         }
         outcome
+    }
+
+    /// Removes the tables of eras, and syncs the names behind them. Where it fails for one the others are
+    /// removed all the same, and the first fault is given: `Unremoved` where a table is not there or
+    /// cannot be removed. After `Unsynced` they are gone, and a loss of power may bring them back.
+    pub fn remove_eras<R: Files<File = File>>(
+        &self,
+        files: &R,
+        alloc: Global,
+        eras: &[u64],
+    ) -> Result<(), FolderFault> {
+        if eras.is_empty() {
+            return Ok(());
+        }
+        let mut outcome = Ok(());
+        for era in eras {
+            outcome = first_fault(outcome, self.remove_era(files, alloc, *era));
+        }
+        first_fault(outcome, self.sync(files))
+    }
+
+    /// Removes the table of an era. Its name is not synced.
+    fn remove_era<R: Files<File = File>>(
+        &self,
+        files: &R,
+        alloc: Global,
+        era: u64,
+    ) -> Result<(), FolderFault> {
+        let path = self.path_of(alloc, FileName::Era(era))?;
+        remove_file(files, path.as_str())
     }
 
     /// Moves logs to the archive, which is made, with mode 700, where it is not there. Where it fails

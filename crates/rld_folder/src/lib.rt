@@ -13,4 +13,4 @@ pub use fault::FolderFault;
 pub use folder::Folder;
 pub use name::{FileName, Generation};
 pub use newest::newest_generation;
-pub use older::{is_expired, older_logs};
+pub use older::{is_expired, logless_eras, older_logs};

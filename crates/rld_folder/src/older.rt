@@ -1,7 +1,8 @@
-//! The logs that no start needs any more.
+//! The logs that no start needs any more, and the tables of eras of which no log is left.
 
 ghost use Rattle.std.specs.Prelude.{◌≡◌, ◌↔◌, IfOk, IsTrue};
-ghost use Rattle.rld_folder.specs.Older.{IsExpired, older_log, older_logs};
+ghost use Rattle.std.specs.List.{list_any};
+ghost use Rattle.rld_folder.specs.Older.{IsExpired, has_log, is_log_of, is_logless, logless_era, logless_eras, older_log, older_logs};
 
 use crate::name::{FileName, Generation};
 use std::alloc::{AllocError, Global};
@@ -35,6 +36,77 @@ pub fn older_logs(
         }
     }
     Ok(logs)
+}
+
+/// Whether a file is the log of a generation of this era.
+fn is_log_of(era: u64, file: FileName) -> bool
+    ensures { result ≡ is_log_of era file }
+{
+    match file {
+        FileName::Log(generation) => generation.era == era,
+        FileName::Lock | FileName::Era(_) => false,
+    }
+}
+
+/// Whether a log of this era is among these files.
+fn has_log_among(files: &[FileName], era: u64) -> bool
+    ensures { result ≡ list_any (is_log_of era) files.now }
+{
+    files.iter().any(|file| is_log_of(era, *file))
+}
+
+/// Whether a log of this era is in a folder or in its archive.
+fn has_log(files: &[FileName], archived: &[FileName], era: u64) -> bool
+    ensures { result ≡ has_log files.now archived.now era }
+{
+    has_log_among(files, era) || has_log_among(archived, era)
+}
+
+/// Whether an era is before that of the newest generation, and no log of it is left.
+fn is_logless(files: &[FileName], archived: &[FileName], newest: Generation, era: u64) -> bool
+    ensures { result ≡ is_logless files.now archived.now newest era }
+{
+    era < newest.era && !has_log(files, archived, era)
+}
+
+/// The era that a file is the table of, where it is before that of the newest generation and no log of
+/// it is left.
+fn logless_era(
+    files: &[FileName],
+    archived: &[FileName],
+    newest: Generation,
+    file: FileName,
+) -> Option<u64>
+    ensures { result ≡ logless_era files.now archived.now newest file }
+{
+    let FileName::Era(era) = file else {
+        return None;
+    };
+    if is_logless(files, archived, newest, era) {
+        Some(era)
+    } else {
+        None
+    }
+}
+
+/// The eras before that of the newest generation whose tables are among the files of a folder, and of
+/// which no log is left there or in its archive, in the order of the files. It fails only where memory
+/// is refused.
+pub fn logless_eras(
+    alloc: Global,
+    files: &[FileName],
+    archived: &[FileName],
+    newest: Generation,
+) -> Result<Vec<u64>, AllocError>
+    ensures { IfOk result (λ eras. eras.items ≡ logless_eras files.now archived.now newest) }
+{
+    let mut eras = Vec::new(alloc);
+    for file in files {
+        if let Some(era) = logless_era(files, archived, newest, *file) {
+            eras.push(era)?;
+        }
+    }
+    Ok(eras)
 }
 
 /// Whether a file that changed last at this second was kept for so many days. Both moments are in

@@ -24,6 +24,10 @@ pub fn say_eras(rt: &HostRuntime) -> io::Result<()> {
     say_era(rt, "the file itself", "", "")?;
     say_era(rt, "another password", "arctangent", "arcsine")?;
     say_era(rt, "another secret", "xyzzy5461", "abracadabra")?;
+    let asked = "keep_secs = 10\ninterim_secs = 300";
+    say_era(rt, "an interval", "keep_secs = 10", asked)?;
+    let asked = "ports = 1\ninterim_secs = 60";
+    say_era(rt, "an interval of an account", "ports = 1", asked)?;
     say_era(rt, "another name", "nemo", "flopsy")?;
     say_era(rt, "another place", "places = 2", "places = 3")?;
     say_era(rt, "another time", "live_secs = 900", "live_secs = 901")?;

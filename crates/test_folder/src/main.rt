@@ -1,8 +1,9 @@
 //! The program `test_folder`: makes a server's folder in the folder that it runs in, and says what
-//! each call on it gives; and with which account files an era goes on.
+//! each call on it gives; with which account files an era goes on; and which tables are needed no more.
 #![tactic(auto)]
 
 mod eras;
+mod tables;
 
 use eras::say_eras;
 use rld_folder::{Folder, FolderFault, Generation, newest_generation};
@@ -10,6 +11,7 @@ use rld_log::{Log, LogFault};
 use std::fs::{self, Permissions};
 use std::io;
 use std::os::unix::fs::PermissionsExt;
+use tables::say_tables;
 
 /// The folder that is made.
 const STATE: &str = "state";
@@ -18,7 +20,9 @@ fn main(rt: HostRuntime) -> io::Result<()> {
     makes_files(&rt)?;
     keeps_others_out(&rt)?;
     finds_what_is_there(&rt)?;
-    say_eras(&rt)
+    removes_tables(&rt)?;
+    say_eras(&rt)?;
+    say_tables(&rt)
 }
 
 /// What a call says: `ok`, or its fault.
@@ -107,6 +111,32 @@ fn finds_what_is_there(rt: &HostRuntime) -> io::Result<()> {
         "log 0-8",
         folder.open_log(rt, rt.alloc(), generation(0, 8)),
     )
+}
+
+/// Removes tables, of which one is not there: the other is gone all the same.
+fn removes_tables(rt: &HostRuntime) -> io::Result<()> {
+    let folder = match Folder::open(rt, rt.alloc(), STATE) {
+        Ok(folder) => folder,
+        Err(fault) => return println!(rt; "the folder: {fault}"),
+    };
+    say(rt, "era 1", folder.write_era(rt, rt.alloc(), 1, b"names"))?;
+    say(
+        rt,
+        "no table removed",
+        folder.remove_eras(rt, rt.alloc(), &[]),
+    )?;
+    say(
+        rt,
+        "era 1 removed",
+        folder.remove_eras(rt, rt.alloc(), &[1]),
+    )?;
+    say(rt, "era 1", folder.read_era(rt, rt.alloc(), 1))?;
+    say(
+        rt,
+        "eras 7 and 0 removed",
+        folder.remove_eras(rt, rt.alloc(), &[7, 0]),
+    )?;
+    say(rt, "era 0", folder.read_era(rt, rt.alloc(), 0))
 }
 
 /// Writes six octets to a log that is empty, and counts what a read gives.
