@@ -1,7 +1,5 @@
 -- What stands at the front of a log.
-use Rattle.std.specs.Prelude.{◌≡◌, ◌⊎◌, ℕ, ◌+◌, List, ◌++◌, drop}
-use Rattle.rld_fields.specs.Lists.{all_of}
-use Rattle.rld_fields.specs.declared.fault.Fault.{Fault}
+use Rattle.std.specs.Prelude.{◌≡◌, ◌⊎◌, ℕ, List, ◌++◌, drop}
 use Rattle.rld_log.specs.Frames.{EndsAt, Fits, IsDamagedAt, frame}
 use Rattle.rld_spelling.specs.Headers.{header_field, header_octets}
 use Rattle.rld_spelling.specs.declared.header.Header.{Header}

@@ -2,7 +2,9 @@ pub mod Behind
 pub mod Counted
 pub mod Firsts
 pub mod Gaps
+pub mod Greeting
 pub mod Lengths
 pub mod NextHeaders
 pub mod Numbers
+pub mod Rebased
 pub mod Status

@@ -1,10 +1,14 @@
 -- Which header a log must have, and which follows.
-use Rattle.std.specs.Prelude.{ℕ, List, ◌+◌, ◌&&◌, nat_eq, bytes_eq, if◌then◌else◌, Option, None, Some, Result, Ok, Err}
+use Rattle.std.specs.Prelude.{ℕ, List, ◌+◌, ◌&&◌, nat_eq, bytes_eq, if◌then◌else◌, Option, None, Some}
 use Rattle.md5.specs.Md5.{md5}
 use Rattle.rld_folder.specs.declared.name.Generation.{Generation}
 use Rattle.rld_spelling.specs.declared.header.Header.{Header}
 use Rattle.rld_start.specs.declared.wrong.Cause.{Cause}
 use Rattle.rld_start.specs.declared.wrong.Cause.TheVariants.{OtherGeneration, OtherTable}
+
+-- the generation that a header names
+abbrev pub generation_named : Header → Generation
+generation_named header = record { era = header.era; number = header.generation }
 
 -- why a header is not that of a generation and of a table; none where it is
 abbrev pub header_cause : Header → Generation → (table : List ℕ) → Option Cause

@@ -3,10 +3,13 @@
 ghost use Rattle.std.specs.Prelude.{◌≡◌};
 
 use crate::fault::StartFault;
+use crate::new_era::{NextEra, make_era};
 use crate::number::next_generation;
 use rld_config::Archive;
-use rld_folder::{Folder, FolderFault, Generation, older_logs};
+use rld_era::era_file;
+use rld_folder::{Folder, FolderFault, Generation, logless_eras, older_logs};
 use rld_log::FileLog;
+use rsl_accounts::Config;
 use std::alloc::Global;
 use std::fs::{File, Files};
 
@@ -19,9 +22,19 @@ pub struct NextLog {
     pub log: FileLog,
 }
 
+/// That the log of a generation is on the disk, as it stood when this was made. Only `Generations::sync`
+/// makes one.
+#[derive(Drop)]
+pub struct Synced {
+    generation: Generation,
+}
+
 /// The logs of a server that runs: that of its next generation, and those that no start needs any more.
 pub trait Generations {
     ghost use Rattle.std.specs.Prelude.{◌≡◌, IfOk};
+    ghost use Rattle.md5.specs.Md5.{md5};
+    ghost use Rattle.rld_spelling.specs.Eras.{era_octets};
+    ghost use Rattle.rld_spelling.specs.Tables.{table_of};
 
     /// Makes the log of the generation that follows in this era, and syncs its name.
     ///
@@ -32,6 +45,23 @@ pub trait Generations {
     fn next_log(&self, alloc: Global, era: u64) -> Result<NextLog, StartFault>
         ensures { IfOk result (λ next. next.generation.era ≡ era) };
 
+    /// Makes the files of an era that follows, with the table of this configuration and boot number: the
+    /// table, and the empty log of its first generation. Both names and the table are synced.
+    ///
+    /// `NoNumber` where no number is left. The other faults are the folder's, as of `next_log`, and
+    /// `NoMemory` where memory is refused. In each case, and until something stands in the log, a start
+    /// goes on from the generation that there was.
+    fn next_era(&self, alloc: Global, config: &Config, boot: u64) -> Result<NextEra, StartFault>
+        ensures first { IfOk result (λ next.
+            (next.header.generation ≡ 1) × (next.header.lines ≡ 0)) }
+        ensures table { IfOk result (λ next.
+            next.header.digest ≡ md5 (era_octets (table_of boot config.now))) };
+
+    /// Syncs the log of a generation to the disk, whatever the pacing. `Unopened` where it is not there
+    /// or cannot be opened, and `Unsynced` where the system cannot say that the disk has it.
+    fn sync(&self, alloc: Global, generation: Generation) -> Result<Synced, FolderFault>
+        ensures { IfOk result (λ synced. synced.generation ≡ generation) };
+
     /// Removes the log of a generation that was not begun, or whose begin has failed: its snapshot may
     /// stand there whole, and then a start would go on from it. Unless this is done nothing more may be
     /// recorded in the generation before it.
@@ -41,7 +71,9 @@ pub trait Generations {
 
     /// Puts away the logs before the newest generation, as the archive is kept, once the log of that one
     /// is on the disk: they go to the folder `archive`, or are removed where nothing is kept. Logs that
-    /// were kept for as many days as they shall be at this second since 1970 are removed from it.
+    /// were kept for as many days as they shall be at this second since 1970 are removed from it. Then
+    /// the table of each era before that of the newest generation is removed of which no log is left,
+    /// neither in the folder nor in its archive; where the archive keeps all logs, all tables stay.
     ///
     /// The first fault is the folder's. What cannot be put away stays where it is, and is tried again by
     /// the next call; nothing that a start needs is moved.
@@ -85,6 +117,34 @@ impl<'a, R: Files<File = File>> FolderGenerations<'a, R> {
             Archive::Nothing => self.folder.remove_logs(self.files, alloc, older.as_slice()),
         }
     }
+
+    /// Removes the tables of the eras before that of the newest generation of which no log is left.
+    fn remove_logless(&self, alloc: Global, newest: Generation) -> Result<(), FolderFault> {
+        let names = self.folder.files(&(self.files, alloc))?;
+        let archived = self.folder.archived(&(self.files, alloc))?;
+        let eras = logless_eras(alloc, names.as_slice(), archived.as_slice(), newest)?;
+        self.folder.remove_eras(self.files, alloc, eras.as_slice())
+    }
+
+    /// Removes what the archive keeps no more: logs that were kept long enough at this second, and the
+    /// tables of eras that then have no log.
+    fn remove_unkept(
+        &self,
+        alloc: Global,
+        newest: Generation,
+        now: u64,
+    ) -> Result<(), FolderFault> {
+        let expired = match self.archive {
+            Archive::Keep => return Ok(()),
+            Archive::Days(days) => self.folder.remove_expired(&(self.files, alloc), days, now),
+            Archive::Nothing => Ok(()),
+        };
+        let logless = self.remove_logless(alloc, newest);
+        match expired {
+            Ok(()) => logless,
+            Err(fault) => Err(fault),
+        }
+    }
 }
 
 impl<R: Files<File = File>> Generations for FolderGenerations<'_, R> {
@@ -104,16 +164,30 @@ impl<R: Files<File = File>> Generations for FolderGenerations<'_, R> {
         }
     }
 
+    fn next_era(&self, alloc: Global, config: &Config, boot: u64) -> Result<NextEra, StartFault> {
+        let table = era_file(alloc, config, boot)?;
+        let names = self.folder.files(&(self.files, alloc))?;
+        make_era(
+            self.files,
+            alloc,
+            &self.folder,
+            names.as_slice(),
+            table.as_slice(),
+        )
+    }
+
+    fn sync(&self, alloc: Global, generation: Generation) -> Result<Synced, FolderFault> {
+        self.folder.sync_log(self.files, alloc, generation)?;
+        Ok(Synced { generation })
+    }
+
     fn remove(&self, alloc: Global, generation: Generation) -> Result<(), FolderFault> {
         self.folder.remove_log(self.files, alloc, generation)
     }
 
     fn put_away(&self, alloc: Global, newest: Generation, now: u64) -> Result<(), FolderFault> {
         let moved = self.put_away_older(alloc, newest);
-        let removed = match self.archive {
-            Archive::Days(days) => self.folder.remove_expired(&(self.files, alloc), days, now),
-            Archive::Keep | Archive::Nothing => Ok(()),
-        };
+        let removed = self.remove_unkept(alloc, newest, now);
         match moved {
             Ok(()) => removed,
             Err(fault) => Err(fault),

@@ -1,11 +1,21 @@
 ghost use Rattle.std.specs.Prelude.{◌≡◌, ◌+◌, ◌≤◌, ◌^◌, MatchOption, MatchResult, None, Some};
-ghost use Rattle.rld_start.specs.NextHeaders.{header_after, header_cause};
+ghost use Rattle.rld_start.specs.NextHeaders.{generation_named, header_after, header_cause};
 
 use crate::wrong::{Cause, Wrong};
 use md5::{Digest, Md5};
 use rld_folder::Generation;
 use rld_log::HEAD_LEN;
 use rld_spelling::Header;
+
+/// The generation that a header names.
+pub fn generation_named(header: &Header) -> Generation
+    ensures { result ≡ generation_named header.now }
+{
+    Generation {
+        era: header.era,
+        number: header.generation,
+    }
+}
 
 /// Makes sure that a header is that of the generation which its file has the name of, and of the
 /// era's table, whose octets are given: `OtherGeneration` and `OtherTable`, in this order, where it is

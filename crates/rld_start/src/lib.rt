@@ -1,7 +1,8 @@
 //! The start of a server from its folder.
 //!
 //! The promise: a start goes on from the newest generation that was begun, under numbers that no file
-//! has, or it says what keeps it from that. Where a clock that was ahead has led the books past the
+//! has, or it says what keeps it from that. Where the account file is another one, a new era begins with
+//! what is admitted of the books. Where a clock that was ahead has led the books past the
 //! present, a new era begins with the books cut to it. `specs/Numbers.antt` says which numbers follow,
 //! `specs/Firsts.antt` when a generation was begun, and `specs/Status.antt` how a server ends that
 //! does not start. What the files of the system give stands in no clause; `starting.rt` is written to be
@@ -9,6 +10,7 @@
 #![tactic(auto)]
 
 mod behind;
+mod changing;
 mod count;
 mod fault;
 mod files;
@@ -21,16 +23,20 @@ mod number;
 mod place;
 mod rebasing;
 mod refused;
+mod reopening;
 mod starting;
 mod status;
 mod table;
+mod words;
 mod wrong;
 
-pub use count::Found;
+pub use changing::{admitted_books, has_same_clients, is_same_era};
+pub use count::{Admitted, Found, sessions_in};
 pub use fault::StartFault;
 pub use first::First;
-pub use generations::{FolderGenerations, Generations, NextLog};
-pub use header::{check_header, next_header};
+pub use generations::{FolderGenerations, Generations, NextLog, Synced};
+pub use header::{check_header, generation_named, next_header};
+pub use new_era::NextEra;
 pub use number::{next_era, next_generation};
 pub use rebasing::{Rebased, rebase};
 pub use starting::{Started, start};

@@ -6,6 +6,7 @@ ghost use Rattle.rld_start.specs.Numbers.{era_of, greatest_by};
 
 use crate::fault::StartFault;
 use crate::files::{create_log, write_era};
+use crate::header::generation_named;
 use crate::number::next_era;
 use crate::refused::fault_of;
 use md5::{Digest, Md5};
@@ -22,6 +23,15 @@ use std::fs::{File, Files};
 /// The number of an era's first generation.
 pub(crate) const FIRST: u64 = 1;
 
+/// An era whose table is on the disk, and an empty log in which its first generation can begin.
+#[derive(Drop)]
+pub struct NextEra {
+    /// The header of that generation.
+    pub header: Header,
+    /// Its log, which is empty.
+    pub log: FileLog,
+}
+
 /// An era that was begun: its table and its first generation are on the disk.
 #[derive(Drop)]
 pub(crate) struct NewEra<'a> {
@@ -29,6 +39,36 @@ pub(crate) struct NewEra<'a> {
     pub(crate) store: Store<PacedLog<'a, FileLog>>,
     /// The header of that generation.
     pub(crate) header: Header,
+}
+
+/// Makes the files of an era with the table of these octets, under a number that no file of the folder
+/// has: the table, and the empty log of its first generation. Both names and the table are synced. A
+/// crash on the way, or after it, leaves no generation that was begun.
+pub(crate) fn make_era<R: Files<File = File>>(
+    files: &R,
+    alloc: Global,
+    folder: &Folder,
+    names: &[FileName],
+    table: &[u8],
+) -> Result<NextEra, StartFault>
+    ensures era { IfOk result (λ next. next.header.era ≡ greatest_by era_of names.now + 1) }
+    ensures first { IfOk result (λ next.
+        (next.header.generation ≡ 1) × (next.header.lines ≡ 0)) }
+    ensures table { IfOk result (λ next. next.header.digest ≡ md5 table.now) }
+{
+    let Some(era) = next_era(names) else {
+        return Err(StartFault::NoNumber);
+    };
+    write_era(files, alloc, folder, era, table)?;
+    let generation = Generation { era, number: FIRST };
+    let log = create_log(files, alloc, folder, generation)?;
+    let header = Header {
+        era,
+        generation: FIRST,
+        digest: Md5::digest(table),
+        lines: 0,
+    };
+    Ok(NextEra { header, log })
 }
 
 /// Begins an era with the table of these octets and with these books, under a number that no file of
@@ -50,20 +90,9 @@ pub(crate) fn begin_era<'a, R: Files<File = File>>(
     ensures table { IfOk result (λ begun. begun.header.digest ≡ md5 table.now) }
     ensures books { IfOk result (λ begun. begun.store.books ≡ books) }
 {
-    let Some(era) = next_era(names) else {
-        return Err(StartFault::NoNumber);
-    };
-    write_era(files, alloc, folder, era, table)?;
-    let generation = Generation { era, number: FIRST };
-    let log = create_log(files, alloc, folder, generation)?;
-    let header = Header {
-        era,
-        generation: FIRST,
-        digest: Md5::digest(table),
-        lines: 0,
-    };
+    let NextEra { header, log } = make_era(files, alloc, folder, names, table)?;
     match Store::begin_with(alloc, config, header, books, PacedLog::new(log, pacing)) {
         Ok(store) => Ok(NewEra { store, header }),
-        Err(refused) => Err(fault_of(alloc, generation, refused)),
+        Err(refused) => Err(fault_of(alloc, generation_named(&header), refused)),
     }
 }

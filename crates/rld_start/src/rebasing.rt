@@ -8,7 +8,8 @@ ghost use Rattle.rld_start.specs.Numbers.{era_of, greatest_by};
 use crate::fault::StartFault;
 use crate::gap::check_archive;
 use crate::new_era::begin_era;
-use crate::starting::{Begun, Reopened, generation_in, newest_begun, reopen};
+use crate::reopening::{check_accounts, read_table, reopen};
+use crate::starting::{Begun, generation_in, newest_begun};
 use crate::wrong::{Cause, Wrong};
 use rld_books::{CutBooks, ServerBooks, ServerFault};
 use rld_folder::{FileName, Folder, Generation};
@@ -32,7 +33,8 @@ pub struct Rebased {
 /// generation that was begun, its boot number too, and with its books cut to `now`, in seconds since
 /// 1970 (`ServerBooks::cut`). The next start goes on from there.
 ///
-/// The faults are those of `start`, in their order; `NoHistory` comes where no generation was begun.
+/// The faults are those of `start`, in their order, and `OtherAccounts` before the log is opened where
+/// the era has another table than the configuration; `NoHistory` comes where no generation was begun.
 /// Until a fault of a new file nothing has changed in the folder but an empty `lock` and a torn end,
 /// which is cut off. Such a fault leaves the old era, or the new one whole where only its last sync
 /// failed: a later start goes on in that.
@@ -72,7 +74,9 @@ fn rebase_begun<R: Files<File = File>>(
         pace: Pace::Always,
         ticks: &ticks,
     };
-    let Reopened { opened, table, .. } = reopen(files, alloc, config, folder, begun, pacing)?;
+    let table = read_table(files, alloc, folder, &begun)?;
+    check_accounts(alloc, config, from.era, &table)?;
+    let opened = reopen(alloc, config, &table, begun, pacing)?;
     let books = opened.store.books();
     let cut = cut_books(alloc, config, from, books, now)?;
     let CutBooks { books, moments } = cut;
@@ -82,7 +86,7 @@ fn rebase_begun<R: Files<File = File>>(
         config,
         folder,
         names,
-        table.as_slice(),
+        table.octets.as_slice(),
         books,
         pacing,
     )?;

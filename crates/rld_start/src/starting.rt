@@ -1,23 +1,26 @@
 //! How a server starts from its folder.
 
 ghost use Rattle.std.specs.Prelude.{◌≡◌, ◌+◌, ◌↔◌, All, IfOk, IsTrue};
+ghost use Rattle.rld_spelling.specs.Eras.{era_octets};
+ghost use Rattle.rld_spelling.specs.Tables.{table_of};
 ghost use Rattle.rld_start.specs.NextHeaders.{header_after};
 ghost use Rattle.rld_start.specs.Numbers.{IsFirstOrNone, era_of, generation_of, greatest_by};
 
 use crate::behind::behind_books;
+use crate::changing::change;
 use crate::count::{Found, sessions_in};
 use crate::fault::{StartFault, log_fault};
-use crate::files::{create_log, open_log, read_era, write_era};
+use crate::files::{create_log, open_log};
 use crate::first::First;
 use crate::gap::check_archive;
-use crate::header::{check_header, next_header};
+use crate::header::next_header;
 use crate::new_era::{FIRST, NewEra, begin_era};
 use crate::number::next_generation;
 use crate::refused::fault_of;
-use crate::table::boot_of;
+use crate::reopening::{EraTable, read_table, reopen};
 use crate::wrong::{Cause, Wrong};
 use rld_books::ServerBooks;
-use rld_era::era_file;
+use rld_era::{era_file, is_era_file};
 use rld_folder::{FileName, Folder, Generation, newest_generation};
 use rld_log::{FileLog, Log};
 use rld_pace::{PacedLog, Pacing};
@@ -50,17 +53,6 @@ pub(crate) struct Begun {
     pub(crate) log: FileLog,
 }
 
-/// What a generation that was begun has.
-#[derive(Drop)]
-pub(crate) struct Reopened<'a> {
-    /// Its books and its log, and what was found there.
-    pub(crate) opened: Opened<PacedLog<'a, FileLog>>,
-    /// The octets of its era's table.
-    pub(crate) table: Vec<u8>,
-    /// The boot number of its era.
-    pub(crate) boot: u64,
-}
-
 /// The generation that counts, if there is one.
 pub(crate) fn generation_in(begun: &Option<Begun>) -> Option<Generation> {
     match begun {
@@ -70,19 +62,21 @@ pub(crate) fn generation_in(begun: &Option<Begun>) -> Option<Generation> {
 }
 
 /// Starts a server from its folder: opens and locks it, and goes on from the newest generation that
-/// was begun, in a new generation. Where none was, a new era begins, whose boot number is `now`, in
-/// seconds since 1970. Its logs are synced to the disk as the pacing says. Where the books' greatest
+/// was begun. Where the era of that one has the configuration's table, it goes on in a new generation
+/// of it; else in a new era, which begins with what is admitted of the books (`rld_admit::admit`) under
+/// the same boot number. Where no generation was begun, a new era begins, whose boot number is `now`,
+/// in seconds since 1970. Its logs are synced to the disk as the pacing says. Where the books' greatest
 /// clock is 60 seconds or more after `now`, what was found says so.
 ///
 /// The faults come in this order. Those of the folder: `busy` where another process has it. `BadLog`
 /// where a log that is looked at, from the newest to the one that counts, has a spoilt frame before a
 /// whole one, or where none counts and one is not the first of its era; and where a log of the archive
-/// is not before the one that counts, or is there and none counts. Of the one that counts:
-/// `BadLog` where the era's table has no spelling, `OtherAccounts` where it is not that of the
-/// configuration, `BadLog` where the header or anything behind it is of another generation or has no
-/// spelling. Until then nothing has changed in the folder but an empty `lock`. Then come `NoNumber`
-/// and what keeps a file from being made, written or synced; a later start passes over what that
-/// leaves. `NoMemory` comes where memory is refused.
+/// is not before the one that counts, or is there and none counts. Of the one that counts: `BadLog`
+/// where the era's table has no spelling, and where the header or anything behind it is of another
+/// generation or another table, or has no spelling. Until then nothing has changed in the folder but
+/// an empty `lock` and a torn end, which is cut off. Then come `NoNumber` and what keeps a file from
+/// being made, written or synced; a later start passes over what that leaves, or goes on in a new era
+/// that is whole. `NoMemory` comes where memory is refused.
 pub fn start<'a, R: Files<File = File> + Alloc<A = Global> + Clone + Drop>(
     rt: &R,
     alloc: Global,
@@ -96,7 +90,7 @@ pub fn start<'a, R: Files<File = File> + Alloc<A = Global> + Clone + Drop>(
     let begun = newest_begun(rt, alloc, &folder, files.as_slice())?;
     check_archive(folder.archived(rt)?.as_slice(), generation_in(&begun))?;
     match begun {
-        Some(begun) => go_on(
+        Some(begun) => follow(
             rt,
             alloc,
             config,
@@ -222,6 +216,7 @@ fn begin<'a, R: Files<File = File>>(
         sessions: 0,
         torn: 0,
         behind: None,
+        admitted: None,
     };
     Ok(Started {
         folder,
@@ -232,37 +227,9 @@ fn begin<'a, R: Files<File = File>>(
     })
 }
 
-/// Opens the log of a generation that was begun, whose era goes on with the configuration.
-pub(crate) fn reopen<'a, R: Files<File = File>>(
-    files: &R,
-    alloc: Global,
-    config: &Config,
-    folder: &Folder,
-    begun: Begun,
-    pacing: Pacing<'a>,
-) -> Result<Reopened<'a>, StartFault> {
-    let table = read_era(files, alloc, folder, begun.generation.era)?;
-    let boot = boot_of(alloc, config, begun.generation.era, table.as_slice())?;
-    if let Err(wrong) = check_header(&begun.header, begun.generation, table.as_slice()) {
-        return Err(StartFault::bad(FileName::Log(begun.generation), wrong));
-    }
-    let Begun {
-        generation,
-        log,
-        ..
-    } = begun;
-    match Store::open(alloc, config, PacedLog::new(log, pacing)) {
-        Ok(opened) => Ok(Reopened {
-            opened,
-            table,
-            boot,
-        }),
-        Err(refused) => Err(fault_of(alloc, generation, refused)),
-    }
-}
-
-/// Goes on from a generation, in a new one.
-fn go_on<'a, R: Files<File = File>>(
+/// Goes on from a generation: in its era where that has the table of the configuration, and else in a
+/// new one.
+fn follow<'a, R: Files<File = File>>(
     files: &R,
     alloc: Global,
     config: &Config,
@@ -271,7 +238,33 @@ fn go_on<'a, R: Files<File = File>>(
     begun: Begun,
     now: u64,
     pacing: Pacing<'a>,
+) -> Result<Started<'a>, StartFault> {
+    let table = read_table(files, alloc, &folder, &begun)?;
+    if is_era_file(alloc, config, table.boot, table.octets.as_slice())? {
+        go_on(
+            files, alloc, config, folder, names, begun, &table, now, pacing,
+        )
+    } else {
+        change(
+            files, alloc, config, folder, names, begun, &table, now, pacing,
+        )
+    }
+}
+
+/// Goes on from a generation, in a new one of its era.
+fn go_on<'a, R: Files<File = File>>(
+    files: &R,
+    alloc: Global,
+    config: &Config,
+    folder: Folder,
+    names: &[FileName],
+    begun: Begun,
+    table: &EraTable,
+    now: u64,
+    pacing: Pacing<'a>,
 ) -> Result<Started<'a>, StartFault>
+    requires { table.now.octets.items ≡ era_octets (table_of table.now.boot config.now) }
+    ensures boot { IfOk result (λ started. started.boot ≡ table.now.boot) }
     ensures era { IfOk result (λ started. started.found.era ≡ begun.generation.era) }
     ensures generation { IfOk result (λ started. started.found.generation ≡ begun.generation.number) }
     ensures moves { IfOk result (λ started. started.found.moves ≡ started.header.lines) }
@@ -279,13 +272,12 @@ fn go_on<'a, R: Files<File = File>>(
         ≡ greatest_by (generation_of started.header.era) names.now + 1) }
 {
     let generation = begun.generation;
-    let Reopened { opened, boot, .. } = reopen(files, alloc, config, &folder, begun, pacing)?;
     let Opened {
         mut store,
         header,
         moves,
         torn,
-    } = opened;
+    } = reopen(alloc, config, table, begun, pacing)?;
     let header = following(&header, names, moves as u64)?;
     let found = Found {
         era: generation.era,
@@ -294,12 +286,13 @@ fn go_on<'a, R: Files<File = File>>(
         sessions: sessions_in(store.rows(alloc)?.as_slice()),
         torn,
         behind: behind_books(config, store.books(), now),
+        admitted: None,
     };
     renew(files, alloc, &folder, &mut store, header, pacing)?;
     Ok(Started {
         folder,
         store,
-        boot,
+        boot: table.boot,
         found,
         header,
     })

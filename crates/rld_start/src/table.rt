@@ -1,41 +1,52 @@
-//! The table of an era that goes on.
+//! The table of the era of a generation.
 
-ghost use Rattle.std.specs.Prelude.{◌≡◌, ℕ, ◌<◌, ◌^◌, IfErr, IfOk};
+ghost use Rattle.std.specs.Prelude.{◌≡◌, ℕ, IfOk};
+ghost use Rattle.rld_fields.specs.Lists.{all_of};
 ghost use Rattle.rld_spelling.specs.Eras.{era_octets};
 ghost use Rattle.rld_spelling.specs.Tables.{table_of};
 
 use crate::fault::StartFault;
 use crate::wrong::{Cause, Wrong};
-use rld_era::is_era_file;
-use rld_fields::ReadFault;
+use rld_era::{TableFault, config_of};
+use rld_fields::{Fault, ReadFault};
 use rld_folder::FileName;
 use rld_spelling::Era;
 use rsl_accounts::Config;
 use std::alloc::Global;
 
-/// The boot number of an era whose file has these octets, and which goes on with the configuration.
-pub(crate) fn boot_of(
-    alloc: Global,
-    config: &Config,
-    era: u64,
-    file: &[u8],
-) -> Result<u64, StartFault>
-    ensures { IfOk result (λ boot. file.now ≡ era_octets (table_of boot config.now)) }
-{
-    let table = match Era::read(alloc, file) {
-        Ok(table) => table,
-        Err(ReadFault::NoMemory) => return Err(StartFault::NoMemory),
-        Err(ReadFault::Malformed(fault)) => {
-            let wrong = Wrong {
-                offset: fault.offset(file.len()),
-                cause: Cause::Malformed(fault.cause),
-            };
-            return Err(StartFault::bad(FileName::Era(era), wrong));
-        }
+/// The fault of an era's file of so many octets, which spell no table.
+fn malformed(era: u64, len: usize, fault: Fault) -> StartFault {
+    let wrong = Wrong {
+        offset: fault.offset(len),
+        cause: Cause::Malformed(fault.cause),
     };
-    if is_era_file(alloc, config, table.boot, file)? {
-        Ok(table.boot)
-    } else {
-        Err(StartFault::OtherAccounts(era))
+    StartFault::bad(FileName::Era(era), wrong)
+}
+
+/// The boot number of an era whose file has these octets.
+pub(crate) fn boot_of(alloc: Global, era: u64, file: &[u8]) -> Result<u64, StartFault> {
+    match Era::read(alloc, file) {
+        Ok(table) => Ok(table.boot),
+        Err(ReadFault::NoMemory) => Err(StartFault::NoMemory),
+        Err(ReadFault::Malformed(fault)) => Err(malformed(era, file.len(), fault)),
+    }
+}
+
+/// A configuration whose era's file has these octets: by it the logs of the era are read.
+pub(crate) fn config_in(alloc: Global, era: u64, file: &[u8]) -> Result<Config, StartFault>
+    ensures { IfOk result (λ config.
+        (boot : ℕ) × (file.now ≡ era_octets (table_of boot config))) }
+{
+    match config_of(alloc, file) {
+        Ok(config) => Ok(config),
+        Err(TableFault::NoMemory) => Err(StartFault::NoMemory),
+        Err(TableFault::Malformed(fault)) => Err(malformed(era, file.len(), fault)),
+        Err(TableFault::NoConfiguration) => {
+            let wrong = Wrong {
+                offset: 0,
+                cause: Cause::NoConfiguration,
+            };
+            Err(StartFault::bad(FileName::Era(era), wrong))
+        }
     }
 }

@@ -3,14 +3,18 @@
 //! or an operator may do.
 #![tactic(auto)]
 
+mod changes;
 mod files;
 mod printed;
+mod reloads;
 mod rolls;
 mod running;
 mod server;
 
+use changes::changes;
 use files::{add, copy, cut, cut_last, empty, spoil};
 use printed::print;
+use reloads::reloads;
 use rld_folder::Folder;
 use rolls::rolls;
 use server::{
@@ -25,13 +29,14 @@ const FRAMES: [usize; 4] = [0, 41, 74, 148];
 fn main(rt: HostRuntime) -> io::Result<()> {
     goes_on(&rt)?;
     passes_over_what_was_not_begun(&rt)?;
-    refuses_other_accounts(&rt)?;
     refuses_what_is_damaged(&rt)?;
     begins_anew_after_a_crash(&rt)?;
     refuses_a_generation_alone(&rt)?;
     prints_each_kind(&rt)?;
     tells_lengths_from_names(&rt)?;
     rolls(&rt)?;
+    changes(&rt)?;
+    reloads(&rt)?;
     comes_back_to_the_present(&rt)?;
     keeps_others_out(&rt)
 }
@@ -54,11 +59,6 @@ fn passes_over_what_was_not_begun(rt: &HostRuntime) -> io::Result<()> {
     copy(rt, "state/log-1-10", "state/log-1-11")?;
     cut(rt, "state/log-1-11", 70)?;
     say(rt, "after half a snapshot", "state", OURS, 2004)
-}
-
-/// An account file with another limit.
-fn refuses_other_accounts(rt: &HostRuntime) -> io::Result<()> {
-    say(rt, "other accounts", "state", OTHERS, 2005)
 }
 
 /// One octet of the newest log is another, and then one of the era's table; and a log has the name of

@@ -25,7 +25,7 @@ pub fn rolls(rt: &HostRuntime) -> io::Result<()> {
 }
 
 /// The names in a folder, in their order.
-fn list(rt: &HostRuntime, path: &str) -> io::Result<()> {
+pub fn list(rt: &HostRuntime, path: &str) -> io::Result<()> {
     let mut names = Vec::new(rt.alloc());
     for entry in fs::read_dir(rt, path)? {
         names.push(String::from_str(rt.alloc(), entry?.file_name())?)?;

@@ -16,7 +16,7 @@ grace_secs = 900\nclosed_secs = 3600\nkeep_secs = 10\n\
 [[account]]\nname = \"nemo\"\npassword = \"arctangent\"\nplaces = 2\nports = 1\n\
 [[account]]\nname = \"flopsy\"\npassword = \"arctangent\"\nplaces = 1\nports = 1\n";
 
-/// One with other limits.
+/// One with another limit.
 pub const OTHERS: &str = "version = 2\nshards = 2\nreserve_secs = 60\nlive_secs = 900\n\
 grace_secs = 900\nclosed_secs = 3600\nkeep_secs = 10\n\
 [[client]]\naddress = \"10.0.0.1\"\nsecret = \"xyzzy5461\"\n\
@@ -106,16 +106,21 @@ fn octets(rt: &HostRuntime, octets: &[u8]) -> io::Result<Octets> {
     }
 }
 
-/// The access server of a name.
+/// The access server of a name, at the first client.
 fn nas(rt: &HostRuntime, name: &[u8]) -> io::Result<Nas> {
+    nas_at(rt, 0, name)
+}
+
+/// The access server of a name, at a client.
+fn nas_at(rt: &HostRuntime, client: u32, name: &[u8]) -> io::Result<Nas> {
     Ok(Nas {
-        client: 0,
+        client,
         name: NasName::Identifier(octets(rt, name)?),
     })
 }
 
-/// An Access-Request of an account.
-fn ask(rt: &HostRuntime, account: u32, id: u8, moment: u64) -> io::Result<Move> {
+/// An Access-Request of an account, by way of a client.
+pub fn ask(rt: &HostRuntime, account: u32, client: u32, id: u8, moment: u64) -> io::Result<Move> {
     let key = Key {
         source: Source {
             address: [10, 0, 0, 1],
@@ -126,7 +131,28 @@ fn ask(rt: &HostRuntime, account: u32, id: u8, moment: u64) -> io::Result<Move> 
     };
     let act = Act::Ask {
         key,
-        nas: nas(rt, b"nas1")?,
+        nas: nas_at(rt, client, b"nas1")?,
+    };
+    Ok(Move::Own {
+        account,
+        event: Event { moment, act },
+    })
+}
+
+/// A Start or an Interim-Update of a session of an account, by way of a client.
+pub fn alive(
+    rt: &HostRuntime,
+    account: u32,
+    client: u32,
+    session: &[u8],
+    class: Option<u64>,
+    moment: u64,
+) -> io::Result<Move> {
+    let act = Act::Alive {
+        nas: nas_at(rt, client, b"nas1")?,
+        session: octets(rt, session)?,
+        bundle: None,
+        class,
     };
     Ok(Move::Own {
         account,
@@ -135,15 +161,24 @@ fn ask(rt: &HostRuntime, account: u32, id: u8, moment: u64) -> io::Result<Move> 
 }
 
 /// The Start of a session of the first account.
-fn alive(rt: &HostRuntime, session: &[u8], moment: u64) -> io::Result<Move> {
-    let act = Act::Alive {
-        nas: nas(rt, b"nas1")?,
+fn start_of(rt: &HostRuntime, session: &[u8], moment: u64) -> io::Result<Move> {
+    alive(rt, 0, 0, session, Some(0), moment)
+}
+
+/// A Stop of a session of an account, by way of a client.
+pub fn stop_of(
+    rt: &HostRuntime,
+    account: u32,
+    client: u32,
+    session: &[u8],
+    moment: u64,
+) -> io::Result<Move> {
+    let act = Act::Stop {
+        nas: nas_at(rt, client, b"nas1")?,
         session: octets(rt, session)?,
-        bundle: None,
-        class: Some(0),
     };
     Ok(Move::Own {
-        account: 0,
+        account,
         event: Event { moment, act },
     })
 }
@@ -193,12 +228,15 @@ fn stray(rt: &HostRuntime, moment: u64) -> io::Result<Move> {
 
 /// An ask of the first account and its Start.
 pub fn login(rt: &HostRuntime) -> io::Result<Vec<Move>> {
-    Ok(vec![in rt.alloc(); ask(rt, 0, 7, 1001)?, alive(rt, b"s1", 1002)?]?)
+    Ok(vec![in rt.alloc(); ask(rt, 0, 0, 7, 1001)?, start_of(rt, b"s1", 1002)?]?)
 }
 
 /// The same by a clock that is ahead.
 pub fn late_login(rt: &HostRuntime) -> io::Result<Vec<Move>> {
-    Ok(vec![in rt.alloc(); ask(rt, 0, 7, 1_000_000)?, alive(rt, b"s1", 1_000_001)?]?)
+    Ok(vec![in rt.alloc();
+        ask(rt, 0, 0, 7, 1_000_000)?,
+        start_of(rt, b"s1", 1_000_001)?,
+    ]?)
 }
 
 /// A tick.
@@ -209,8 +247,8 @@ pub fn tick(rt: &HostRuntime, moment: u64) -> io::Result<Vec<Move>> {
 /// A move of each kind.
 pub fn each_kind(rt: &HostRuntime) -> io::Result<Vec<Move>> {
     let mut moves = login(rt)?;
-    moves.push(ask(rt, 1, 8, 1003)?)?;
-    moves.push(ask(rt, 1, 9, 1004)?)?;
+    moves.push(ask(rt, 1, 0, 8, 1003)?)?;
+    moves.push(ask(rt, 1, 0, 9, 1004)?)?;
     moves.push(bundled(rt, 1005)?)?;
     moves.push(stop(rt, 1006)?)?;
     moves.push(Move::Sweep {
@@ -225,7 +263,7 @@ pub fn each_kind(rt: &HostRuntime) -> io::Result<Vec<Move>> {
 /// A Start whose session id is a whole frame of a log.
 pub fn frame_as_id(rt: &HostRuntime) -> io::Result<Vec<Move>> {
     let frame = frame_of(rt.alloc(), b"x")?;
-    Ok(vec![in rt.alloc(); alive(rt, frame.as_slice(), 1002)?]?)
+    Ok(vec![in rt.alloc(); start_of(rt, frame.as_slice(), 1002)?]?)
 }
 
 /// Starts a server that records a batch of moves, and says what it decided.
@@ -256,7 +294,7 @@ pub fn record_both(
 }
 
 /// Records a batch of moves, and says what was decided.
-fn commit(rt: &HostRuntime, started: &mut Started<'_>, moves: Vec<Move>) -> io::Result<()> {
+pub fn commit(rt: &HostRuntime, started: &mut Started<'_>, moves: Vec<Move>) -> io::Result<()> {
     match started.store.commit(rt.alloc(), moves) {
         Ok(recorded) => println!(rt; "decisions: {:?}", recorded.decisions()),
         Err(fault) => println!(rt; "a batch: {fault}"),

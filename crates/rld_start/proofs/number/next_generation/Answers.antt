@@ -1,5 +1,5 @@
-use Rattle.std.proofs.Common.{◌≡◌, sym, ap, ◌∙◌}
-use Rattle.rld_start.specs.Numbers.{generation_of, greatest_by, greatest_of}
+use Rattle.std.proofs.Common.{ap, ◌∙◌}
+use Rattle.rld_start.specs.Numbers.{generation_of, greatest_of}
 use Rattle.rld_start.proofs.Greatest.{one_more}
 use Rattle.rld_start.proofs.number.next_generation.Goals as goal
 

@@ -1,0 +1,81 @@
+//! A generation that was begun, opened again.
+
+ghost use Rattle.std.specs.Prelude.{◌≡◌, ℕ, OnOk};
+ghost use Rattle.rld_spelling.specs.Eras.{era_octets};
+ghost use Rattle.rld_spelling.specs.Tables.{table_of};
+
+use crate::fault::StartFault;
+use crate::files::read_era;
+use crate::header::check_header;
+use crate::refused::fault_of;
+use crate::starting::Begun;
+use crate::table::boot_of;
+use rld_era::is_era_file;
+use rld_folder::{FileName, Folder};
+use rld_log::FileLog;
+use rld_pace::{PacedLog, Pacing};
+use rld_store::{Opened, Store};
+use rsl_accounts::Config;
+use std::alloc::Global;
+use std::fs::{File, Files};
+
+/// The table of an era, as its file has it.
+#[derive(Drop)]
+pub(crate) struct EraTable {
+    /// The octets of the file.
+    pub(crate) octets: Vec<u8>,
+    /// The boot number of the era.
+    pub(crate) boot: u64,
+}
+
+/// The table of the era of a generation that was begun, which is the one that its header names.
+pub(crate) fn read_table<R: Files<File = File>>(
+    files: &R,
+    alloc: Global,
+    folder: &Folder,
+    begun: &Begun,
+) -> Result<EraTable, StartFault> {
+    let octets = read_era(files, alloc, folder, begun.generation.era)?;
+    let boot = boot_of(alloc, begun.generation.era, octets.as_slice())?;
+    match check_header(&begun.header, begun.generation, octets.as_slice()) {
+        Ok(()) => Ok(EraTable { octets, boot }),
+        Err(wrong) => Err(StartFault::bad(FileName::Log(begun.generation), wrong)),
+    }
+}
+
+/// Makes sure that an era has the table of a configuration.
+pub(crate) fn check_accounts(
+    alloc: Global,
+    config: &Config,
+    era: u64,
+    table: &EraTable,
+) -> Result<(), StartFault>
+    ensures { OnOk result (table.now.octets.items ≡ era_octets (table_of table.now.boot config.now)) }
+{
+    if is_era_file(alloc, config, table.boot, table.octets.as_slice())? {
+        Ok(())
+    } else {
+        Err(StartFault::OtherAccounts(era))
+    }
+}
+
+/// Opens the log of a generation that was begun, by a configuration that has the table of its era.
+pub(crate) fn reopen<'a>(
+    alloc: Global,
+    config: &Config,
+    table: &EraTable,
+    begun: Begun,
+    pacing: Pacing<'a>,
+) -> Result<Opened<PacedLog<'a, FileLog>>, StartFault>
+    requires { (boot : ℕ) × (table.now.octets.items ≡ era_octets (table_of boot config.now)) }
+{
+    let Begun {
+        generation,
+        log,
+        ..
+    } = begun;
+    match Store::open(alloc, config, PacedLog::new(log, pacing)) {
+        Ok(opened) => Ok(opened),
+        Err(refused) => Err(fault_of(alloc, generation, refused)),
+    }
+}

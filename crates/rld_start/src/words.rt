@@ -1,0 +1,121 @@
+//! What is said of a start and of a rebase, to whoever started the program.
+
+ghost use Rattle.std.specs.Prelude.{◌≡◌, ◌++◌, IfOk, OnOk, string_bytes};
+ghost use Rattle.rld_start.specs.Greeting.{admitted_text, behind_text, generation_text, numbered, torn_text};
+
+use crate::count::{Admitted, Found};
+use crate::rebasing::Rebased;
+use std::alloc::{AllocError, Global};
+
+impl Found {
+    ghost use Rattle.rld_start.specs.Greeting.{greeting};
+
+    /// What is said of the folder that a server starts from: its era, the generation that it goes on
+    /// from or that the era is new, the sessions that have a place, and the octets of a torn end, if
+    /// there was one. On a line of its own stands how many sessions of an era with another account file
+    /// go on, and on another by how much the system's clock is behind, where these are told.
+    /// It fails only where memory is refused.
+    pub fn greeting(&self, alloc: Global) -> Result<String, AllocError>
+        ensures { IfOk result (λ text. string_bytes text ≡ greeting self.now) }
+    {
+        let mut text = String::new(alloc);
+        write_number(&mut text, "era ", self.era)?;
+        write_generation(&mut text, self.generation)?;
+        write_number(&mut text, ": ", self.sessions)?;
+        write_text(&mut text, " sessions")?;
+        write_torn(&mut text, self.torn)?;
+        write_admitted(&mut text, self.sessions, self.admitted)?;
+        write_behind(&mut text, self.behind)?;
+        Ok(text)
+    }
+}
+
+impl Rebased {
+    ghost use Rattle.rld_start.specs.Rebased.{rebased};
+
+    /// What is said of a rebase, in one line: the generation whose books were cut, how many moments
+    /// were, and the era that begins with them. It fails only where memory is refused.
+    pub fn line(&self, alloc: Global) -> Result<String, AllocError>
+        ensures { IfOk result (λ text. string_bytes text ≡ rebased self.now) }
+    {
+        let mut text = String::new(alloc);
+        write_number(&mut text, "era ", self.from.era)?;
+        write_number(&mut text, ", generation ", self.from.number)?;
+        write_number(&mut text, ": ", self.moments)?;
+        write_text(&mut text, " moments cut; ")?;
+        write_number(&mut text, "era ", self.era)?;
+        write_text(&mut text, " begins\n")?;
+        Ok(text)
+    }
+}
+
+/// Writes which generation the server goes on from, if there is one.
+fn write_generation(text: &mut String, generation: u64) -> Result<(), AllocError>
+    ensures { OnOk result
+        (string_bytes text.new ≡ string_bytes text.old ++ generation_text generation) }
+{
+    if generation == 0 {
+        write_text(text, ", new")
+    } else {
+        write_number(text, ", generation ", generation)
+    }
+}
+
+/// Writes what was cut off of the log, if anything.
+fn write_torn(text: &mut String, torn: usize) -> Result<(), AllocError>
+    ensures { OnOk result (string_bytes text.new ≡ string_bytes text.old ++ torn_text torn) }
+{
+    if torn == 0 {
+        return Ok(());
+    }
+    write_number(text, ", torn end of ", torn as u64)?;
+    write_text(text, " octets cut off")
+}
+
+/// Writes how many sessions of an era with another account file go on, if there was one.
+fn write_admitted(
+    text: &mut String,
+    sessions: u64,
+    admitted: Option<Admitted>,
+) -> Result<(), AllocError>
+    ensures { OnOk result
+        (string_bytes text.new ≡ string_bytes text.old ++ admitted_text sessions admitted) }
+{
+    match admitted {
+        None => Ok(()),
+        Some(admitted) => {
+            write_number(text, "\naccounts changed: ", sessions)?;
+            write_number(text, " of ", admitted.sessions)?;
+            write_number(text, " sessions of era ", admitted.from.era)?;
+            write_text(text, " go on")
+        }
+    }
+}
+
+/// Writes by how many seconds the system's clock is behind, if it is told.
+fn write_behind(text: &mut String, behind: Option<u64>) -> Result<(), AllocError>
+    ensures { OnOk result (string_bytes text.new ≡ string_bytes text.old ++ behind_text behind) }
+{
+    match behind {
+        None => Ok(()),
+        Some(secs) => {
+            write_number(text, "\nclock ", secs)?;
+            write_text(text, " s behind: no deadline passes until it is there")
+        }
+    }
+}
+
+/// Writes a text.
+fn write_text(text: &mut String, more: &str) -> Result<(), AllocError>
+    ensures { OnOk result (string_bytes text.new ≡ string_bytes text.old ++ more.now) }
+{
+    text.push_str(more)
+}
+
+/// Writes a text and a number.
+fn write_number(text: &mut String, before: &str, number: u64) -> Result<(), AllocError>
+    ensures { OnOk result
+        (string_bytes text.new ≡ string_bytes text.old ++ numbered before.now number) }
+{
+    write!(text, "{before}{number}")
+}
