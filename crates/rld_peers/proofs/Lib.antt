@@ -1,0 +1,4 @@
+pub mod Candidates
+pub mod Giving
+pub mod Joining
+pub mod Seeing
