@@ -1,0 +1,5 @@
+pub mod Figures
+pub mod Health
+pub mod Html
+pub mod Json
+pub mod Page

@@ -1,0 +1,59 @@
+//! How a datagram ended, in words.
+
+use rld_counts::{AcctEnd, AuthEnd, End};
+
+/// What the page says of an end.
+pub(crate) fn words(end: End) -> &'static str {
+    match end {
+        End::Auth(end) => auth_words(end),
+        End::Acct(end) => acct_words(end),
+    }
+}
+
+/// What the page says of how a datagram ended that came to the authentication port.
+fn auth_words(end: AuthEnd) -> &'static str {
+    match end {
+        AuthEnd::Short => "Dropped: too short",
+        AuthEnd::BadLength => "Dropped: wrong length",
+        AuthEnd::UnknownClient => "Dropped: unknown client",
+        AuthEnd::WrongCode => "Dropped: no Access-Request",
+        AuthEnd::BadSignature => "Dropped: wrong signature",
+        AuthEnd::Unsigned => "Dropped: not signed",
+        AuthEnd::ProxyTooLong => "Dropped: Proxy-State too long",
+        AuthEnd::Refused => "No memory",
+        AuthEnd::Unrecorded => "Not recorded",
+        AuthEnd::Unsent => "Answer not sent",
+        AuthEnd::Accept => "Accepted",
+        AuthEnd::LimitReject => "Rejected: no free place",
+        AuthEnd::Malformed => "Rejected: malformed",
+        AuthEnd::NotOneName => "Rejected: no name, or several",
+        AuthEnd::NotOnePassword => "Rejected: no password, or several",
+        AuthEnd::SeveralChallenges => "Rejected: several challenges",
+        AuthEnd::UnknownAccount => "Rejected: unknown account",
+        AuthEnd::WrongPassword => "Rejected: wrong password",
+    }
+}
+
+/// What the page says of how a datagram ended that came to the accounting port.
+fn acct_words(end: AcctEnd) -> &'static str {
+    match end {
+        AcctEnd::Short => "Dropped: too short",
+        AcctEnd::BadLength => "Dropped: wrong length",
+        AcctEnd::UnknownClient => "Dropped: unknown client",
+        AcctEnd::WrongCode => "Dropped: no Accounting-Request",
+        AcctEnd::BadAuthenticator => "Dropped: wrong authenticator",
+        AcctEnd::Malformed => "Dropped: malformed",
+        AcctEnd::ProxyTooLong => "Dropped: Proxy-State too long",
+        AcctEnd::NoStatus => "Dropped: no Acct-Status-Type",
+        AcctEnd::NoSession => "Dropped: no Acct-Session-Id",
+        AcctEnd::Refused => "No memory",
+        AcctEnd::Unrecorded => "Not recorded",
+        AcctEnd::Unsent => "Answer not sent",
+        AcctEnd::Start => "Start",
+        AcctEnd::Stop => "Stop",
+        AcctEnd::InterimUpdate => "Interim-Update",
+        AcctEnd::AccountingOn => "Accounting-On",
+        AcctEnd::AccountingOff => "Accounting-Off",
+        AcctEnd::OtherStatus => "Other status",
+    }
+}

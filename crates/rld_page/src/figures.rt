@@ -1,0 +1,117 @@
+//! Numbers as people read them.
+
+ghost use Rattle.std.specs.Prelude.{◌≡◌, ◌≤◌};
+ghost use Rattle.rld_page.specs.Figures.{share_of, tenths_of};
+
+use crate::html::Html;
+use httpdate::HttpDate;
+use std::alloc::AllocError;
+
+/// How many thousandths a whole has.
+pub(crate) const THOUSANDTHS: u64 = 1_000;
+
+/// How much of a whole a part is, in thousandths, rounded down: a part that is more than the whole is
+/// all of it, and of nothing each part is nothing.
+pub(crate) fn share(part: u64, whole: u64) -> u64
+    ensures share { result ≡ share_of part whole }
+    ensures most { result ≤ 1000 }
+{
+    if whole == 0 {
+        return 0;
+    }
+    let part = u128::from(part.min(whole));
+    (part * 1_000 / u128::from(whole)) as u64
+}
+
+/// How many came in a second, in tenths, where so many came in a minute: rounded to the nearest.
+pub(crate) fn tenths(a_minute: u64) -> u64
+    ensures { result ≡ tenths_of a_minute }
+{
+    a_minute / 6 + u64::from(a_minute % 6 >= 3)
+}
+
+/// Writes a number with a comma before each third digit, from the right.
+pub(crate) fn write_grouped(html: &mut Html, number: u64) -> Result<(), AllocError> {
+    const GROUPS: [u64; 6] = [
+        1_000_000_000_000_000_000,
+        1_000_000_000_000_000,
+        1_000_000_000_000,
+        1_000_000_000,
+        1_000_000,
+        1_000,
+    ];
+    let mut has_begun = false;
+    for group in GROUPS {
+        let digits = number / group % 1_000;
+        if has_begun {
+            write_three(html, digits)?;
+            html.markup(",")?;
+        } else if digits > 0 {
+            html.number(digits)?;
+            html.markup(",")?;
+            has_begun = true;
+        }
+    }
+    if has_begun {
+        write_three(html, number % 1_000)
+    } else {
+        html.number(number % 1_000)
+    }
+}
+
+/// Writes three digits.
+fn write_three(html: &mut Html, number: u64) -> Result<(), AllocError> {
+    html.digit((number / 100 % 10) as u8)?;
+    html.digit((number / 10 % 10) as u8)?;
+    html.digit((number % 10) as u8)
+}
+
+/// Writes tenths, with one place behind the point.
+pub(crate) fn write_tenths(html: &mut Html, tenths: u64) -> Result<(), AllocError> {
+    write_grouped(html, tenths / 10)?;
+    html.markup(".")?;
+    html.digit((tenths % 10) as u8)
+}
+
+/// Writes a second since 1970 as a date and a time of the day, as HTTP spells them.
+pub(crate) fn write_date(html: &mut Html, second: u64) -> Result<(), AllocError> {
+    match HttpDate::from_unix_secs(second) {
+        Ok(date) => html.text(&date.to_bytes()),
+        Err(_) => html.number(second),
+    }
+}
+
+/// Writes a second since 1970 as a day and a time of that day.
+pub(crate) fn write_moment(html: &mut Html, second: u64) -> Result<(), AllocError> {
+    match HttpDate::from_unix_secs(second) {
+        Ok(date) => {
+            let octets = date.to_bytes();
+            html.text(&octets[5..11])?;
+            html.markup(" ")?;
+            html.text(&octets[17..25])
+        }
+        Err(_) => html.number(second),
+    }
+}
+
+/// Writes the hour and the minute of the day of a second since 1970.
+pub(crate) fn write_clock(html: &mut Html, second: u64) -> Result<(), AllocError> {
+    let minute = second / 60 % 1_440;
+    write_two(html, minute / 60)?;
+    html.markup(":")?;
+    write_two(html, minute % 60)
+}
+
+/// Writes two digits.
+fn write_two(html: &mut Html, number: u64) -> Result<(), AllocError> {
+    html.digit((number / 10 % 10) as u8)?;
+    html.digit((number % 10) as u8)
+}
+
+/// Writes thousandths as a width in per cent, for a style.
+pub(crate) fn write_width(html: &mut Html, thousandths: u64) -> Result<(), AllocError> {
+    html.number(thousandths / 10)?;
+    html.markup(".")?;
+    html.digit((thousandths % 10) as u8)?;
+    html.markup("%")
+}

@@ -1,0 +1,35 @@
+ghost use Rattle.std.specs.Prelude.{◌≡◌};
+ghost use Rattle.rld_page.specs.Health.{health_of, health_text};
+
+use rld_look::Recording;
+
+/// Whether a server is well: it is as long as its batches are recorded, since it answers nothing else.
+#[derive(Clone, Copy, Debug, PartialEq, Eq)]
+pub enum Health {
+    /// It is.
+    Well,
+    /// It is not: batches are not recorded, and so not answered.
+    Failing,
+}
+
+impl Health {
+    /// That of a server which records so.
+    pub fn of(recording: Recording) -> Health
+        ensures { result ≡ health_of recording }
+    {
+        match recording {
+            Recording::Recorded => Health::Well,
+            Recording::Failing => Health::Failing,
+        }
+    }
+
+    /// The line that says it.
+    pub fn text(self) -> &'static str
+        ensures { result.now ≡ health_text self }
+    {
+        match self {
+            Health::Well => "ok\n",
+            Health::Failing => "not recording\n",
+        }
+    }
+}

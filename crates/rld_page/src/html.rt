@@ -1,0 +1,107 @@
+//! A text of HTML that is being written.
+
+ghost use Rattle.std.specs.Prelude.{◌≡◌, ◌+◌, ◌<◌, ◌++◌, ◌∷◌, [], IsTrue, OnOk};
+ghost use Rattle.std.specs.Fmt.{decimal};
+ghost use Rattle.std.specs.List.{flat_map, list_all};
+ghost use Rattle.rld_page.specs.Html.{html_octet, is_no_markup};
+ghost use Rattle.rld_values.specs.Values.{dotted, word};
+
+use rld_values::{push_dotted, push_word};
+use std::alloc::{AllocError, Global};
+
+/// A text of HTML that is being written. Only three things get into it: markup, which is a literal of
+/// this program; numbers; and octets that are escaped.
+#[derive(Drop)]
+pub(crate) struct Html {
+    alloc: Global,
+    out: Vec<u8>,
+}
+
+impl Html {
+    /// An empty text.
+    pub(crate) fn new(alloc: Global) -> Html
+        ensures { result.out.items ≡ [] }
+    {
+        Html {
+            alloc,
+            out: Vec::new(alloc),
+        }
+    }
+
+    /// The text, as far as it is written.
+    pub(crate) fn into_octets(self) -> Vec<u8>
+        ensures { result.items ≡ self.out.items }
+    {
+        let Html { out, .. } = self;
+        out
+    }
+
+    /// Writes markup. It is `'static`, so no name of an account or a datagram's octets can be handed in.
+    pub(crate) fn markup(&mut self, markup: &'static str) -> Result<(), AllocError>
+        ensures { OnOk result (self.new.out.items ≡ self.old.out.items ++ markup.now) }
+    {
+        self.out.extend_from_slice(markup.as_bytes())
+    }
+
+    /// Writes a number in decimal digits.
+    pub(crate) fn number(&mut self, number: u64) -> Result<(), AllocError>
+        ensures { OnOk result (self.new.out.items ≡ self.old.out.items ++ decimal number) }
+    {
+        let text = format!(in self.alloc; "{number}")?;
+        self.out.extend_from_slice(text.as_bytes())
+    }
+
+    /// Writes a decimal digit.
+    pub(crate) fn digit(&mut self, digit: u8) -> Result<(), AllocError>
+        requires { digit < 10 }
+        ensures { OnOk result (self.new.out.items ≡ self.old.out.items ++ (48 + digit) ∷ []) }
+    {
+        self.out.push(48 + digit)?;
+        Ok(())
+    }
+
+    /// Writes text between tags, or in a quoted attribute: it opens no tag and ends no attribute.
+    #[tactic(auto, using(crate::proofs::Plain::text_is_plain))]
+    pub(crate) fn text(&mut self, text: &[u8]) -> Result<(), AllocError>
+        ensures written { OnOk result
+            (self.new.out.items ≡ self.old.out.items ++ flat_map html_octet text.now) }
+        ensures plain { IsTrue (list_all is_no_markup (flat_map html_octet text.now)) }
+    {
+        for octet in text {
+            self.octet(*octet)?;
+        }
+        Ok(())
+    }
+
+    /// Writes octets that a stranger may have sent, as lines of the log and of the control have them: what
+    /// is no letter, digit or one of `%+,-./:=@_` is escaped. So it is no markup either.
+    pub(crate) fn word(&mut self, octets: &[u8]) -> Result<(), AllocError>
+        ensures { OnOk result (self.new.out.items ≡ self.old.out.items ++ word octets.now) }
+    {
+        push_word(&mut self.out, octets)
+    }
+
+    /// Writes an IPv4 address.
+    pub(crate) fn address(&mut self, address: [u8; 4]) -> Result<(), AllocError>
+        ensures { OnOk result (self.new.out.items ≡ self.old.out.items ++ dotted address) }
+    {
+        push_dotted(self.alloc, &mut self.out, address)
+    }
+
+    /// Writes an octet of text.
+    fn octet(&mut self, octet: u8) -> Result<(), AllocError>
+        ensures { OnOk result (self.new.out.items ≡ self.old.out.items ++ html_octet octet) }
+    {
+        match octet {
+            b'<' => self.markup("&lt;"),
+            b'>' => self.markup("&gt;"),
+            b'&' => self.markup("&amp;"),
+            b'"' => self.markup("&quot;"),
+            b'\'' => self.markup("&#39;"),
+            _ => {
+                self.out.push(octet)?;
+                Ok(())
+            }
+        }
+    }
+}

@@ -1,0 +1,85 @@
+-- How a request is answered.
+use Rattle.std.specs.Prelude.{◌≡◌, ℕ, Bool, true, false, ◌||◌, List, [], ◌∷◌, ◌++◌, codes, Option, Some, None, bytes_eq}
+use Rattle.std.specs.declared.net.socket_addr.SocketAddrV4.{SocketAddrV4}
+use Rattle.http.specs.declared.request.Request.{Request}
+use Rattle.http.specs.Request.{head_of}
+use Rattle.http1.specs.Fields.{Header}
+use Rattle.http_uri.specs.Uri.{uri_path}
+use Rattle.http_server.specs.declared.response.Response.{Response}
+use Rattle.http_server.specs.Response.{IsResponse}
+use Rattle.rld_look.specs.declared.look.Look.{Look}
+use Rattle.rld_metrics.specs.Metrics.{metrics_text}
+use Rattle.rld_page.specs.Health.{health_of, health_text}
+use Rattle.rld_page.specs.Json.{accounts_json}
+use Rattle.rld_page.specs.Page.{IsHtml}
+use Rattle.rld_page.specs.declared.health.Health.{Health}
+use Rattle.rld_page.specs.declared.health.Health.TheVariants as Is
+use Rattle.rld_web.specs.Path.{media_type_of, path_of, plain}
+use Rattle.rld_web.specs.Place.{host_of, is_asked_for}
+use Rattle.rld_web.specs.declared.path.Path.{Path}
+use Rattle.rld_web.specs.declared.path.Path.TheVariants as Of
+
+-- the fields of each response, of this media type: it is not kept, it is of that type, a page loads and
+-- runs nothing, and the connection ends
+abbrev pub fields_with : (media_type : List ℕ) → List Header
+fields_with media_type =
+    (codes "content-type", media_type)
+    ∷ (codes "cache-control", codes "no-store")
+    ∷ (codes "x-content-type-options", codes "nosniff")
+    ∷ (codes "content-security-policy", codes "default-src 'none'; style-src 'unsafe-inline'; frame-ancestors 'none'")
+    ∷ (codes "connection", codes "close") ∷ []
+
+-- the octets are the text of this path, for what the server shows
+abbrev pub IsTextOf : Look → Path → List ℕ → Type 0
+IsTextOf look Of.Page text = IsHtml text
+IsTextOf look Of.Metrics text = text ≡ metrics_text look
+IsTextOf look Of.Accounts text = text ≡ accounts_json look
+IsTextOf look Of.Health text = text ≡ health_text (health_of look.recording)
+
+-- 200, and of a server that is not well 503 for its health
+abbrev pub health_status : Health → ℕ
+health_status Is.Well = 200
+health_status Is.Failing = 503
+
+abbrev pub status_of : Look → Path → ℕ
+status_of look Of.Page = 200
+status_of look Of.Metrics = 200
+status_of look Of.Accounts = 200
+status_of look Of.Health = health_status (health_of look.recording)
+
+-- what a path that there is has, and what any other one has
+abbrev pub IsShown : Look → Option Path → Response → Type 0
+IsShown look None response = IsResponse 404 (fields_with plain) (codes "there is no such page\n") response
+IsShown look (Some path) response =
+    (text : List ℕ) × IsTextOf look path text
+    × IsResponse (status_of look path) (fields_with (media_type_of path)) text response
+
+-- whether a method only reads
+abbrev pub is_reading : (method : List ℕ) → Bool
+is_reading method = bytes_eq method (codes "GET") || bytes_eq method (codes "HEAD")
+
+-- what a method that does not only read has
+abbrev pub IsRefusedMethod : Response → Type 0
+IsRefusedMethod =
+    IsResponse 405 (fields_with plain ++ (codes "allow", codes "GET, HEAD") ∷ []) (codes "only GET and HEAD are answered\n")
+
+-- what a method that reads has, and what any other one has
+abbrev pub IsRead : Look → (reading : Bool) → (path : List ℕ) → Response → Type 0
+IsRead look true path response = IsShown look (path_of path) response
+IsRead look false path response = IsRefusedMethod response
+
+-- what is answered under the server's own name, and what under any other one
+abbrev pub IsAnswered : Look → (asked : Bool) → (reading : Bool) → (path : List ℕ) → Response → Type 0
+IsAnswered look true reading path response = IsRead look reading path response
+IsAnswered look false reading path response =
+    IsResponse 421 (fields_with plain) (codes "ask for this server by its address or as localhost\n") response
+
+abbrev pub Answers : Look → SocketAddrV4 → Request (List ℕ) → Response → Type 0
+Answers look place request response =
+    IsAnswered look (is_asked_for place (host_of (head_of request))) (is_reading (head_of request).method)
+    (uri_path (head_of request).uri) response
+
+-- by the last look, without which nothing is answered
+abbrev pub HasAnswered : Option Look → SocketAddrV4 → Request (List ℕ) → Response → Type 0
+HasAnswered None place request response = ⊥
+HasAnswered (Some look) place request response = Answers look place request response

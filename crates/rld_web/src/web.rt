@@ -1,0 +1,75 @@
+use crate::desk::Desk;
+use crate::room::Room;
+use rld_look::{Pages, Shown};
+use std::alloc::Global;
+use std::hash::RandomState;
+use std::io;
+use std::net::{Ipv4Addr, Net, SocketAddr, SocketAddrV4, TcpListener, TcpStream};
+use std::sync::Wait;
+use std::time::Clock;
+
+/// Where a running server is shown over HTTP/1.1.
+///
+/// It answers `GET` and `HEAD` of `/` (a page for a browser), `/metrics` (Prometheus' text format,
+/// version 0.0.4), `/accounts.json`, and `/health` (200, or 503 where batches are not recorded). What it
+/// refuses has the status 404 (there is no such path), 405 (another method), 421 (the request asks for
+/// a server of another name), or one of HTTP's own for what is no request: 400, 413, 414, 431, 501.
+#[derive(Drop)]
+pub struct Web {
+    alloc: Global,
+    keys: RandomState,
+    listener: TcpListener,
+    place: SocketAddrV4,
+}
+
+impl Web {
+    /// Binds the address and TCP port. The keys are secret, since strangers choose the names of header
+    /// fields. The error is the system's: the address is not this machine's, or the port is taken or not
+    /// allowed.
+    pub fn bind<N: Net<Listener = TcpListener, Stream = TcpStream>>(
+        net: &N,
+        alloc: Global,
+        keys: RandomState,
+        address: [u8; 4],
+        port: u16,
+    ) -> io::Result<Web> {
+        let place = SocketAddrV4::new(Ipv4Addr::from(address), port);
+        let listener = TcpListener::bind(net, SocketAddr::V4(place))?;
+        listener.set_nonblocking(true)?;
+        Ok(Web {
+            alloc,
+            keys,
+            listener,
+            place,
+        })
+    }
+}
+
+impl Pages for Web {
+    fn show<S: Shown, R: Net + Clock + Wait>(&self, rt: &R, server: &S) -> io::Result<()> {
+        let mut room = Room::new(rt, self.alloc, self.keys, &self.listener)?;
+        let mut desk = Desk::new(self.alloc, self.place);
+        for _ in rt.forever() {
+            if server.is_over() {
+                break;
+            }
+            room.wait(millis(rt))?;
+            let now = millis(rt);
+            room.let_in(&self.listener, now);
+            room.serve(&mut desk, server, now);
+        }
+        Ok(())
+    }
+}
+
+/// This moment, in milliseconds since some start. A clock that cannot be read shows the last moment of
+/// all, at which no connection lasts longer.
+fn millis<C: Clock>(clock: &C) -> u64 {
+    match clock.monotonic() {
+        Ok(time) => time
+            .as_secs()
+            .saturating_mul(1_000)
+            .saturating_add(u64::from(time.subsec_millis())),
+        Err(_) => u64::MAX,
+    }
+}

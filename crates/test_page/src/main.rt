@@ -1,0 +1,29 @@
+//! Prints what a browser and a monitor are shown of a server: of one that has run for some hours, with
+//! names that try to forge what is printed, and of one that has just started.
+#![tactic(auto)]
+
+mod sample;
+
+use crate::sample::{idle, worked};
+use rld_look::Look;
+use rld_page::{Health, accounts_json, page};
+use rsl_wire::NoMemory;
+use std::alloc::AllocError;
+use std::io::{self, Write};
+
+fn main(rt: HostRuntime) -> io::Result<()> {
+    print(&rt, worked(rt.alloc()))?;
+    print(&rt, idle(rt.alloc()))
+}
+
+/// Prints all that is shown of a server.
+fn print(rt: &HostRuntime, look: Result<Look, NoMemory>) -> io::Result<()> {
+    let Ok(look) = look else {
+        return Err(AllocError.into());
+    };
+    rt.stdout().write_all(page(rt.alloc(), &look)?.as_slice())?;
+    rt.stdout()
+        .write_all(accounts_json(rt.alloc(), &look)?.as_slice())?;
+    rt.stdout()
+        .write_all(Health::of(look.recording).text().as_bytes())
+}

@@ -1,0 +1,172 @@
+//! Looks at two servers.
+
+use rld_counts::{AcctEnd, AuthEnd, Counts, End, Histogram};
+use rld_look::{AccountLook, ClientLook, Look, Minute, Recording, SocketLook};
+use rld_refusals::Refusal;
+use rsl_accounts::Text;
+use rsl_event::{NasName, Source};
+use rsl_shard::Row;
+use rsl_wire::{NoMemory, Octets};
+use std::alloc::Global;
+
+/// Second 1,764,182,907 since 1970: 2025-11-26 18:48:27 UTC.
+const NOW: u64 = 1_764_182_907;
+
+/// A look at a server that has just started, whose batches are not recorded.
+pub(crate) fn idle(alloc: Global) -> Result<Look, NoMemory> {
+    Ok(Look {
+        start: NOW,
+        now: NOW,
+        era: 1,
+        generation: 1,
+        moves: 0,
+        recording: Recording::Failing,
+        counts: Counts::new(),
+        clients: Vec::new(alloc),
+        auth_times: Histogram::new(),
+        acct_times: Histogram::new(),
+        accounts: Vec::new(alloc),
+        minutes: Vec::new(alloc),
+        sockets: Vec::new(alloc),
+        refusals: Vec::new(alloc),
+    })
+}
+
+/// A look at a server that has run for some hours.
+pub(crate) fn worked(alloc: Global) -> Result<Look, NoMemory> {
+    let mut look = idle(alloc)?;
+    look.start = NOW - 20_000;
+    look.era = 3;
+    look.generation = 41;
+    look.moves = 12_345;
+    look.recording = Recording::Recorded;
+    look.counts = counts();
+    look.clients.push(ClientLook {
+        address: [192, 0, 2, 7],
+        counts: counts(),
+    })?;
+    add_accounts(alloc, &mut look.accounts)?;
+    add_minutes(&mut look.minutes)?;
+    look.sockets.push(socket(1812, 0, 0))?;
+    look.sockets.push(socket(1813, 2_304, 17))?;
+    add_refusals(alloc, &mut look.refusals)?;
+    Ok(look)
+}
+
+/// What waits at a socket.
+fn socket(port: u16, waiting: u64, dropped: u64) -> SocketLook {
+    SocketLook {
+        port,
+        waiting,
+        dropped,
+    }
+}
+
+/// Some datagrams of several ends.
+fn counts() -> Counts {
+    let mut counts = Counts::new();
+    for _ in 0..1_234 {
+        counts.note(End::Auth(AuthEnd::Accept));
+    }
+    for _ in 0..87 {
+        counts.note(End::Auth(AuthEnd::LimitReject));
+    }
+    for _ in 0..13 {
+        counts.note(End::Auth(AuthEnd::WrongPassword));
+    }
+    counts.note(End::Auth(AuthEnd::BadSignature));
+    for _ in 0..2_048 {
+        counts.note(End::Acct(AcctEnd::InterimUpdate));
+    }
+    for _ in 0..1_100 {
+        counts.note(End::Acct(AcctEnd::Start));
+    }
+    counts.note(End::Acct(AcctEnd::NoSession));
+    counts
+}
+
+/// Adds accounts: one with a name that is markup, one with quotes, one beyond ASCII, and some others.
+fn add_accounts(alloc: Global, accounts: &mut Vec<AccountLook>) -> Result<(), NoMemory> {
+    let names = [
+        "nemo",
+        "<script>alert(1)</script>",
+        "\"quoted\" & 'so'",
+        "müller@example.net",
+        "back\\slash",
+        "line\nfeed",
+        "anna",
+        "otto",
+        "greta@a-rather-long-realm.example.net",
+        "last",
+    ];
+    let held = [2u32, 1, 3, 4, 0, 1, 17, 0, 180, 0];
+    let places = [2u32, 2, 4, 4, 0, 10, 2_000, 1, 200, 3];
+    for number in 0..10usize {
+        let row = Row {
+            account: number as u32,
+            places: places[number],
+            held: held[number],
+            reserved: held[number] / 4,
+            live: held[number] - held[number] / 4,
+            stale: 0,
+            over: (number as u64) * 1_001,
+        };
+        accounts.push(AccountLook {
+            name: Text::from_str(alloc, names[number])?,
+            row,
+        })?;
+    }
+    Ok(())
+}
+
+/// Adds the minutes of some three quarters of an hour.
+fn add_minutes(minutes: &mut Vec<Minute>) -> Result<(), NoMemory> {
+    for number in 0..47u64 {
+        minutes.push(Minute {
+            start: NOW / 60 * 60 - (47 - number) * 60,
+            accepts: 200 + number * number % 97 + number * 3,
+            limit_rejects: number % 7 * 4,
+            rejects: number % 11,
+            accounting: 1_000 + number,
+            held: 100 + number * 2 + number * 7 % 13,
+        })?;
+    }
+    Ok(())
+}
+
+/// Adds refusals, one of them with a name that is markup.
+fn add_refusals(alloc: Global, refusals: &mut Vec<Refusal>) -> Result<(), NoMemory> {
+    refusals.push(Refusal {
+        moment: NOW - 90,
+        source: source([198, 51, 100, 9]),
+        client: None,
+        nas: NasName::Unnamed,
+        name: None,
+        end: End::Auth(AuthEnd::UnknownClient),
+    })?;
+    refusals.push(Refusal {
+        moment: NOW - 31,
+        source: source([192, 0, 2, 7]),
+        client: Some(0),
+        nas: NasName::Identifier(Octets::from_slice(alloc, b"bras\" onload=\"x")?),
+        name: Some(Octets::from_slice(alloc, b"<b>nemo\n\\\xff")?),
+        end: End::Auth(AuthEnd::WrongPassword),
+    })?;
+    refusals.push(Refusal {
+        moment: NOW - 2,
+        source: source([192, 0, 2, 7]),
+        client: Some(0),
+        nas: NasName::Address(Octets::from_slice(alloc, &[192, 0, 2, 77])?),
+        name: Some(Octets::from_slice(alloc, b"nemo")?),
+        end: End::Auth(AuthEnd::LimitReject),
+    })?;
+    Ok(())
+}
+
+/// A source at this address.
+fn source(address: [u8; 4]) -> Source {
+    Source {
+        address,
+        port: 1_645,
+    }
+}
