@@ -14,7 +14,7 @@ one_more f first jobs more job n kind pushed before is =
     ∙ ap (λ rest. first ++ rest) (ap (λ last. replicate n kind ++ last ∷ []) is ∙ replicate-append-replicate n 1 kind))))
 
 -- one after the other
-pub two_more : {A B : Type 0} (f : A → B) (before : List B) (jobs one two : List A) (job next : A)
+two_more : {A B : Type 0} (f : A → B) (before : List B) (jobs one two : List A) (job next : A)
     → map f jobs ≡ before → one ≡ jobs ++ job ∷ [] → two ≡ one ++ next ∷ [] → map f two ≡ before ++ f job ∷ f next ∷ []
 two_more f before jobs one two job next is first second =
     ap (map f) second
@@ -23,3 +23,12 @@ two_more f before jobs one two job next is first second =
     ∙ (ap (λ all. all ++ f next ∷ []) (map-append f jobs (job ∷ []))
     ∙ (ap (λ all. (all ++ f job ∷ []) ++ f next ∷ []) is
     ∙ append_assoc before (f job ∷ []) (f next ∷ [])))))
+
+pub three_more : {A B : Type 0} (f : A → B) (before : List B) (jobs one two three : List A) (job next last : A)
+    → map f jobs ≡ before → one ≡ jobs ++ job ∷ [] → two ≡ one ++ next ∷ [] → three ≡ two ++ last ∷ []
+    → map f three ≡ before ++ f job ∷ f next ∷ f last ∷ []
+three_more f before jobs one two three job next last is first second third =
+    ap (map f) third
+    ∙ (map-append f two (last ∷ [])
+    ∙ (ap (λ all. all ++ f last ∷ []) (two_more f before jobs one two job next is first second)
+    ∙ append_assoc before (f job ∷ f next ∷ []) (f last ∷ [])))

@@ -1,5 +1,7 @@
--- Which fault of its workers is a server's.
+-- Which fault of its workers is a server's, and how it ends.
 use Rattle.std.specs.Prelude.{ℕ, ◌<◌, List, [], ◌∷◌, Option, Some, None, Result, Ok, Err, nat_lt, if◌then◌else◌}
+use Rattle.rld_start.specs.declared.status.EndStatus.{EndStatus}
+use Rattle.rld_start.specs.declared.status.EndStatus.TheVariants as statuses
 use Rattle.rld_serve.specs.declared.fault.RunFault.{RunFault}
 use Rattle.rld_serve.specs.declared.fault.RunFault.TheVariants.{Unbound, Threads, Down, NoMemory, Unsynced}
 
@@ -10,6 +12,14 @@ gravity (Unbound address) = 2
 gravity Down = 2
 gravity NoMemory = 3
 gravity Unsynced = 4
+
+-- what was written may not be on the disk, memory was refused, or a call to the system failed
+abbrev pub status_of : RunFault → EndStatus
+status_of (Unbound address) = statuses.InputOutput
+status_of Threads = statuses.InputOutput
+status_of Down = statuses.InputOutput
+status_of NoMemory = statuses.NoMemory
+status_of Unsynced = statuses.Unsynced
 
 -- a worker's fault, if it has one
 abbrev pub fault_in : {T : Type 0} → Result T RunFault → Option RunFault

@@ -1,37 +1,50 @@
 -- What the workers of a server do.
-use Rattle.std.specs.Prelude.{ℕ, List, [], ◌∷◌, ◌++◌, replicate}
+use Rattle.std.specs.Prelude.{ℕ, List, [], ◌∷◌, ◌++◌, replicate, Option, Some, None}
 use Rattle.std.specs.List.{flat_map}
-use Rattle.std.specs.declared.net.udp.UdpSocket.{UdpSocket}
 use Rattle.rsl_event.specs.declared.meaning.Port.{Port}
 use Rattle.rsl_event.specs.declared.meaning.Port.TheVariants.{Auth, Acct}
 use Rattle.rld_serve.specs.declared.control.Control.{Control}
 use Rattle.rld_serve.specs.declared.job.Job.{Job}
 use Rattle.rld_serve.specs.declared.job.Job.TheVariants as jobs
+use Rattle.rld_serve.specs.declared.sockets.Bound.{Bound}
 use Rattle.rld_serve.specs.declared.sockets.Pair.{Pair}
 
 -- a job, by the values that it borrows
 pub data JobSeen : Type 0 where
-  Receives : UdpSocket → Port → JobSeen
+  Receives : Bound → Port → JobSeen
   Ticks : JobSeen
   Answers : Control → JobSeen
+  Reports : JobSeen
+  Shows : JobSeen
 
 abbrev pub seen : Job → JobSeen
 seen (jobs.Receive socket port) = Receives socket.now port
 seen jobs.Tick = Ticks
 seen (jobs.Answer control) = Answers control.now
+seen jobs.Report = Reports
+seen jobs.Show = Shows
 
 -- how many receivers take from each of both sockets
 abbrev pub receivers_in : Pair → ℕ
 receivers_in pair = pair.receivers
 
 -- so many receivers on a socket
-abbrev pub receivers_on : UdpSocket → Port → ℕ → List JobSeen
+abbrev pub receivers_on : Bound → Port → ℕ → List JobSeen
 receivers_on socket port receivers = replicate receivers (Receives socket port)
 
 -- those of both sockets of a pair
 abbrev pub jobs_on : Pair → List JobSeen
 jobs_on pair = receivers_on pair.auth Auth pair.receivers ++ receivers_on pair.acct Acct pair.receivers
 
--- those of all pairs, one worker that makes ticks, and one that answers at the control
+-- those of all pairs, one worker that makes ticks, one that answers at the control, and one that writes
+-- on standard error
 abbrev pub jobs_of : List Pair → Control → List JobSeen
-jobs_of pairs control = flat_map jobs_on pairs ++ Ticks ∷ Answers control ∷ []
+jobs_of pairs control = flat_map jobs_on pairs ++ Ticks ∷ Answers control ∷ Reports ∷ []
+
+-- the port of a receiver
+abbrev pub port_of : Job → Option Port
+port_of (jobs.Receive socket port) = Some port
+port_of jobs.Tick = None
+port_of (jobs.Answer control) = None
+port_of jobs.Report = None
+port_of jobs.Show = None

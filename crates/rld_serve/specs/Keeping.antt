@@ -2,7 +2,7 @@
 use Rattle.std.specs.Prelude.{ℕ, Bool, true, false, Result, Ok, Err}
 use Rattle.rld_turn.specs.declared.fault.RecordFault.{RecordFault}
 use Rattle.rld_turn.specs.declared.fault.RecordFault.TheVariants.{Ended, Failed}
-use Rattle.rld_serve.specs.Totals.{plus}
+use Rattle.rld_look.specs.Totals.{plus}
 use Rattle.rld_serve.specs.declared.rolled.RollFault.{RollFault}
 use Rattle.rld_serve.specs.declared.rolled.RollFault.TheVariants as rolls
 
@@ -28,4 +28,5 @@ abbrev pub is_over : {T : Type 0} → Result T RollFault → Bool
 is_over (Ok value) = false
 is_over (Err (rolls.Start fault)) = false
 is_over (Err (rolls.Store fault)) = false
+is_over (Err rolls.Former) = false
 is_over (Err rolls.Ended) = true

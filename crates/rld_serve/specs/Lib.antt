@@ -2,6 +2,7 @@ pub mod Due
 pub mod Fault
 pub mod Jobs
 pub mod Keeping
-pub mod Status
-pub mod Totals
+pub mod Places
 pub mod Troubled
+pub mod Told
+pub mod Waiting

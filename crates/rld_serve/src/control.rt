@@ -2,20 +2,29 @@
 
 use crate::fault::RunFault;
 use rld_control::{Command, read_line};
+use rsl_wire::NoMemory;
+use std::alloc::Global;
 use std::fs::{self, File, Files};
-use std::io::{self, Write};
+use std::io::{self, ErrorKind, Read, Write};
 use std::net::Net;
 use std::os::unix::fs::FileTypeExt;
 use std::os::unix::net::{UnixListener, UnixStream};
-use std::time::Duration;
+use std::time::{Clock, Duration, Instant};
 
-/// The most octets of a line that is asked, with its line feed.
-const LINE_LEN: usize = 64;
+/// The most octets of a line that is asked, with its line feed: `free` and the words of the longest names
+/// have 2,308.
+const LINE_LEN: usize = 2_560;
+
+/// How many octets of an answer are written at once.
+const PART_LEN: usize = 4_096;
+
+/// How long an operator may take for his line and for reading the answer, in seconds.
+const PATIENCE_SECS: u64 = 5;
 
 /// How long the other side may keep silent, in seconds.
 const SILENCE_SECS: u64 = 1;
 
-const _: () = prove!(SILENCE_SECS == 1);
+const _: () = prove!(SILENCE_SECS == 1 && PATIENCE_SECS == 5 && PART_LEN == 4_096);
 
 /// The listening socket of a server's control.
 #[derive(Drop)]
@@ -47,20 +56,70 @@ fn is_left<R: Files<File = File> + Net>(rt: &R, path: &str) -> bool {
     }
 }
 
-/// What somebody asks who has connected: `None` where the line is no command's.
-pub(crate) fn asked(stream: &UnixStream) -> io::Result<Option<Command>> {
-    stream.set_read_timeout(Some(Duration::from_secs(SILENCE_SECS)))?;
-    stream.set_write_timeout(Some(Duration::from_secs(SILENCE_SECS)))?;
-    let mut room = [0u8; LINE_LEN];
-    let mut from = stream;
-    match read_line(&mut from, &mut room)? {
-        Some(len) => Ok(Command::of(&room[..len])),
-        None => Ok(None),
+/// An operator who has connected: for him the server has so much patience.
+#[derive(Drop)]
+pub(crate) struct Operator<'a, C> {
+    stream: &'a UnixStream,
+    clock: &'a C,
+    start: Instant,
+}
+
+impl<'a, C: Clock> Operator<'a, C> {
+    /// Who has connected just now.
+    pub(crate) fn new(clock: &'a C, stream: &'a UnixStream) -> io::Result<Operator<'a, C>> {
+        stream.set_read_timeout(Some(Duration::from_secs(SILENCE_SECS)))?;
+        stream.set_write_timeout(Some(Duration::from_secs(SILENCE_SECS)))?;
+        Ok(Operator {
+            stream,
+            clock,
+            start: Instant::now(clock)?,
+        })
+    }
+
+    /// What he asks: `None` where the line is no command's.
+    pub(crate) fn asked(&self, alloc: Global) -> io::Result<Option<Command>> {
+        let mut room = [0u8; LINE_LEN];
+        let mut line = Line { operator: self };
+        match read_line(&mut line, &mut room)? {
+            Some(len) => match Command::read(alloc, &room[..len]) {
+                Ok(command) => Ok(command),
+                Err(NoMemory) => Err(io::Error::from(ErrorKind::OutOfMemory)),
+            },
+            None => Ok(None),
+        }
+    }
+
+    /// Answers him. Where he does not read it in time he has no more of it.
+    pub(crate) fn answer(&self, text: &[u8]) {
+        let mut to = self.stream;
+        for part in text.chunks(PART_LEN) {
+            if self.has_taken_long() || to.write_all(part).is_err() {
+                return;
+            }
+        }
+    }
+
+    /// Whether he has taken as long as he may.
+    fn has_taken_long(&self) -> bool {
+        match self.start.elapsed(self.clock) {
+            Ok(passed) => passed.as_secs() >= PATIENCE_SECS,
+            Err(_) => true,
+        }
     }
 }
 
-/// Answers him. Where he does not read it he has none.
-pub(crate) fn answer(stream: &UnixStream, text: &[u8]) {
-    let mut to = stream;
-    let _ = to.write_all(text);
+/// The line that an operator sends.
+#[derive(Drop)]
+struct Line<'a, C> {
+    operator: &'a Operator<'a, C>,
+}
+
+impl<C: Clock> Read for Line<'_, C> {
+    fn read(&mut self, buf: &mut [u8]) -> io::Result<usize> {
+        if self.operator.has_taken_long() {
+            return Err(io::Error::from(ErrorKind::TimedOut));
+        }
+        let mut from = self.operator.stream;
+        from.read(buf)
+    }
 }

@@ -2,6 +2,7 @@ ghost use Rattle.std.specs.Prelude.{◌≡◌};
 ghost use Rattle.rld_serve.specs.Fault.{fault_in, graver, gravest};
 ghost use Rattle.rld_serve.specs.declared.fault.RunFault.TheVariants.{Down as down, NoMemory as no_memory};
 
+use rld_start::EndStatus;
 use rsl_wire::NoMemory;
 use std::alloc::{AllocError, AllocFailed};
 use std::io;
@@ -12,7 +13,7 @@ use thiserror::Error;
 /// error.
 #[derive(Clone, Copy, Debug, PartialEq, Eq, Error)]
 pub enum RunFault {
-    /// A socket could not be bound to this address and UDP port.
+    /// A socket could not be bound to this address and port.
     #[error("{0}: cannot be bound")]
     Unbound(SocketAddr),
     /// A thread could not be had for each worker.
@@ -32,7 +33,19 @@ pub enum RunFault {
 }
 
 impl RunFault {
-    ghost use Rattle.rld_serve.specs.Fault.{gravity};
+    ghost use Rattle.rld_serve.specs.Fault.{gravity, status_of};
+
+    /// How the server ends: where its start or a call to the system failed, where memory was refused, or
+    /// where the disk could not be synced.
+    pub fn status(self) -> EndStatus
+        ensures { result ≡ status_of self }
+    {
+        match self {
+            RunFault::Unbound(_) | RunFault::Threads | RunFault::Down => EndStatus::InputOutput,
+            RunFault::NoMemory => EndStatus::NoMemory,
+            RunFault::Unsynced => EndStatus::Unsynced,
+        }
+    }
 
     /// How grave it is: what was recorded counts most, and that a thread is missing least.
     fn gravity(self) -> u8

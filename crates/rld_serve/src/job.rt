@@ -1,28 +1,32 @@
 ghost use Rattle.std.specs.Prelude.{◌≡◌, ◌++◌, map, IfOk, OnOk};
-ghost use Rattle.std.specs.List.{flat_map};
-ghost use Rattle.rld_serve.specs.Jobs.{jobs_of, jobs_on, receivers_on, seen};
+ghost use Rattle.std.specs.List.{filter_map, flat_map};
+ghost use Rattle.rld_serve.specs.Jobs.{jobs_of, jobs_on, port_of, receivers_on, seen};
 
 use crate::control::Control;
-use crate::sockets::{Pair, Sockets};
+use crate::sockets::{Bound, Pair, Sockets};
 use rsl_event::Port;
 use std::alloc::{AllocError, Global};
-use std::net::UdpSocket;
 
 /// What a worker of a server does.
 #[derive(Clone, Copy, Drop)]
 pub(crate) enum Job<'a> {
     /// It takes datagrams from this socket, for this port.
-    Receive(&'a UdpSocket, Port),
+    Receive(&'a Bound, Port),
     /// It makes ticks.
     Tick,
     /// It answers operators.
     Answer(&'a Control),
+    /// It writes on standard error.
+    Report,
+    /// It shows the server to those who ask.
+    Show,
 }
 
 impl Sockets {
     /// What the workers of a server do: so many receivers on each socket as the server's file says,
-    /// one that makes ticks, and one that answers at the control. It fails only where memory is refused.
-    #[tactic(auto, using(crate::proofs::Pushing::two_more))]
+    /// one that makes ticks, one that answers at the control, and one that writes on standard error. It
+    /// fails only where memory is refused.
+    #[tactic(auto, using(crate::proofs::Pushing::three_more))]
     pub(crate) fn jobs<'a>(
         &'a self,
         alloc: Global,
@@ -34,6 +38,7 @@ impl Sockets {
         let mut jobs = self.receivers(alloc)?;
         jobs.push(Job::Tick)?;
         jobs.push(Job::Answer(control))?;
+        jobs.push(Job::Report)?;
         Ok(jobs)
     }
 
@@ -62,7 +67,7 @@ fn push_pair<'a>(jobs: &mut Vec<Job<'a>>, pair: &'a Pair) -> Result<(), AllocErr
 /// Adds so many receivers of a socket.
 fn push_receivers<'a>(
     jobs: &mut Vec<Job<'a>>,
-    socket: &'a UdpSocket,
+    socket: &'a Bound,
     port: Port,
     receivers: u16,
 ) -> Result<(), AllocError>
@@ -72,4 +77,17 @@ fn push_receivers<'a>(
         jobs.push(Job::Receive(socket, port))?;
     }
     Ok(())
+}
+
+/// The port of each receiver among these jobs. It fails only where memory is refused.
+pub(crate) fn ports_of(alloc: Global, jobs: &[Job<'_>]) -> Result<Vec<Port>, AllocError>
+    ensures { IfOk result (λ ports. ports.items ≡ filter_map port_of jobs.now) }
+{
+    let mut ports = Vec::new(alloc);
+    for job in jobs {
+        if let Job::Receive(_, port) = job {
+            ports.push(*port)?;
+        }
+    }
+    Ok(ports)
 }

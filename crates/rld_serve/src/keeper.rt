@@ -1,30 +1,40 @@
-ghost use Rattle.std.specs.Prelude.{◌≡◌, true, length, Err, IfOk, IsErrOf, OnErr, OnOk, List, [], ◌++◌, ◌||◌, false, IsTrue};
+ghost use Rattle.std.specs.Prelude.{◌≡◌, ℕ, true, length, Err, IfOk, IsErrOf, OnErr, OnOk, List, [], ◌++◌, ◌||◌, ◌↔◌, false, IsTrue, Ok};
+ghost use Rattle.std.specs.Arc.{arc_value};
 ghost use Rattle.rld_books.specs.Server.{decisions_of, replay};
 ghost use Rattle.rld_serve.specs.Keeping.{is_ended, is_failed, is_over, moves_after};
-ghost use Rattle.rld_start.specs.NextHeaders.{header_after};
+ghost use Rattle.rld_spelling.specs.Eras.{era_octets};
+ghost use Rattle.rld_spelling.specs.Tables.{table_of};
+ghost use Rattle.rld_start.specs.NextHeaders.{generation_named, header_after};
 ghost use Rattle.rld_store.specs.Premises.{Only};
 ghost use Rattle.rld_store.specs.Standing.{StandsFor};
-ghost use Rattle.rld_turn.specs.declared.fault.RecordFault.TheVariants.{Ended as over};
+ghost use Rattle.rld_turn.specs.declared.fault.RecordFault.TheVariants.{Ended as over, Failed as failed};
 ghost use Rattle.rsl_accounts.specs.Configuration.{Configuration};
 ghost use Rattle.rsl_shard.specs.Restep.{BooksSeen};
 ghost use Rattle.rsl_shard.specs.declared.moved.Move.{Move as OneMove};
 
+use crate::changing::Opening;
 use crate::rolled::RollFault;
+use rld_folder::Generation;
 use rld_log::{FileLog, Log};
 use rld_pace::{PacedLog, Pacing};
 use rld_spelling::Header;
-use rld_start::{Generations, NextLog, StartFault, next_header};
+use rld_start::{Generations, NextLog, StartFault, is_same_era, next_header};
 use rld_store::Store;
 use rld_turn::{RecordFault, Recorded, Recorder};
+use rsl_accounts::Config;
 use rsl_shard::Move;
-use std::alloc::Global;
+use rsl_wire::NoMemory;
+use std::alloc::{AllocError, Global};
+use std::mem;
+use std::sync::Arc;
 
 /// What stands behind the lock of a server: its recorder, which is asked no more once it can record
-/// nothing more; the header of the generation that it writes, and how many moves that has; and whether
-/// a batch was not recorded lately.
+/// nothing more; the accounts, clients and rules of its books; the header of the generation that it
+/// writes, and how many moves that has; and whether a batch was not recorded lately.
 #[derive(Drop)]
 pub(crate) struct Keeper<S: Recorder> {
     recorder: S,
+    config: Arc<Config>,
     header: Header,
     moves: u64,
     has_ended: bool,
@@ -32,10 +42,11 @@ pub(crate) struct Keeper<S: Recorder> {
 }
 
 impl<S: Recorder> Keeper<S> {
-    /// Of a recorder that was not asked yet, and that writes the generation of this header, of which
-    /// it has no move.
-    pub(crate) fn new(recorder: S, header: Header) -> Keeper<S>
+    /// Of a recorder that was not asked yet, whose books are of this configuration, and that writes the
+    /// generation of this header, of which it has no move.
+    pub(crate) fn new(recorder: S, config: Arc<Config>, header: Header) -> Keeper<S>
         ensures recorder { result.recorder ≡ recorder }
+        ensures config { result.config ≡ config }
         ensures header { result.header ≡ header }
         ensures moves { result.moves ≡ 0 }
         ensures has_ended { result.has_ended ≡ false }
@@ -43,6 +54,7 @@ impl<S: Recorder> Keeper<S> {
     {
         Keeper {
             recorder,
+            config,
             header,
             moves: 0,
             has_ended: false,
@@ -50,19 +62,24 @@ impl<S: Recorder> Keeper<S> {
         }
     }
 
-    /// Records a batch as the recorder does, and counts its moves. `Ended` comes where it has come
-    /// before, and then the recorder is not asked.
+    /// Records a batch, which was prepared by the accounts of this era, as the recorder does, and counts
+    /// its moves. `Ended` comes where it has come before, and `Failed` where another era goes on: its
+    /// numbers are those of other accounts. Then the recorder is not asked.
     pub(crate) fn record(
         &mut self,
         alloc: Global,
+        era: u64,
         batch: Vec<Move>,
     ) -> Result<Recorded, RecordFault>
         ensures count { IfOk result (λ recorded. length recorded ≡ length batch.items) }
         ensures given_up { self.old.has_ended ≡ true → (result ≡ Err over) × (self.new ≡ self.old) }
+        ensures other_era { (era ≡ self.old.header.era → ⊥) → self.old.has_ended ≡ false →
+            (result ≡ Err failed) × (self.new ≡ record self.old { has_failed = true }) }
         ensures ended { self.new.has_ended ≡ (self.old.has_ended || is_ended result) }
         ensures failed { self.new.has_failed ≡ (self.old.has_failed || is_failed result) }
         ensures moves { self.new.moves ≡ moves_after self.old.moves (length batch.items) result }
         ensures header { self.new.header ≡ self.old.header }
+        ensures config { self.new.config ≡ self.old.config }
 
         // What the recorder promises of a batch.
         ensures telling { S.tells self.new.recorder ≡ true → S.tells self.old.recorder ≡ true }
@@ -85,6 +102,11 @@ impl<S: Recorder> Keeper<S> {
             drop(batch);
             return Err(RecordFault::Ended);
         }
+        if era != self.header.era {
+            drop(batch);
+            self.has_failed = true;
+            return Err(RecordFault::Failed);
+        }
         let count = batch.len() as u64;
         let outcome = self.recorder.record(alloc, batch);
         self.note(&outcome, count);
@@ -94,6 +116,7 @@ impl<S: Recorder> Keeper<S> {
     /// Notes how a call of the recorder ended for a batch of so many moves.
     fn note(&mut self, outcome: &Result<Recorded, RecordFault>, count: u64)
         ensures recorder { self.new.recorder ≡ self.old.recorder }
+        ensures config { self.new.config ≡ self.old.config }
         ensures header { self.new.header ≡ self.old.header }
         ensures moves { self.new.moves ≡ moves_after self.old.moves count outcome.now }
         ensures ended { self.new.has_ended ≡ (self.old.has_ended || is_ended outcome.now) }
@@ -127,6 +150,50 @@ impl<S: Recorder> Keeper<S> {
         self.header
     }
 
+    /// The accounts, clients and rules of its books. It fails only where they have as many owners as can
+    /// be counted.
+    pub(crate) fn config(&self) -> Result<Arc<Config>, AllocError>
+        ensures { IfOk result (λ config. arc_value config ≡ arc_value self.now.config) }
+    {
+        Arc::try_clone(&self.config)
+    }
+
+    /// The accounts, clients and rules, to look at.
+    pub(crate) fn accounts(&self) -> &Config
+        ensures { result.now ≡ arc_value self.now.config }
+    {
+        &*self.config
+    }
+
+    /// Nothing more can be recorded.
+    pub(crate) fn end(&mut self)
+        ensures { self.new ≡ record self.old { has_ended = true } }
+    {
+        self.has_ended = true;
+    }
+
+    /// Goes on by other accounts in the present era, if it has their table with this boot number, and
+    /// gives whether it has. It fails only where memory is refused; then, and where it has not, all is as
+    /// before.
+    pub(crate) fn go_on(
+        &mut self,
+        alloc: Global,
+        boot: u64,
+        config: Arc<Config>,
+    ) -> Result<bool, NoMemory>
+        ensures same { IfOk result (λ goes_on. IsTrue goes_on ↔
+            (era_octets (table_of boot (arc_value self.old.config))
+            ≡ era_octets (table_of boot (arc_value config)))) }
+        ensures config { result ≡ Ok true → self.new ≡ record self.old { config = config } }
+        ensures kept { (result ≡ Ok true → ⊥) → self.new ≡ self.old }
+    {
+        let goes_on = is_same_era(alloc, &*self.config, &*config, boot)?;
+        if goes_on {
+            self.config = config;
+        }
+        Ok(goes_on)
+    }
+
     /// The recorder, to look at.
     pub(crate) fn recorder(&self) -> &S
         ensures { result.now ≡ self.now.recorder }
@@ -152,6 +219,7 @@ impl<L: Log + Drop> Keeper<Store<L>> {
         ensures header { OnOk result
             (self.new.header ≡ header_after self.old.header number self.old.moves) }
         ensures moves { OnOk result (self.new.moves ≡ 0) }
+        ensures config { self.new.config ≡ self.old.config }
         ensures ended { self.new.has_ended ≡ self.old.has_ended }
         ensures failed { self.new.has_failed ≡ self.old.has_failed }
         ensures going_on { IsErrOf result RollFault.Ended → ⊥ }
@@ -187,7 +255,7 @@ impl<'p> Keeper<Store<PacedLog<'p, FileLog>>> {
     /// Where that fails the log is removed before anything more is recorded, since its snapshot may
     /// stand there whole, and a start would go on from it: then the present generation goes on. `Ended`
     /// comes where the log cannot be removed for good, and where nothing more could be recorded before:
-    /// then nothing more is recorded.
+    /// then nothing more is recorded. A log of another era is `Former`, and removed too.
     pub(crate) fn roll<G: Generations>(
         &mut self,
         alloc: Global,
@@ -197,7 +265,9 @@ impl<'p> Keeper<Store<PacedLog<'p, FileLog>>> {
     ) -> Result<(), RollFault>
         ensures header { OnOk result (self.new.header
             ≡ header_after self.old.header next.generation.number self.old.moves) }
+        ensures era { OnOk result (next.generation.era ≡ self.old.header.era) }
         ensures moves { OnOk result (self.new.moves ≡ 0) }
+        ensures config { self.new.config ≡ self.old.config }
         ensures ended { self.new.has_ended ≡ (self.old.has_ended || is_over result) }
         ensures failed { self.new.has_failed ≡ self.old.has_failed }
         ensures books { self.new.recorder.books ≡ self.old.recorder.books }
@@ -211,8 +281,8 @@ impl<'p> Keeper<Store<PacedLog<'p, FileLog>>> {
             return Err(RollFault::Ended);
         }
         let NextLog { generation, log } = next;
-        match self.begin(alloc, generation.number, PacedLog::new(log, pacing)) {
-            Ok(_older) => Ok(()),
+        match self.begin_in(alloc, generation, PacedLog::new(log, pacing)) {
+            Ok(()) => Ok(()),
             Err(fault) => {
                 if generations.remove(alloc, generation).is_err() {
                     self.has_ended = true;
@@ -221,5 +291,51 @@ impl<'p> Keeper<Store<PacedLog<'p, FileLog>>> {
                 Err(fault)
             }
         }
+    }
+
+    /// Goes on in this generation, in an empty log, if it is one of the present era.
+    fn begin_in(
+        &mut self,
+        alloc: Global,
+        generation: Generation,
+        log: PacedLog<'p, FileLog>,
+    ) -> Result<(), RollFault>
+        ensures header { OnOk result (self.new.header
+            ≡ header_after self.old.header generation.number self.old.moves) }
+        ensures era { OnOk result (generation.era ≡ self.old.header.era) }
+        ensures moves { OnOk result (self.new.moves ≡ 0) }
+        ensures config { self.new.config ≡ self.old.config }
+        ensures ended { self.new.has_ended ≡ self.old.has_ended }
+        ensures failed { self.new.has_failed ≡ self.old.has_failed }
+        ensures going_on { IsErrOf result RollFault.Ended → ⊥ }
+        ensures books { self.new.recorder.books ≡ self.old.recorder.books }
+        ensures err { OnErr result (self.new ≡ self.old) }
+    {
+        if generation.era != self.header.era {
+            return Err(RollFault::Former);
+        }
+        let _older = self.begin(alloc, generation.number, log)?;
+        Ok(())
+    }
+
+    /// Goes on in an era that was begun, by its accounts, and hands out the store of the former one.
+    pub(crate) fn enter(
+        &mut self,
+        opening: Opening<'p>,
+        config: Arc<Config>,
+    ) -> Store<PacedLog<'p, FileLog>>
+        requires { opening.synced.generation ≡ generation_named opening.header }
+        ensures recorder { self.new.recorder ≡ opening.entry.store }
+        ensures config { self.new.config ≡ config }
+        ensures header { self.new.header ≡ opening.entry.header }
+        ensures moves { self.new.moves ≡ 0 }
+        ensures ended { self.new.has_ended ≡ self.old.has_ended }
+        ensures failed { self.new.has_failed ≡ self.old.has_failed }
+    {
+        let Opening { store, header, .. } = opening;
+        self.config = config;
+        self.header = header;
+        self.moves = 0;
+        mem::replace(&mut self.recorder, store)
     }
 }

@@ -1,6 +1,6 @@
 use crate::fault::RunFault;
 use mio::unix::SourceFd;
-use mio::{Events, Interest, Poll, Token};
+use mio::{Events, Interest, Poll, Token, Waker};
 use std::alloc::Global;
 use std::io;
 use std::net::Net;
@@ -14,6 +14,9 @@ const _: () = prove!(WAIT_SECS == 1);
 
 /// The name of the one socket that is waited for.
 const SOCKET: Token = Token(0);
+
+/// The name of what ends a wait from another thread.
+const WAKE: Token = Token(1);
 
 /// What waits for one socket, whose own calls do not wait.
 #[derive(Drop)]
@@ -36,6 +39,12 @@ impl Readiness {
         poll.registry()
             .register(&mut SourceFd(&fd), SOCKET, Interest::READABLE)?;
         Ok(Readiness { poll, events })
+    }
+
+    /// What ends a wait from another thread: the one that is under way, or else the next. `Down` comes
+    /// where the system has no room for it.
+    pub(crate) fn waker(&self) -> Result<Waker, RunFault> {
+        Ok(Waker::new(self.poll.registry(), WAKE)?)
     }
 
     /// Waits until the socket may have something, for at most a second. To be called after a call on

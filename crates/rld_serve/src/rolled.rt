@@ -1,10 +1,12 @@
 ghost use Rattle.std.specs.Prelude.{◌≡◌};
 ghost use Rattle.rld_serve.specs.declared.rolled.RollFault.TheVariants.{Start as unmade, Store as unbegun};
+ghost use Rattle.rld_start.specs.declared.fault.StartFault.{StartFault as OneStartFault};
 
 use crate::trouble::{News, Trouble};
 use rld_folder::FolderFault;
 use rld_start::StartFault;
 use rld_store::StoreFault;
+use rsl_wire::NoMemory;
 use thiserror::Error;
 
 /// Why the next generation has not begun.
@@ -16,6 +18,9 @@ pub(crate) enum RollFault {
     /// Its header or its snapshot could not be written and synced. Its log is gone.
     #[error("{0}")]
     Store(StoreFault),
+    /// Another era has begun meanwhile. Its log is gone.
+    #[error("another era has begun")]
+    Former,
     /// Nothing more can be recorded: it could be no more before, or the log of the next generation
     /// could not be removed.
     #[error("nothing more can be recorded")]
@@ -27,6 +32,22 @@ impl From<StartFault> for RollFault {
 
     fn from(fault: StartFault) -> RollFault {
         RollFault::Start(fault)
+    }
+}
+
+impl From<FolderFault> for RollFault {
+    ghost from_gives = { λ _ made. (fault : OneStartFault) × (made ≡ unmade fault) };
+
+    fn from(fault: FolderFault) -> RollFault {
+        RollFault::Start(StartFault::from(fault))
+    }
+}
+
+impl From<NoMemory> for RollFault {
+    ghost from_gives = { λ _ made. (fault : OneStartFault) × (made ≡ unmade fault) };
+
+    fn from(_refused: NoMemory) -> RollFault {
+        RollFault::Start(StartFault::NoMemory)
     }
 }
 

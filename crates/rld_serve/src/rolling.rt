@@ -1,13 +1,16 @@
 //! How one generation follows another while the server runs.
 
+use crate::accounts::Accounts;
 use crate::fault::RunFault;
 use crate::rolled::{Notice, RollFault, notice_of_archive, notice_of_roll};
 use crate::server::Server;
 use crate::timer::RollTimer;
+use crate::told::Told;
 use crate::trouble::Trouble;
-use rld_folder::Generation;
-use rld_start::Generations;
+use rld_start::{Generations, generation_named};
+use std::net::Net;
 use std::sync::Wait;
+use std::time;
 
 /// What the worker that makes ticks knows of the generations.
 #[derive(Drop)]
@@ -28,7 +31,12 @@ impl Rolls {
     }
 }
 
-impl<G: Generations, R: Eprint + Wait> Server<'_, G, R> {
+impl<G, A, R> Server<'_, G, A, R>
+where
+    G: Generations,
+    A: Accounts,
+    R: Net + Eprint + time::Clock + Wait,
+{
     /// A second passes: where the next generation is due it begins, and old logs are put away. What goes
     /// wrong is told. `Unsynced` comes where nothing more can be recorded.
     pub(crate) fn roll_if_due(&self, rolls: &mut Rolls, now: u64) -> Result<(), RunFault> {
@@ -38,7 +46,7 @@ impl<G: Generations, R: Eprint + Wait> Server<'_, G, R> {
             return Ok(());
         }
         let rolled = self.roll();
-        self.tell(notice_of_roll(&mut rolls.begins, rolled));
+        self.tell_if_any(notice_of_roll(&mut rolls.begins, rolled));
         match rolled {
             Ok(()) => {
                 rolls.timer = RollTimer::new();
@@ -64,18 +72,15 @@ impl<G: Generations, R: Eprint + Wait> Server<'_, G, R> {
     /// Puts old logs away, and tells where that fails.
     pub(crate) fn put_away(&self, rolls: &mut Rolls, now: u64) {
         let header = self.keeper.lock(self.rt).header();
-        let newest = Generation {
-            era: header.era,
-            number: header.generation,
-        };
+        let newest = generation_named(&header);
         let outcome = self.generations.put_away(self.alloc, newest, now);
-        self.tell(notice_of_archive(&mut rolls.archive, outcome));
+        self.tell_if_any(notice_of_archive(&mut rolls.archive, outcome));
     }
 
     /// Tells the operator, if there is something to tell.
-    fn tell(&self, notice: Option<Notice>) {
+    fn tell_if_any(&self, notice: Option<Notice>) {
         if let Some(notice) = notice {
-            let _ = self.rt.eprintln(notice);
+            self.tell(Told::Generations(notice));
         }
     }
 }

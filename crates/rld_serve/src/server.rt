@@ -1,32 +1,40 @@
-use crate::control::{Control, answer, asked};
+ghost use Rattle.std.specs.Prelude.{◌≡◌, IfOk};
+ghost use Rattle.rsl_receive.specs.Told.{no_numbers};
+
+use crate::accounts::Accounts;
+use crate::control::Control;
 use crate::fault::{RunFault, outcome_of};
-use crate::holdings::Totals;
-use crate::job::Job;
+use crate::job::{Job, ports_of};
 use crate::keeper::Keeper;
 use crate::readiness::Readiness;
 use crate::receiver_port::ReceiverPort;
+use crate::recess::Recess;
 use crate::rolling::Rolls;
 use crate::shared_recorder::SharedRecorder;
 use crate::shutdown::{Shutdown, Start};
-use crate::sockets::Sockets;
-use crate::status::status_text;
+use crate::sockets::{Bound, Sockets};
+use crate::status_desk::StatusDesk;
+use crate::told::Told;
 use crate::trouble::Trouble;
-use rld_control::Command;
 use rld_log::FileLog;
+use rld_look::{History, Pages};
+use rld_networks::Network;
 use rld_pace::{PacedLog, Pacing};
+use rld_peers::{ClientPort, nobody};
+use rld_refusals::{Refusals, Sink};
 use rld_spelling::Header;
 use rld_start::Generations;
 use rld_store::Store;
-use rld_turn::{ReceiveFault, RecordFault, Unwatched, receive, tick};
+use rld_turn::{ReceiveFault, RecordFault, receive, tick};
+use rld_watch::{Board, Desk, Watcher};
 use rsl_accounts::Config;
 use rsl_edges::SystemClock;
 use rsl_event::Port;
 use rsl_receive::Clock;
-use rsl_wire::NoMemory;
 use std::alloc::Global;
-use std::net::{Net, TcpListener, TcpStream, UdpSocket};
-use std::os::unix::net::UnixStream;
-use std::sync::{Mutex, Wait};
+use std::net::{Net, TcpListener, TcpStream};
+use std::sync::atomic::{AtomicBool, Ordering};
+use std::sync::{Arc, Mutex, Wait};
 use std::thread::{self, Threads};
 use std::time::{self, Duration};
 
@@ -40,11 +48,11 @@ const TURNS: u64 = 1 << 57;
 
 const _: () = prove!(TURNS < 1 << 58);
 
-/// What a server is started with, but for its sockets, its store and its folder.
+/// What a server is started with, but for its accounts, its sockets, its store and its folder.
 #[derive(Clone, Copy)]
 pub struct Plan<'a> {
-    /// Its accounts, clients and rules.
-    pub config: &'a Config,
+    /// Which addresses stand for its clients.
+    pub networks: &'a [Network],
     /// The boot number of its Classes.
     pub boot: u64,
     /// The second of its start, since 1970: the moment where the clock cannot be read.
@@ -55,46 +63,84 @@ pub struct Plan<'a> {
     pub header: Header,
     /// What is said on standard error once all workers have started.
     pub greeting: &'a str,
+    /// Who reads standard error.
+    pub sink: Sink,
 }
 
 /// A running server: what its workers share.
 #[derive(Drop)]
-pub(crate) struct Server<'a, G, R> {
+pub(crate) struct Server<'a, G, A, R> {
     pub(crate) rt: &'a R,
+    pub(crate) files: &'a HostRuntime,
     pub(crate) alloc: Global,
     pub(crate) plan: Plan<'a>,
+    pub(crate) sockets: &'a Sockets,
     pub(crate) generations: &'a G,
+    pub(crate) accounts: &'a A,
     pub(crate) keeper: Mutex<Keeper<Store<PacedLog<'a, FileLog>>>>,
-    shutdown: Shutdown,
+    pub(crate) board: Board,
+    pub(crate) refusals: Refusals,
+    pub(crate) told: Mutex<Vec<Told>>,
+    pub(crate) history: Mutex<History>,
+    pub(crate) is_failing: AtomicBool,
+    pub(crate) shutdown: Shutdown,
+    pub(crate) recess: Recess,
+    /// How often the accounts were read anew. Its lock is held while they change, and while the server is
+    /// looked at: so that what is seen of it is of the same accounts.
+    pub(crate) reloads: Mutex<u64>,
+}
+
+/// The accounts, clients and rules of a server, and the era that they are of.
+#[derive(Drop)]
+pub(crate) struct Present {
+    /// How often the recess was switched on or off before they were looked at.
+    pub(crate) switches: u64,
+    pub(crate) config: Arc<Config>,
+    pub(crate) era: u64,
 }
 
 /// Serves until it is asked to end or cannot go on: takes RADIUS datagrams from the sockets and
 /// answers each once its move is recorded, and makes a tick each second. Each receiver has a thread of
-/// its own, and so has the worker that makes ticks, and the one that answers at the control.
+/// its own, and so has the worker that makes ticks, the one that answers at the control, the one that
+/// writes on standard error, and, if there are `pages`, the one that shows the server to those who ask for
+/// it.
 ///
 /// The next generation begins after 1,000,000 moves or ten minutes, whichever comes first. Where it
 /// cannot begin the present one goes on, and it is tried again a minute later. At the start, and once a
 /// generation has begun, the logs before it are put away.
 ///
+/// Where an operator asks for it the accounts are read anew (`reload`). Receivers end their turns then,
+/// and take up again what has waited in the room of their sockets.
+///
 /// `greeting` is said on standard error once all of them have started. A batch that is not recorded is
 /// said there when it begins, and when batches are recorded again; so is a generation that cannot
-/// begin, and logs that cannot be put away.
+/// begin, and logs that cannot be put away. Each datagram that is refused has a line, up to 20 of a cause
+/// each second, and a line says how many more there were.
 ///
 /// `Threads` comes where a worker has not started within some five seconds, `Down` where a socket
 /// fails, `Unsynced` where the store can record nothing more, and `NoMemory` where memory is refused
 /// at the start. All workers end then: no receiver goes on alone. Where several faults come, the
 /// gravest is given.
-pub fn serve<'a, G, R>(
+///
+/// The system's table of sockets is asked of it by `files`: a thread may be handed no other handle of
+/// files than the system's own.
+pub fn serve<'a, P, G, A, R>(
     rt: &'a R,
+    files: &'a HostRuntime,
     alloc: Global,
     plan: Plan<'a>,
-    sockets: &Sockets,
+    config: Config,
+    sockets: &'a Sockets,
     control: &Control,
+    pages: Option<&P>,
     generations: &'a G,
+    accounts: &'a A,
     store: Store<PacedLog<'a, FileLog>>,
 ) -> Result<(), RunFault>
 where
+    P: Pages + Sync,
     G: Generations + Sync,
+    A: Accounts + Sync,
     R: Net<Listener = TcpListener, Stream = TcpStream>
         + Eprint
         + time::Clock
@@ -102,23 +148,45 @@ where
         + Wait
         + Sync,
 {
-    let jobs = sockets.jobs(alloc, control)?;
+    let mut jobs = sockets.jobs(alloc, control)?;
+    if pages.is_some() {
+        jobs.push(Job::Show)?;
+    }
+    let ports = ports_of(alloc, jobs.as_slice())?;
+    let board = Board::new(alloc, config.clients(), ports.as_slice())?;
+    let history = History::new(alloc, plan.start)?;
     let server = Server {
         rt,
+        files,
         alloc,
         plan,
+        sockets,
         generations,
-        keeper: Mutex::new(Keeper::new(store, plan.header)),
+        accounts,
+        keeper: Mutex::new(Keeper::new(store, Arc::new(alloc, config)?, plan.header)),
+        board,
+        refusals: Refusals::new(alloc),
+        told: Mutex::new(Vec::new(alloc)),
+        history: Mutex::new(history),
+        is_failing: AtomicBool::new(false),
         shutdown: Shutdown::new(jobs.len()),
+        recess: Recess::new(alloc, ports.len())?,
+        reloads: Mutex::new(0),
     };
-    run_jobs(&server, jobs.as_slice())
+    run_jobs(&server, jobs.as_slice(), pages)
 }
 
 /// Has each job done on a thread of its own, and gives what they came to. That nothing more can be
 /// recorded is said also where each worker met another fault.
-fn run_jobs<G, R>(server: &Server<'_, G, R>, jobs: &[Job<'_>]) -> Result<(), RunFault>
+fn run_jobs<P, G, A, R>(
+    server: &Server<'_, G, A, R>,
+    jobs: &[Job<'_>],
+    pages: Option<&P>,
+) -> Result<(), RunFault>
 where
+    P: Pages + Sync,
     G: Generations + Sync,
+    A: Accounts + Sync,
     R: Net<Listener = TcpListener, Stream = TcpStream>
         + Eprint
         + time::Clock
@@ -130,7 +198,7 @@ where
         server.rt,
         server.alloc,
         jobs.len(),
-        &|i| server.work(jobs.get(i)),
+        &|i| server.work(jobs.get(i), i, pages),
     )?;
     if server.keeper.lock(server.rt).has_ended() {
         return Err(RunFault::Unsynced);
@@ -138,13 +206,29 @@ where
     outcome_of(ended.as_slice())
 }
 
-impl<'a, G: Generations, R: Net + Eprint + time::Clock + Wait> Server<'a, G, R> {
-    /// Does a job until the server shall end or the job fails, and then tells the others to end.
-    fn work(&self, job: Option<&Job<'_>>) -> Result<(), RunFault> {
+impl<'a, G, A, R> Server<'a, G, A, R>
+where
+    G: Generations,
+    A: Accounts,
+    R: Net + Eprint + time::Clock + Wait,
+{
+    /// Does the job with this number until the server shall end or the job fails, and then tells the
+    /// others to end.
+    fn work<P: Pages>(
+        &self,
+        job: Option<&Job<'_>>,
+        number: usize,
+        pages: Option<&P>,
+    ) -> Result<(), RunFault> {
         let outcome = match job {
-            Some(Job::Receive(socket, port)) => self.receive(socket, *port),
+            Some(Job::Receive(socket, port)) => self.receive_all(socket, *port, number),
             Some(Job::Tick) => self.tick(),
             Some(Job::Answer(control)) => self.answer_all(control),
+            Some(Job::Report) => self.report_all(),
+            Some(Job::Show) => match pages {
+                Some(pages) => self.show(pages),
+                None => Ok(()),
+            },
             None => Ok(()),
         };
         self.shutdown.end();
@@ -153,7 +237,7 @@ impl<'a, G: Generations, R: Net + Eprint + time::Clock + Wait> Server<'a, G, R> 
 
     /// Tells that a worker has started, and waits for the others. Gives whether there is something to
     /// do.
-    fn has_started(&self) -> Result<bool, RunFault> {
+    pub(crate) fn has_started(&self) -> Result<bool, RunFault> {
         match self.shutdown.await_start(self.rt) {
             Start::All => Ok(true),
             Start::Over => Ok(false),
@@ -161,36 +245,116 @@ impl<'a, G: Generations, R: Net + Eprint + time::Clock + Wait> Server<'a, G, R> 
         }
     }
 
-    /// The recorder, as this worker sees it.
-    fn recorder(&self) -> SharedRecorder<'_, Store<PacedLog<'a, FileLog>>, R> {
-        SharedRecorder::new(self.rt, &self.keeper)
+    /// The recorder, as a worker sees it whose batches are of this era, or the same in each.
+    fn recorder(&self, era: Option<u64>) -> SharedRecorder<'_, Store<PacedLog<'a, FileLog>>, R> {
+        SharedRecorder::new(self.rt, &self.keeper, era)
     }
 
-    /// Takes datagrams from a socket, for a port.
-    fn receive(&self, socket: &UdpSocket, port: Port) -> Result<(), RunFault> {
-        let mut datagrams = ReceiverPort::open(self.rt, self.alloc, socket, &self.shutdown)?;
+    /// Takes datagrams from a socket, for a port, until the server shall end: by the accounts that it has
+    /// now, and after each recess by those that it has then. Receivers are the first of all jobs, so a
+    /// receiver has the number of its job. Where there is no memory for its buffers after a recess, or the
+    /// system has no room to wait, it tries again a second later.
+    fn receive_all(&self, socket: &Bound, port: Port, number: usize) -> Result<(), RunFault> {
+        let present = self.present()?;
+        let datagrams = self.port_on(socket, port, number, &present)?;
         if !self.has_started()? {
             return Ok(());
         }
-        let mut recorder = self.recorder();
+        self.receive(port, number, &present, datagrams)?;
+        for _ in self.rt.forever() {
+            self.recess.rest(self.rt, &self.shutdown);
+            if self.shutdown.is_over() {
+                break;
+            }
+            match self.receive_again(socket, port, number) {
+                Ok(()) => {}
+                Err(RunFault::NoMemory) => thread::sleep(self.rt, Duration::from_secs(TICK_SECS)),
+                Err(fault) => return Err(fault),
+            }
+        }
+        Ok(())
+    }
+
+    /// Takes datagrams from a socket, for a port, after a recess, until the next one.
+    fn receive_again(&self, socket: &Bound, port: Port, number: usize) -> Result<(), RunFault> {
+        let present = self.present()?;
+        match self.port_on(socket, port, number, &present) {
+            Ok(datagrams) => self.receive(port, number, &present, datagrams),
+            Err(_) => Err(RunFault::NoMemory),
+        }
+    }
+
+    /// Takes datagrams from a port, by these accounts, until a recess begins or the server shall end.
+    fn receive(
+        &self,
+        port: Port,
+        number: usize,
+        present: &Present,
+        datagrams: ClientPort<'_, ReceiverPort<'_>>,
+    ) -> Result<(), RunFault>
+        requires { datagrams.numbers ≡ no_numbers }
+    {
+        let config = &*present.config;
+        let desk = Desk {
+            config,
+            board: &self.board,
+            refusals: &self.refusals,
+        };
+        let Some(mut watcher) = Watcher::new(self.rt, self.alloc, desk, number) else {
+            return Ok(());
+        };
+        let mut datagrams = datagrams;
+        let mut recorder = self.recorder(Some(present.era));
         let mut clock = SystemClock::new(self.rt, self.plan.start);
         let received = receive(
             self.alloc,
-            self.plan.config,
+            config,
             self.plan.boot,
             port,
             &mut datagrams,
             &mut recorder,
             &mut clock,
-            &mut Unwatched,
+            &mut watcher,
             TURNS,
         );
         match received {
-            Err(ReceiveFault::Down(_)) if datagrams.has_failed() => Err(RunFault::Down),
+            Err(ReceiveFault::Down(_)) if datagrams.peers().has_failed() => Err(RunFault::Down),
             Ok(_) | Err(ReceiveFault::Down(_)) => Ok(()),
             Err(ReceiveFault::Ended(_)) => Err(RunFault::Unsynced),
             Err(ReceiveFault::NoMemory) => Err(RunFault::NoMemory),
         }
+    }
+
+    /// A port over a socket, whose sources are the clients of these accounts, until the next recess, for
+    /// which it is woken.
+    fn port_on<'b>(
+        &'b self,
+        bound: &'b Bound,
+        port: Port,
+        number: usize,
+        present: &'b Present,
+    ) -> Result<ClientPort<'b, ReceiverPort<'b>>, RunFault>
+        ensures { IfOk result (λ port. port.numbers ≡ no_numbers) }
+    {
+        let config = &*present.config;
+        let networks = self.plan.networks;
+        let desk = StatusDesk {
+            config,
+            networks,
+            port,
+        };
+        let status = bound.status_server.then_some(desk);
+        let peers = ReceiverPort::open(
+            self.rt,
+            self.alloc,
+            &bound.socket,
+            &self.shutdown,
+            &self.recess,
+            present.switches,
+            status,
+        )?;
+        self.recess.wake_by(self.rt, number, peers.waker()?);
+        Ok(ClientPort::new(self.alloc, peers, networks, nobody(config))?)
     }
 
     /// Answers operators, one after the other.
@@ -211,40 +375,13 @@ impl<'a, G: Generations, R: Net + Eprint + time::Clock + Wait> Server<'a, G, R> 
         Ok(())
     }
 
-    /// Answers an operator who has connected.
-    fn answer(&self, stream: &UnixStream) {
-        match asked(stream) {
-            Ok(Some(Command::Status)) => match self.status() {
-                Ok(text) => answer(stream, text.as_bytes()),
-                Err(_) => answer(stream, b"error no memory\n"),
-            },
-            Ok(Some(Command::Stop)) => {
-                self.shutdown.end();
-                answer(stream, b"ok\n");
-            }
-            Ok(None) => answer(stream, b"error unknown command\n"),
-            Err(_) => {}
-        }
-    }
-
-    /// What the server is, and what its accounts hold in all.
-    fn status(&self) -> Result<String, NoMemory> {
-        let keeper = self.keeper.lock(self.rt);
-        let header = keeper.header();
-        let rows = keeper.recorder().rows(self.alloc)?;
-        drop(keeper);
-        let totals = Totals::of(rows.as_slice());
-        Ok(status_text(self.alloc, self.plan.start, &header, &totals)?)
-    }
-
     /// Makes a tick each second, begins the next generation where it is due, and tells the operator of
     /// what goes wrong.
     fn tick(&self) -> Result<(), RunFault> {
         if !self.has_started()? {
             return Ok(());
         }
-        let _ = self.rt.eprintln(self.plan.greeting);
-        let mut recorder = self.recorder();
+        let mut recorder = self.recorder(None);
         let mut clock = SystemClock::new(self.rt, self.plan.start);
         let mut trouble = Trouble::new();
         let mut rolls = Rolls::new();
@@ -254,8 +391,10 @@ impl<'a, G: Generations, R: Net + Eprint + time::Clock + Wait> Server<'a, G, R> 
                 break;
             }
             let has_failed = self.tick_once(&mut recorder, &mut clock)?;
+            self.is_failing.store(has_failed, Ordering::SeqCst);
+            self.end_minute_if_over(clock.now());
             if let Some(news) = trouble.news(has_failed) {
-                let _ = self.rt.eprintln(news);
+                self.tell(Told::Recording(news));
             }
             self.roll_if_due(&mut rolls, clock.now())?;
             thread::sleep(self.rt, Duration::from_secs(TICK_SECS));

@@ -11,12 +11,18 @@ use std::sync::{Mutex, Wait};
 pub(crate) struct SharedRecorder<'a, S: Recorder, R: Wait> {
     rt: &'a R,
     keeper: &'a Mutex<Keeper<S>>,
+    era: Option<u64>,
 }
 
 impl<'a, S: Recorder, R: Wait> SharedRecorder<'a, S, R> {
-    /// The recorder behind this lock.
-    pub(crate) fn new(rt: &'a R, keeper: &'a Mutex<Keeper<S>>) -> SharedRecorder<'a, S, R> {
-        SharedRecorder { rt, keeper }
+    /// The recorder behind this lock, for batches that are prepared by the accounts of this era; where
+    /// none is given, for batches that are the same in each, as ticks are.
+    pub(crate) fn new(
+        rt: &'a R,
+        keeper: &'a Mutex<Keeper<S>>,
+        era: Option<u64>,
+    ) -> SharedRecorder<'a, S, R> {
+        SharedRecorder { rt, keeper, era }
     }
 
     /// Whether a batch of any worker was not recorded since this was asked last.
@@ -27,6 +33,11 @@ impl<'a, S: Recorder, R: Wait> SharedRecorder<'a, S, R> {
 
 impl<S: Recorder, R: Wait> Recorder for SharedRecorder<'_, S, R> {
     fn record(&mut self, alloc: Global, batch: Vec<Move>) -> Result<Recorded, RecordFault> {
-        self.keeper.lock(self.rt).record(alloc, batch)
+        let mut keeper = self.keeper.lock(self.rt);
+        let era = match self.era {
+            Some(era) => era,
+            None => keeper.header().era,
+        };
+        keeper.record(alloc, era, batch)
     }
 }

@@ -4,16 +4,26 @@ ghost use Rattle.rld_serve.specs.Jobs.{receivers_in};
 
 use crate::fault::RunFault;
 use rld_config::Listen;
-use rsl_edges::socket_addr;
-use rsl_event::Source;
 use std::alloc::Global;
-use std::net::{Net, UdpSocket};
+use std::net::{IpAddr, Net, SocketAddr, UdpSocket};
 
-/// Both sockets of a `[[listen]]`, and how many receivers take from each.
+/// A UDP socket of a server.
+#[derive(Drop)]
+pub(crate) struct Bound {
+    pub(crate) socket: UdpSocket,
+    /// Whether Status-Server packets are answered on it.
+    pub(crate) status_server: bool,
+}
+
+/// Both sockets of a `[[listen]]`, the address and the ports that they are bound to, and how many
+/// receivers take from each.
 #[derive(Drop)]
 pub(crate) struct Pair {
-    pub(crate) auth: UdpSocket,
-    pub(crate) acct: UdpSocket,
+    pub(crate) address: IpAddr,
+    pub(crate) auth_port: u16,
+    pub(crate) acct_port: u16,
+    pub(crate) auth: Bound,
+    pub(crate) acct: Bound,
     pub(crate) receivers: u16,
 }
 
@@ -46,21 +56,13 @@ fn pair_of<N: Net>(net: &N, listen: &Listen) -> Result<Pair, RunFault>
     ensures { IfOk result (λ pair. pair.receivers ≡ listen.now.receivers) }
 {
     let address = listen.address;
-    let auth = bound(
-        net,
-        Source {
-            address,
-            port: listen.auth,
-        },
-    )?;
-    let acct = bound(
-        net,
-        Source {
-            address,
-            port: listen.acct,
-        },
-    )?;
+    let status_server = listen.status_server;
+    let auth = bind_socket(net, SocketAddr::new(address, listen.auth), status_server)?;
+    let acct = bind_socket(net, SocketAddr::new(address, listen.acct), status_server)?;
     Ok(Pair {
+        address,
+        auth_port: listen.auth,
+        acct_port: listen.acct,
         auth,
         acct,
         receivers: listen.receivers,
@@ -68,13 +70,17 @@ fn pair_of<N: Net>(net: &N, listen: &Listen) -> Result<Pair, RunFault>
 }
 
 /// A socket that is bound there, and whose calls do not wait.
-fn bound<N: Net>(net: &N, at: Source) -> Result<UdpSocket, RunFault> {
-    let address = socket_addr(at);
+fn bind_socket<N: Net>(net: &N, address: SocketAddr, status_server: bool) -> Result<Bound, RunFault>
+    ensures { IfOk result (λ bound. bound.status_server ≡ status_server) }
+{
     let Ok(socket) = UdpSocket::bind(net, address) else {
         return Err(RunFault::Unbound(address));
     };
     match socket.set_nonblocking(true) {
-        Ok(()) => Ok(socket),
+        Ok(()) => Ok(Bound {
+            socket,
+            status_server,
+        }),
         Err(_) => Err(RunFault::Unbound(address)),
     }
 }

@@ -1,0 +1,10 @@
+-- The places of one account, by the rows of all.
+use Rattle.std.specs.Prelude.{ℕ, ◌==◌, List, [], ◌∷◌, Option, Some, None, if◌then◌else◌}
+use Rattle.rld_refusals.specs.declared.line.Places.{Places}
+use Rattle.rsl_shard.specs.declared.row.Row.{Row}
+
+-- the first row that is the account's has them
+unfoldable pub places_in : (account : ℕ) → List Row → Option Places
+places_in account [] = None
+places_in account (row ∷ rows) =
+    if row.account == account then Some (record { held = row.held; all = row.places }) else places_in account rows

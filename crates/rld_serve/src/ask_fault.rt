@@ -1,0 +1,58 @@
+use rld_free::FreeFault;
+use rsl_wire::NoMemory;
+use std::alloc::{AllocError, AllocFailed};
+
+/// Why a running server does not do what it is asked.
+#[derive(Clone, Copy, Debug, PartialEq, Eq)]
+pub(crate) enum AskFault {
+    /// The line is no command's.
+    UnknownCommand,
+    /// No account has the name.
+    UnknownAccount,
+    /// There is no Stop of the session that is named.
+    Free(FreeFault),
+    /// The Stop was not recorded, and so nothing was freed.
+    Unrecorded,
+    /// Memory was refused.
+    NoMemory,
+}
+
+impl AskFault {
+    /// The answer that tells it.
+    pub(crate) fn text(self) -> &'static str {
+        match self {
+            AskFault::UnknownCommand => "error unknown command\n",
+            AskFault::UnknownAccount | AskFault::Free(FreeFault::UnknownAccount) => {
+                "error unknown account\n"
+            }
+            AskFault::Free(FreeFault::UnknownClient) => "error unknown client\n",
+            AskFault::Free(FreeFault::NoSession) => "error no session can be named so\n",
+            AskFault::Unrecorded => "error not recorded, and so not freed\n",
+            AskFault::NoMemory | AskFault::Free(FreeFault::NoMemory) => "error no memory\n",
+        }
+    }
+}
+
+impl From<FreeFault> for AskFault {
+    fn from(fault: FreeFault) -> AskFault {
+        AskFault::Free(fault)
+    }
+}
+
+impl From<AllocError> for AskFault {
+    fn from(_refused: AllocError) -> AskFault {
+        AskFault::NoMemory
+    }
+}
+
+impl<T: Drop> From<AllocFailed<T>> for AskFault {
+    fn from(_refused: AllocFailed<T>) -> AskFault {
+        AskFault::NoMemory
+    }
+}
+
+impl From<NoMemory> for AskFault {
+    fn from(_refused: NoMemory) -> AskFault {
+        AskFault::NoMemory
+    }
+}

@@ -1,0 +1,153 @@
+//! How the accounts of a running server change: within its era, or with a new one.
+
+ghost use Rattle.std.specs.Prelude.{◌≡◌, ◌||◌, ℕ, IfOk, IsErrOf, OnErr, OnOk};
+ghost use Rattle.std.specs.Arc.{arc_value};
+ghost use Rattle.rld_admit.specs.Admitted.{AreAdmitted};
+ghost use Rattle.rld_books.specs.Saved.{IsServerOf};
+ghost use Rattle.rld_serve.specs.Keeping.{is_over};
+ghost use Rattle.rld_spelling.specs.Tables.{table_of};
+ghost use Rattle.rld_start.specs.NextHeaders.{generation_named};
+
+use crate::keeper::Keeper;
+use crate::reloaded::Passage;
+use crate::rolled::RollFault;
+use rld_log::FileLog;
+use rld_pace::{PacedLog, Pacing};
+use rld_spelling::Header;
+use rld_start::{
+    Generations, NextEra, StartFault, Synced, admitted_books, generation_named, sessions_in,
+};
+use rld_store::Store;
+use rsl_accounts::Config;
+use std::alloc::Global;
+use std::sync::Arc;
+
+/// An era that was begun: its log is on the disk.
+#[derive(Drop)]
+pub(crate) struct Opening<'p> {
+    /// The books that it opens with, and the log of its first generation.
+    pub(crate) store: Store<PacedLog<'p, FileLog>>,
+    /// The header of that.
+    pub(crate) header: Header,
+    /// That the log is on the disk.
+    pub(crate) synced: Synced,
+    /// How it follows the present one.
+    pub(crate) passage: Passage,
+}
+
+/// An era that goes on, and what is left of the former one. That takes some time to drop: let it be done
+/// where nobody waits.
+#[derive(Drop)]
+pub(crate) struct Entered<'p> {
+    /// How it follows the former one.
+    pub(crate) passage: Passage,
+    /// The store of that.
+    pub(crate) former: Store<PacedLog<'p, FileLog>>,
+}
+
+impl<'p> Keeper<Store<PacedLog<'p, FileLog>>> {
+    /// Begins the era of other accounts, whose files were made, with what is admitted of the books. Its
+    /// log is synced to the disk, whatever the pacing, before anything is recorded in it.
+    ///
+    /// Where that fails the log is removed before anything more is recorded, as where a generation does
+    /// not begin (`roll`): then the present era goes on. `Ended` comes where the log cannot be removed
+    /// for good, and where nothing more could be recorded before: then nothing more is recorded.
+    pub(crate) fn begin_era<G: Generations>(
+        &mut self,
+        alloc: Global,
+        generations: &G,
+        config: Arc<Config>,
+        next: NextEra,
+        pacing: Pacing<'p>,
+    ) -> Result<Entered<'p>, RollFault>
+        ensures config { OnOk result (self.new.config ≡ config) }
+        ensures header { OnOk result (self.new.header ≡ next.header) }
+        ensures moves { OnOk result (self.new.moves ≡ 0) }
+        ensures server { OnOk result (IsServerOf (arc_value config) self.new.recorder.books) }
+        ensures admitted { OnOk result ((boot after : ℕ) →
+            AreAdmitted (table_of boot (arc_value self.old.config)) self.old.recorder.books
+            (table_of after (arc_value config)) self.new.recorder.books) }
+        ensures eras { IfOk result (λ entered. (entered.passage.former ≡ self.old.header.era)
+            × (entered.passage.era ≡ next.header.era)) }
+        ensures ended { self.new.has_ended ≡ (self.old.has_ended || is_over result) }
+        ensures failed { self.new.has_failed ≡ self.old.has_failed }
+
+        // Where it fails the present era stays, with its accounts, its log and its count.
+        ensures same { OnErr result (self.new.recorder ≡ self.old.recorder) }
+        ensures same_config { OnErr result (self.new.config ≡ self.old.config) }
+        ensures same_header { OnErr result (self.new.header ≡ self.old.header) }
+        ensures same_moves { OnErr result (self.new.moves ≡ self.old.moves) }
+    {
+        if self.has_ended() {
+            return Err(RollFault::Ended);
+        }
+        let generation = generation_named(&next.header);
+        match self.opening(alloc, generations, &*config, next, pacing) {
+            Ok(opening) => {
+                let passage = opening.passage;
+                let former = self.enter(opening, config);
+                Ok(Entered { passage, former })
+            }
+            Err(fault) => {
+                if generations.remove(alloc, generation).is_err() {
+                    self.end();
+                    return Err(RollFault::Ended);
+                }
+                Err(fault)
+            }
+        }
+    }
+
+    /// Begins the era of other accounts in its log, and syncs that. What stands in the log where it fails
+    /// is to be removed.
+    fn opening<G: Generations>(
+        &self,
+        alloc: Global,
+        generations: &G,
+        config: &Config,
+        next: NextEra,
+        pacing: Pacing<'p>,
+    ) -> Result<Opening<'p>, RollFault>
+        ensures header { IfOk result (λ opening. opening.header ≡ next.header) }
+        ensures server { IfOk result (λ opening. IsServerOf config.now opening.store.books) }
+        ensures admitted { IfOk result (λ opening. (boot after : ℕ) →
+            AreAdmitted (table_of boot (arc_value self.now.config)) self.now.recorder.books
+            (table_of after config.now) opening.store.books) }
+        ensures synced { IfOk result (λ opening.
+            opening.synced.generation ≡ generation_named opening.header) }
+        ensures eras { IfOk result (λ opening. (opening.passage.former ≡ self.now.header.era)
+            × (opening.passage.era ≡ next.header.era)) }
+        ensures going_on { IsErrOf result RollFault.Ended → ⊥ }
+    {
+        let former = self.header();
+        let old = self.accounts();
+        let recorder = self.recorder();
+        let books = admitted_books(
+            alloc,
+            old,
+            generation_named(&former),
+            recorder.books(),
+            config,
+        )?;
+        let held = sessions_in(recorder.rows(alloc)?.as_slice());
+        let NextEra { header, log } = next;
+        let log = PacedLog::new(log, pacing);
+        let store = match Store::begin_with(alloc, config, header, books, log) {
+            Ok(store) => store,
+            Err(refused) => return Err(RollFault::Store(refused.fault)),
+        };
+        let sessions = sessions_in(store.rows(alloc)?.as_slice());
+        let synced = generations.sync(alloc, generation_named(&header))?;
+        Ok(Opening {
+            store,
+            header,
+            synced,
+            passage: Passage {
+                former: former.era,
+                held,
+                era: header.era,
+                sessions,
+            },
+        })
+    }
+}

@@ -1,0 +1,161 @@
+//! What the running server shows of itself.
+
+use crate::places::places_in;
+use crate::server::{Present, Server};
+use rld_counts::{Cell, Counts};
+use rld_look::{
+    Look, Minute, Recording, SocketLook, account_looks, client_looks, held_in, socket_in,
+};
+use rld_refusals::Places;
+use rld_spelling::Header;
+use rsl_accounts::Config;
+use rsl_edges::SystemClock;
+use rsl_event::Port;
+use rsl_receive::Clock;
+use rsl_shard::Row;
+use rsl_text::read_file;
+use rsl_wire::NoMemory;
+use std::alloc::AllocError;
+use std::net::IpAddr;
+use std::sync::atomic::Ordering;
+use std::sync::{Arc, Wait};
+use std::{str, time};
+
+/// The system's table of UDP sockets (proc(5)).
+const SOCKET_TABLE: &str = "/proc/self/net/udp";
+
+/// The most octets of it that are read: it has some 130 a socket.
+const MAX_TABLE_LEN: u32 = 1_048_576;
+
+/// What the store shows of itself, and the accounts that it is of.
+#[derive(Drop)]
+pub(crate) struct Holdings {
+    config: Arc<Config>,
+    header: Header,
+    moves: u64,
+    rows: Vec<Row>,
+}
+
+impl Holdings {
+    /// The places of the account with this name, if there is one.
+    pub(crate) fn places_of(&self, name: &[u8]) -> Option<Places> {
+        places_in(self.rows.as_slice(), self.config.account(name)?)
+    }
+}
+
+impl<'a, G, A, R: time::Clock + Wait> Server<'a, G, A, R> {
+    /// What the server shows of itself now. Each receiver is looked at by itself, and the store after
+    /// them: the lock of each is held only while that is copied. It fails only where memory is refused.
+    pub(crate) fn look(&self) -> Result<Look, NoMemory> {
+        let (auth, acct, holdings) = self.gather()?;
+        let mut counts = Counts::new();
+        counts.add(&auth.counts());
+        counts.add(&acct.counts());
+        let Holdings {
+            config,
+            header,
+            moves,
+            rows,
+        } = holdings;
+        Ok(Look {
+            start: self.plan.start,
+            now: SystemClock::new(self.rt, self.plan.start).now(),
+            era: header.era,
+            generation: header.generation,
+            moves,
+            recording: self.recording(),
+            counts,
+            clients: client_looks(self.alloc, &*config, &auth, &acct)?,
+            auth_times: auth.times(),
+            acct_times: acct.times(),
+            accounts: account_looks(self.alloc, &*config, rows)?,
+            minutes: self.minutes()?,
+            refusals: self.refusals.lately(self.rt, self.alloc)?,
+            sockets: self.socket_looks()?,
+        })
+    }
+
+    /// What the receivers of each port have counted, and what the store shows: all of the same accounts.
+    fn gather(&self) -> Result<(Cell, Cell, Holdings), NoMemory> {
+        let _reloads = self.reloads.lock(self.rt);
+        let clients = self.present()?.config.clients();
+        let auth = self.board.cell(self.rt, self.alloc, Port::Auth, clients)?;
+        let acct = self.board.cell(self.rt, self.alloc, Port::Acct, clients)?;
+        Ok((auth, acct, self.holdings()?))
+    }
+
+    /// Ends the minute that is going on, if another has begun at this second. Where memory for that is
+    /// refused it goes on.
+    pub(crate) fn end_minute_if_over(&self, now: u64) {
+        if !self.history.lock(self.rt).has_passed(now) {
+            return;
+        }
+        let counts = self.board.counts(self.rt);
+        if let Ok(holdings) = self.holdings() {
+            let held = held_in(holdings.rows.as_slice());
+            let _ = self.history.lock(self.rt).begin_minute(now, &counts, held);
+        }
+    }
+
+    /// The accounts that the server has now.
+    pub(crate) fn present(&self) -> Result<Present, AllocError> {
+        let switches = self.recess.switches();
+        let keeper = self.keeper.lock(self.rt);
+        Ok(Present {
+            switches,
+            config: keeper.config()?,
+            era: keeper.header().era,
+        })
+    }
+
+    /// What the store shows. Its lock is held as long as the rows are copied.
+    pub(crate) fn holdings(&self) -> Result<Holdings, NoMemory> {
+        let keeper = self.keeper.lock(self.rt);
+        let rows = keeper.recorder().rows(self.alloc)?;
+        Ok(Holdings {
+            config: keeper.config()?,
+            header: keeper.header(),
+            moves: keeper.moves(),
+            rows,
+        })
+    }
+
+    /// Whether batches are being recorded, as far as the worker that makes ticks has seen.
+    fn recording(&self) -> Recording {
+        if self.is_failing.load(Ordering::SeqCst) {
+            Recording::Failing
+        } else {
+            Recording::Recorded
+        }
+    }
+
+    /// The last whole minutes.
+    fn minutes(&self) -> Result<Vec<Minute>, NoMemory> {
+        let history = self.history.lock(self.rt);
+        let mut minutes = Vec::new(self.alloc);
+        minutes.extend_from_slice(history.minutes())?;
+        Ok(minutes)
+    }
+
+    /// What waits at each socket on an IPv4 address, where the system tells it.
+    fn socket_looks(&self) -> Result<Vec<SocketLook>, NoMemory> {
+        let mut looks = Vec::new(self.alloc);
+        let Ok(table) = read_file(self.files, self.alloc, SOCKET_TABLE, MAX_TABLE_LEN) else {
+            return Ok(looks);
+        };
+        let Ok(table) = str::from_utf8(table.as_slice()) else {
+            return Ok(looks);
+        };
+        for pair in self.sockets.pairs.as_slice() {
+            let IpAddr::V4(address) = pair.address else {
+                continue;
+            };
+            for port in [pair.auth_port, pair.acct_port] {
+                if let Some(look) = socket_in(table, address.octets(), port) {
+                    looks.push(look)?;
+                }
+            }
+        }
+        Ok(looks)
+    }
+}

@@ -1,0 +1,78 @@
+use crate::rolled::RollFault;
+use rsl_wire::NoMemory;
+use std::alloc::{AllocError, AllocFailed};
+use std::fmt;
+use thiserror::Error;
+
+/// What came of accounts that were read anew. It prints as the line of an answer, without its line feed.
+#[derive(Clone, Copy, Debug, PartialEq, Eq)]
+pub(crate) enum Reloaded {
+    /// The era of this number goes on: names, rules, addresses and shards are as before.
+    GoesOn(u64),
+    /// A new era has begun.
+    Begun(Passage),
+}
+
+/// How an era has followed another while the server runs.
+#[derive(Clone, Copy, Debug, PartialEq, Eq)]
+pub(crate) struct Passage {
+    /// The number of the era that has ended.
+    pub(crate) former: u64,
+    /// How many sessions held a link there.
+    pub(crate) held: u64,
+    /// The number of the one that has begun.
+    pub(crate) era: u64,
+    /// How many of them go on.
+    pub(crate) sessions: u64,
+}
+
+impl fmt::Display for Reloaded {
+    fn fmt<W: fmt::Write>(&self, f: &mut fmt::Formatter<W>) -> fmt::Result {
+        match self {
+            Reloaded::GoesOn(era) => write!(f, "era {era} goes on"),
+            Reloaded::Begun(passage) => write!(
+                f,
+                "era {}: {} of {} sessions of era {} go on",
+                passage.era, passage.sessions, passage.held, passage.former
+            ),
+        }
+    }
+}
+
+/// Why the accounts stay as they are, though others were read.
+#[derive(Clone, Copy, Debug, PartialEq, Eq, Error)]
+pub(crate) enum ReloadFault {
+    /// A receiver does not end its turn.
+    #[error("a receiver is still busy")]
+    Busy,
+    /// The new era could not begin.
+    #[error("no new era yet: {0}")]
+    NotBegun(RollFault),
+    /// Memory was refused.
+    #[error("no memory")]
+    NoMemory,
+}
+
+impl From<RollFault> for ReloadFault {
+    fn from(fault: RollFault) -> ReloadFault {
+        ReloadFault::NotBegun(fault)
+    }
+}
+
+impl From<AllocError> for ReloadFault {
+    fn from(_refused: AllocError) -> ReloadFault {
+        ReloadFault::NoMemory
+    }
+}
+
+impl<T: Drop> From<AllocFailed<T>> for ReloadFault {
+    fn from(_refused: AllocFailed<T>) -> ReloadFault {
+        ReloadFault::NoMemory
+    }
+}
+
+impl From<NoMemory> for ReloadFault {
+    fn from(_refused: NoMemory) -> ReloadFault {
+        ReloadFault::NoMemory
+    }
+}

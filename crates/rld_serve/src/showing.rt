@@ -1,0 +1,37 @@
+//! The worker that shows the server to those who ask.
+
+use crate::accounts::Accounts;
+use crate::fault::RunFault;
+use crate::server::Server;
+use rld_look::{Look, Pages, Shown};
+use rld_start::Generations;
+use rsl_wire::NoMemory;
+use std::io::Eprint;
+use std::net::Net;
+use std::sync::Wait;
+use std::time;
+
+impl<'a, G, A, R: time::Clock + Wait> Shown for Server<'a, G, A, R> {
+    fn take_look(&self) -> Result<Look, NoMemory> {
+        self.look()
+    }
+
+    fn is_over(&self) -> bool {
+        self.shutdown.is_over()
+    }
+}
+
+impl<'a, G, A, R> Server<'a, G, A, R>
+where
+    G: Generations,
+    A: Accounts,
+    R: Net + Eprint + time::Clock + Wait,
+{
+    /// Shows the server to those who ask.
+    pub(crate) fn show<P: Pages>(&self, pages: &P) -> Result<(), RunFault> {
+        if self.has_started()? {
+            pages.show(self.rt, self)?;
+        }
+        Ok(())
+    }
+}

@@ -1,0 +1,68 @@
+ghost use Rattle.std.specs.Prelude.{◌≡◌};
+ghost use Rattle.rld_serve.specs.Told.{priority_of};
+
+use crate::reloaded::Reloaded;
+use crate::rolled::Notice;
+use crate::trouble::News;
+use rld_refusals::{Priority, Sink};
+use std::fmt;
+
+/// What an operator is told but for refusals.
+#[derive(Clone, Copy, Debug, PartialEq, Eq)]
+pub(crate) enum Told {
+    /// How batches are recorded.
+    Recording(News),
+    /// How generations follow each other, and where old logs go.
+    Generations(Notice),
+    /// That the accounts were read anew.
+    Accounts(Reloaded),
+}
+
+impl Told {
+    /// How grave it is.
+    pub(crate) fn priority(self) -> Priority
+        ensures { result ≡ priority_of self }
+    {
+        match self {
+            Told::Recording(News::Began) => Priority::Error,
+            Told::Generations(Notice::NotBegun(_) | Notice::NotPutAway(_)) => Priority::Warning,
+            Told::Recording(News::Over)
+            | Told::Generations(Notice::Begun | Notice::PutAway)
+            | Told::Accounts(_) => Priority::Notice,
+        }
+    }
+}
+
+/// A line of what an operator is told.
+#[derive(Clone, Copy, Debug)]
+pub(crate) struct ToldLine {
+    /// Who reads it.
+    pub(crate) sink: Sink,
+    /// What he is told.
+    pub(crate) told: Told,
+}
+
+impl fmt::Display for ToldLine {
+    fn fmt<W: fmt::Write>(&self, f: &mut fmt::Formatter<W>) -> fmt::Result {
+        f.write_str(self.told.priority().mark(self.sink))?;
+        match &self.told {
+            Told::Recording(news) => news.fmt(f)?,
+            Told::Generations(notice) => notice.fmt(f)?,
+            Told::Accounts(reloaded) => write!(f, "accounts read anew: {reloaded}")?,
+        }
+        f.write_str("\n")
+    }
+}
+
+/// Lines of ASCII, as octets.
+#[derive(Clone, Copy, Debug)]
+pub(crate) struct Ascii<'a>(pub(crate) &'a [u8]);
+
+impl fmt::Display for Ascii<'_> {
+    fn fmt<W: fmt::Write>(&self, f: &mut fmt::Formatter<W>) -> fmt::Result {
+        for octet in self.0 {
+            f.write_char(char::from(*octet))?;
+        }
+        Ok(())
+    }
+}
