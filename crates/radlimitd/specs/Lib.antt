@@ -1,5 +1,3 @@
 pub mod Arguments
-pub mod Greeting
 pub mod Paces
-pub mod Rebased
 pub mod Status

@@ -15,20 +15,29 @@ const SILENCE_SECS: u64 = 5;
 /// The most octets of an answer.
 const ANSWER_LEN: u64 = 16_777_216;
 
-/// Asks the running server of this file, and writes the lines that it answers.
+/// Asks the running server of the file that the last word names what the others say, and writes the
+/// lines that it answers.
 ///
+/// `Usage` comes where they say nothing that a server can be asked, before anything is read.
 /// `Silent` comes where no server answers whole at the control that the file says, and `Refused` with
 /// what the server says instead.
 pub(crate) fn ask<R: Files + Net, W: Write>(
     rt: &R,
     alloc: Global,
-    name: &str,
-    command: Command,
+    words: &[String],
     writer: &mut W,
 ) -> Result<(), Fault> {
+    let Some((name, words)) = words.split_last() else {
+        return Err(Fault::Usage);
+    };
+    let line = line_of(alloc, words)?;
+    if Command::read(alloc, line.as_bytes())?.is_none() {
+        return Err(Fault::Usage);
+    }
+    let name = name.as_str();
     let server = server_file(rt, alloc, name)?;
     let Paths { control, .. } = Paths::of(alloc, name, &server)?;
-    let octets = match answer_to(rt, alloc, control.as_str(), command) {
+    let octets = match answer_to(rt, alloc, control.as_str(), line.as_str()) {
         Ok(octets) => octets,
         Err(error) if error.kind() == ErrorKind::OutOfMemory => return Err(Fault::NoMemory),
         Err(_) => return silent(alloc, control.as_str()),
@@ -48,12 +57,24 @@ fn silent(alloc: Global, path: &str) -> Result<(), Fault> {
     Err(Fault::Silent(String::from_str(alloc, path)?))
 }
 
-/// All that a server answers to a command, at the control of this path.
-fn answer_to<R: Net>(rt: &R, alloc: Global, path: &str, command: Command) -> io::Result<Vec<u8>> {
+/// Words as one line, without its line feed.
+fn line_of(alloc: Global, words: &[String]) -> Result<String, Fault> {
+    let mut line = String::new(alloc);
+    for word in words {
+        if !line.is_empty() {
+            line.push_str(" ")?;
+        }
+        line.push_str(word.as_str())?;
+    }
+    Ok(line)
+}
+
+/// All that a server answers to a line, at the control of this path.
+fn answer_to<R: Net>(rt: &R, alloc: Global, path: &str, line: &str) -> io::Result<Vec<u8>> {
     let stream = UnixStream::connect(rt, path)?;
     stream.set_read_timeout(Some(Duration::from_secs(SILENCE_SECS)))?;
     let mut to = &stream;
-    to.write_all(command.word().as_bytes())?;
+    to.write_all(line.as_bytes())?;
     to.write_all(b"\n")?;
     let mut octets = Vec::new(alloc);
     let from = &stream;

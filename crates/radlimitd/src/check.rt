@@ -1,6 +1,7 @@
 use crate::fault::Fault;
-use crate::files::{account_file, server_file};
+use crate::files::{accounts_for, server_file};
 use rld_config::{Paths, warnings};
+use rsl_accounts::Config;
 use std::alloc::Global;
 use std::fs::Files;
 use std::io::Write;
@@ -15,11 +16,31 @@ pub(crate) fn check<F: Files, W: Write>(
 ) -> Result<(), Fault> {
     let server = server_file(files, alloc, name)?;
     let paths = Paths::of(alloc, name, &server)?;
-    let accounts = account_file(files, alloc, paths.accounts.as_str())?;
-    let told = warnings(alloc, &accounts.config, accounts.mode)?;
+    let accounts = accounts_for(files, alloc, name, &server, paths.accounts.as_str())?;
+    let told = warnings(
+        alloc,
+        &accounts.config,
+        server.networks.as_slice(),
+        accounts.mode,
+    )?;
     writeln!(writer, "ok")?;
     for warning in told.as_slice() {
         writeln!(writer, "{warning}")?;
     }
+    tell_short_lives(&accounts.config, writer)?;
     Ok(writer.flush()?)
+}
+
+/// Tells in how many accounts the live time is under two of the intervals that accepts ask for, and
+/// the first of them; nothing where there is none.
+fn tell_short_lives<W: Write>(config: &Config, writer: &mut W) -> Result<(), Fault> {
+    if let Some(first) = config.first_short_live() {
+        let name = config.entry(first).name.as_str();
+        let accounts = config.short_lives();
+        writeln!(
+            writer,
+            "accounts: live_secs is under two interim_secs in {accounts}, first in {name}"
+        )?;
+    }
+    Ok(())
 }

@@ -1,5 +1,5 @@
 ghost use Rattle.std.specs.Prelude.{◌≡◌, map, string_bytes};
-ghost use Rattle.radlimitd.specs.Arguments.{command_of, command_of_file, command_of_files, command_of_word};
+ghost use Rattle.radlimitd.specs.Arguments.{command_of, command_of_file, command_of_files, command_of_word, command_of_words};
 
 /// What the program is asked to do.
 #[derive(Clone, Copy, Debug, PartialEq, Eq)]
@@ -12,10 +12,9 @@ pub(crate) enum Command {
     Lines,
     /// To cut the books of the state folder of a file to the present.
     Rebase,
-    /// To say of the running server of a file since when it runs, and what its accounts hold.
-    Status,
-    /// To end the running server of a file.
-    Stop,
+    /// To ask the running server of a file, which the last word names. The words before it are the line
+    /// that is asked.
+    Ask,
     /// To print its version.
     Version,
     /// To print what it can be asked.
@@ -30,7 +29,7 @@ impl Command {
         match words {
             [word] => Command::of_word(word.as_str()),
             [word, _file] => Command::of_file(word.as_str()),
-            [word, ..] => Command::of_files(word.as_str()),
+            [word, ..] => Command::of_several(word.as_str()),
             _ => None,
         }
     }
@@ -53,9 +52,22 @@ impl Command {
         match word {
             "check" => Some(Command::Check),
             "run" => Some(Command::Run),
-            "status" => Some(Command::Status),
-            "stop" => Some(Command::Stop),
             "rebase" => Some(Command::Rebase),
+            "status" => Some(Command::Ask),
+            "accounts" => Some(Command::Ask),
+            "reload" => Some(Command::Ask),
+            "stop" => Some(Command::Ask),
+            _ => Command::of_files(word),
+        }
+    }
+
+    /// What a word asks for with others and the name of a file behind it, or with the names of files.
+    fn of_several(word: &str) -> Option<Command>
+        ensures { result ≡ command_of_words word.now }
+    {
+        match word {
+            "sessions" => Some(Command::Ask),
+            "free" => Some(Command::Ask),
             _ => Command::of_files(word),
         }
     }

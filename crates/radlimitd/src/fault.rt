@@ -1,5 +1,4 @@
 ghost use Rattle.std.specs.Prelude.{◌≡◌};
-ghost use Rattle.radlimitd.specs.Status.{run_status};
 ghost use Rattle.radlimitd.specs.declared.fault.Fault.TheVariants.{InputOutput, NoMemory as no_memory, Run, Start};
 
 use crate::bad_file::{BadFile, BadLog};
@@ -14,7 +13,7 @@ use thiserror::Error;
 #[derive(Debug, Drop, Error)]
 pub(crate) enum Fault {
     /// The arguments are wrong.
-    #[error("usage: radlimitd check FILE or radlimitd run FILE or radlimitd lines FILE.. or radlimitd status FILE or radlimitd stop FILE or radlimitd rebase FILE or radlimitd version or radlimitd help")]
+    #[error("usage: radlimitd check FILE or radlimitd run FILE or radlimitd lines FILE.. or radlimitd status FILE or radlimitd accounts FILE or radlimitd sessions NAME FILE or radlimitd free NAME CLIENT NAS SESSION FILE or radlimitd reload FILE or radlimitd stop FILE or radlimitd rebase FILE or radlimitd version or radlimitd help")]
     Usage,
     /// The server's file is wrong, or the account file that it names.
     #[error("{0}")]
@@ -55,23 +54,12 @@ impl Fault {
         match self {
             Fault::Usage | Fault::BadFile(_) | Fault::BadLog(_) => EndStatus::WrongInput,
             Fault::Start(fault) => fault.status(),
-            Fault::Run(fault) => run_status(*fault),
+            Fault::Run(fault) => fault.status(),
             Fault::Control(_) | Fault::Silent(_) | Fault::Refused(_) | Fault::InputOutput => {
                 EndStatus::InputOutput
             }
             Fault::NoMemory => EndStatus::NoMemory,
         }
-    }
-}
-
-/// The status of a server that ends so.
-fn run_status(fault: RunFault) -> EndStatus
-    ensures { result ≡ run_status fault }
-{
-    match fault {
-        RunFault::Unbound(_) | RunFault::Threads | RunFault::Down => EndStatus::InputOutput,
-        RunFault::NoMemory => EndStatus::NoMemory,
-        RunFault::Unsynced => EndStatus::Unsynced,
     }
 }
 

@@ -5,7 +5,7 @@
 
 use crate::bad_file::{BadFile, Wrong};
 use crate::fault::Fault;
-use rld_config::{Place, ServerFault, ServerFile, break_of};
+use rld_config::{Place, ServerFault, ServerFile, break_of, unknown_client};
 use rsl_accounts::{Config, ConfigFault};
 use rsl_text::{TextFault, read_file};
 use std::alloc::Global;
@@ -39,6 +39,22 @@ pub(crate) fn server_file<F: Files>(
             bad_file(alloc, name, place, Wrong::Server(ServerFault::NotToml))
         }
         Err(fault) => bad_file(alloc, name, None, Wrong::Server(fault)),
+    }
+}
+
+/// What the account file of this path says, and its mode, where the account file has the client of each
+/// network of the server's file, which has this name.
+pub(crate) fn accounts_for<F: Files>(
+    files: &F,
+    alloc: Global,
+    name: &str,
+    server: &ServerFile,
+    path: &str,
+) -> Result<AccountFile, Fault> {
+    let accounts = account_file(files, alloc, path)?;
+    match unknown_client(server.networks.as_slice(), &accounts.config) {
+        Some(fault) => bad_file(alloc, name, None, Wrong::Server(fault)),
+        None => Ok(accounts),
     }
 }
 

@@ -7,6 +7,7 @@
 //! status, which is that of the fault (`exit_code`).
 #![tactic(auto)]
 
+mod accounts;
 mod ask;
 mod bad_file;
 mod check;
@@ -14,11 +15,11 @@ mod command;
 mod exit;
 mod fault;
 mod files;
-mod greeting;
 mod lines;
 mod pace;
 mod rebase;
 mod run;
+mod sink;
 
 use ask::ask;
 use check::check;
@@ -45,9 +46,15 @@ const VERSION: &str = "radlimitd 0.2.0\n";
 const HELP: &str = "\
 radlimitd check FILE    says what is wrong with a server's file, or with the account file that it names
 radlimitd run FILE      runs the server of this file, until it is killed
-radlimitd lines FILE..  prints the moves of logs of a state folder, each with its decision
-radlimitd status FILE   says since when the server of this file runs, and what its accounts hold
+radlimitd status FILE   says what the server of this file is and does
+radlimitd accounts FILE says what each of its accounts holds
+radlimitd sessions NAME FILE
+                        prints the links of an account, each as `free` wants it
+radlimitd free NAME CLIENT NAS SESSION FILE
+                        frees the place of a session that its access server has forgotten
+radlimitd reload FILE   has it read its accounts anew, and go on by them
 radlimitd stop FILE     ends it
+radlimitd lines FILE..  prints the moves of logs of a state folder, each with its decision
 radlimitd rebase FILE   cuts its state folder to the present, after a clock was ahead; only while it does not run
 radlimitd version       prints the version
 radlimitd help          prints this
@@ -90,18 +97,7 @@ where
         (Some(Command::Lines), [_, names @ ..]) => lines(rt, alloc, names, stdout, stderr),
         (Some(Command::Run), [_, file]) => run(rt, files, alloc, file.as_str()),
         (Some(Command::Rebase), [_, file]) => rebase(rt, alloc, file.as_str(), stdout),
-        (Some(Command::Status), [_, file]) => {
-            ask(
-                rt,
-                alloc,
-                file.as_str(),
-                rld_control::Command::Status,
-                stdout,
-            )
-        }
-        (Some(Command::Stop), [_, file]) => {
-            ask(rt, alloc, file.as_str(), rld_control::Command::Stop, stdout)
-        }
+        (Some(Command::Ask), words) => ask(rt, alloc, words, stdout),
         (Some(Command::Version), _) => say(stdout, VERSION),
         (Some(Command::Help), _) => say(stdout, HELP),
         _ => Err(Fault::Usage),

@@ -1,6 +1,5 @@
 use crate::fault::Fault;
 use crate::files::{account_file, server_file};
-use crate::greeting::rebased;
 use rld_config::Paths;
 use std::alloc::Global;
 use std::fs::{File, Files};
@@ -26,7 +25,7 @@ where
     let paths = Paths::of(alloc, name, &server)?;
     let accounts = account_file(rt, alloc, paths.accounts.as_str())?;
     let done = rld_start::rebase(rt, alloc, &accounts.config, paths.state.as_str(), now)?;
-    let text = rebased(alloc, &done)?;
+    let text = done.line(alloc)?;
     writer.write_all(text.as_bytes())?;
     Ok(writer.flush()?)
 }

@@ -1,14 +1,20 @@
+use crate::accounts::ServerAccounts;
 use crate::fault::Fault;
-use crate::files::{account_file, server_file};
-use crate::greeting::greeting;
+use crate::files::{AccountFile, accounts_for, server_file};
 use crate::pace::pace_of;
+use crate::sink::sink_of;
 use rld_config::Paths;
 use rld_folder::{Folder, FolderFault};
 use rld_pace::{Pacing, Ticks};
-use rld_serve::{Control, Plan, Sockets, serve};
+use rld_serve::{Control, Plan, RunFault, Sockets, serve};
 use rld_start::{FolderGenerations, StartFault, Started, start};
+use rld_web::Web;
+use rsl_edges::socket_addr;
+use rsl_event::Source;
 use std::alloc::Global;
+use std::env::Env;
 use std::fs::{File, Files};
+use std::hash::RandomState;
 use std::net::{Net, TcpListener, TcpStream};
 use std::sync::Wait;
 use std::thread::Threads;
@@ -16,17 +22,19 @@ use std::time::Clock;
 
 /// Runs the server of this file until it is killed or cannot go on.
 ///
-/// What keeps it from starting comes in this order: the clock, the server's file, the account file;
+/// What keeps it from starting comes in this order: the clock, the server's file, the account file,
+/// a network whose client the account file does not have;
 /// `busy`, where another process has the state folder, or what is wrong with the folder itself; a socket
-/// that cannot be bound; a control that cannot be made; and last what is wrong with the files of the
-/// folder. So where an address, a port or a path cannot be had nothing has changed in the folder, but
-/// that it may be new, with an empty `lock` in it.
+/// that cannot be bound, those of RADIUS before that of the page; a control that cannot be made; and
+/// last what is wrong with the files of the folder. So where an address, a port or a path cannot be had
+/// nothing has changed in the folder, but that it may be new, with an empty `lock` in it.
 ///
 /// The files of a server that runs are asked of the system by `files`: a thread may be handed no other
 /// handle of files than the system's own.
 pub(crate) fn run<R>(rt: &R, files: &HostRuntime, alloc: Global, name: &str) -> Result<(), Fault>
 where
-    R: Files<File = File>
+    R: Env
+        + Files<File = File>
         + Net<Listener = TcpListener, Stream = TcpStream>
         + Alloc<A = Global>
         + Clone
@@ -38,12 +46,15 @@ where
         + Sync,
 {
     let now = rt.since_1970()?.as_secs();
+    let sink = sink_of(rt, alloc)?;
     let server = server_file(rt, alloc, name)?;
     let paths = Paths::of(alloc, name, &server)?;
-    let accounts = account_file(rt, alloc, paths.accounts.as_str())?;
+    let path = paths.accounts.as_str();
+    let AccountFile { config, .. } = accounts_for(rt, alloc, name, &server, path)?;
     let state = paths.state.as_str();
     check_free(rt, alloc, state)?;
     let sockets = Sockets::bind(rt, alloc, server.listens.as_slice())?;
+    let web = web_of(rt, files, alloc, server.web)?;
     let control = match Control::bind(rt, paths.control.as_str()) {
         Ok(control) => control,
         Err(_) => return Err(Fault::Control(String::from_str(alloc, paths.control.as_str())?)),
@@ -53,8 +64,8 @@ where
         pace: pace_of(server.sync),
         ticks: &ticks,
     };
-    let started = start(rt, alloc, &accounts.config, state, now, pacing)?;
-    let greeting = greeting(alloc, &started.found)?;
+    let started = start(rt, alloc, &config, state, now, pacing)?;
+    let greeting = started.found.greeting(alloc)?;
     let Started {
         folder,
         store,
@@ -63,15 +74,56 @@ where
         ..
     } = started;
     let generations = FolderGenerations::new(files, folder, server.archive);
+    let accounts = ServerAccounts {
+        files,
+        name,
+        server: &server,
+        path,
+    };
     let plan = Plan {
-        config: &accounts.config,
+        networks: server.networks.as_slice(),
         boot,
         start: now,
         pacing,
         header,
         greeting: greeting.as_str(),
+        sink,
     };
-    Ok(serve(rt, alloc, plan, &sockets, &control, &generations, store)?)
+    Ok(serve(
+        rt,
+        files,
+        alloc,
+        plan,
+        config,
+        &sockets,
+        &control,
+        web.as_ref(),
+        &generations,
+        &accounts,
+        store,
+    )?)
+}
+
+/// Where the server is shown, if its file says so. `Unbound` comes where the address and port cannot be
+/// had.
+fn web_of<N: Net<Listener = TcpListener, Stream = TcpStream>>(
+    net: &N,
+    source: &HostRuntime,
+    alloc: Global,
+    web: Option<rld_config::Web>,
+) -> Result<Option<Web>, Fault> {
+    let Some(web) = web else {
+        return Ok(None);
+    };
+    let address = web.address;
+    let port = web.port;
+    match Web::bind(net, alloc, RandomState::new(source)?, address, port) {
+        Ok(web) => Ok(Some(web)),
+        Err(_) => {
+            let address = socket_addr(Source { address, port });
+            Err(Fault::Run(RunFault::Unbound(address)))
+        }
+    }
 }
 
 /// Makes sure that no other process has the state folder, before a socket is bound: the ports of a

@@ -1,0 +1,31 @@
+//! The accounts of a server that runs, which are read anew.
+
+use crate::fault::Fault;
+use crate::files::accounts_for;
+use rld_config::ServerFile;
+use rld_serve::{Accounts, AccountsFault};
+use rsl_accounts::Config;
+use std::alloc::Global;
+
+/// The account file of a server.
+#[derive(Clone, Copy)]
+pub(crate) struct ServerAccounts<'a> {
+    /// The system. A thread may be handed no other handle of files.
+    pub(crate) files: &'a HostRuntime,
+    /// The name of the server's file.
+    pub(crate) name: &'a str,
+    /// What it says.
+    pub(crate) server: &'a ServerFile,
+    /// The path of the account file.
+    pub(crate) path: &'a str,
+}
+
+impl Accounts for ServerAccounts<'_> {
+    fn read(&self, alloc: Global) -> Result<Config, AccountsFault> {
+        match accounts_for(self.files, alloc, self.name, self.server, self.path) {
+            Ok(accounts) => Ok(accounts.config),
+            Err(Fault::NoMemory) => Err(AccountsFault::NoMemory),
+            Err(fault) => Err(AccountsFault::Wrong(format!(in alloc; "{fault}")?)),
+        }
+    }
+}
