@@ -13,15 +13,17 @@ bound() {
 }
 
 # Sends a packet and looks at the answer:
-# expect WHAT CODE PATTERN auth|acct SECRET ATTRIBUTE..
-# CODE is the answer's name, or nothing where none may come; PATTERN, if there is one, stands in a line of it.
+# expect WHAT CODE PATTERN auth|acct|status:auth|status:acct SECRET ATTRIBUTE..
+# CODE is the answer's name, or nothing where none may come; PATTERN, if there is one, stands in a line of it. It is sent
+# as often as the variable tries says, each three seconds, or once, to the address host, or 127.0.0.1. A status packet goes
+# to one of both ports.
 expect() {
     local what=$1 code=$2 pattern=$3 kind=$4 secret=$5
     shift 5
     local port=$auth wait=3
-    if [ "$kind" = acct ]; then port=$acct; fi
+    if [ "${kind#status:}" = acct ]; then port=$acct; fi
     if [ -z "$code" ]; then wait=1; fi
-    answer=$(printf '%s\n' "$@" | radclient -x -r 1 -t "$wait" "127.0.0.1:$port" "$kind" "$secret" 2>&1) || true
+    answer=$(printf '%s\n' "$@" | radclient -x -r "${tries:-1}" -t "$wait" "${host:-127.0.0.1}:$port" "${kind%:*}" "$secret" 2>&1) || true
     received=$(sed -n '/^Received /,$p' <<< "$answer")
     local found
     found=$(sed -n 's/^Received \([A-Za-z-]*\) .*/\1/p' <<< "$received")

@@ -1,6 +1,6 @@
 #!/usr/bin/env bash
 # Starts radlimitd on free ports of 127.0.0.1 with a folder of its own, lets a session start, kills the server, starts it
-# again, and looks at each answer. It exits with 0 only where every answer was the right one.
+# again, adds an account while it runs, and looks at each answer. It exits with 0 only where every answer was the right one.
 #
 # usage: examples/radlimitd.sh [PROGRAM]        PROGRAM: the program radlimitd, as it was built if it is not given
 #
@@ -108,11 +108,32 @@ start || {
 
 shows 'killed, and started again' 'era 1, generation 1: 1 sessions' "$(cat "$said")"
 shows 'the first request again, its answer' "$answer_before" "$(first_answer)"
+
+cat >> "$folder/accounts.toml" << 'END'
+
+[[account]]
+name = "dora"
+password = "pass of dora"
+places = 1
+ports = 1
+END
+shows 'an account is added' 'era 2: 1 of 1 sessions of era 1 go on' "$("$program" reload "$folder/radlimitd.toml")"
+from_client 'a login of it' Access-Accept 'Class = ' auth 'User-Name = "dora"' 'User-Password = "pass of dora"' "$nas"
+shows 'the first request once more, its answer' "$answer_before" "$(first_answer)"
 from_client 'a login beside the session' Access-Reject 'Session limit reached' auth "$name" "$pap" "$nas"
 from_client 'the session stops' Accounting-Response '' acct 'Acct-Status-Type = Stop' "$name" "$nas" "$session" "$class"
 from_client 'a login after it' Access-Accept 'Class = ' auth "$name" "$pap" "$nas"
 
-shows 'what its accounts hold' 'places 3, held 1' "$("$program" status "$folder/radlimitd.toml" |
+class=$(sed -n 's/.*\(Class = 0x[0-9a-f]*\).*/\1/p' <<< "$received")
+from_client 'its session starts' Accounting-Response '' acct \
+    'Acct-Status-Type = Start' "$name" "$nas" 'Acct-Session-Id = "s2"' "$class"
+link=$("$program" sessions nemo "$folder/radlimitd.toml")
+shows 'the link of nemo' 'nemo 127.0.0.1 nas=pop1 s2 live' "${link% age=*}"
+shows 'the access server has forgotten it' freed "$("$program" free "$(cut -d' ' -f1-4 <<< "$link")" "$folder/radlimitd.toml")"
+shows 'its Stop is recorded' 1 "$("$program" lines "$folder"/state/log-2-* | grep -c ' stop account=nemo .* session=s2 -> done')"
+from_client 'a login after that' Access-Accept 'Class = ' auth "$name" "$pap" "$nas"
+
+shows 'what its accounts hold' 'places 4, held 2' "$("$program" status "$folder/radlimitd.toml" |
     sed -n 's/^held/, held/; /places\|held/p' | tr -d '\n')"
 "$program" stop "$folder/radlimitd.toml"
 status=0

@@ -1,0 +1,189 @@
+#!/usr/bin/env bash
+# Starts radlimitd on free ports of all addresses, IPv6 and IPv4, with networks that stand for clients and with
+# Status-Server, asks it with FreeRADIUS's radclient over ::1 and 127.0.0.1, and looks at each answer. It exits with 0
+# only where every answer was the right one.
+#
+# usage: examples/networks.sh [PROGRAM]        PROGRAM: the program radlimitd, as it was built if it is not given
+#
+# It wants Linux with the address ::1, Python 3 and radclient (Debian's package freeradius-utils).
+set -euo pipefail
+
+if ! grep -q ' lo$' /proc/net/if_inet6 2> /dev/null; then
+    echo "networks.sh: this machine has no address ::1, so nothing is asked"
+    exit 0
+fi
+top=$(cd "$(dirname "$0")/.." && pwd)
+program=${1:-$top/crates/radlimitd/out/radlimitd}
+folder=$(mktemp -d)
+said=$folder/said
+
+server=
+trap 'kill -9 "$server" 2> /dev/null || true; wait "$server" 2> /dev/null || true; rm -rf "$folder"' EXIT
+
+. "$top/examples/radclient.bash"
+
+# Starts the server on ports that nobody has, and waits until it says what it found.
+start() {
+    read -r auth acct < <(free_ports)
+    rm -rf "$folder/state"
+    cat > "$folder/radlimitd.toml" << END
+accounts = "accounts.toml"
+state = "state"
+
+[[listen]]
+address = "::"
+auth = $auth
+acct = $acct
+status_server = true
+
+[[network]]
+prefix = "::/0"
+client = "10.255.0.1"
+
+[[network]]
+prefix = "::1/128"
+client = "10.255.0.2"
+
+[[network]]
+prefix = "127.0.0.8/29"
+client = "10.255.0.3"
+END
+    : > "$said"
+    "$program" run "$folder/radlimitd.toml" 2> "$said" &
+    server=$!
+    until [ -s "$said" ]; do
+        kill -0 "$server" 2> /dev/null || return 1
+        sleep 0.1
+    done
+    kill -0 "$server" 2> /dev/null
+}
+
+# Two access servers of one network ask from one port, at once and over and over. How many answers came to the one that
+# had asked, and how many to the other.
+answers_of_two() {
+    PYTHONPATH="$top/bench/radius" python3 -B - "$auth" "$source" << 'END'
+import select
+import socket
+import sys
+import time
+from served import access_request, attribute, is_answer
+
+server, port = ("127.0.0.1", int(sys.argv[1])), int(sys.argv[2])
+secret, own, astray = b"testing789", 0, 0
+sockets = [socket.socket(socket.AF_INET, socket.SOCK_DGRAM) for _ in range(2)]
+for one, host in zip(sockets, ("127.0.0.9", "127.0.0.10")):
+    one.bind((host, port))
+for turn in range(100):
+    requests = []
+    for at, one in enumerate(sockets):
+        name = attribute(1, b"nobody") + attribute(32, b"pop%d" % at)
+        requests.append(access_request(turn, secret, name, bytes([at, turn] * 8), b"wrong"))
+    for at in (0, 1, 0, 1):
+        sockets[at].sendto(requests[at], server)
+    end, left = time.monotonic() + 3, 4
+    while left and time.monotonic() < end:
+        for one in select.select(sockets, [], [], 0.1)[0]:
+            answer = one.recv(4096)
+            at, left = sockets.index(one), left - 1
+            if is_answer(answer, requests[at], secret):
+                own += 1
+            elif is_answer(answer, requests[1 - at], secret):
+                astray += 1
+print(own, astray)
+END
+}
+
+# What a Status-Server packet gets whose Message-Authenticator is wrong: its answer's octets, in hexadecimal digits.
+answer_to_wrong_status() {
+    PYTHONPATH="$top/bench/radius" python3 -B - "$auth" << 'END'
+import socket
+import struct
+import sys
+from served import attribute
+
+attributes = attribute(80, bytes(range(16)))
+packet = struct.pack(">BBH", 12, 1, 20 + len(attributes)) + bytes(16) + attributes
+with socket.socket(socket.AF_INET6, socket.SOCK_DGRAM) as one:
+    one.settimeout(1)
+    one.sendto(packet, ("::1", int(sys.argv[1])))
+    try:
+        print(one.recv(4096).hex())
+    except TimeoutError:
+        print("no answer")
+END
+}
+
+# How many moves the history has, but for ticks.
+moves() { "$program" lines "$folder/state/log-1-1" | grep -cv ' tick' || true; }
+
+# Looks at what something is: shows WHAT EXPECTED FOUND
+shows() {
+    if [ "$2" = "$3" ]; then
+        echo "$1: $3"
+    else
+        echo "$1: wanted $2, and found $3"
+        failed=1
+    fi
+}
+
+cat > "$folder/accounts.toml" << 'END'
+version = 1
+shards = 1
+reserve_secs = 60
+live_secs = 900
+grace_secs = 900
+closed_secs = 3600
+keep_secs = 10
+client = [
+    { address = "127.0.0.1", secret = "of 127.0.0.1" },
+    { address = "10.255.0.1", secret = "of every IPv6 address" },
+    { address = "10.255.0.2", secret = "testing123" },
+    { address = "10.255.0.3", secret = "testing789" },
+]
+account = [
+    { name = "nemo", password = "arctangent", places = 1, ports = 1 },
+    { name = "ishmael", password = "call me", places = 1, ports = 1 },
+]
+END
+chmod 600 "$folder/accounts.toml"
+read -r source _ < <(free_ports)
+# another program may take a port in between
+start || start || start || {
+    echo "the server has not started: $(cat "$said")" >&2
+    exit 1
+}
+
+nas='NAS-Identifier = "pop1"'
+nemo='User-Name = "nemo"'
+pap='User-Password = "arctangent"'
+session='Acct-Session-Id = "s1"'
+
+# Sends a packet over ::1, as the client of its network, and looks at the answer; and one over 127.0.0.1.
+from_ipv6() { host='[::1]' expect "$1" "$2" "$3" "$4" testing123 "${@:5}"; }
+from_ipv4() { host=127.0.0.1 expect "$1" "$2" "$3" "$4" 'of 127.0.0.1' "${@:5}"; }
+
+shows 'what a check says of a network' 'network ::1/128: access servers without NAS-Identifier and NAS-IP-Address count as one' \
+    "$("$program" check "$folder/radlimitd.toml" | grep '^network ::1')"
+from_ipv6 'a login over IPv6' Access-Accept 'Class = ' auth "$nemo" "$pap" "$nas"
+class=$(sed -n 's/^[[:space:]]*\(Class = 0x[0-9a-f]*\)$/\1/p' <<< "$received")
+from_ipv6 'a login beside it' Access-Reject 'Session limit reached' auth "$nemo" "$pap" "$nas"
+from_ipv6 'the session starts' Accounting-Response '' acct 'Acct-Status-Type = Start' "$nemo" "$nas" "$session" "$class"
+from_ipv4 'a login beside it over IPv4' Access-Reject 'Session limit reached' auth "$nemo" "$pap" "$nas"
+from_ipv4 'another account over IPv4' Access-Accept 'Class = ' auth 'User-Name = "ishmael"' 'User-Password = "call me"' "$nas"
+from_ipv6 'the session stops' Accounting-Response '' acct 'Acct-Status-Type = Stop' "$nemo" "$nas" "$session" "$class"
+from_ipv4 'a login after it, over IPv4' Access-Accept 'Class = ' auth "$nemo" "$pap" "$nas"
+shows 'answers to each of two with one port' '400 0' "$(answers_of_two)"
+
+moves_before=$(moves)
+from_ipv6 'the status, of logins' Access-Accept 'Message-Authenticator = ' status:auth "$nas" 'Message-Authenticator = 0x00'
+from_ipv6 'the status, of accounting' Accounting-Response '' status:acct "$nas" 'Message-Authenticator = 0x00'
+from_ipv4 'the status over IPv4' Access-Accept 'Message-Authenticator = ' status:auth "$nas" 'Message-Authenticator = 0x00'
+shows 'the status, signed wrong' 'no answer' "$(answer_to_wrong_status)"
+"$program" stop "$folder/radlimitd.toml"
+status=0
+wait "$server" || status=$?
+shows 'stopped, its status' 0 "$status"
+shows 'moves of the history, as before the status' "$moves_before" "$(moves)"
+
+if [ "$failed" = 0 ]; then echo "every answer was the right one"; fi
+exit "$failed"
