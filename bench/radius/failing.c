@@ -1,6 +1,7 @@
 /* failing.c - a library that stands before the C library, and has calls of one kind fail: CALL names the kind, NTH is
- * the number of the one that fails (0: every one), ERROR the errno that it gives, PORT the UDP port of its socket (0: any
- * file), and WHILE a file as long as which is there calls fail (none: always). Every other call goes to the system.
+ * the number of the one that fails (0: every one; -4: the fourth, and every one behind it), ERROR the errno that it
+ * gives, PORT the UDP port of its socket (0: any file), and WHILE a file as long as which is there calls are counted and
+ * fail (none: always). Every other call goes to the system.
  * cc -shared -fPIC -o failing.so failing.c */
 #define _GNU_SOURCE
 #include <dlfcn.h>
@@ -33,7 +34,8 @@ static int fails(const char *call, int fd) {
     long nth = number("NTH"), port = number("PORT");
     const char *file = getenv("WHILE");
     if (!wanted || strcmp(wanted, call) || (port && !is_at(fd, port)) || (file && access(file, F_OK))) return 0;
-    if (nth && atomic_fetch_add(&calls, 1) + 1 != nth) return 0;
+    long made = atomic_fetch_add(&calls, 1) + 1;
+    if (nth > 0 ? made != nth : made < -nth) return 0;
     errno = number("ERROR");
     return 1;
 }

@@ -6,6 +6,7 @@ import hashlib
 import os
 import re
 import socket
+import string
 
 FORMAT, RULE = 1, 1
 HEAD = 20  # octets of a frame before its payload
@@ -368,9 +369,13 @@ def generations(state):
             yield path, payloads
 
 
+# what stands for itself in a line
+AS_THEY_ARE = (string.ascii_letters + string.digits + "%+,-./:=@_").encode()
+
+
 def escaped(octets):
     """Octets as a word of a line."""
-    return "".join(chr(octet) if 33 <= octet <= 126 and octet != 92 else f"\\x{octet:02x}" for octet in octets)
+    return "".join(chr(octet) if octet in AS_THEY_ARE else f"\\x{octet:02x}" for octet in octets)
 
 
 def line_of(name, number, move, decision, host):

@@ -21,7 +21,9 @@ TOP = os.path.dirname(os.path.dirname(os.path.dirname(os.path.abspath(__file__))
 PROGRAM = os.path.join(TOP, "crates", "rsl_app", "out", "rsl_app")
 DAEMON = os.path.join(TOP, "crates", "radlimitd", "out", "radlimitd")
 HOST = "127.0.0.1"
-UNUSED = itertools.cycle(random.sample(range(20_000, 32_000), 12_000))
+# the UDP ports that servers are given, from one and below another
+FIRST_PORT, PORTS_END = map(int, os.environ.get("PORTS", "20000-32000").split("-"))
+UNUSED = itertools.cycle(random.sample(range(FIRST_PORT, PORTS_END), PORTS_END - FIRST_PORT))
 START, STOP, INTERIM = 1, 2, 3
 MESSAGE_AUTHENTICATOR = 80
 # the request of RFC 2865 section 7.1, whose User-Name is nemo, and its secret and password
@@ -43,8 +45,8 @@ HEAD = """version = 1
 shards = {shards}
 reserve_secs = {reserve}
 live_secs = {live}
-grace_secs = 900
-closed_secs = 3600
+grace_secs = {grace}
+closed_secs = {closed}
 keep_secs = {keep}
 """
 
@@ -76,11 +78,11 @@ def free_ports():
     return found
 
 
-def account_file(path, clients, accounts, live=900, **numbers):
+def account_file(path, clients, accounts, live=900, grace=900, closed=3600, **numbers):
     """Writes an account file, and gives its name: of clients with their secrets and whether they have to sign, and of
     accounts with their passwords, places and ports. The numbers are those that HEAD leaves open."""
     with open(path, "w", encoding="ascii") as file:
-        file.write(HEAD.format(live=live, **numbers))
+        file.write(HEAD.format(live=live, grace=grace, closed=closed, **numbers))
         for address, secret, signed in clients:
             file.write(f'[[client]]\naddress = "{address}"\nsecret = "{secret.decode()}"\n')
             file.write(f"signed = {str(signed).lower()}\n")
@@ -216,6 +218,18 @@ def greeting(process, seconds):
     return process.stderr.readline().decode()
 
 
+def asked(*words, seconds=60):
+    """What a `radlimitd` that is asked something prints, and what it says: on standard output and on standard error, and
+    its status."""
+    run = subprocess.run([DAEMON, *words], capture_output=True, timeout=seconds, check=False)
+    return run.stdout.decode(), run.stderr.decode(), run.returncode
+
+
+def but_refusals(text):
+    """What a `radlimitd` said besides the lines of what it refused."""
+    return re.sub(r"^(?:refused|\d+ more refused) port=.*\n", "", text, flags=re.M)
+
+
 class Repeater:
     """An access server that sends all its requests at once, and repeats each until it is answered. A request is the
     place of its port and octets."""
@@ -267,6 +281,12 @@ def first_answer(port, request, secret, seconds):
             return is_answer(one.recv(4096), request, secret)
         except OSError:
             return False
+
+
+def text_of(path):
+    """The text of a file."""
+    with open(path, encoding="utf-8") as file:
+        return file.read()
 
 
 def resident(process):

@@ -1,0 +1,122 @@
+"""What scripts of bench/ share that change account files: books that are carried over, written apart from the server, from
+docs/FOLDER.md ("A changed account file") and docs/SESSION-RULE.md alone."""
+
+import folder as state
+import history
+
+
+def places(links, ports):
+    """The places of links: one for each without a bundle, and of a bundle one for as many links as there are ports."""
+    members = [(server, bundle) for server, _holder, bundle, _touched in links if bundle is not None]
+    return len(links) - len(members) + sum(-(-members.count(bundle) // ports) for bundle in set(members))
+
+
+def fitting(links, limit, ports):
+    """Those of some links that find a place, one after the other."""
+    found = []
+    for link in links:
+        if places([*found, link], ports) <= limit:
+            found.append(link)
+    return found
+
+
+def is_bound(link):
+    """Whether a link is a session's, and not an accept number's."""
+    return isinstance(link[1], bytes)
+
+
+class Book:
+    """A book: its clock, its next accept number, its over count, its links, kept asks and kept stops. An access server
+    is its client and a name, if it has one. A client is whatever tells it from the others, in octets its number."""
+
+    def __init__(self, clock=0, number=0, over=0, links=(), asks=(), stops=()):
+        self.clock, self.number, self.over = clock, number, over
+        self.links, self.asks, self.stops = list(links), list(asks), list(stops)
+
+    def sessions(self):
+        """How many of its links are bound."""
+        return sum(map(is_bound, self.links))
+
+    def admitted(self, clients, limit, ports):
+        """What goes on of it, where clients become these, under these limits."""
+
+        def going_on(values):
+            return [((clients[client], name), *rest) for (client, name), *rest in values if client in clients]
+
+        links = fitting(going_on(self.links), limit, ports)
+        return Book(self.clock, self.number, self.over, links, going_on(self.asks), going_on(self.stops))
+
+    def octets(self):
+        """It as it stands in a snapshot."""
+        numbers = b"".join(map(state.number, (self.clock, self.number, self.over)))
+        lists = [(link_octets, self.links), (ask_octets, self.asks), (stop_octets, self.stops)]
+        return numbers + b"".join(state.listed([octets(*value) for value in values]) for octets, values in lists)
+
+    # What events do, as long as no deadline comes: each link is live, and each kept ask and stop young enough.
+
+    def ask(self, server, key, limit, ports):
+        """The accept number of an ask with this key, or None where it is rejected."""
+        for _server, kept, decision, _moment, _swept in reversed(self.asks):
+            if kept == key:
+                return decision
+        decision, link = None, (server, self.number, None, 0)
+        if places([*self.links, link], ports) <= limit:
+            decision, self.number = self.number, self.number + 1
+            self.links.append(link)
+        self.asks = [*self.asks, (server, key, decision, 0, False)][-history.KEPT_ASKS :]
+        return decision
+
+    def alive(self, server, session, bundle, number, limit, ports):
+        """A Start or an Interim-Update, with the accept number of its Class, if it has one."""
+        reserved = []
+        for at, (its_server, holder, its_bundle, _touched) in enumerate(self.links):
+            if (its_server, holder) == (server, session):
+                self.links[at] = server, session, its_bundle or bundle, 0
+                return
+            if its_server == server and not isinstance(holder, bytes) and number in (None, holder):
+                reserved.append((holder, at))
+        if any(stop[:2] == (server, session) for stop in self.stops):
+            return
+        link = server, session, bundle, 0
+        if reserved:
+            self.links[min(reserved)[1]] = link
+        elif places([*self.links, link], ports) <= limit:
+            self.links.append(link)
+        else:
+            self.over += 1
+
+    def stop(self, server, session):
+        """A Stop."""
+        self.links = [link for link in self.links if link[:2] != (server, session)]
+        self.stops = [*self.stops, (server, session, 0, False)][-history.KEPT_STOPS :]
+
+
+def admitted(books, clients, accounts):
+    """The books of an account file, by the names of its accounts, which have these places and ports: of those before it,
+    whose clients become these, what goes on."""
+    return {
+        name: books[name].admitted(clients, limit, ports) if name in books else Book() for name, limit, ports in accounts
+    }
+
+
+def server_octets(server):
+    """An access server: a name is a NAS-Identifier."""
+    client, name = server
+    return state.number(client) + b"\x02" if name is None else state.nas(client, name)
+
+
+def link_octets(server, holder, bundle, touched):
+    """A link: an accept number or a session has it."""
+    has_it = b"\x01" + state.string(holder) if isinstance(holder, bytes) else b"\x00" + state.number(holder)
+    return server_octets(server) + has_it + state.option(bundle) + state.number(touched)
+
+
+def ask_octets(server, key, decision, moment, swept):
+    """A kept ask: it was accepted with a number, or refused."""
+    decided = b"\x02" if decision is None else b"\x01" + state.number(decision)
+    return key + server_octets(server) + decided + state.number(moment) + bytes([swept])
+
+
+def stop_octets(server, session, moment, swept):
+    """A kept stop."""
+    return server_octets(server) + state.string(session) + state.number(moment) + bytes([swept])
