@@ -179,6 +179,8 @@ from_ipv6 'the status, of logins' Access-Accept 'Message-Authenticator = ' statu
 from_ipv6 'the status, of accounting' Accounting-Response '' status:acct "$nas" 'Message-Authenticator = 0x00'
 from_ipv4 'the status over IPv4' Access-Accept 'Message-Authenticator = ' status:auth "$nas" 'Message-Authenticator = 0x00'
 shows 'the status, signed wrong' 'no answer' "$(answer_to_wrong_status)"
+shows 'what waits at the sockets of all addresses' 'sockets: 0 octets wait, 0 datagrams found no room' \
+    "$("$program" status "$folder/radlimitd.toml" | grep '^sockets: ')"
 "$program" stop "$folder/radlimitd.toml"
 status=0
 wait "$server" || status=$?

@@ -1,5 +1,5 @@
 -- What came in each of the last minutes.
-use Rattle.std.specs.Prelude.{ℕ, ◌+◌, ◌-◌, ◌*◌, ◌/◌, ◌^◌, min, Bool, true, false, List, [], ◌∷◌, ◌++◌, drop, length}
+use Rattle.std.specs.Prelude.{ℕ, ◌-◌, ◌*◌, ◌/◌, ◌^◌, min, Bool, true, false, List, [], ◌∷◌, ◌++◌, drop, length}
 use Rattle.rld_counts.specs.Counts.{count_in}
 use Rattle.rld_counts.specs.declared.acct_end.AcctEnd.TheVariants as acct
 use Rattle.rld_counts.specs.declared.auth_end.AuthEnd.TheVariants as auth

@@ -1,12 +1,14 @@
-//! The system's table of UDP sockets: `/proc/self/net/udp` (proc(5)).
+//! The system's tables of UDP sockets: `/proc/self/net/udp`, and `/proc/self/net/udp6` of those on IPv6
+//! addresses (proc(5)).
 
 ghost use Rattle.std.specs.Prelude.{◌≡◌, IfSome};
 
 use crate::look::SocketLook;
+use std::net::{IpAddr, Ipv4Addr, Ipv6Addr};
 
-/// What the table says of the socket that is bound to this address and port, if it has it. A number of
-/// the table that is none gives nothing.
-pub fn socket_in(table: &str, address: [u8; 4], port: u16) -> Option<SocketLook>
+/// What a table says of the socket that is bound to this address and port, if it has it. A number of the
+/// table that is none gives nothing.
+pub fn socket_in(table: &str, address: IpAddr, port: u16) -> Option<SocketLook>
     ensures { IfSome result (λ socket. socket.port ≡ port) }
 {
     for line in table.split('\n') {
@@ -20,7 +22,7 @@ pub fn socket_in(table: &str, address: [u8; 4], port: u16) -> Option<SocketLook>
 /// What a line says of that socket. Its words are the slot, the local address, the remote one, the
 /// state, the octets that wait to be sent and to be received, and more; the last is how many datagrams
 /// were dropped.
-fn socket_on(line: &str, address: [u8; 4], port: u16) -> Option<SocketLook>
+fn socket_on(line: &str, address: IpAddr, port: u16) -> Option<SocketLook>
     ensures { IfSome result (λ socket. socket.port ≡ port) }
 {
     let mut words = line.split_ascii_whitespace();
@@ -39,13 +41,36 @@ fn socket_on(line: &str, address: [u8; 4], port: u16) -> Option<SocketLook>
     })
 }
 
-/// Whether a word is this address and port. The address is a number in the order of the machine.
-fn is_address(word: &str, address: [u8; 4], port: u16) -> bool {
+/// Whether a word is this address and port, both in hexadecimal digits.
+fn is_address(word: &str, address: IpAddr, port: u16) -> bool {
     match word.split_once(':') {
-        Some((host, service)) => u32::from_str_radix(host, 16) == Ok(u32::from_ne_bytes(address))
+        Some((host, service)) => is_host(host, address)
             && u16::from_str_radix(service, 16) == Ok(port),
         None => false,
     }
+}
+
+/// Whether hexadecimal digits are this address, as one number of 32 bits or as four of them.
+fn is_host(digits: &str, address: IpAddr) -> bool {
+    match address {
+        IpAddr::V4(address) => {
+            digits.len() == 8 && u32::from_str_radix(digits, 16) == Ok(number_of_ipv4(address))
+        }
+        IpAddr::V6(address) => {
+            digits.len() == 32 && u128::from_str_radix(digits, 16) == Ok(number_of_ipv6(address))
+        }
+    }
+}
+
+/// Its octets as a number in the order of the machine: the first is the least.
+fn number_of_ipv4(address: Ipv4Addr) -> u32 {
+    u32::from_le_bytes(address.octets())
+}
+
+/// Four such numbers, one behind the other.
+fn number_of_ipv6(address: Ipv6Addr) -> u128 {
+    let [a, b, c, d, e, f, g, h, i, j, k, l, m, n, o, p] = address.octets();
+    u128::from_be_bytes([d, c, b, a, h, g, f, e, l, k, j, i, p, o, n, m])
 }
 
 /// The number behind the colon of a word, in hexadecimal digits.

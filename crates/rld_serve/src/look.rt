@@ -16,15 +16,17 @@ use rsl_shard::Row;
 use rsl_text::read_file;
 use rsl_wire::NoMemory;
 use std::alloc::AllocError;
-use std::net::IpAddr;
 use std::sync::atomic::Ordering;
 use std::sync::{Arc, Wait};
-use std::{str, time};
+use std::time;
 
-/// The system's table of UDP sockets (proc(5)).
-const SOCKET_TABLE: &str = "/proc/self/net/udp";
+/// The system's table of UDP sockets on IPv4 addresses (proc(5)).
+const IPV4_TABLE: &str = "/proc/self/net/udp";
 
-/// The most octets of it that are read: it has some 130 a socket.
+/// That of the ones on IPv6 addresses; a socket on `::` that takes both kinds is one of them.
+const IPV6_TABLE: &str = "/proc/self/net/udp6";
+
+/// The most octets of a table that are read: it has up to 180 a socket.
 const MAX_TABLE_LEN: u32 = 1_048_576;
 
 /// What the store shows of itself, and the accounts that it is of.
@@ -137,25 +139,30 @@ impl<'a, G, A, R: time::Clock + Wait> Server<'a, G, A, R> {
         Ok(minutes)
     }
 
-    /// What waits at each socket on an IPv4 address, where the system tells it.
+    /// What waits at each socket, where the system tells it.
     fn socket_looks(&self) -> Result<Vec<SocketLook>, NoMemory> {
         let mut looks = Vec::new(self.alloc);
-        let Ok(table) = read_file(self.files, self.alloc, SOCKET_TABLE, MAX_TABLE_LEN) else {
-            return Ok(looks);
-        };
-        let Ok(table) = str::from_utf8(table.as_slice()) else {
-            return Ok(looks);
-        };
+        let of_ipv4 = self.socket_table(IPV4_TABLE);
+        let of_ipv6 = self.socket_table(IPV6_TABLE);
         for pair in self.sockets.pairs.as_slice() {
-            let IpAddr::V4(address) = pair.address else {
-                continue;
+            let table = if pair.address.is_ipv4() {
+                &of_ipv4
+            } else {
+                &of_ipv6
             };
             for port in [pair.auth_port, pair.acct_port] {
-                if let Some(look) = socket_in(table, address.octets(), port) {
+                if let Some(look) = socket_in(table.as_str(), pair.address, port) {
                     looks.push(look)?;
                 }
             }
         }
         Ok(looks)
+    }
+
+    /// One of the system's tables of sockets: empty where it cannot be read.
+    fn socket_table(&self, path: &str) -> String {
+        let octets = read_file(self.files, self.alloc, path, MAX_TABLE_LEN);
+        let octets = octets.unwrap_or(Vec::new(self.alloc));
+        String::from_utf8(octets).unwrap_or(String::new(self.alloc))
     }
 }

@@ -3,11 +3,13 @@
 use rld_counts::{AcctEnd, AuthEnd, Counts, End};
 use rld_look::{History, socket_in};
 use std::alloc::Global;
+use std::net::IpAddr;
 use std::test::Fail;
 use test_rows::{Subject, check_rows, number, port_number};
 
-/// A table of sockets as Linux 6 gave it: of 1,000 datagrams of 1,000 octets to port 1812 of 127.0.0.1
-/// nothing was read, and neither was one of 100 octets to port 1813.
+/// Tables of sockets as Linux 6 gave them, one behind the other, with lines that are wrong between: of
+/// 1,000 datagrams of 1,000 octets to port 1812 of 127.0.0.1, and of 500 to that of 2001:db8::5, nothing
+/// was read, and neither was one of 100 octets to port 1813, of IPv4 and of IPv6.
 const TABLE: &str =
     "   sl  local_address rem_address   st tx_queue rx_queue tr tm->when retrnsmt   \
 uid  timeout inode ref pointer drops            
@@ -19,6 +21,12 @@ uid  timeout inode ref pointer drops
 000000002a34dfc8 0        
   1: 0100007F:0715 00000000:0000 07 00000000
   2: 0200007F:0715 00000000:0000 07 00000000:000000XY 00:00000000 00000000     0        0 1 2 0 0
+  sl  local_address                         remote_address                        st tx_queue rx_queue tr \
+tm->when retrnsmt   uid  timeout inode ref pointer drops
+  155: B80D0120000000000000000005000000:0714 00000000000000000000000000000000:0000 07 00000000:00033C00 \
+00:00000000 00000000     0        0 19981 2 000000004f8be713 408
+  156: 00000000000000000000000000000000:0717 00000000000000000000000000000000:0000 07 00000000:00000340 \
+00:00000000 00000000     0        0 19032 2 0000000071f4a9a4 3
 ";
 
 /// What a table says of a socket.
@@ -27,16 +35,11 @@ struct Waiting;
 
 impl Subject for Waiting {
     fn found(&self, alloc: Global, fields: &[&str]) -> Result<String, Fail> {
-        let [last, port] = fields else {
+        let [host, port] = fields else {
             return Err("a row with other fields")?;
         };
         let mut text = String::new(alloc);
-        let host = match *last {
-            "0" => [0, 0, 0, 0],
-            "1" => [127, 0, 0, 1],
-            _ => [127, 0, 0, 2],
-        };
-        match socket_in(TABLE, host, port_number(port)?) {
+        match socket_in(TABLE, host.parse::<IpAddr>()?, port_number(port)?) {
             Some(socket) => {
                 let (port, waiting, dropped) = (socket.port, socket.waiting, socket.dropped);
                 write!(text, "{port} {waiting} {dropped}")?;
@@ -47,14 +50,20 @@ impl Subject for Waiting {
     }
 }
 
-/// A socket of 127.0.0.N, or of 0.0.0.0 for N of 0: its port, what waits, and what was dropped.
+/// A socket's address and port: its port, what waits, and what was dropped.
 const WAITING: &str = "
-one that is full | 1 | 1812 | 1812 211968 908
-one of all addresses | 0 | 1813 | 1813 832 0
-one that nobody bound there | 0 | 1812 | none
-another port | 1 | 1814 | none
-a line that is cut off | 1 | 1813 | none
-a number that is none | 2 | 1813 | none
+one that is full | 127.0.0.1 | 1812 | 1812 211968 908
+one of all addresses | 0.0.0.0 | 1813 | 1813 832 0
+one that nobody bound there | 0.0.0.0 | 1812 | none
+another port | 127.0.0.1 | 1814 | none
+a line that is cut off | 127.0.0.1 | 1813 | none
+a number that is none | 127.0.0.2 | 1813 | none
+one on an IPv6 address that is full | 2001:db8::5 | 1812 | 1812 211968 408
+one of all addresses, IPv6 and IPv4 | :: | 1815 | 1815 832 3
+all addresses of the other kind | 0.0.0.0 | 1815 | none
+and the other way round | :: | 1813 | none
+an IPv6 address with the number of an IPv4 one | ::127.0.0.1 | 1812 | none
+another IPv6 address | 2001:db8::500 | 1812 | none
 ";
 
 #[test]
