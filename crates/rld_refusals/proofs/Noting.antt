@@ -1,7 +1,7 @@
 -- What waits and what is left out, of all that was noted.
 use Rattle.std.proofs.Common.{◌≡◌, ℕ, ◌+◌, ◌<◌, ◌≤◌, Bool, true, cond, eqb, ltb, List, [], ◌∷◌, ◌++◌, get_or, map, sym, refl, ap, subst, ◌∙◌, arith, inl, inr}
 use Rattle.std.proofs.lemmas.Bool.{cases_eq, eq-eqb, ne_eqb, ltb-true}
-use Rattle.std.proofs.lemmas.List.Sums.{sum_by_push}
+use Rattle.std.proofs.lemmas.List.Sums.{sum_by-append, sum_by_push}
 use Rattle.rld_counts.specs.Counts.{count_in, counts_of}
 use Rattle.rld_counts.specs.Ends.{acct_number, auth_number, number_of}
 use Rattle.rld_counts.specs.Tally.{how_many, kept}
@@ -130,6 +130,34 @@ pub noted_empty : (waiting : List Refusal) (left_out : List ℕ) → waiting ≡
 noted_empty waiting left_out none counts =
     subst (λ (l : List Refusal). HasNoted [] (record { waiting = l; left_out = left_out })) (sym none)
     (subst (λ (l : List ℕ). HasNoted [] (record { waiting = []; left_out = l })) (sym counts) noted_none)
+
+-- ---- what another backlog had noted is added
+
+of_cause_all : (end : End) (ends others : List End) → of_cause end (ends ++ others) ≡ of_cause end ends + of_cause end others
+unfolding how_many
+of_cause_all end ends others =
+    ap (how_many (number_of end)) (mapped_append number_of ends others)
+    ∙ sum_by-append (λ (n : ℕ). cond (eqb n (number_of end)) 1 0) (map number_of ends) (map number_of others)
+
+-- of a cause so many were noted here and there: so many lines and so many left out
+all_joined : (here there lines left risen more : ℕ) → kept there ≡ kept (lines + left) → kept (here + lines) ≡ kept (risen + more)
+    → kept (here + there) ≡ kept (risen + kept (more + left))
+all_joined here there lines left risen more was pushed = omega arith
+
+pub noted_joined : (ends others : List End) (taken seen pushed : BacklogSeen) (new : List ℕ)
+    → HasNoted others taken → HasNoted (ends ++ ends_of taken.waiting) pushed → seen ≡ pushed
+    → ((end : End) → count_in new end ≡ kept (count_in seen.left_out end + count_in taken.left_out end))
+    → HasNoted (ends ++ others) (record { waiting = seen.waiting; left_out = new })
+noted_joined ends others taken seen pushed new had has is sums =
+    let has : HasNoted (ends ++ ends_of taken.waiting) seen = subst (HasNoted (ends ++ ends_of taken.waiting)) (sym is) has in
+    record {
+      all = λ (end : End).
+          ap kept (of_cause_all end ends others)
+          ∙ all_joined (of_cause end ends) (of_cause end others) (lines_of end taken) (count_in taken.left_out end) (lines_of end seen) (count_in seen.left_out end)
+          (had.all end) (ap kept (sym (of_cause_all end ends (ends_of taken.waiting))) ∙ has.all end)
+          ∙ ap (λ (n : ℕ). kept (lines_of end seen + n)) (sym (sums end));
+      few = has.few;
+    }
 
 -- ---- what the lines' counter says
 

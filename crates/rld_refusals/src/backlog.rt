@@ -1,10 +1,10 @@
-ghost use Rattle.std.specs.Prelude.{◌≡◌, ◌∷◌, ◌++◌, [], List, OnErr, OnOk};
+ghost use Rattle.std.specs.Prelude.{◌≡◌, ◌<◌, ◌≤◌, ◌∷◌, ◌++◌, [], true, false, List, OnErr, OnOk};
 ghost use Rattle.rld_counts.specs.declared.end.End.{End as OneEnd};
-ghost use Rattle.rld_refusals.specs.Backlog.{HasNoted, IsNoted, empty_backlog};
+ghost use Rattle.rld_refusals.specs.Backlog.{HasNoted, IsLeftOut, IsNoted, empty_backlog, ends_of, lines_of};
 ghost use Rattle.rld_refusals.specs.Refusal.{refusal_of};
 
 use crate::refusal::{Refusal, Refused};
-use rld_counts::Counts;
+use rld_counts::{Counts, End};
 use rsl_wire::NoMemory;
 use std::alloc::Global;
 use std::marker::Model;
@@ -47,7 +47,7 @@ impl Model for Backlog {
     ghost invariant = { λ it. it.lines ≡ counts_of (ends_of it.waiting.items) };
 }
 
-/// What was taken from a backlog.
+/// What was taken from a backlog: of what it had noted, as much waited as was not left out, of each cause.
 #[derive(Debug, Drop)]
 pub struct Taken {
     /// The refusals that waited, the oldest first: at most `MOST_LINES` of each cause.
@@ -76,7 +76,7 @@ impl Backlog {
         ensures all { (ends : List OneEnd) → HasNoted ends self.old →
             HasNoted (ends ++ refused.now.end ∷ []) self.new }
     {
-        if self.lines.count(refused.end) >= MOST_LINES {
+        if self.is_full(refused.end) {
             self.left_out.note(refused.end);
             return Noted::LeftOut;
         }
@@ -90,6 +90,30 @@ impl Backlog {
                 Noted::NoMemory
             }
         }
+    }
+
+    /// Leaves out a datagram that was refused, where as many of its cause wait as may, and gives whether
+    /// it has. Else nothing changes, and it can be noted.
+    pub fn leave_out(&mut self, end: End) -> bool
+        ensures left_out { result ≡ true →
+            (MOST_LINES ≤ lines_of end self.old) × IsLeftOut end self.old self.new }
+        ensures same { result ≡ false → (lines_of end self.old < MOST_LINES) × (self.new ≡ self.old) }
+        ensures all { result ≡ true → (ends : List OneEnd) → HasNoted ends self.old →
+            HasNoted (ends ++ end ∷ []) self.new }
+    {
+        if self.is_full(end) {
+            self.left_out.note(end);
+            return true;
+        }
+        false
+    }
+
+    /// Whether as many refusals of a cause wait as may.
+    fn is_full(&self, end: End) -> bool
+        ensures full { result ≡ true → MOST_LINES ≤ lines_of end self.now }
+        ensures few { result ≡ false → lines_of end self.now < MOST_LINES }
+    {
+        self.lines.count(end) >= MOST_LINES
     }
 
     /// Takes all that waits, and the counts of what was left out. Nothing waits then.
@@ -109,6 +133,55 @@ impl Backlog {
             left_out,
         }
     }
+
+    /// Adds what was taken from another backlog, behind what waits. Where more than `MOST_LINES` of a cause
+    /// would wait, and where memory is refused, they are left out, and counted.
+    pub fn join(&mut self, taken: Taken)
+        ensures { (ends others : List OneEnd) → HasNoted ends self.old →
+            HasNoted others (record { waiting = taken.waited.items; left_out = taken.left_out }) →
+            HasNoted (ends ++ others) self.new }
+    {
+        let Taken { waited, left_out } = taken;
+        self.push_all(waited);
+        self.left_out.add(&left_out);
+    }
+
+    /// Adds refusals, each as `push` does.
+    fn push_all(&mut self, refusals: Vec<Refusal>)
+        ensures { (ends : List OneEnd) → HasNoted ends self.old →
+            HasNoted (ends ++ ends_of refusals.items) self.new }
+    {
+        for refusal in refusals {
+            self.push(refusal);
+        }
+    }
+
+    /// Adds a refusal. It waits where fewer than `MOST_LINES` of its cause do; else, and where memory is
+    /// refused, it is left out, and counted.
+    fn push(&mut self, refusal: Refusal)
+        ensures { (ends : List OneEnd) → HasNoted ends self.old →
+            HasNoted (ends ++ refusal.end ∷ []) self.new }
+    {
+        let end = refusal.end;
+        let is_full = self.is_full(end);
+        if push_unless(is_full, &mut self.waiting, refusal) {
+            self.lines.note(end);
+        } else {
+            self.left_out.note(end);
+        }
+    }
+}
+
+/// Adds a refusal if there is room and memory is not refused, and gives whether it has.
+fn push_unless(is_full: bool, waiting: &mut Vec<Refusal>, refusal: Refusal) -> bool
+    ensures pushed { result ≡ true →
+        (is_full ≡ false) × (waiting.new.items ≡ waiting.old.items ++ refusal ∷ []) }
+    ensures same { result ≡ false → waiting.new.items ≡ waiting.old.items }
+{
+    if is_full {
+        return false;
+    }
+    waiting.push(refusal).is_ok()
 }
 
 /// Adds what is told of a datagram. It fails only where memory is refused.

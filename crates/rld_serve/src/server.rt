@@ -165,7 +165,7 @@ where
         accounts,
         keeper: Mutex::new(Keeper::new(store, Arc::new(alloc, config)?, plan.header)),
         board,
-        refusals: Refusals::new(alloc),
+        refusals: Refusals::new(alloc, ports.len())?,
         told: Mutex::new(Vec::new(alloc)),
         history: Mutex::new(history),
         is_failing: AtomicBool::new(false),

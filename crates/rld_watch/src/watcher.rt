@@ -34,6 +34,7 @@ pub struct Watcher<'a, R: Wait + Clock> {
     rt: &'a R,
     alloc: Global,
     desk: Desk<'a>,
+    receiver: usize,
     place: &'a Place,
     begun: Option<Instant>,
 }
@@ -51,6 +52,7 @@ impl<'a, R: Wait + Clock> Watcher<'a, R> {
             rt,
             alloc,
             desk,
+            receiver,
             place,
             begun: None,
         })
@@ -65,9 +67,11 @@ impl<'a, R: Wait + Clock> Watcher<'a, R> {
         }
     }
 
-    /// Notes a datagram among the refusals, if it is one.
+    /// Notes a datagram among the refusals, if it is one. In a flood it is left out before anything of it
+    /// is read.
     fn note_refusal(&self, ended: &Ended<'_>, end: CountedEnd) {
-        if !is_refusal(end) {
+        let refusals = self.desk.refusals;
+        if !is_refusal(end) || refusals.leave_out(self.rt, self.receiver, end) {
             return;
         }
         let moment = match self.rt.since_1970() {
@@ -81,7 +85,7 @@ impl<'a, R: Wait + Clock> Watcher<'a, R> {
             octets: ended.octets,
             end,
         };
-        self.desk.refusals.note(self.rt, self.alloc, &refused);
+        refusals.note(self.rt, self.alloc, self.receiver, &refused);
     }
 }
 

@@ -28,7 +28,7 @@ impl<R: Wait + Clock> Subject for Counted<'_, R> {
         let mut store = store_of(alloc, &config, scene.disk)?;
         let port = port_of(scene.port)?;
         let board = Board::new(alloc, config.clients(), &[port])?;
-        let refusals = Refusals::new(alloc);
+        let refusals = Refusals::new(alloc, 1)?;
         let desk = Desk {
             config: &config,
             board: &board,
@@ -66,7 +66,7 @@ impl<R: Wait + Clock> Subject for Renewed<'_, R> {
         let mut store = store_of(alloc, &config, scene.disk)?;
         let port = port_of(scene.port)?;
         let board = Board::new(alloc, config.clients(), &[port, port])?;
-        let refusals = Refusals::new(alloc);
+        let refusals = Refusals::new(alloc, 2)?;
         let desk = Desk {
             config: &config,
             board: &board,
