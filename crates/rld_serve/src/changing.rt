@@ -1,17 +1,19 @@
 //! How the accounts of a running server change: within its era, or with a new one.
 
-ghost use Rattle.std.specs.Prelude.{◌≡◌, ◌||◌, ℕ, IfOk, IsErrOf, OnErr, OnOk};
+ghost use Rattle.std.specs.Prelude.{◌≡◌, ◌||◌, [], ℕ, IfOk, IsErrOf, IsTrue, OnErr, OnOk};
 ghost use Rattle.std.specs.Arc.{arc_value};
 ghost use Rattle.rld_admit.specs.Admitted.{AreAdmitted};
 ghost use Rattle.rld_books.specs.Saved.{IsServerOf};
 ghost use Rattle.rld_serve.specs.Keeping.{is_over};
 ghost use Rattle.rld_spelling.specs.Tables.{table_of};
 ghost use Rattle.rld_start.specs.NextHeaders.{generation_named};
+ghost use Rattle.rld_store.specs.Premises.{Only};
+ghost use Rattle.rld_store.specs.Standing.{StandsFor};
 
 use crate::keeper::Keeper;
 use crate::reloaded::Passage;
 use crate::rolled::RollFault;
-use rld_log::FileLog;
+use rld_log::{FileLog, Log};
 use rld_pace::{PacedLog, Pacing};
 use rld_spelling::Header;
 use rld_start::{
@@ -119,23 +121,10 @@ impl<'p> Keeper<Store<PacedLog<'p, FileLog>>> {
             × (opening.passage.era ≡ next.header.era)) }
         ensures going_on { IsErrOf result RollFault.Ended → ⊥ }
     {
+        let held = sessions_in(self.recorder().rows(alloc)?.as_slice());
         let former = self.header();
-        let old = self.accounts();
-        let recorder = self.recorder();
-        let books = admitted_books(
-            alloc,
-            old,
-            generation_named(&former),
-            recorder.books(),
-            config,
-        )?;
-        let held = sessions_in(recorder.rows(alloc)?.as_slice());
         let NextEra { header, log } = next;
-        let log = PacedLog::new(log, pacing);
-        let store = match Store::begin_with(alloc, config, header, books, log) {
-            Ok(store) => store,
-            Err(refused) => return Err(RollFault::Store(refused.fault)),
-        };
+        let store = self.admit(alloc, config, header, PacedLog::new(log, pacing))?;
         let sessions = sessions_in(store.rows(alloc)?.as_slice());
         let synced = generations.sync(alloc, generation_named(&header))?;
         Ok(Opening {
@@ -149,5 +138,41 @@ impl<'p> Keeper<Store<PacedLog<'p, FileLog>>> {
                 sessions,
             },
         })
+    }
+}
+
+impl<L: Log + Drop> Keeper<Store<L>> {
+    /// What is admitted of the books to other accounts, as a store that begins the generation of this
+    /// header in an empty log. What stands in the log where it fails is to be removed.
+    fn admit(
+        &self,
+        alloc: Global,
+        config: &Config,
+        header: Header,
+        log: L,
+    ) -> Result<Store<L>, RollFault>
+        ensures server { IfOk result (λ store. IsServerOf config.now store.books) }
+        ensures admitted { IfOk result (λ store. (boot after : ℕ) →
+            AreAdmitted (table_of boot (arc_value self.now.config)) self.now.recorder.books
+            (table_of after config.now) store.books) }
+        ensures going_on { IsErrOf result RollFault.Ended → ⊥ }
+
+        // The store stands for a history of no moves behind these books.
+        ensures stands { IfOk result (λ store. IsTrue (L.tells store.log) →
+            Only (L.seen log) (L.may_leave log) →
+            StandsFor config.now store.books store.counts L.tears store.end (L.seen store.log)
+            (L.may_leave store.log) store.whole store.books [] []) }
+    {
+        let books = admitted_books(
+            alloc,
+            self.accounts(),
+            generation_named(&self.header()),
+            self.recorder().books(),
+            config,
+        )?;
+        match Store::begin_with(alloc, config, header, books, log) {
+            Ok(store) => Ok(store),
+            Err(refused) => Err(RollFault::Store(refused.fault)),
+        }
     }
 }

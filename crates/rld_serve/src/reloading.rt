@@ -1,5 +1,7 @@
 //! How the accounts of a running server are read anew.
 
+ghost use Rattle.std.specs.Prelude.{◌≡◌, IfOk, IfSome, length};
+
 use crate::accounts::{Accounts, AccountsFault};
 use crate::ask_fault::AskFault;
 use crate::recess::Rest;
@@ -79,7 +81,10 @@ where
     }
 
     /// Makes ready what a change to other accounts wants.
-    fn change_to(&self, config: Config) -> Result<Change, ReloadFault> {
+    fn change_to(&self, config: Config) -> Result<Change, ReloadFault>
+        ensures { IfOk result (λ change. IfSome change.counts
+            (λ each. length each.items ≡ length self.now.board.places.items)) }
+    {
         let Present { config: former, .. } = self.present()?;
         let config = Arc::new(self.alloc, config)?;
         let counts = if has_same_clients(self.alloc, &*former, &*config)? {
@@ -109,7 +114,10 @@ where
     }
 
     /// Does a change, while the receivers rest.
-    fn do_change(&self, change: Change) -> Result<Changed<'a>, ReloadFault> {
+    fn do_change(&self, change: Change) -> Result<Changed<'a>, ReloadFault>
+        requires { IfSome change.counts
+            (λ each. length each.items ≡ length self.now.board.places.items) }
+    {
         let Change {
             config,
             next,

@@ -3,7 +3,6 @@ use Rattle.std.proofs.Common.{◌≡◌, ℕ, Bool, List, [], ◌∷◌, ◌++�
 use Rattle.std.specs.Prelude.{Option, Some, None, IsSomeAnd, option_map}
 use Rattle.std.specs.Option.{IsSome}
 use Rattle.rsl_event.specs.Answer.{said, said_of, said_to}
-use Rattle.rsl_event.specs.Meaning.{meaning}
 use Rattle.rsl_event.specs.declared.event.Act.TheVariants as acts
 use Rattle.rsl_event.specs.declared.event.Decision.{Decision}
 use Rattle.rsl_event.specs.declared.event.Decision.TheVariants as decisions

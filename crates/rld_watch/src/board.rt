@@ -54,12 +54,14 @@ impl Board {
         new_counts(alloc, clients, self.places.len())
     }
 
-    /// Each receiver begins to count by client anew, in these counts, as client numbers mean other
-    /// clients from now on. The counts in all and the times go on.
+    /// Each receiver begins to count by client anew, in these counts, one for each, as client numbers
+    /// mean other clients from now on. The counts in all and the times go on.
     ///
     /// The receivers begin one after the other. Let no look come between: where there are as many clients
     /// as before, it would add what former ones and new ones have by their numbers.
-    pub fn renew<R: Wait>(&self, rt: &R, each: Vec<ClientCounts>) {
+    pub fn renew<R: Wait>(&self, rt: &R, each: Vec<ClientCounts>)
+        requires { length each.items ≡ length self.now.places.items }
+    {
         for (place, counts) in self.places.as_slice().iter().zip(each) {
             place.renew(rt, counts);
         }
