@@ -18,8 +18,11 @@ import tempfile
 import time
 
 TOP = os.path.dirname(os.path.dirname(os.path.dirname(os.path.abspath(__file__))))
-PROGRAM = os.path.join(TOP, "crates", "rsl_app", "out", "rsl_app")
-DAEMON = os.path.join(TOP, "crates", "radlimitd", "out", "radlimitd")
+sys.path.insert(0, TOP)
+from gate.programs import path_of  # noqa: E402
+
+PROGRAM = path_of("rsl_app")
+DAEMON = path_of("radlimitd")
 HOST = "127.0.0.1"
 # the UDP ports that servers are given, from one and below another
 FIRST_PORT, PORTS_END = map(int, os.environ.get("PORTS", "20000-32000").split("-"))

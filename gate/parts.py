@@ -1,0 +1,223 @@
+"""The parts of the check that look at programs, and how they are run: most by a script of bench/, on the programs that
+`gate.programs` gives it."""
+
+import glob
+import os
+import re
+import shutil
+import subprocess
+import sys
+import time
+from concurrent.futures import ThreadPoolExecutor
+
+from gate import comparing, programs, repository
+
+TOP = repository.TOP
+
+# the programs of the product that parts run
+PROGRAMS = ("rsl_app", "radlimitd", "account_file")
+
+# an example that a document has replayed, and what it shows that this prints: in the same block or in the next one
+SHOWN = re.compile(r"\./radlimit replay < (examples/\S+)\n(?:```.*?```\n)?(.*?)```", re.S)
+
+# a report that a document shows by itself, and of each document the worked rows that print them, in their order
+REPORT = re.compile(r"^```\n(name +places .*?)```", re.M | re.S)
+REPORTS = {
+    "docs/OPERATING.md": ["example_access_request"],
+    "docs/SESSION-RULE.md": ["example_sessions", "example_of_a_yield", "example_of_the_longest_silence"],
+}
+ROWS = os.path.join(repository.TESTS, "test_scripts", "data")
+
+
+def octets_of(*names):
+    """The octets of a file of the repository."""
+    with open(os.path.join(TOP, *names), "rb") as file:
+        return file.read()
+
+
+def text_of(*names):
+    """The text of a file of the repository."""
+    return octets_of(*names).decode()
+
+
+def examples():
+    """The scripts among the examples, each with what it prints."""
+    for script in sorted(glob.glob(os.path.join(TOP, "examples", "*.script"))):
+        yield os.path.basename(script), octets_of(script), octets_of(f"{script}.stdout")
+
+
+def lacks(program, part):
+    """Whether a program is not there: then it is said that the part is left out that wants it."""
+    if shutil.which(program):
+        return False
+    print(f"check: there is no {program} here, so this part is left out: {part}")
+    return True
+
+
+def left_out():
+    """What a part counts that is left out for want of a C compiler or radclient: a failure where the variable CI is set."""
+    return 0, int("CI" in os.environ)
+
+
+def left_out_everywhere():
+    """What a part counts that is left out where Debian's packages cannot be had: nothing."""
+    return 0, 0
+
+
+def rows_of_documents():
+    """Whether what a document shows of an example is what that prints. Each of these documents shows one."""
+    results = []
+    for document in ("README.md", os.path.join("docs", "SCRIPTS.md")):
+        shown = SHOWN.findall(text_of(document))
+        results.append((1, 0) if shown else (0, 1))
+        results += [comparing.compared(f"{document}: {name}", text, text_of(f"{name}.stdout")) for name, text in shown]
+    return results
+
+
+def reports_of_documents():
+    """Whether each report that a document shows by itself is the end of what its row prints."""
+    results = []
+    for document, names in REPORTS.items():
+        shown = REPORT.findall(text_of(document))
+        results.append(comparing.compared(f"{document}: how many reports", len(shown), len(names)))
+        for name, text in zip(names, shown):
+            whole = text_of(ROWS, f"{name}.stdout")
+            results.append(comparing.compared(f"{document}: the report of {name}", text, whole[-len(text) :]))
+    return results
+
+
+def rows_of_examples():
+    """Whether each example stands among the worked rows as it is, since a crate can't reach past its folder."""
+    results = []
+    for name, text, printed in examples():
+        row = f"example_{name.replace('-', '_')}"
+        for file, octets in ((row, text), (row.replace(".script", ".stdout"), printed)):
+            results.append(comparing.compared(file, octets_of(ROWS, file), octets))
+    return results
+
+
+def run_examples():
+    """Each example, on the program."""
+    results = rows_of_examples() + rows_of_documents() + reports_of_documents()
+    for name, text, expected in examples():
+        run = subprocess.run([programs.path_of("rsl_app"), "replay"], input=text, capture_output=True, check=False)
+        results.append(comparing.compared(name, run.stdout, expected))
+    return comparing.total(results)
+
+
+def bench(name, *words):
+    """A script of bench/ that exits with 0 where all is right."""
+    run = subprocess.run([os.path.join(TOP, "bench", name), *words], check=False)
+    return int(run.returncode == 0), int(run.returncode != 0)
+
+
+def compiled_bench(name, *words):
+    """The same of one that has a library or a program in C."""
+    if lacks("cc", f"bench/{name}"):
+        return left_out()
+    return bench(name, *words)
+
+
+def ask_with_radclient():
+    """Both servers, and FreeRADIUS's radclient as the access server."""
+    if lacks("radclient", "examples/with-radclient.sh, examples/radlimitd.sh and examples/networks.sh"):
+        return left_out()
+    asked = (("with-radclient.sh", "rsl_app"), ("radlimitd.sh", "radlimitd"), ("networks.sh", "radlimitd"))
+    runs = [
+        subprocess.run([os.path.join(TOP, "examples", script), programs.path_of(name)], check=False).returncode
+        for script, name in asked
+    ]
+    return runs.count(0), len(runs) - runs.count(0)
+
+
+def ask_through_freeradius():
+    """Two radlimitd, a FreeRADIUS in front of them, and radclient."""
+    if any(lacks(program, "examples/behind-freeradius.sh") for program in ("freeradius", "radclient")):
+        return left_out_everywhere()
+    words = [os.path.join(TOP, "examples", "behind-freeradius.sh"), programs.path_of("radlimitd")]
+    run = subprocess.run(words, check=False)
+    return int(run.returncode == 0), int(run.returncode != 0)
+
+
+def install_package():
+    """The Debian package, built and installed."""
+    wanted = ("lintian", "mmdebstrap", "systemd-nspawn", "systemd-analyze", "man", "dpkg-deb", "radclient", "curl")
+    if any(lacks(program, "bench/package") for program in wanted):
+        return left_out_everywhere()
+    if os.geteuid() != 0:
+        print("check: this is not root, so this part is left out: bench/package")
+        return left_out_everywhere()
+    return bench("package")
+
+
+# the parts by the word of --only: what each is called, and how it is done
+PARTS = {
+    "examples": ("examples", run_examples),
+    "streams": ("arguments and streams", bench, "streams"),
+    "sizes": ("greatest inputs", bench, "sizes"),
+    "refused-memory": ("refused memory", compiled_bench, "refused-memory"),
+    "failing-sockets": ("failing sockets", compiled_bench, "failing-sockets"),
+    "failing-daemon": ("failing calls of radlimitd", compiled_bench, "failing-daemon"),
+    "hostile": ("hostile datagrams", compiled_bench, "hostile", "100000"),
+    "hostile-daemon": ("hostile datagrams to radlimitd", compiled_bench, "hostile", "--daemon", "100000"),
+    "killed-log": ("a log that is killed", bench, "kill", "30"),
+    "killed-server": ("a server that is killed", bench, "lives", "30"),
+    "damaged": ("damaged folders", bench, "damage"),
+    "changed": ("changed account files", bench, "changed"),
+    "reload": ("account files read by a running server", bench, "reload", "40"),
+    "refusals": ("lines of what is refused", bench, "refusals"),
+    "monitoring": ("a dashboard and alerts", bench, "monitoring"),
+    "full-disk": ("a full disk", compiled_bench, "full-disk"),
+    "copied": ("a folder that is copied", bench, "backup", "3"),
+    "steered": ("what an operator asks", bench, "steering"),
+    "page": ("the page", bench, "page"),
+    "unrecorded": ("an answer that is not recorded", bench, "unrecorded"),
+    "radclient": ("radclient", ask_with_radclient),
+    "freeradius": ("behind FreeRADIUS", ask_through_freeradius),
+    "package": ("the Debian package", install_package),
+    "launcher": ("each way of ./radlimit", bench, "launcher"),
+}
+
+# the parts that wait as long as an answer takes, the longest first: they run beside one another. Of the others each looks
+# at how soon something is answered or ends, or has all processors to itself
+PATIENT = (
+    "damaged", "package", "launcher", "reload", "unrecorded", "freeradius", "killed-server", "copied", "killed-log",
+)
+
+# the UDP ports that they share out, so that a server which is killed and starts again finds its own ports free
+PORTS = range(20_000, 32_000)
+
+
+def timed(name, work, *given):
+    """A part of the check: its name, what passed and failed, and the seconds that it took."""
+    began = time.monotonic()
+    passed, failed = work(*given)
+    return name, passed, failed, time.monotonic() - began
+
+
+def apart(name, ports, words):
+    """A part in a process of its own, over some ports: what passed and failed. What it prints is printed in one piece."""
+    environment = os.environ | {"PORTS": f"{ports.start}-{ports.stop}"}
+    run = subprocess.run(
+        [sys.executable, os.path.join(TOP, "check"), *words, "--only", name], env=environment, check=False,
+        stdout=subprocess.PIPE, stderr=subprocess.STDOUT, text=True, errors="replace",
+    )
+    *said, last = run.stdout.splitlines() or [""]
+    told = re.fullmatch(r"(\d+) passed, (\d+) failed", last)
+    # before its last line stand an empty line and the line of its one part
+    print("\n".join(said[:-2] if told else [*said, last]), flush=True)
+    return (int(told[1]), int(told[2])) if told else (0, 1)
+
+
+def run_all(names, words=()):
+    """Parts, with the words that `check` has to be given for one: first the patient ones, as many at once as leave a
+    processor free, and then the others, one by one."""
+    patient = [name for name in PATIENT if name in names]
+    share = len(PORTS) // max(len(patient), 1)
+    with ThreadPoolExecutor(max(1, len(os.sched_getaffinity(0)) - 1)) as pool:
+        works = [
+            pool.submit(timed, PARTS[name][0], apart, name, PORTS[at * share : (at + 1) * share], words)
+            for at, name in enumerate(patient)
+        ]
+        found = [work.result() for work in works]
+    return found + [timed(*PARTS[name]) for name in PARTS if name in names and name not in PATIENT]

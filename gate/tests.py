@@ -1,0 +1,147 @@
+"""The tests, by builds that are not proved: those in functions, and the programs of tests/ that print what calls answer."""
+
+import os
+import re
+import shutil
+import subprocess
+import sys
+import tempfile
+
+from gate import comparing, repository, unproved
+
+# crates of tests that are tried as one, since each try compiles all that stands below: a crate, and those whose modules
+# it takes too. No two of their modules have one name.
+TRIED_WITH = {
+    "test_packet": ["test_rule"],
+    "test_server": ["test_service"],
+    "test_library": ["test_store"],
+    "test_turn": ["test_spelling", "test_config", "test_peers", "test_lives"],
+}
+
+# the most seconds of a run of tests
+TEST_SECONDS = 120
+NOBODY = 65534
+TRIED = re.compile(r"^test result: .* (\d+) passed; (\d+) failed", re.M)
+
+# the modules of a crate of tests
+MODULES = re.compile(r"^(?:#\[cfg\(test\)\]\n)?mod \w+;\n", re.M)
+
+# the runs of `rt try`, which an interrupt has to end
+RUNNING = []
+
+
+def join(crates, crate, others):
+    """Moves the modules of crates of tests to another one, in a copy of the crates."""
+    taken = os.path.join(crates, crate, "src")
+    for other in others:
+        given = os.path.join(crates, other, "src")
+        with open(os.path.join(given, "lib.rt"), encoding="utf-8") as file:
+            modules = MODULES.findall(file.read())
+        with open(os.path.join(taken, "lib.rt"), "a", encoding="utf-8") as file:
+            file.write("".join(modules))
+        for name in set(os.listdir(given)) - {"lib.rt"}:
+            if os.path.exists(os.path.join(taken, name)):
+                sys.exit(f"check: both {crate} and {other} have {name}, so they can't be tried as one: see TRIED_WITH")
+            os.rename(os.path.join(given, name), os.path.join(taken, name))
+        shutil.rmtree(os.path.join(crates, other))
+
+
+def join_lists(lists):
+    """The list of crates once some are joined: each stands on what it takes over too."""
+    gone = {other for others in TRIED_WITH.values() for other in others}
+    joined = {crate: [word for name in (crate, *others) for word in lists[name]] for crate, others in TRIED_WITH.items()}
+    return {name: list(dict.fromkeys(joined.get(name, words))) for name, words in lists.items() if name not in gone}
+
+
+def lay_out(to):
+    """A copy of the crates, joined, in which the constants of tests have the values of such a run: its folder of crates."""
+    repository.lay_out(to, repository.crates())
+    crates = os.path.join(to, "crates")
+    for crate, others in TRIED_WITH.items():
+        join(crates, crate, others)
+    repository.write_list(os.path.join(to, "crates.txt"), join_lists(repository.crates()))
+    for path in files_of(crates):
+        with open(path, encoding="utf-8") as file:
+            text = file.read()
+        if repository.QUICK.search(text):
+            with open(path, "w", encoding="utf-8") as file:
+                file.write(repository.QUICK.sub(r"\1 \2;", text))
+    return crates
+
+
+def files_of(folder):
+    """The sources below a folder."""
+    for at, _, names in os.walk(folder):
+        yield from (os.path.join(at, name) for name in names if name.endswith(".rt"))
+
+
+def crates_of_tests(crates):
+    """The crates that have a test, the largest first."""
+    sizes = {}
+    for crate in os.listdir(crates):
+        texts = []
+        for path in files_of(os.path.join(crates, crate, "src")):
+            with open(path, encoding="utf-8") as file:
+                texts.append(file.read())
+        if any("#[test]" in text for text in texts):
+            sizes[crate] = sum(map(len, texts))
+    return sorted(sizes, key=sizes.get, reverse=True)
+
+
+def try_tests(crates, crate):
+    """The tests of a crate."""
+    run = unproved.start_try(os.path.join(crates, crate), ["--test", "--steps", "1", "--seconds", str(TEST_SECONDS)])
+    RUNNING.append(run)
+    printed, told = run.communicate()
+    results = TRIED.search(printed)
+    if run.returncode != 0 or not results:
+        print(f"== {crate}\n{printed}{told}")
+    passed, failed = (int(results[1]), int(results[2])) if results else (0, 1)
+    return passed, max(failed, int(run.returncode != 0))
+
+
+def printing_programs():
+    """The programs of tests/ that print what calls answer: those whose crate has what they are to print."""
+    lists = repository.listed(os.path.join(repository.TESTS, "crates.txt"))
+    return [name for name in lists if os.path.isfile(os.path.join(repository.TESTS, name, "stdout"))]
+
+
+def octets_of(folder, name):
+    """The octets of a file beside a crate's src/, none where it is not there."""
+    path = os.path.join(folder, name)
+    if not os.path.isfile(path):
+        return b""
+    with open(path, "rb") as file:
+        return file.read()
+
+
+def as_nobody(folder):
+    """The words that run a program as nobody, who is given a folder, where this is root: root may write to any file."""
+    if os.geteuid() != 0:
+        return []
+    for at, _, names in os.walk(folder):
+        for path in (at, *(os.path.join(at, name) for name in names)):
+            os.chown(path, NOBODY, NOBODY)
+    return ["setpriv", f"--reuid={NOBODY}", f"--regid={NOBODY}", "--clear-groups"]
+
+
+def try_program(name):
+    """What a program prints, in a folder that has its data/, over what it is given: line by line as its crate has it."""
+    folder, path = os.path.join(repository.TESTS, name), unproved.built(name)
+    words = octets_of(folder, "args").decode().splitlines()
+    with tempfile.TemporaryDirectory() as top:
+        room, program = os.path.join(top, "room"), shutil.copy(path, top)
+        data = os.path.join(folder, "data")
+        shutil.copytree(data, room) if os.path.isdir(data) else os.mkdir(room)
+        run = subprocess.run(
+            [*as_nobody(top), program, *words], input=octets_of(folder, "stdin"), cwd=room, capture_output=True,
+            check=False, timeout=TEST_SECONDS,
+        )
+    expected = octets_of(folder, "stdout")
+    wanted = int(octets_of(folder, "status") or b"0")
+    results = [comparing.compared(name, run.stdout, expected), comparing.compared(f"{name}: status", run.returncode, wanted)]
+    if results[1] != (1, 0):
+        print(run.stderr.decode(errors="replace"))
+    # a line that is as it should be is a thing that passed
+    failed = comparing.total(results)[1]
+    return (expected.count(b"\n") if failed == 0 else 0), failed
