@@ -3,7 +3,6 @@ with its list; and copies of them as `rt` wants them, one folder crates/ with on
 
 import hashlib
 import os
-import re
 import shutil
 import subprocess
 
@@ -14,9 +13,6 @@ TESTS = os.path.join(TOP, "tests")
 # what `rt` reads of a crate, and what it runs a program on
 PARTS = ("src", "specs", "proofs")
 GIVEN = ("stdin", "stdout", "args", "status", "data")
-
-# a constant of a test, and after it the value that it has where the tests are run by an unproved build
-QUICK = re.compile(r"^(.*const \w+: \w+ =) [^;]*; // quick: (\w+)$", re.M)
 
 
 def listed(path):
@@ -130,5 +126,5 @@ def is_current(path, name, top=TOP):
     if not os.access(path, os.X_OK) or not os.path.isfile(f"{path}.sources"):
         return False
     with open(f"{path}.sources", encoding="utf-8") as file:
-        sources_then, kit_then = file.read().splitlines()
-    return sources_then == digest([name], top) and kit() in (None, kit_then)
+        noted = file.read().splitlines()
+    return noted[:1] == [digest([name], top)] and kit() in (None, *noted[1:])

@@ -18,8 +18,11 @@ TRIED_WITH = {
     "test_turn": ["test_spelling", "test_config", "test_peers", "test_lives"],
 }
 
+# a constant of a test, and after it the value that it has in a short run
+QUICK = re.compile(r"^(.*const \w+: \w+ =) [^;]*; // quick: (\w+)$", re.M)
+
 # the most seconds of a run of tests
-TEST_SECONDS = 120
+TEST_SECONDS = 600
 NOBODY = 65534
 TRIED = re.compile(r"^test result: .* (\d+) passed; (\d+) failed", re.M)
 
@@ -53,19 +56,25 @@ def join_lists(lists):
     return {name: list(dict.fromkeys(joined.get(name, words))) for name, words in lists.items() if name not in gone}
 
 
-def lay_out(to):
-    """A copy of the crates, joined, in which the constants of tests have the values of such a run: its folder of crates."""
+def shorten(folder):
+    """Gives the constants of tests the values of a short run."""
+    for path in files_of(folder):
+        with open(path, encoding="utf-8") as file:
+            text = file.read()
+        if QUICK.search(text):
+            with open(path, "w", encoding="utf-8") as file:
+                file.write(QUICK.sub(r"\1 \2;", text))
+
+
+def lay_out(to, is_short):
+    """A copy of the crates, joined, for a short run or a whole one: its folder of crates."""
     repository.lay_out(to, repository.crates())
     crates = os.path.join(to, "crates")
     for crate, others in TRIED_WITH.items():
         join(crates, crate, others)
     repository.write_list(os.path.join(to, "crates.txt"), join_lists(repository.crates()))
-    for path in files_of(crates):
-        with open(path, encoding="utf-8") as file:
-            text = file.read()
-        if repository.QUICK.search(text):
-            with open(path, "w", encoding="utf-8") as file:
-                file.write(repository.QUICK.sub(r"\1 \2;", text))
+    if is_short:
+        shorten(crates)
     return crates
 
 
@@ -98,6 +107,18 @@ def try_tests(crates, crate):
         print(f"== {crate}\n{printed}{told}")
     passed, failed = (int(results[1]), int(results[2])) if results else (0, 1)
     return passed, max(failed, int(run.returncode != 0))
+
+
+def try_alone(name):
+    """The tests of one crate of tests, or what its program prints, or both."""
+    results = []
+    if name in printing_programs():
+        results.append(try_program(name))
+    with tempfile.TemporaryDirectory() as top:
+        repository.lay_out(top, [name])
+        if name in crates_of_tests(os.path.join(top, "crates")):
+            results.append(try_tests(os.path.join(top, "crates"), name))
+    return comparing.total(results)
 
 
 def printing_programs():
