@@ -5,7 +5,7 @@ use Rattle.std.proofs.lemmas.List.{drop_more}
 use Rattle.std.specs.declared.net.socket_addr.SocketAddr.{SocketAddr}
 use Rattle.rld_networks.specs.declared.network.Network.{Network}
 use Rattle.rsl_event.specs.declared.event.Source.{Source}
-use Rattle.rsl_receive.specs.Told.{Received, datagram_of, taken_by}
+use Rattle.rsl_port.specs.Told.{Received, datagram_of, taken_by}
 use Rattle.rld_peers.specs.declared.batch.Way.{Way}
 use Rattle.rld_peers.specs.declared.peer_port.PeerDatagram.{PeerDatagram}
 use Rattle.rld_peers.specs.Batch.{AreWays, after_joining, joined_as, peer_at, same_source}

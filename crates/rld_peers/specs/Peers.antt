@@ -5,7 +5,7 @@ use Rattle.std.specs.declared.net.socket_addr.SocketAddr.{SocketAddr}
 use Rattle.rld_networks.specs.Networks.{client_of}
 use Rattle.rld_networks.specs.declared.network.Network.{Network}
 use Rattle.rsl_event.specs.declared.event.Source.{Source}
-use Rattle.rsl_receive.specs.declared.datagram_port.Datagram.{Datagram}
+use Rattle.rsl_port.specs.declared.datagram_port.Datagram.{Datagram}
 use Rattle.rld_peers.specs.declared.peer_port.PeerDatagram.{PeerDatagram}
 
 abbrev pub peer_datagram : SocketAddr → (octets : List ℕ) → PeerDatagram

@@ -3,7 +3,7 @@ use Rattle.std.specs.Prelude.{◌≡◌, ℕ, Bool, true, false, List, [], ◌�
 use Rattle.std.specs.declared.net.socket_addr.SocketAddr.{SocketAddr}
 use Rattle.rld_networks.specs.declared.network.Network.{Network}
 use Rattle.rsl_event.specs.declared.event.Source.{Source}
-use Rattle.rsl_receive.specs.Told.{Received}
+use Rattle.rsl_port.specs.Told.{Received}
 use Rattle.rld_peers.specs.declared.batch.Way.{Way}
 use Rattle.rld_peers.specs.declared.peer_port.PeerDatagram.{PeerDatagram}
 use Rattle.rld_peers.specs.Batch.{peer_at}

@@ -1,5 +1,5 @@
 ghost use Rattle.std.specs.Prelude.{◌≡◌, ◌≤◌, ◌&&◌, true, length, IfOk, IfSome, is_err};
-ghost use Rattle.rsl_receive.specs.Told.{no_numbers};
+ghost use Rattle.rsl_port.specs.Told.{no_numbers};
 ghost use Rattle.rld_peers.specs.Peers.{seen_datagrams};
 ghost use Rattle.rld_peers.specs.Ports.{HasAnswered, HasGiven, KeepsWays};
 
@@ -8,7 +8,7 @@ use crate::peer_port::{Patience, PeerPort};
 use rld_networks::Network;
 use rld_turn::BatchPort;
 use rsl_event::Source;
-use rsl_receive::{DatagramPort, Numbers, PortFault};
+use rsl_port::{DatagramPort, Numbers, PortFault};
 use rsl_wire::NoMemory;
 use std::alloc::Global;
 

@@ -2,7 +2,7 @@ ghost use Rattle.std.specs.Prelude.{◌≡◌, ◌++◌, ◌∷◌, [], true};
 ghost use Rattle.rld_peers.specs.Peers.{peer_datagram};
 
 use crate::peer_port::{Patience, PeerDatagram, PeerPort};
-use rsl_receive::PortFault;
+use rsl_port::PortFault;
 use rsl_wire::Octets;
 use std::alloc::Global;
 use std::net::SocketAddr;

@@ -1,6 +1,6 @@
 //! Peers: where datagrams come from, as the system tells it.
 
-use rsl_receive::PortFault;
+use rsl_port::PortFault;
 use rsl_wire::Octets;
 use std::net::SocketAddr;
 

@@ -9,9 +9,8 @@ use rld_look::{
 use rld_refusals::Places;
 use rld_spelling::Header;
 use rsl_accounts::Config;
-use rsl_edges::SystemClock;
 use rsl_event::Port;
-use rsl_receive::Clock;
+use rsl_port::{Clock, SystemClock};
 use rsl_shard::Row;
 use rsl_text::read_file;
 use rsl_wire::NoMemory;

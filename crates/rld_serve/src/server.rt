@@ -1,5 +1,5 @@
 ghost use Rattle.std.specs.Prelude.{◌≡◌, IfOk};
-ghost use Rattle.rsl_receive.specs.Told.{no_numbers};
+ghost use Rattle.rsl_port.specs.Told.{no_numbers};
 
 use crate::accounts::Accounts;
 use crate::control::Control;
@@ -28,9 +28,8 @@ use rld_store::Store;
 use rld_turn::{ReceiveFault, RecordFault, receive, tick};
 use rld_watch::{Board, Desk, Watcher};
 use rsl_accounts::Config;
-use rsl_edges::SystemClock;
 use rsl_event::Port;
-use rsl_receive::Clock;
+use rsl_port::{Clock, SystemClock};
 use std::alloc::Global;
 use std::net::{Net, TcpListener, TcpStream};
 use std::sync::atomic::{AtomicBool, Ordering};

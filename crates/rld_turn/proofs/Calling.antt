@@ -3,9 +3,9 @@ use Rattle.std.proofs.Common.{◌≡◌, ℕ, ◌+◌, ◌*◌, ◌<◌, ◌≤�
 use Rattle.std.proofs.Math.Nat.{le-min, le_trans, min-le_right}
 use Rattle.std.specs.Prelude.{Some, None, Ok, Err}
 use Rattle.rsl_event.specs.declared.event.Source.{Source}
-use Rattle.rsl_receive.specs.Told.{CanReceive, CanSend, Received, after_receive}
-use Rattle.rsl_receive.specs.declared.datagram_port.PortFault.{PortFault}
-use Rattle.rsl_receive.specs.declared.datagram_port.Numbers.{Numbers}
+use Rattle.rsl_port.specs.Told.{CanReceive, CanSend, Received, after_receive}
+use Rattle.rsl_port.specs.declared.datagram_port.PortFault.{PortFault}
+use Rattle.rsl_port.specs.declared.datagram_port.Numbers.{Numbers}
 use Rattle.rld_turn.specs.Counted.{AddsUp, AreCounted, HasCalled, IsReceived, IsSending, counted, ends_of, failed_by, no_counts, no_ends, sends_of}
 use Rattle.rld_turn.specs.declared.counts.Counts.{Counts}
 use Rattle.rld_turn.specs.declared.ends.Ending.{Ending}

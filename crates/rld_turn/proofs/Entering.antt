@@ -13,10 +13,9 @@ use Rattle.rsl_event.specs.declared.meaning.Meaning.{Meaning}
 use Rattle.rsl_event.specs.declared.meaning.Meaning.TheVariants as Mean
 use Rattle.rsl_event.specs.declared.meaning.Port.{Port}
 use Rattle.rsl_event.specs.declared.meaning.Prepared.{Prepared}
-use Rattle.rsl_receive.specs.Told.{Received, datagram_of, taken_by}
-use Rattle.rsl_receive.specs.declared.datagram_port.Datagram.{Datagram}
-use Rattle.rsl_receive.specs.declared.datagram_port.PortFault.{PortFault}
-use Rattle.rsl_service.specs.Service.{ServiceSeen}
+use Rattle.rsl_port.specs.Told.{Received, datagram_of, taken_by}
+use Rattle.rsl_port.specs.declared.datagram_port.Datagram.{Datagram}
+use Rattle.rsl_port.specs.declared.datagram_port.PortFault.{PortFault}
 use Rattle.rsl_shard.specs.declared.moved.Move.{Move}
 use Rattle.rld_turn.specs.Ended.{CanEnd, HasPlace}
 use Rattle.rsl_wire.specs.Packet.{packet_of}
@@ -24,6 +23,7 @@ use Rattle.rsl_wire.specs.Seen.{fields_of}
 use Rattle.rld_turn.specs.Entered.{AreEntered, HasAdded, HasGathered, IsEntered, IsLast, IsWaiting, waiting_of}
 use Rattle.rld_turn.specs.Moves.{move_of}
 use Rattle.rld_turn.specs.Recorded.{HasCount}
+use Rattle.rld_turn.specs.Turned.{ServiceSeen}
 use Rattle.rld_turn.specs.declared.entry.Entry.{Entry}
 use Rattle.rld_turn.specs.declared.entry.Entry.TheVariants.{Dropped, Refused, Bare, Moved}
 use Rattle.rld_turn.specs.declared.entry.Waiting.{Waiting}

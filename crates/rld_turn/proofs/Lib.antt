@@ -3,6 +3,5 @@ pub mod Deciding
 pub mod Entering
 pub mod Replying
 pub mod Serving
-pub mod Showing
 pub mod Storing
 pub mod Telling

@@ -8,8 +8,7 @@ use Rattle.rsl_event.specs.declared.event.Decision.{Decision}
 use Rattle.rsl_event.specs.declared.event.Decision.TheVariants.{Done}
 use Rattle.rsl_event.specs.declared.meaning.Port.{Port}
 use Rattle.rsl_event.specs.declared.words.Said.{Said}
-use Rattle.rsl_receive.specs.declared.datagram_port.Datagram.{Datagram}
-use Rattle.rsl_service.specs.Service.{ServiceSeen}
+use Rattle.rsl_port.specs.declared.datagram_port.Datagram.{Datagram}
 use Rattle.rsl_shard.specs.Restep.{BooksSeen}
 use Rattle.rsl_shard.specs.declared.moved.Move.{Move}
 use Rattle.rld_books.specs.Server.{decision_in, decisions_of, replay}
@@ -17,7 +16,7 @@ use Rattle.rld_turn.proofs.Deciding.{decided_at}
 use Rattle.rld_turn.proofs.Entering.{goes_on}
 use Rattle.rld_turn.proofs.Telling.{more_told, no_numbers, none_told, one_told, same_told}
 use Rattle.rld_turn.specs.Answered.{Batch, HasAnswered}
-use Rattle.rsl_receive.specs.declared.datagram_port.Numbers.{Numbers}
+use Rattle.rsl_port.specs.declared.datagram_port.Numbers.{Numbers}
 use Rattle.rld_turn.specs.Counted.{IsSending, counted_end, ends_of, no_ends, sends_of}
 use Rattle.rld_turn.specs.Ended.{IsEndOf, answer_if, decision_at, failed_sends_in, reply_of, sends_in, sent_by, told_by}
 use Rattle.rld_turn.specs.Entered.{AreEntered, IsEntered, IsWaiting}
@@ -25,7 +24,7 @@ use Rattle.rld_turn.specs.Moves.{decided}
 use Rattle.rld_turn.specs.Recorded.{HasDecided, is_recorded}
 use Rattle.rsl_wire.specs.Packet.{packet_of}
 use Rattle.rld_turn.specs.Told.{AreNumbersOf, HasTold, IsSentAs, Told, told_of}
-use Rattle.rld_turn.specs.Turned.{IsAnsweredBy, Turned, NoneYet, ThenDropped, ThenRefused, ThenUnrecorded, ThenBare, ThenAnswered}
+use Rattle.rld_turn.specs.Turned.{IsAnsweredBy, ServiceSeen, Turned, NoneYet, ThenDropped, ThenRefused, ThenUnrecorded, ThenBare, ThenAnswered}
 use Rattle.rld_turn.specs.declared.ends.End.{End}
 use Rattle.rld_turn.specs.declared.ends.End.TheVariants as ends
 use Rattle.rld_turn.specs.declared.ends.Ends.{Ends}

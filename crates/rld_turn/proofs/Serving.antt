@@ -3,21 +3,20 @@ use Rattle.std.proofs.Common.{◌≡◌, ℕ, false, List, [], ◌∷◌, ◌++�
 use Rattle.std.specs.Prelude.{Option}
 use Rattle.rsl_accounts.specs.Configuration.{Configuration}
 use Rattle.rsl_event.specs.declared.meaning.Port.{Port}
-use Rattle.rsl_receive.specs.Shown.{HasShown}
-use Rattle.rsl_receive.specs.declared.datagram_port.Datagram.{Datagram}
-use Rattle.rsl_service.specs.Service.{ServiceSeen}
+use Rattle.rsl_port.specs.Shown.{HasShown}
+use Rattle.rsl_port.specs.declared.datagram_port.Datagram.{Datagram}
 use Rattle.rsl_shard.specs.Restep.{BooksSeen}
 use Rattle.rsl_shard.specs.declared.moved.Move.{Move}
 use Rattle.rld_books.specs.Server.{replay}
 use Rattle.rld_turn.proofs.Deciding.{replay_none, replay_then}
-use Rattle.rld_turn.proofs.Showing.{more_shown, none_shown}
+use Rattle.rsl_port.proofs.Callers.{more_shown, none_shown}
 use Rattle.rld_turn.proofs.Telling.{more_told, no_numbers, none_told, turn_told}
 use Rattle.rld_turn.specs.Answered.{HasFinished}
 use Rattle.rld_turn.specs.Counted.{counted, no_counts, no_ends}
 use Rattle.rld_turn.specs.Recorded.{made}
 use Rattle.rld_turn.specs.Served.{HasServed, NoTurn, ThenTurn}
 use Rattle.rld_turn.specs.Told.{Told}
-use Rattle.rld_turn.specs.Turned.{HasTurned, State, Turned, NoneYet, moments_of, state_of}
+use Rattle.rld_turn.specs.Turned.{HasTurned, ServiceSeen, State, Turned, NoneYet, moments_of, state_of}
 use Rattle.rld_turn.specs.declared.counts.Counts.{Counts}
 use Rattle.rld_turn.specs.declared.ends.Ends.{Ends}
 

@@ -3,15 +3,14 @@ use Rattle.std.specs.Prelude.{◌≡◌, ℕ, Bool, List, [], ◌++◌, Option}
 use Rattle.rsl_accounts.specs.Configuration.{Configuration}
 use Rattle.rsl_event.specs.declared.event.Decision.{Decision}
 use Rattle.rsl_event.specs.declared.meaning.Port.{Port}
-use Rattle.rsl_receive.specs.declared.datagram_port.Datagram.{Datagram}
-use Rattle.rsl_service.specs.Service.{ServiceSeen}
+use Rattle.rsl_port.specs.declared.datagram_port.Datagram.{Datagram}
 use Rattle.rsl_shard.specs.Restep.{BooksSeen}
 use Rattle.rsl_shard.specs.declared.moved.Move.{Move}
 use Rattle.rld_turn.specs.Entered.{AreEntered}
 use Rattle.rld_books.specs.Server.{replay}
 use Rattle.rld_turn.specs.Recorded.{HasDecided, is_recorded, made}
 use Rattle.rld_turn.specs.Told.{AreNumbersOf, HasTold, Told}
-use Rattle.rld_turn.specs.Turned.{Turned}
+use Rattle.rld_turn.specs.Turned.{ServiceSeen, Turned}
 use Rattle.rld_turn.specs.declared.ends.Ends.{Ends}
 use Rattle.rld_turn.specs.declared.entry.Entry.{Entry}
 

@@ -6,13 +6,13 @@ use Rattle.rsl_event.specs.Answer.{answer_to, said_to}
 use Rattle.rsl_event.specs.declared.event.Decision.{Decision}
 use Rattle.rsl_event.specs.declared.event.Decision.TheVariants.{Done}
 use Rattle.rsl_event.specs.declared.meaning_kind.MeaningKind.{MeaningKind}
-use Rattle.rsl_receive.specs.Told.{datagram_of}
-use Rattle.rsl_receive.specs.declared.datagram_port.Datagram.{Datagram}
-use Rattle.rsl_service.specs.Service.{ServiceSeen}
+use Rattle.rsl_port.specs.Told.{datagram_of}
+use Rattle.rsl_port.specs.declared.datagram_port.Datagram.{Datagram}
 use Rattle.rsl_wire.specs.Packet.{Fields, packet_of}
 use Rattle.rsl_wire.specs.declared.packet.WireFault.{WireFault}
 use Rattle.rld_turn.specs.Entered.{CanAnswer}
 use Rattle.rld_turn.specs.Told.{IsSentAs, Told, told_of}
+use Rattle.rld_turn.specs.Turned.{ServiceSeen}
 use Rattle.rld_turn.specs.declared.ends.End.{End}
 use Rattle.rld_turn.specs.declared.ends.End.TheVariants as ends
 use Rattle.rld_turn.specs.declared.entry.Entry.{Entry}

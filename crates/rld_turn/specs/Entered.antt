@@ -7,13 +7,12 @@ use Rattle.rsl_event.specs.Prepared.{CanReply}
 use Rattle.rsl_event.specs.declared.event.Source.{Source}
 use Rattle.rsl_event.specs.declared.meaning.Meaning.{Meaning}
 use Rattle.rsl_event.specs.declared.meaning.Port.{Port}
-use Rattle.rsl_receive.specs.Told.{datagram_of}
-use Rattle.rsl_receive.specs.declared.datagram_port.Datagram.{Datagram}
-use Rattle.rsl_service.specs.Service.{ServiceSeen}
+use Rattle.rsl_port.specs.Told.{datagram_of}
+use Rattle.rsl_port.specs.declared.datagram_port.Datagram.{Datagram}
 use Rattle.rsl_shard.specs.declared.moved.Move.{Move}
 use Rattle.rsl_wire.specs.Packet.{Fields, packet_of}
 use Rattle.rld_turn.specs.Moves.{move_of}
-use Rattle.rld_turn.specs.Turned.{IsRefused}
+use Rattle.rld_turn.specs.Turned.{IsRefused, ServiceSeen}
 use Rattle.rld_turn.specs.declared.entry.Entry.{Entry}
 use Rattle.rld_turn.specs.declared.entry.Entry.TheVariants.{Dropped, Refused, Bare, Moved}
 use Rattle.rld_turn.specs.declared.entry.Waiting.{Waiting}

@@ -2,15 +2,14 @@
 use Rattle.std.specs.Prelude.{◌≡◌, ℕ, Bool, List, [], ◌++◌}
 use Rattle.rsl_accounts.specs.Configuration.{Configuration}
 use Rattle.rsl_event.specs.declared.meaning.Port.{Port}
-use Rattle.rsl_receive.specs.Shown.{HasShown}
-use Rattle.rsl_receive.specs.declared.datagram_port.Datagram.{Datagram}
-use Rattle.rsl_service.specs.Service.{ServiceSeen}
+use Rattle.rsl_port.specs.Shown.{HasShown}
+use Rattle.rsl_port.specs.declared.datagram_port.Datagram.{Datagram}
 use Rattle.rsl_shard.specs.Restep.{BooksSeen}
 use Rattle.rsl_shard.specs.declared.moved.Move.{Move}
 use Rattle.rld_books.specs.Server.{replay}
 use Rattle.rld_turn.specs.Recorded.{made}
 use Rattle.rld_turn.specs.Told.{AreNumbersOf, HasTold, Told}
-use Rattle.rld_turn.specs.Turned.{State, Turned, moments_of}
+use Rattle.rld_turn.specs.Turned.{ServiceSeen, State, Turned, moments_of}
 use Rattle.rld_turn.specs.declared.counts.Counts.{Counts}
 
 -- The datagrams of turns ended so, in the order in which they were taken; these moves were recorded,

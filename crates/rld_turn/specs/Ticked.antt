@@ -1,7 +1,7 @@
 -- A tick of the moment that a clock showed, as a batch of its own.
 use Rattle.std.specs.Prelude.{◌≡◌, ℕ, List, [], ◌∷◌, ◌++◌, Option, Result, Ok, Err}
 use Rattle.rsl_accounts.specs.Configuration.{Configuration}
-use Rattle.rsl_receive.specs.Shown.{HasShown}
+use Rattle.rsl_port.specs.Shown.{HasShown}
 use Rattle.rsl_shard.specs.Restep.{BooksSeen}
 use Rattle.rsl_shard.specs.declared.moved.Move.{Move}
 use Rattle.rsl_shard.specs.declared.moved.Move.TheVariants.{Tick}

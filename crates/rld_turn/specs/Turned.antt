@@ -7,9 +7,8 @@ use Rattle.rsl_event.specs.Meaning.{meaning}
 use Rattle.rsl_event.specs.declared.meaning.Dropped.{Dropped}
 use Rattle.rsl_event.specs.declared.meaning.Meaning.{Meaning}
 use Rattle.rsl_event.specs.declared.meaning.Port.{Port}
-use Rattle.rsl_receive.specs.Shown.{HasShown}
-use Rattle.rsl_receive.specs.declared.datagram_port.Datagram.{Datagram}
-use Rattle.rsl_service.specs.Service.{ServiceSeen}
+use Rattle.rsl_port.specs.Shown.{HasShown}
+use Rattle.rsl_port.specs.declared.datagram_port.Datagram.{Datagram}
 use Rattle.rsl_shard.specs.Restep.{BooksSeen}
 use Rattle.rsl_shard.specs.declared.moved.Move.{Move}
 use Rattle.rsl_wire.specs.Packet.{Fields, packet_of}
@@ -20,6 +19,11 @@ use Rattle.rld_turn.specs.Told.{AreNumbersOf, HasTold, IsSentAs, Told, told_of}
 use Rattle.rld_turn.specs.declared.ends.End.{End}
 use Rattle.rld_turn.specs.declared.ends.End.TheVariants as ends
 use Rattle.rld_turn.specs.declared.ends.Ends.{Ends}
+
+-- what the clauses see of a server: its configuration and its boot number
+pub record ServiceSeen : Type 0 where
+  pub config : Configuration
+  pub boot : ℕ
 
 -- a server of this configuration, with this boot number
 abbrev pub service_of : Configuration → (boot : ℕ) → ServiceSeen

@@ -4,7 +4,7 @@ ghost use Rattle.std.specs.VecDeque.{deque_capacity};
 ghost use Rattle.rsl_accounts.specs.Configuration.{client_number};
 ghost use Rattle.rsl_event.specs.Answer.{answer_to, said_to};
 ghost use Rattle.rsl_event.specs.Prepared.{CanReply};
-ghost use Rattle.rsl_receive.specs.Told.{CanSend, datagram_of};
+ghost use Rattle.rsl_port.specs.Told.{CanSend, datagram_of};
 ghost use Rattle.rsl_wire.specs.Packet.{Fields, packet_of};
 ghost use Rattle.rld_turn.specs.Answered.{Batch, HasAnswered};
 ghost use Rattle.rld_turn.specs.Counted.{IsSending, ends_of, sends_of};
@@ -34,7 +34,7 @@ use crate::receiver::Receiver;
 use crate::watch::{Ended, Watch};
 use rld_store::Recorded;
 use rsl_event::{Decision, MeaningKind, Said, Source, reply_to};
-use rsl_receive::PortFault;
+use rsl_port::PortFault;
 use rsl_wire::{Draft, Octets, read};
 use std::collections::VecDeque;
 

@@ -1,10 +1,10 @@
 use rsl_event::Source;
-use rsl_receive::{DatagramPort, MemoryPort, PortFault};
+use rsl_port::{DatagramPort, MemoryPort, PortFault};
 
 /// A port that can also be asked for what waits there already.
 pub trait BatchPort: DatagramPort {
     ghost use Rattle.std.specs.Prelude.{◌≡◌, ◌≤◌, min, true, ◌++◌, length, IfOk, IfSome};
-    ghost use Rattle.rsl_receive.specs.Told.{CanReceive, after_receive, taken_by};
+    ghost use Rattle.rsl_port.specs.Told.{CanReceive, after_receive, taken_by};
 
     /// Takes a datagram as `receive` does, without waiting for one: `None` where none is there.
     fn receive_now(&mut self, buffer: &mut [u8]) -> Result<Option<(usize, Source)>, PortFault>

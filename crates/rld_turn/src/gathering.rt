@@ -1,7 +1,7 @@
 ghost use Rattle.std.specs.Prelude.{◌≡◌, ◌+◌, ◌*◌, ◌≤◌, ◌<◌, [], ◌∷◌, ◌++◌, min, length, take, true};
 ghost use Rattle.std.specs.VecDeque.{deque_capacity};
 ghost use Rattle.rsl_event.specs.Prepared.{HasAccount, HasOwnAct};
-ghost use Rattle.rsl_receive.specs.Told.{CanReceive, datagram_of};
+ghost use Rattle.rsl_port.specs.Told.{CanReceive, datagram_of};
 ghost use Rattle.rld_turn.specs.Counted.{IsReceived};
 ghost use Rattle.rld_turn.specs.Entered.{HasAdded, HasGathered, HasPushed, IsEntered};
 ghost use Rattle.rld_turn.specs.Moves.{in_log};
@@ -13,7 +13,7 @@ use crate::entry::{Entry, Waiting};
 use crate::receiver::{MAX_BATCH, Receiver};
 use rsl_accounts::Config;
 use rsl_event::{Dropped, Meaning, Source, prepare};
-use rsl_receive::PortFault;
+use rsl_port::PortFault;
 use rsl_shard::{Move, Moves};
 use std::collections::VecDeque;
 

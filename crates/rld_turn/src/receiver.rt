@@ -1,6 +1,6 @@
 ghost use Rattle.std.specs.Prelude.{◌≡◌, ◌*◌, ◌+◌, ◌≤◌, ◌<◌, [], min, IfOk, Err, length, true, ℕ, List};
 ghost use Rattle.std.specs.VecDeque.{deque_capacity};
-ghost use Rattle.rsl_receive.specs.Told.{CanReceive, CanSend};
+ghost use Rattle.rsl_port.specs.Told.{CanReceive, CanSend};
 ghost use Rattle.rld_turn.specs.Counted.{
   AddsUp,
   AreCounted,
@@ -12,7 +12,7 @@ ghost use Rattle.rld_turn.specs.Counted.{
   failed_in,
   sends_of,
 };
-ghost use Rattle.rsl_receive.specs.declared.datagram_port.Datagram.{Datagram as OneDatagram};
+ghost use Rattle.rsl_port.specs.declared.datagram_port.Datagram.{Datagram as OneDatagram};
 ghost use Rattle.rld_turn.specs.Answered.{HasFinished};
 ghost use Rattle.rld_turn.specs.Entered.{AreEntered};
 ghost use Rattle.rld_turn.specs.Served.{HasServed};
@@ -29,7 +29,7 @@ use crate::recorder::Recorder;
 use crate::watch::Watch;
 use rsl_accounts::Config;
 use rsl_event::Port;
-use rsl_receive::{Clock, PortFault};
+use rsl_port::{Clock, PortFault};
 use rsl_shard::Move;
 use rsl_wire::MAX_LEN;
 use std::alloc::Global;

@@ -3,7 +3,7 @@ ghost use Rattle.rld_turn.specs.Ticked.{HasTicked};
 
 use crate::fault::RecordFault;
 use crate::recorder::Recorder;
-use rsl_receive::Clock;
+use rsl_port::Clock;
 use rsl_shard::Move;
 use std::alloc::Global;
 

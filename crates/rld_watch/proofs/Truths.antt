@@ -18,15 +18,14 @@ use Rattle.rsl_event.specs.declared.status.Status.{Status}
 use Rattle.rsl_event.specs.declared.status.Status.TheVariants as statuses
 use Rattle.rsl_event.specs.declared.words.Said.{Said}
 use Rattle.rsl_event.specs.declared.words.Said.TheVariants as words
-use Rattle.rsl_receive.specs.declared.datagram_port.Datagram.{Datagram}
-use Rattle.rsl_service.specs.Service.{ServiceSeen}
+use Rattle.rsl_port.specs.declared.datagram_port.Datagram.{Datagram}
 use Rattle.rsl_shard.specs.Restep.{BooksSeen}
 use Rattle.rsl_shard.specs.declared.moved.Move.{Move}
 use Rattle.rld_counts.specs.declared.end.End.TheVariants.{Auth, Acct}
 use Rattle.rld_books.specs.Server.{replay}
 use Rattle.rld_turn.specs.Moves.{decided}
 use Rattle.rld_turn.specs.Told.{IsSentAs, Told, told_of}
-use Rattle.rld_turn.specs.Turned.{Turned, NoneYet, ThenDropped, ThenRefused, ThenUnrecorded, ThenBare, ThenAnswered}
+use Rattle.rld_turn.specs.Turned.{ServiceSeen, Turned, NoneYet, ThenDropped, ThenRefused, ThenUnrecorded, ThenBare, ThenAnswered}
 use Rattle.rld_turn.specs.declared.ends.End.{End as TurnEnd}
 use Rattle.rld_turn.specs.declared.ends.End.TheVariants as ends
 use Rattle.rld_watch.proofs.Meaning.{IsAccess, OfAcct, OfAuth, acct_meaning, auth_meaning}

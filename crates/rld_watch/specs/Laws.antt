@@ -12,8 +12,7 @@ use Rattle.rsl_event.specs.declared.meaning.Port.TheVariants as ports
 use Rattle.rsl_event.specs.declared.nas.Nas.{Nas}
 use Rattle.rsl_event.specs.declared.status.Status.{Status}
 use Rattle.rsl_event.specs.declared.status.Status.TheVariants as statuses
-use Rattle.rsl_receive.specs.declared.datagram_port.Datagram.{Datagram}
-use Rattle.rsl_service.specs.Service.{ServiceSeen}
+use Rattle.rsl_port.specs.declared.datagram_port.Datagram.{Datagram}
 use Rattle.rsl_shard.specs.Restep.{BooksSeen}
 use Rattle.rsl_shard.specs.declared.moved.Move.{Move}
 use Rattle.rld_counts.specs.declared.acct_end.AcctEnd.{AcctEnd}
@@ -23,7 +22,7 @@ use Rattle.rld_counts.specs.declared.auth_end.AuthEnd.TheVariants as auth
 use Rattle.rld_counts.specs.declared.end.End.{End}
 use Rattle.rld_counts.specs.declared.end.End.TheVariants.{Auth, Acct}
 use Rattle.rld_turn.specs.Told.{Told}
-use Rattle.rld_turn.specs.Turned.{Turned}
+use Rattle.rld_turn.specs.Turned.{ServiceSeen, Turned}
 use Rattle.rld_watch.specs.Ending.{end_at, request_status}
 use Rattle.rld_why.specs.Cause.{reject_cause}
 use Rattle.rld_why.specs.declared.cause.RejectCause.{RejectCause}

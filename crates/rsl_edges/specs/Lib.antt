@@ -1,4 +1,3 @@
 pub mod Fault
 pub mod Output
 pub mod Plan
-pub mod Socket

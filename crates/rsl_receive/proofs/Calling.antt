@@ -1,10 +1,10 @@
 -- How the numbers of a port and the counts of its receiver rise with a turn.
 use Rattle.std.proofs.Common.{◌≡◌, ℕ, ◌+◌, ◌<◌, ◌≤◌, ◌^◌, Bool, cond, refl, sym, ◌∙◌, subst, arith}
 use Rattle.rsl_receive.specs.Counted.{AddsUp, AreCounted, IsCalled, no_counts}
-use Rattle.rsl_receive.specs.Told.{CanReceive, CanSend}
+use Rattle.rsl_port.specs.Told.{CanReceive, CanSend}
 use Rattle.rsl_receive.specs.Turned.{HasCalled, counted, is_down}
 use Rattle.rsl_receive.specs.declared.counts.Counts.{Counts}
-use Rattle.rsl_receive.specs.declared.datagram_port.Numbers.{Numbers}
+use Rattle.rsl_port.specs.declared.datagram_port.Numbers.{Numbers}
 use Rattle.rsl_receive.specs.declared.counts.Turn.{Turn}
 use Rattle.rsl_receive.specs.declared.counts.Turn.TheVariants.{Down, Nothing, Dropped, Refused, Answered, Unsent}
 

@@ -9,7 +9,7 @@ use Rattle.rsl_receive.specs.Counted.{AddsUp, AreCounted, no_counts}
 use Rattle.rsl_receive.specs.Served.{HasServed, State}
 use Rattle.rsl_receive.specs.Turned.{HasCalled, HasTurned, counted, is_down}
 use Rattle.rsl_receive.specs.declared.counts.Counts.{Counts}
-use Rattle.rsl_receive.specs.declared.datagram_port.Numbers.{Numbers}
+use Rattle.rsl_port.specs.declared.datagram_port.Numbers.{Numbers}
 use Rattle.rsl_receive.specs.declared.counts.Turn.{Turn}
 
 -- after so many turns: they are counted, and where the port tells its datagrams, what came is served

@@ -2,5 +2,4 @@ pub mod Calling
 pub mod Keeping
 pub mod Refusing
 pub mod Serving
-pub mod Showing
 pub mod Ticking

@@ -11,12 +11,12 @@ use Rattle.rsl_service.specs.Applied.{IsStopped, swept_before}
 use Rattle.rsl_service.specs.Service.{ServiceSeen}
 use Rattle.rsl_service.specs.declared.fault.ApplyFault.{ApplyFault}
 use Rattle.rsl_record.specs.declared.receipt.Receipt.{Receipt}
-use Rattle.rsl_receive.proofs.Showing.{none_shown}
+use Rattle.rsl_port.proofs.Callers.{none_shown}
 use Rattle.rsl_receive.specs.Served.{HasStopped, IsAnsweredBy, IsRefused}
-use Rattle.rsl_receive.specs.Shown.{HasShown}
-use Rattle.rsl_receive.specs.Told.{datagram_of}
+use Rattle.rsl_port.specs.Shown.{HasShown}
+use Rattle.rsl_port.specs.Told.{datagram_of}
 use Rattle.rsl_receive.specs.Turned.{HasAnswered, HasRefused}
-use Rattle.rsl_receive.specs.declared.datagram_port.Datagram.{Datagram}
+use Rattle.rsl_port.specs.declared.datagram_port.Datagram.{Datagram}
 
 -- a meaning of which octets could not be copied
 pub uncopied : (service : ServiceSeen) (port : Port) (source : Source) (datagram : List ℕ)

@@ -4,13 +4,13 @@ use Rattle.std.proofs.lemmas.List.{append_assoc}
 use Rattle.rsl_event.specs.declared.meaning.Port.{Port}
 use Rattle.rsl_service.specs.Service.{ServiceSeen}
 use Rattle.rsl_record.specs.declared.receipt.Receipt.{Receipt}
-use Rattle.rsl_receive.proofs.Showing.{more_shown, none_shown}
+use Rattle.rsl_port.proofs.Callers.{more_shown, none_shown}
 use Rattle.rsl_receive.specs.Counted.{no_counts}
 use Rattle.rsl_receive.specs.Served.{HasServed, Served, State, NoneYet, ThenDropped, ThenRefused, ThenAnswered}
-use Rattle.rsl_receive.specs.Shown.{HasShown}
+use Rattle.rsl_port.specs.Shown.{HasShown}
 use Rattle.rsl_receive.specs.Turned.{HasTurned, TookAnswered, TookNone, counted}
 use Rattle.rsl_receive.specs.declared.counts.Counts.{Counts}
-use Rattle.rsl_receive.specs.declared.datagram_port.Datagram.{Datagram}
+use Rattle.rsl_port.specs.declared.datagram_port.Datagram.{Datagram}
 use Rattle.rsl_receive.specs.declared.counts.Turn.{Turn}
 use Rattle.rsl_receive.specs.declared.counts.Turn.TheVariants.{Down, Nothing, Dropped, Refused, Answered, Unsent}
 

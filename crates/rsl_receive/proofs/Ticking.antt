@@ -9,8 +9,8 @@ use Rattle.rsl_service.specs.Receipts.{AreNoted, HasOneMore, count_of}
 use Rattle.rsl_record.specs.declared.receipt.Receipt.{Receipt}
 use Rattle.rsl_shard.specs.declared.moved.Move.{Move}
 use Rattle.rsl_shard.specs.declared.moved.Move.TheVariants as moves
-use Rattle.rsl_receive.proofs.Showing.{more_shown, none_shown}
-use Rattle.rsl_receive.specs.Shown.{HasShown}
+use Rattle.rsl_port.proofs.Callers.{more_shown, none_shown}
+use Rattle.rsl_port.specs.Shown.{HasShown}
 use Rattle.rsl_receive.specs.Ticked.{AreTicked, HasWorked, IsTurn, Ticked, NoTurn, ThenAll, ThenSome, is_tick, ticks_of}
 
 -- with one receipt more

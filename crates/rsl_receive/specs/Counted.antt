@@ -3,7 +3,7 @@ use Rattle.std.specs.Prelude.{◌≡◌, ℕ, ◌+◌, Result, Ok, Err}
 use Rattle.rsl_receive.specs.declared.counts.Counts.{Counts}
 use Rattle.rsl_receive.specs.declared.receiver.ReceiveFault.{ReceiveFault}
 use Rattle.rsl_receive.specs.declared.receiver.ReceiveFault.TheVariants as faults
-use Rattle.rsl_receive.specs.declared.datagram_port.Numbers.{Numbers}
+use Rattle.rsl_port.specs.declared.datagram_port.Numbers.{Numbers}
 
 -- something of the counts, if there are any: those of all turns, or those up to a failure
 abbrev pub IfCounted : Result Counts ReceiveFault → (Counts → Type 0) → Type 0

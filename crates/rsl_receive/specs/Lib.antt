@@ -1,6 +1,6 @@
 pub mod Counted
 pub mod Served
-pub mod Shown
+pub use Rattle.rsl_port.specs.Shown
 pub mod Ticked
-pub mod Told
+pub use Rattle.rsl_port.specs.Told
 pub mod Turned

@@ -16,8 +16,8 @@ use Rattle.rsl_record.specs.declared.receipt.Receipt.{Receipt}
 use Rattle.rsl_shard.specs.declared.moved.Move.TheVariants as moves
 use Rattle.rsl_wire.specs.Packet.{Fields, packet_of}
 use Rattle.rsl_receive.specs.declared.counts.Counts.{Counts}
-use Rattle.rsl_receive.specs.declared.datagram_port.Datagram.{Datagram}
-use Rattle.rsl_receive.specs.Shown.{HasShown}
+use Rattle.rsl_port.specs.declared.datagram_port.Datagram.{Datagram}
+use Rattle.rsl_port.specs.Shown.{HasShown}
 
 -- a datagram has no meaning, by this cause
 pub record IsDropped (service : ServiceSeen) (port : Port) (taken : Datagram) : Type 0 where

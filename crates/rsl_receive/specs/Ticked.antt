@@ -4,7 +4,7 @@ use Rattle.rsl_service.specs.Receipts.{AreNoted, count_of}
 use Rattle.rsl_record.specs.declared.receipt.Receipt.{Receipt}
 use Rattle.rsl_shard.specs.declared.moved.Move.{Move}
 use Rattle.rsl_shard.specs.declared.moved.Move.TheVariants.{Tick}
-use Rattle.rsl_receive.specs.Shown.{HasShown}
+use Rattle.rsl_port.specs.Shown.{HasShown}
 
 abbrev pub is_tick : Move → Bool
 is_tick (Tick moment) = true

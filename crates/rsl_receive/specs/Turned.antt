@@ -5,10 +5,10 @@ use Rattle.rsl_service.specs.Service.{ServiceSeen}
 use Rattle.rsl_record.specs.declared.receipt.Receipt.{Receipt}
 use Rattle.rsl_receive.specs.Counted.{IsCalled}
 use Rattle.rsl_receive.specs.Served.{IsAnsweredBy, IsDropped, IsRefused, State}
-use Rattle.rsl_receive.specs.Shown.{HasShown}
+use Rattle.rsl_port.specs.Shown.{HasShown}
 use Rattle.rsl_receive.specs.declared.counts.Counts.{Counts}
-use Rattle.rsl_receive.specs.declared.datagram_port.Datagram.{Datagram}
-use Rattle.rsl_receive.specs.declared.datagram_port.Numbers.{Numbers}
+use Rattle.rsl_port.specs.declared.datagram_port.Datagram.{Datagram}
+use Rattle.rsl_port.specs.declared.datagram_port.Numbers.{Numbers}
 use Rattle.rsl_receive.specs.declared.receiver.Unanswered.{Unanswered}
 use Rattle.rsl_receive.specs.declared.receiver.Unanswered.TheVariants as unanswered
 use Rattle.rsl_receive.specs.declared.counts.Turn.{Turn}

@@ -1,39 +1,12 @@
-//! Clocks, and the worker that tells a service that time has passed.
+//! The worker that tells a service that time has passed.
 
 ghost use Rattle.std.specs.Prelude.{◌≤◌};
 ghost use Rattle.rsl_receive.specs.Ticked.{AreTicked, HasWorked, IsTurn};
 
+use rsl_port::{Clock, Pause};
 use rsl_service::{Gate, Pass, Service, Tally};
 use std::alloc::Global;
 use std::sync::Wait;
-
-/// Where a worker gets the moments of the moves that it makes.
-///
-/// A clock over memory also reports to contracts which moments it showed, in their order. The
-/// system's clock reports none.
-pub trait Clock {
-    ghost use Rattle.std.specs.Prelude.{ℕ, List, [], ◌∷◌, Option, None};
-    ghost use Rattle.rsl_receive.specs.Shown.{HasShown};
-
-    ghost shown: { Self → Option (List ℕ) } = { λ _. None };
-
-    /// The present moment, in seconds. It may be lower than an earlier one.
-    fn now(&mut self) -> u64
-        ensures shown { HasShown (result ∷ []) (shown self.old) (shown self.new) };
-}
-
-/// What lies between the turns of a worker that makes ticks.
-///
-/// A pause over memory also reports to contracts what it said last.
-pub trait Pause {
-    ghost use Rattle.std.specs.Prelude.{◌≡◌, Bool, Option, None, IfSome};
-
-    ghost said: { Self → Option Bool } = { λ _. None };
-
-    /// Lets time go by until the next turn is due. Answers false where there shall be none.
-    fn pause(&mut self) -> bool
-        ensures said { IfSome (said self.new) (λ said. said ≡ result) };
-}
 
 /// Makes a tick of the clock's present moment in every shard, and pauses, for so many turns or
 /// until a pause says that there shall be no more. Gives the number of turns in which every shard

@@ -3,17 +3,14 @@
 //!
 //! The promise: over a port that tells its datagrams, what `receive` made of each is exactly what
 //! `specs/Served.antt` says, and its counts are of that; over any port they agree with the calls
-//! that the port counted (`specs/Counted.antt`, `specs/Told.antt`).
+//! that the port counted (`specs/Counted.antt`, and `specs/Told.antt` of `rsl_port`).
 #![tactic(auto)]
 
 mod clock;
 mod counts;
-mod datagram_port;
-mod memory_port;
 mod receiver;
 
-pub use clock::{Clock, Pause, expire_loop};
+pub use clock::expire_loop;
 pub use counts::Counts;
-pub use datagram_port::{Datagram, DatagramPort, Numbers, PortFault};
-pub use memory_port::{Coming, MemoryPort};
 pub use receiver::{ReceiveFault, receive};
+pub use rsl_port::{Clock, Coming, Datagram, DatagramPort, MemoryPort, Numbers, Pause, PortFault};

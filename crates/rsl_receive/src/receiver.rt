@@ -1,14 +1,13 @@
 ghost use Rattle.std.specs.Prelude.{◌≡◌, ◌≤◌, min, IfErr, IfOk, Err, true, [], ◌∷◌, ◌++◌, length, vec_capacity};
 ghost use Rattle.rsl_receive.specs.Counted.{AddsUp, AreCounted, IfCounted, failed_in};
 ghost use Rattle.rsl_receive.specs.Served.{HasServed, state_of};
-ghost use Rattle.rsl_receive.specs.Told.{CanReceive, CanSend, after_send, datagram_of};
+ghost use Rattle.rsl_port.specs.Told.{CanReceive, CanSend, after_send, datagram_of};
 ghost use Rattle.rsl_receive.specs.Turned.{HasAnswered, HasCalled, HasTurned, IsUnanswered};
 ghost use Rattle.rsl_receive.specs.declared.receiver.ReceiveFault.TheVariants as faults;
 
-use crate::clock::Clock;
 use crate::counts::{Counts, Turn};
-use crate::datagram_port::{DatagramPort, PortFault};
 use rsl_event::{Dropped, Port, Source};
+use rsl_port::{Clock, DatagramPort, PortFault};
 use rsl_service::{Gate, Pass, Service, Tally};
 use rsl_wire::MAX_LEN;
 use std::alloc::Global;

@@ -1,6 +1,6 @@
 //! A clock that goes on steadily.
 
-use rsl_receive::Clock;
+use rsl_port::Clock;
 use std::test::Fail;
 use test_rows::number;
 

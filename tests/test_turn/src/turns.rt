@@ -19,7 +19,7 @@ use rld_store::Store;
 use rld_turn::{Counts, ReceiveFault, RecordFault, Unwatched, Watch, receive, tick};
 use rsl_accounts::Config;
 use rsl_event::Port;
-use rsl_receive::MemoryPort;
+use rsl_port::MemoryPort;
 use rsl_shard::Move;
 use std::alloc::Global;
 use std::test::Fail;

@@ -1,6 +1,6 @@
 use Rattle.std.proofs.Common.{◌≡◌, List, ◌++◌, ◌∷◌, [], length, take, ap, ◌∙◌, arith}
 use Rattle.std.specs.Prelude.{Ok, Some}
-use Rattle.rsl_receive.specs.Told.{datagram_of}
+use Rattle.rsl_port.specs.Told.{datagram_of}
 use Rattle.rld_turn.proofs.Calling.{room_turn, turn_called}
 use Rattle.rld_turn.proofs.Entering.{batch_entered, none_came, none_failed, one_taken}
 use Rattle.rld_turn.proofs.Serving.{none_turned, turned_by, turned_since}

@@ -1,7 +1,7 @@
 //! Ports: where datagrams come from and go to, and what is counted of their calls.
 
 ghost use Rattle.std.specs.Prelude.{◌≡◌};
-ghost use Rattle.rsl_receive.specs.Told.{CanReceive, CanSend, after_receive, after_send, no_numbers};
+ghost use Rattle.rsl_port.specs.Told.{CanReceive, CanSend, after_receive, after_send, no_numbers};
 
 use rsl_event::Source;
 use rsl_wire::Octets;
@@ -29,9 +29,9 @@ pub struct Datagram {
 /// true.
 pub trait DatagramPort {
     ghost use Rattle.std.specs.Prelude.{◌≡◌, ◌≤◌, ℕ, min, Bool, true, false, List, [], ◌∷◌, ◌++◌, length, IfOk, IfSome};
-    ghost use Rattle.rsl_receive.specs.Told.{CanReceive, CanSend, after_receive, after_send, datagram_of, taken_by};
-    ghost use Rattle.rsl_receive.specs.declared.datagram_port.Datagram.{Datagram as OneDatagram};
-    ghost use Rattle.rsl_receive.specs.declared.datagram_port.Numbers.{Numbers as PortNumbers};
+    ghost use Rattle.rsl_port.specs.Told.{CanReceive, CanSend, after_receive, after_send, datagram_of, taken_by};
+    ghost use Rattle.rsl_port.specs.declared.datagram_port.Datagram.{Datagram as OneDatagram};
+    ghost use Rattle.rsl_port.specs.declared.datagram_port.Numbers.{Numbers as PortNumbers};
 
     ghost numbers: { Self → PortNumbers };
 
@@ -78,11 +78,11 @@ pub trait DatagramPort {
 pub struct Numbers {
     /// The calls of `receive`.
     pub receives: u64,
-    /// Those that failed.
+    /// The calls of `receive` that failed.
     pub failed_receives: u64,
     /// The calls of `send`.
     pub sends: u64,
-    /// Those that failed.
+    /// The calls of `send` that failed.
     pub failed_sends: u64,
     /// The calls of `send` to another source than that of the datagram received last.
     pub astray: u64,

@@ -1,7 +1,7 @@
 -- How the moments that a clock has shown add up.
 use Rattle.std.proofs.Common.{ℕ, List, [], ◌++◌, Option, Some, None, append-nil, ap, ◌∙◌}
 use Rattle.std.proofs.lemmas.List.{append_assoc}
-use Rattle.rsl_receive.specs.Shown.{HasShown}
+use Rattle.rsl_port.specs.Shown.{HasShown}
 
 -- a clock that was not read has shown nothing
 pub none_shown : (shown : Option (List ℕ)) → HasShown [] shown shown
@@ -16,5 +16,3 @@ more_shown first then old None (Some now) before after = absurd after
 more_shown first then None (Some moments) (Some now) before after = absurd before
 more_shown first then (Some start) (Some moments) (Some now) before after =
     after ∙ ap (λ xs. xs ++ then) before ∙ append_assoc start first then
-
-pub ruleset showing = (none_shown, more_shown)

@@ -9,7 +9,7 @@ use Rattle.std.specs.declared.io.ErrorKind.TheVariants.{Interrupted, OutOfMemory
 use Rattle.std.specs.declared.net.socket_addr.SocketAddr.{SocketAddr}
 use Rattle.std.specs.declared.net.socket_addr.SocketAddr.TheVariants.{V4, V6}
 use Rattle.rsl_event.specs.declared.event.Source.{Source}
-use Rattle.rsl_receive.specs.Told.{Received}
+use Rattle.rsl_port.specs.Told.{Received}
 
 -- the address and port of an IPv4 socket; another is no source
 abbrev pub source_in : SocketAddr → Option Source

@@ -3,9 +3,9 @@
 use Rattle.std.specs.Prelude.{ℕ, ◌+◌, ◌^◌, ◌<◌, ◌==◌, Bool, true, false, ◌&&◌, cond, List, [], ◌∷◌, take, Option, Some, None, Result, Ok, Err, is_err}
 use Rattle.rsl_accounts.specs.Configuration.{same_octets}
 use Rattle.rsl_event.specs.declared.event.Source.{Source}
-use Rattle.rsl_receive.specs.declared.datagram_port.Datagram.{Datagram}
-use Rattle.rsl_receive.specs.declared.datagram_port.PortFault.{PortFault}
-use Rattle.rsl_receive.specs.declared.datagram_port.Numbers.{Numbers}
+use Rattle.rsl_port.specs.declared.datagram_port.Datagram.{Datagram}
+use Rattle.rsl_port.specs.declared.datagram_port.PortFault.{PortFault}
+use Rattle.rsl_port.specs.declared.datagram_port.Numbers.{Numbers}
 
 -- those of a port that was not called yet
 abbrev pub no_numbers : Numbers

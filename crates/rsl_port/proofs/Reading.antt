@@ -3,8 +3,8 @@ use Rattle.std.proofs.Common.{◌≡◌, ℕ, Err, subst}
 use Rattle.std.specs.IoError.{error_kind}
 use Rattle.std.specs.declared.io.Error.{Error}
 use Rattle.std.specs.declared.io.ErrorKind.{ErrorKind}
-use Rattle.rsl_receive.specs.Told.{Received}
-use Rattle.rsl_edges.specs.Socket.{IsFailed, IsReception, is_passing}
+use Rattle.rsl_port.specs.Told.{Received}
+use Rattle.rsl_port.specs.Socket.{IsFailed, IsReception, is_passing}
 
 -- by its kind
 pub failed_by : (room : ℕ) (error : Error) (kind : ErrorKind) (received : Received)

@@ -1,4 +1,4 @@
-use rsl_receive::Clock;
+use crate::clock::Clock;
 use std::time;
 
 /// The system's clock, in seconds since 1970. Where it can't be read it shows what it showed last.

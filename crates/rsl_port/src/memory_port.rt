@@ -1,5 +1,5 @@
 ghost use Rattle.std.specs.Prelude.{◌≡◌, ◌≤◌, ◌++◌, ◌∷◌, [], IfOk, IfSome, length, true};
-ghost use Rattle.rsl_receive.specs.Told.{datagram_of, no_numbers, taken_by};
+ghost use Rattle.rsl_port.specs.Told.{datagram_of, no_numbers, taken_by};
 
 use crate::datagram_port::{Datagram, DatagramPort, Numbers, PortFault};
 use rsl_event::Source;
@@ -11,7 +11,7 @@ use std::alloc::Global;
 pub enum Coming {
     /// This datagram.
     Datagram(Datagram),
-    /// None came in time.
+    /// No datagram came in time.
     Nothing,
     /// The call fails.
     Fault,
