@@ -4,3 +4,4 @@ pub mod Laws
 pub mod Opening
 pub mod Premises
 pub mod Standing
+pub mod Stored

@@ -57,6 +57,17 @@ pub enum StoreFault {
     TooLong,
 }
 
+/// Why a batch was not recorded.
+#[derive(Clone, Copy, Debug, PartialEq, Eq, Error)]
+pub enum RecordFault {
+    /// It was not recorded; another may be.
+    #[error("not recorded")]
+    Failed,
+    /// Nothing more can be recorded.
+    #[error("nothing more can be recorded")]
+    Ended,
+}
+
 /// A log that was not taken over is handed back.
 #[derive(Drop)]
 pub struct Refused<L: Log> {

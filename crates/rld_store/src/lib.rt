@@ -4,6 +4,8 @@
 //! on the disk, before and after each call. A crash at any call leaves the moves that were answered,
 //! in their order, and of a batch that was not yet answered all moves or none. A log is one
 //! generation: a header, a snapshot of the books that it begins with, and the moves that followed.
+//! What turns and a running server ask of a store is a `Recorder`, and a store is one
+//! (`specs/Stored.antt`).
 //!
 //! Read `specs/Generations.antt` first (what a log has), then `specs/Standing.antt` (what a store
 //! stands for). What is taken on trust of a file and of MD5 is in `specs/Premises.antt`.
@@ -15,8 +17,11 @@ pub mod laws;
 mod opening;
 mod reading;
 mod recorded;
+mod recorder;
 mod store;
+mod stored;
 
-pub use fault::{Malformed, Refused, StoreFault};
+pub use fault::{Malformed, RecordFault, Refused, StoreFault};
 pub use recorded::Recorded;
+pub use recorder::Recorder;
 pub use store::{End, Opened, Store};

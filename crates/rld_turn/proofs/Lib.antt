@@ -3,5 +3,4 @@ pub mod Deciding
 pub mod Entering
 pub mod Replying
 pub mod Serving
-pub mod Storing
 pub mod Telling

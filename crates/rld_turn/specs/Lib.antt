@@ -5,7 +5,6 @@ pub mod Entered
 pub mod Moves
 pub mod Recorded
 pub mod Served
-pub mod Stored
 pub mod Ticked
 pub mod Told
 pub mod Turned

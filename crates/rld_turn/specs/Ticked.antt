@@ -6,7 +6,7 @@ use Rattle.rsl_shard.specs.Restep.{BooksSeen}
 use Rattle.rsl_shard.specs.declared.moved.Move.{Move}
 use Rattle.rsl_shard.specs.declared.moved.Move.TheVariants.{Tick}
 use Rattle.rld_books.specs.Server.{replay}
-use Rattle.rld_turn.specs.declared.fault.RecordFault.{RecordFault}
+use Rattle.rld_store.specs.declared.fault.RecordFault.{RecordFault}
 
 -- the moves of a tick, if it was recorded
 abbrev pub ticks_in : {T : Type 0} → Result T RecordFault → (moment : ℕ) → List Move

@@ -1,17 +1,6 @@
 use crate::counts::Counts;
 use thiserror::Error;
 
-/// Why a batch was not recorded.
-#[derive(Clone, Copy, Debug, PartialEq, Eq, Error)]
-pub enum RecordFault {
-    /// It was not recorded; another may be.
-    #[error("not recorded")]
-    Failed,
-    /// Nothing more can be recorded.
-    #[error("nothing more can be recorded")]
-    Ended,
-}
-
 /// Why a receiver ended before its last turn.
 #[derive(Clone, Copy, Debug, PartialEq, Eq, Error)]
 pub enum ReceiveFault {

@@ -5,7 +5,7 @@ ghost use Rattle.rsl_accounts.specs.Configuration.{Configuration};
 ghost use Rattle.rsl_shard.specs.Restep.{BooksSeen};
 ghost use Rattle.rsl_shard.specs.declared.moved.Move.{Move as OneMove};
 ghost use Rattle.rld_store.specs.Standing.{LosesNothing};
-ghost use Rattle.rld_turn.specs.Stored.{HasRecorded};
+ghost use Rattle.rld_store.specs.Stored.{HasRecorded};
 
 use rld_log::Log;
 use rld_store::Store;

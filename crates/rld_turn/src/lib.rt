@@ -9,8 +9,8 @@
 //! A watcher is told how each datagram ended, with its cause or with what was answered, and the counts
 //! are the numbers of what it was told (`specs/Told.antt`).
 //!
-//! A store is such a recorder (`specs/Stored.antt`). An answer with a decision is made of a
-//! `Recorded`, which only `Store::commit` makes.
+//! A store is such a recorder (`rld_store`). An answer with a decision is made of a `Recorded`, which
+//! only `Store::commit` makes.
 #![tactic(auto)]
 
 mod answering;
@@ -23,17 +23,14 @@ mod gathering;
 pub mod laws;
 mod outcome;
 mod receiver;
-mod recorder;
-mod stored;
 mod ticking;
 mod watch;
 
 pub use batch_port::BatchPort;
 pub use counts::Counts;
 pub use ends::End;
-pub use fault::{ReceiveFault, RecordFault};
+pub use fault::ReceiveFault;
 pub use receiver::{MAX_BATCH, receive};
-pub use recorder::Recorder;
-pub use rld_store::Recorded;
+pub use rld_store::{RecordFault, Recorded, Recorder};
 pub use ticking::tick;
 pub use watch::{Ended, Unwatched, Watch};

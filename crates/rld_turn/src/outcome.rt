@@ -5,9 +5,7 @@ ghost use Rattle.rsl_shard.specs.Restep.{BooksSeen};
 ghost use Rattle.rsl_shard.specs.declared.moved.Move.{Move as OneMove};
 
 use crate::ends::Ending;
-use crate::fault::RecordFault;
-use crate::recorder::Recorder;
-use rld_store::Recorded;
+use rld_store::{RecordFault, Recorded, Recorder};
 use rsl_shard::Move;
 use std::alloc::Global;
 

@@ -1,8 +1,7 @@
 ghost use Rattle.std.specs.Prelude.{◌≡◌, [], ◌∷◌, true, IfSome};
 ghost use Rattle.rld_turn.specs.Ticked.{HasTicked};
 
-use crate::fault::RecordFault;
-use crate::recorder::Recorder;
+use rld_store::{RecordFault, Recorder};
 use rsl_port::Clock;
 use rsl_shard::Move;
 use std::alloc::Global;

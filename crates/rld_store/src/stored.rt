@@ -1,10 +1,11 @@
 ghost use Rattle.std.specs.Prelude.{◌≡◌};
-ghost use Rattle.rld_turn.specs.Stored.{HasRecorded, record_fault};
+ghost use Rattle.rld_store.specs.Stored.{HasRecorded, record_fault};
 
-use crate::fault::RecordFault;
+use crate::fault::{RecordFault, StoreFault};
+use crate::recorded::Recorded;
 use crate::recorder::Recorder;
+use crate::store::Store;
 use rld_log::{Log, LogFault};
-use rld_store::{Recorded, Store, StoreFault};
 use rsl_shard::Move;
 use std::alloc::Global;
 

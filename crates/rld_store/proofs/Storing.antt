@@ -8,7 +8,7 @@ use Rattle.rld_log.specs.declared.log.Ending.{Ending}
 use Rattle.rld_spelling.specs.declared.moves.Counts.{Counts}
 use Rattle.rld_store.specs.Standing.{StandsFor}
 use Rattle.rld_store.specs.declared.store.End.{End}
-use Rattle.rld_turn.specs.Stored.{HasRecorded}
+use Rattle.rld_store.specs.Stored.{HasRecorded}
 
 -- what holds anyway holds of a fault
 pub on_err : {A B : Type 0} {P : Type 0} (result : Result A B) → P → OnErr result P

@@ -1,5 +1,5 @@
 use crate::fault::RecordFault;
-use rld_store::Recorded;
+use crate::recorded::Recorded;
 use rsl_shard::Move;
 use std::alloc::Global;
 

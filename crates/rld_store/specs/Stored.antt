@@ -10,8 +10,8 @@ use Rattle.rld_store.specs.Standing.{StandsFor}
 use Rattle.rld_store.specs.declared.fault.StoreFault.{StoreFault}
 use Rattle.rld_store.specs.declared.fault.StoreFault.TheVariants as store_faults
 use Rattle.rld_store.specs.declared.store.End.{End}
-use Rattle.rld_turn.specs.declared.fault.RecordFault.{RecordFault}
-use Rattle.rld_turn.specs.declared.fault.RecordFault.TheVariants.{Failed, Ended}
+use Rattle.rld_store.specs.declared.fault.RecordFault.{RecordFault}
+use Rattle.rld_store.specs.declared.fault.RecordFault.TheVariants.{Failed, Ended}
 
 -- A store has recorded a history, in an era that opened with these books: it stands for it, and
 -- perhaps for a batch behind it that was not answered. Where a batch is not recorded the history

@@ -1,7 +1,7 @@
 use Rattle.std.proofs.Common.{ap, length, ◌∙◌}
-use Rattle.rld_turn.proofs.Deciding.{count_decided}
-use Rattle.rld_turn.proofs.Storing.{on_err, recorded_still}
-use Rattle.rld_turn.proofs.stored.StoreRecorder.record.Goals as goal
+use Rattle.rld_store.proofs.Deciding.{count_decided}
+use Rattle.rld_store.proofs.Storing.{on_err, recorded_still}
+use Rattle.rld_store.proofs.stored.StoreRecorder.record.Goals as goal
 
 pub returns-in_err-commit-clause-unrecorded : goal.returns-in_err-commit-clause-unrecorded
 returns-in_err-commit-clause-unrecorded g c = λ told config opening history so.
