@@ -6,7 +6,6 @@ ghost use Rattle.std.specs.Arc.{arc_value};
 use crate::accounts::Accounts;
 use crate::ask_fault::AskFault;
 use crate::control::Operator;
-use crate::keeper::Keeper;
 use crate::server::Server;
 use rld_answers::{Holder, accounts_text, links_text, status_text};
 use rld_control::{Command, NamedSession};
@@ -14,6 +13,7 @@ use rld_free::Stop;
 use rld_log::FileLog;
 use rld_pace::PacedLog;
 use rld_start::Generations;
+use rld_state::ServerState;
 use rld_store::Store;
 use rsl_accounts::Config;
 use rsl_port::{Clock, SystemClock};
@@ -119,12 +119,12 @@ where
         ensures { IfOk result (λ found. IfSome found (λ held.
             held.account < length (arc_value held.config).accounts)) }
     {
-        let keeper = self.keeper.lock(self.rt);
-        let config = keeper.config()?;
+        let state = self.state.lock(self.rt);
+        let config = state.config()?;
         let Some(account) = config.account(name) else {
             return Ok(None);
         };
-        match keeper.recorder().links(self.alloc, account)? {
+        match state.recorder().links(self.alloc, account)? {
             Some(links) => Ok(Some(Held {
                 config,
                 account,
@@ -147,14 +147,14 @@ where
     /// Records the Stop of a session, if a link is bound to it, and gives whether one is. The lock is held
     /// from the look at the accounts and the links until the Stop is recorded.
     fn record_stop(&self, named: &NamedSession) -> Result<bool, AskFault> {
-        let mut keeper = self.keeper.lock(self.rt);
-        let stop = Stop::of(self.alloc, keeper.accounts(), self.plan.boot, named)?;
-        if !self.is_held(&keeper, &stop)? {
+        let mut state = self.state.lock(self.rt);
+        let stop = Stop::of(self.alloc, state.accounts(), self.plan.boot, named)?;
+        if !self.is_held(&state, &stop)? {
             return Ok(false);
         }
         let batch = self.batch_of(stop)?;
-        let era = keeper.header().era;
-        match keeper.record(self.alloc, era, batch) {
+        let era = state.header().era;
+        match state.record(self.alloc, era, batch) {
             Ok(_recorded) => Ok(true),
             Err(_) => Err(AskFault::Unrecorded),
         }
@@ -163,10 +163,10 @@ where
     /// Whether a link is bound to the session of a Stop.
     fn is_held(
         &self,
-        keeper: &Keeper<Store<PacedLog<'a, FileLog>>>,
+        state: &ServerState<Store<PacedLog<'a, FileLog>>>,
         stop: &Stop,
     ) -> Result<bool, AskFault> {
-        match keeper.recorder().links(self.alloc, stop.account)? {
+        match state.recorder().links(self.alloc, stop.account)? {
             Some(links) => Ok(stop.ends_one(links.as_slice())),
             None => Ok(false),
         }

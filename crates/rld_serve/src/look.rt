@@ -1,6 +1,5 @@
 //! What the running server shows of itself.
 
-use crate::places::places_in;
 use crate::server::{Present, Server};
 use rld_counts::{Cell, Counts};
 use rld_look::{
@@ -8,6 +7,7 @@ use rld_look::{
 };
 use rld_refusals::Places;
 use rld_spelling::Header;
+use rld_state::places_in;
 use rsl_accounts::Config;
 use rsl_event::Port;
 use rsl_port::{Clock, SystemClock};
@@ -101,22 +101,22 @@ impl<'a, G, A, R: time::Clock + Wait> Server<'a, G, A, R> {
     /// The accounts that the server has now.
     pub(crate) fn present(&self) -> Result<Present, AllocError> {
         let switches = self.recess.switches();
-        let keeper = self.keeper.lock(self.rt);
+        let state = self.state.lock(self.rt);
         Ok(Present {
             switches,
-            config: keeper.config()?,
-            era: keeper.header().era,
+            config: state.config()?,
+            era: state.header().era,
         })
     }
 
     /// What the store shows. Its lock is held as long as the rows are copied.
     pub(crate) fn holdings(&self) -> Result<Holdings, NoMemory> {
-        let keeper = self.keeper.lock(self.rt);
-        let rows = keeper.recorder().rows(self.alloc)?;
+        let state = self.state.lock(self.rt);
+        let rows = state.recorder().rows(self.alloc)?;
         Ok(Holdings {
-            config: keeper.config()?,
-            header: keeper.header(),
-            moves: keeper.moves(),
+            config: state.config()?,
+            header: state.header(),
+            moves: state.moves(),
             rows,
         })
     }

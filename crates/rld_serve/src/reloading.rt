@@ -5,14 +5,12 @@ ghost use Rattle.std.specs.Prelude.{◌≡◌, IfOk, IfSome, length};
 use crate::accounts::{Accounts, AccountsFault};
 use crate::ask_fault::AskFault;
 use crate::recess::Rest;
-use crate::reloaded::{ReloadFault, Reloaded};
-use crate::rolled::RollFault;
 use crate::server::{Present, Server};
-use crate::told::Told;
 use rld_counts::ClientCounts;
 use rld_log::FileLog;
 use rld_pace::PacedLog;
 use rld_start::{Generations, NextEra, generation_named, has_same_clients, is_same_era};
+use rld_state::{ReloadFault, Reloaded, RollFault, Told};
 use rld_store::Store;
 use rsl_accounts::Config;
 use std::sync::{Arc, Wait};
@@ -139,10 +137,10 @@ where
         config: Arc<Config>,
         next: Option<NextEra>,
     ) -> Result<Changed<'a>, ReloadFault> {
-        let mut keeper = self.keeper.lock(self.rt);
+        let mut state = self.state.lock(self.rt);
         let Some(next) = next else {
-            let era = keeper.header().era;
-            if keeper.go_on(self.alloc, self.plan.boot, config)? {
+            let era = state.header().era;
+            if state.go_on(self.alloc, self.plan.boot, config)? {
                 return Ok(Changed {
                     reloaded: Reloaded::GoesOn(era),
                     former: None,
@@ -151,7 +149,7 @@ where
             return Err(ReloadFault::Busy);
         };
         let pacing = self.plan.pacing;
-        let entered = keeper.begin_era(self.alloc, self.generations, config, next, pacing)?;
+        let entered = state.begin_era(self.alloc, self.generations, config, next, pacing)?;
         Ok(Changed {
             reloaded: Reloaded::Begun(entered.passage),
             former: Some(entered.former),

@@ -2,12 +2,9 @@
 
 use crate::accounts::Accounts;
 use crate::fault::RunFault;
-use crate::rolled::{Notice, RollFault, notice_of_archive, notice_of_roll};
 use crate::server::Server;
-use crate::timer::RollTimer;
-use crate::told::Told;
-use crate::trouble::Trouble;
 use rld_start::{Generations, generation_named};
+use rld_state::{Notice, RollFault, RollTimer, Told, Trouble, notice_of_archive, notice_of_roll};
 use std::net::Net;
 use std::sync::Wait;
 use std::time;
@@ -41,7 +38,7 @@ where
     /// wrong is told. `Unsynced` comes where nothing more can be recorded.
     pub(crate) fn roll_if_due(&self, rolls: &mut Rolls, now: u64) -> Result<(), RunFault> {
         rolls.timer.pass_second();
-        let moves = self.keeper.lock(self.rt).moves();
+        let moves = self.state.lock(self.rt).moves();
         if !rolls.timer.is_due(moves) {
             return Ok(());
         }
@@ -63,15 +60,15 @@ where
 
     /// Begins the next generation. Its log is made before the lock is taken.
     fn roll(&self) -> Result<(), RollFault> {
-        let era = self.keeper.lock(self.rt).header().era;
+        let era = self.state.lock(self.rt).header().era;
         let next = self.generations.next_log(self.alloc, era)?;
-        let mut keeper = self.keeper.lock(self.rt);
-        keeper.roll(self.alloc, self.generations, next, self.plan.pacing)
+        let mut state = self.state.lock(self.rt);
+        state.roll(self.alloc, self.generations, next, self.plan.pacing)
     }
 
     /// Puts old logs away, and tells where that fails.
     pub(crate) fn put_away(&self, rolls: &mut Rolls, now: u64) {
-        let header = self.keeper.lock(self.rt).header();
+        let header = self.state.lock(self.rt).header();
         let newest = generation_named(&header);
         let outcome = self.generations.put_away(self.alloc, newest, now);
         self.tell_if_any(notice_of_archive(&mut rolls.archive, outcome));

@@ -5,7 +5,6 @@ use crate::accounts::Accounts;
 use crate::control::Control;
 use crate::fault::{RunFault, outcome_of};
 use crate::job::{Job, ports_of};
-use crate::keeper::Keeper;
 use crate::readiness::Readiness;
 use crate::receiver_port::ReceiverPort;
 use crate::recess::Recess;
@@ -14,8 +13,6 @@ use crate::shared_recorder::SharedRecorder;
 use crate::shutdown::{Shutdown, Start};
 use crate::sockets::{Bound, Sockets};
 use crate::status_desk::StatusDesk;
-use crate::told::Told;
-use crate::trouble::Trouble;
 use rld_log::FileLog;
 use rld_look::{History, Pages};
 use rld_networks::Network;
@@ -24,6 +21,7 @@ use rld_peers::{ClientPort, nobody};
 use rld_refusals::{Refusals, Sink};
 use rld_spelling::Header;
 use rld_start::Generations;
+use rld_state::{ServerState, Told, Trouble};
 use rld_store::Store;
 use rld_turn::{ReceiveFault, RecordFault, receive, tick};
 use rld_watch::{Board, Desk, Watcher};
@@ -76,7 +74,7 @@ pub(crate) struct Server<'a, G, A, R> {
     pub(crate) sockets: &'a Sockets,
     pub(crate) generations: &'a G,
     pub(crate) accounts: &'a A,
-    pub(crate) keeper: Mutex<Keeper<Store<PacedLog<'a, FileLog>>>>,
+    pub(crate) state: Mutex<ServerState<Store<PacedLog<'a, FileLog>>>>,
     pub(crate) board: Board,
     pub(crate) refusals: Refusals,
     pub(crate) told: Mutex<Vec<Told>>,
@@ -162,7 +160,7 @@ where
         sockets,
         generations,
         accounts,
-        keeper: Mutex::new(Keeper::new(store, Arc::new(alloc, config)?, plan.header)),
+        state: Mutex::new(ServerState::new(store, Arc::new(alloc, config)?, plan.header)),
         board,
         refusals: Refusals::new(alloc, ports.len())?,
         told: Mutex::new(Vec::new(alloc)),
@@ -199,7 +197,7 @@ where
         jobs.len(),
         &|i| server.work(jobs.get(i), i, pages),
     )?;
-    if server.keeper.lock(server.rt).has_ended() {
+    if server.state.lock(server.rt).has_ended() {
         return Err(RunFault::Unsynced);
     }
     outcome_of(ended.as_slice())
@@ -246,7 +244,7 @@ where
 
     /// The recorder, as a worker sees it whose batches are of this era, or the same in each.
     fn recorder(&self, era: Option<u64>) -> SharedRecorder<'_, Store<PacedLog<'a, FileLog>>, R> {
-        SharedRecorder::new(self.rt, &self.keeper, era)
+        SharedRecorder::new(self.rt, &self.state, era)
     }
 
     /// Takes datagrams from a socket, for a port, until the server shall end: by the accounts that it has

@@ -1,5 +1,5 @@
-use crate::keeper::Keeper;
-use rld_turn::{RecordFault, Recorded, Recorder};
+use rld_state::ServerState;
+use rld_store::{RecordFault, Recorded, Recorder};
 use rsl_shard::Move;
 use std::alloc::Global;
 use std::sync::{Mutex, Wait};
@@ -10,7 +10,7 @@ use std::sync::{Mutex, Wait};
 #[derive(Drop)]
 pub(crate) struct SharedRecorder<'a, S: Recorder, R: Wait> {
     rt: &'a R,
-    keeper: &'a Mutex<Keeper<S>>,
+    state: &'a Mutex<ServerState<S>>,
     era: Option<u64>,
 }
 
@@ -19,25 +19,25 @@ impl<'a, S: Recorder, R: Wait> SharedRecorder<'a, S, R> {
     /// none is given, for batches that are the same in each, as ticks are.
     pub(crate) fn new(
         rt: &'a R,
-        keeper: &'a Mutex<Keeper<S>>,
+        state: &'a Mutex<ServerState<S>>,
         era: Option<u64>,
     ) -> SharedRecorder<'a, S, R> {
-        SharedRecorder { rt, keeper, era }
+        SharedRecorder { rt, state, era }
     }
 
     /// Whether a batch of any worker was not recorded since this was asked last.
     pub(crate) fn take_failed(&self) -> bool {
-        self.keeper.lock(self.rt).take_failed()
+        self.state.lock(self.rt).take_failed()
     }
 }
 
 impl<S: Recorder, R: Wait> Recorder for SharedRecorder<'_, S, R> {
     fn record(&mut self, alloc: Global, batch: Vec<Move>) -> Result<Recorded, RecordFault> {
-        let mut keeper = self.keeper.lock(self.rt);
+        let mut state = self.state.lock(self.rt);
         let era = match self.era {
             Some(era) => era,
-            None => keeper.header().era,
+            None => state.header().era,
         };
-        keeper.record(alloc, era, batch)
+        state.record(alloc, era, batch)
     }
 }

@@ -1,5 +1,6 @@
-ghost use Rattle.std.specs.Prelude.{◌≡◌};
-ghost use Rattle.rld_serve.specs.declared.rolled.RollFault.TheVariants.{Start as unmade, Store as unbegun};
+ghost use Rattle.std.specs.Prelude.{◌≡◌, is_err};
+ghost use Rattle.rld_state.specs.Notices.{archive_notice, roll_notice};
+ghost use Rattle.rld_state.specs.declared.rolled.RollFault.TheVariants.{Start as unmade, Store as unbegun};
 ghost use Rattle.rld_start.specs.declared.fault.StartFault.{StartFault as OneStartFault};
 
 use crate::trouble::{News, Trouble};
@@ -11,7 +12,7 @@ use thiserror::Error;
 
 /// Why the next generation has not begun.
 #[derive(Clone, Copy, Debug, PartialEq, Eq, Error)]
-pub(crate) enum RollFault {
+pub enum RollFault {
     /// Its log could not be made.
     #[error("{0}")]
     Start(StartFault),
@@ -61,7 +62,7 @@ impl From<StoreFault> for RollFault {
 
 /// What an operator is told of generations and of old logs. It prints as a line of standard error.
 #[derive(Clone, Copy, Debug, PartialEq, Eq, Error)]
-pub(crate) enum Notice {
+pub enum Notice {
     /// The next generation could not begin; it is tried again each minute.
     #[error("no next generation yet: {0}")]
     NotBegun(RollFault),
@@ -77,10 +78,10 @@ pub(crate) enum Notice {
 }
 
 /// What is to be told of a begin that came to this.
-pub(crate) fn notice_of_roll(
-    trouble: &mut Trouble,
-    rolled: Result<(), RollFault>,
-) -> Option<Notice> {
+pub fn notice_of_roll(trouble: &mut Trouble, rolled: Result<(), RollFault>) -> Option<Notice>
+    ensures notice { result ≡ roll_notice trouble.old.is_there rolled }
+    ensures kept { trouble.new.is_there ≡ is_err rolled }
+{
     match (trouble.news(rolled.is_err()), rolled) {
         (Some(News::Began), Err(fault)) => Some(Notice::NotBegun(fault)),
         (Some(News::Over), _) => Some(Notice::Begun),
@@ -89,10 +90,10 @@ pub(crate) fn notice_of_roll(
 }
 
 /// What is to be told of old logs that were put away, or not.
-pub(crate) fn notice_of_archive(
-    trouble: &mut Trouble,
-    outcome: Result<(), FolderFault>,
-) -> Option<Notice> {
+pub fn notice_of_archive(trouble: &mut Trouble, outcome: Result<(), FolderFault>) -> Option<Notice>
+    ensures notice { result ≡ archive_notice trouble.old.is_there outcome }
+    ensures kept { trouble.new.is_there ≡ is_err outcome }
+{
     match (trouble.news(outcome.is_err()), outcome) {
         (Some(News::Began), Err(fault)) => Some(Notice::NotPutAway(fault)),
         (Some(News::Over), _) => Some(Notice::PutAway),

@@ -1,13 +1,13 @@
 ghost use Rattle.std.specs.Prelude.{◌≡◌, ℕ, true, length, Err, IfOk, IsErrOf, OnErr, OnOk, List, [], ◌++◌, ◌||◌, ◌↔◌, false, IsTrue, Ok};
 ghost use Rattle.std.specs.Arc.{arc_value};
 ghost use Rattle.rld_books.specs.Server.{decisions_of, replay};
-ghost use Rattle.rld_serve.specs.Keeping.{is_ended, is_failed, is_over, moves_after};
+ghost use Rattle.rld_state.specs.Keeping.{is_ended, is_failed, is_over, moves_after};
 ghost use Rattle.rld_spelling.specs.Eras.{era_octets};
 ghost use Rattle.rld_spelling.specs.Tables.{table_of};
 ghost use Rattle.rld_start.specs.NextHeaders.{generation_named, header_after};
 ghost use Rattle.rld_store.specs.Premises.{Only};
 ghost use Rattle.rld_store.specs.Standing.{StandsFor};
-ghost use Rattle.rld_turn.specs.declared.fault.RecordFault.TheVariants.{Ended as over, Failed as failed};
+ghost use Rattle.rld_store.specs.declared.fault.RecordFault.TheVariants.{Ended as over, Failed as failed};
 ghost use Rattle.rsl_accounts.specs.Configuration.{Configuration};
 ghost use Rattle.rsl_shard.specs.Restep.{BooksSeen};
 ghost use Rattle.rsl_shard.specs.declared.moved.Move.{Move as OneMove};
@@ -19,8 +19,7 @@ use rld_log::{FileLog, Log};
 use rld_pace::{PacedLog, Pacing};
 use rld_spelling::Header;
 use rld_start::{Generations, NextLog, StartFault, is_same_era, next_header};
-use rld_store::Store;
-use rld_turn::{RecordFault, Recorded, Recorder};
+use rld_store::{RecordFault, Recorded, Recorder, Store};
 use rsl_accounts::Config;
 use rsl_shard::Move;
 use rsl_wire::NoMemory;
@@ -32,7 +31,7 @@ use std::sync::Arc;
 /// nothing more; the accounts, clients and rules of its books; the header of the generation that it
 /// writes, and how many moves that has; and whether a batch was not recorded lately.
 #[derive(Drop)]
-pub(crate) struct Keeper<S: Recorder> {
+pub struct ServerState<S: Recorder> {
     recorder: S,
     config: Arc<Config>,
     header: Header,
@@ -41,10 +40,10 @@ pub(crate) struct Keeper<S: Recorder> {
     has_failed: bool,
 }
 
-impl<S: Recorder> Keeper<S> {
-    /// Of a recorder that was not asked yet, whose books are of this configuration, and that writes the
-    /// generation of this header, of which it has no move.
-    pub(crate) fn new(recorder: S, config: Arc<Config>, header: Header) -> Keeper<S>
+impl<S: Recorder> ServerState<S> {
+    /// The state of a server over a recorder that was not asked yet, whose books are of this configuration,
+    /// and that writes the generation of this header, of which it has no move.
+    pub fn new(recorder: S, config: Arc<Config>, header: Header) -> ServerState<S>
         ensures recorder { result.recorder ≡ recorder }
         ensures config { result.config ≡ config }
         ensures header { result.header ≡ header }
@@ -52,7 +51,7 @@ impl<S: Recorder> Keeper<S> {
         ensures has_ended { result.has_ended ≡ false }
         ensures has_failed { result.has_failed ≡ false }
     {
-        Keeper {
+        ServerState {
             recorder,
             config,
             header,
@@ -65,7 +64,7 @@ impl<S: Recorder> Keeper<S> {
     /// Records a batch, which was prepared by the accounts of this era, as the recorder does, and counts
     /// its moves. `Ended` comes where it has come before, and `Failed` where another era goes on: its
     /// numbers are those of other accounts. Then the recorder is not asked.
-    pub(crate) fn record(
+    pub fn record(
         &mut self,
         alloc: Global,
         era: u64,
@@ -130,21 +129,21 @@ impl<S: Recorder> Keeper<S> {
     }
 
     /// Whether nothing more can be recorded.
-    pub(crate) fn has_ended(&self) -> bool
+    pub fn has_ended(&self) -> bool
         ensures { result ≡ self.now.has_ended }
     {
         self.has_ended
     }
 
     /// How many moves the generation has that the recorder writes; at most 2^64 - 1.
-    pub(crate) fn moves(&self) -> u64
+    pub fn moves(&self) -> u64
         ensures { result ≡ self.now.moves }
     {
         self.moves
     }
 
-    /// The header of that generation.
-    pub(crate) fn header(&self) -> Header
+    /// The header of the generation that the recorder writes.
+    pub fn header(&self) -> Header
         ensures { result ≡ self.now.header }
     {
         self.header
@@ -152,20 +151,20 @@ impl<S: Recorder> Keeper<S> {
 
     /// The accounts, clients and rules of its books. It fails only where they have as many owners as can
     /// be counted.
-    pub(crate) fn config(&self) -> Result<Arc<Config>, AllocError>
+    pub fn config(&self) -> Result<Arc<Config>, AllocError>
         ensures { IfOk result (λ config. arc_value config ≡ arc_value self.now.config) }
     {
         Arc::try_clone(&self.config)
     }
 
     /// The accounts, clients and rules, to look at.
-    pub(crate) fn accounts(&self) -> &Config
+    pub fn accounts(&self) -> &Config
         ensures { result.now ≡ arc_value self.now.config }
     {
         &*self.config
     }
 
-    /// Nothing more can be recorded.
+    /// Notes that nothing more can be recorded.
     pub(crate) fn end(&mut self)
         ensures { self.new ≡ record self.old { has_ended = true } }
     {
@@ -175,12 +174,7 @@ impl<S: Recorder> Keeper<S> {
     /// Goes on by other accounts in the present era, if it has their table with this boot number, and
     /// gives whether it has. It fails only where memory is refused; then, and where it has not, all is as
     /// before.
-    pub(crate) fn go_on(
-        &mut self,
-        alloc: Global,
-        boot: u64,
-        config: Arc<Config>,
-    ) -> Result<bool, NoMemory>
+    pub fn go_on(&mut self, alloc: Global, boot: u64, config: Arc<Config>) -> Result<bool, NoMemory>
         ensures same { IfOk result (λ goes_on. IsTrue goes_on ↔
             (era_octets (table_of boot (arc_value self.old.config))
             ≡ era_octets (table_of boot (arc_value config)))) }
@@ -195,14 +189,14 @@ impl<S: Recorder> Keeper<S> {
     }
 
     /// The recorder, to look at.
-    pub(crate) fn recorder(&self) -> &S
+    pub fn recorder(&self) -> &S
         ensures { result.now ≡ self.now.recorder }
     {
         &self.recorder
     }
 
     /// Whether a batch was not recorded since this was asked last.
-    pub(crate) fn take_failed(&mut self) -> bool
+    pub fn take_failed(&mut self) -> bool
         ensures found { result ≡ self.old.has_failed }
         ensures same { self.new ≡ record self.old { has_failed = false } }
     {
@@ -212,7 +206,7 @@ impl<S: Recorder> Keeper<S> {
     }
 }
 
-impl<L: Log + Drop> Keeper<Store<L>> {
+impl<L: Log + Drop> ServerState<Store<L>> {
     /// Goes on in the generation of this number, in an empty log: its header counts the moves of the
     /// present one, and it has none yet. The present one's log is handed out.
     fn begin(&mut self, alloc: Global, number: u64, log: L) -> Result<L, RollFault>
@@ -248,7 +242,7 @@ impl<L: Log + Drop> Keeper<Store<L>> {
     }
 }
 
-impl<'p> Keeper<Store<PacedLog<'p, FileLog>>> {
+impl<'p> ServerState<Store<PacedLog<'p, FileLog>>> {
     /// Goes on in the generation of a log that was made for it, which is synced as the pacing says: its
     /// header counts the moves of the present one, and it has none yet.
     ///
@@ -256,7 +250,7 @@ impl<'p> Keeper<Store<PacedLog<'p, FileLog>>> {
     /// stand there whole, and a start would go on from it: then the present generation goes on. `Ended`
     /// comes where the log cannot be removed for good, and where nothing more could be recorded before:
     /// then nothing more is recorded. A log of another era is `Former`, and removed too.
-    pub(crate) fn roll<G: Generations>(
+    pub fn roll<G: Generations>(
         &mut self,
         alloc: Global,
         generations: &G,

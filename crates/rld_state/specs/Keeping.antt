@@ -1,10 +1,10 @@
--- What a keeper remembers of the calls of its recorder.
+-- What the state of a server remembers of the calls of its recorder.
 use Rattle.std.specs.Prelude.{ℕ, Bool, true, false, Result, Ok, Err}
-use Rattle.rld_turn.specs.declared.fault.RecordFault.{RecordFault}
-use Rattle.rld_turn.specs.declared.fault.RecordFault.TheVariants.{Ended, Failed}
+use Rattle.rld_store.specs.declared.fault.RecordFault.{RecordFault}
+use Rattle.rld_store.specs.declared.fault.RecordFault.TheVariants.{Ended, Failed}
 use Rattle.rld_look.specs.Totals.{plus}
-use Rattle.rld_serve.specs.declared.rolled.RollFault.{RollFault}
-use Rattle.rld_serve.specs.declared.rolled.RollFault.TheVariants as rolls
+use Rattle.rld_state.specs.declared.rolled.RollFault.{RollFault}
+use Rattle.rld_state.specs.declared.rolled.RollFault.TheVariants as rolls
 
 -- nothing more can be recorded
 abbrev pub is_ended : {T : Type 0} → Result T RecordFault → Bool

@@ -1,11 +1,11 @@
 ghost use Rattle.std.specs.Prelude.{◌≡◌};
-ghost use Rattle.rld_serve.specs.Troubled.{news_of};
+ghost use Rattle.rld_state.specs.Troubled.{news_of};
 
 use std::fmt;
 
 /// What an operator is told of how batches are recorded. It prints as a line of standard error.
 #[derive(Clone, Copy, Debug, PartialEq, Eq)]
-pub(crate) enum News {
+pub enum News {
     /// Batches are not recorded from now on.
     Began,
     /// They are recorded again.
@@ -25,15 +25,15 @@ impl fmt::Display for News {
 
 /// Whether batches are not recorded, as it was told last.
 #[derive(Clone, Copy, Debug, PartialEq, Eq)]
-pub(crate) struct Trouble {
+pub struct Trouble {
     is_there: bool,
 }
 
 impl Trouble {
     ghost use Rattle.std.specs.Prelude.{false};
 
-    /// All is well.
-    pub(crate) fn new() -> Trouble
+    /// No trouble: all is well.
+    pub fn new() -> Trouble
         ensures { result.is_there ≡ false }
     {
         Trouble { is_there: false }
@@ -41,7 +41,7 @@ impl Trouble {
 
     /// What is to be told after a second in which a batch was not recorded, or each was: nothing as
     /// long as it is as before.
-    pub(crate) fn news(&mut self, has_failed: bool) -> Option<News>
+    pub fn news(&mut self, has_failed: bool) -> Option<News>
         ensures news { result ≡ news_of self.old.is_there has_failed }
         ensures kept { self.new.is_there ≡ has_failed }
     {

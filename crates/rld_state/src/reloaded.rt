@@ -6,7 +6,7 @@ use thiserror::Error;
 
 /// What came of accounts that were read anew. It prints as the line of an answer, without its line feed.
 #[derive(Clone, Copy, Debug, PartialEq, Eq)]
-pub(crate) enum Reloaded {
+pub enum Reloaded {
     /// The era of this number goes on: names, rules, addresses and shards are as before.
     GoesOn(u64),
     /// A new era has begun.
@@ -15,15 +15,15 @@ pub(crate) enum Reloaded {
 
 /// How an era has followed another while the server runs.
 #[derive(Clone, Copy, Debug, PartialEq, Eq)]
-pub(crate) struct Passage {
+pub struct Passage {
     /// The number of the era that has ended.
-    pub(crate) former: u64,
+    pub former: u64,
     /// How many sessions held a link there.
-    pub(crate) held: u64,
+    pub held: u64,
     /// The number of the one that has begun.
-    pub(crate) era: u64,
+    pub era: u64,
     /// How many of them go on.
-    pub(crate) sessions: u64,
+    pub sessions: u64,
 }
 
 impl fmt::Display for Reloaded {
@@ -41,7 +41,7 @@ impl fmt::Display for Reloaded {
 
 /// Why the accounts stay as they are, though others were read.
 #[derive(Clone, Copy, Debug, PartialEq, Eq, Error)]
-pub(crate) enum ReloadFault {
+pub enum ReloadFault {
     /// A receiver does not end its turn.
     #[error("a receiver is still busy")]
     Busy,

@@ -1,7 +1,7 @@
 -- What is told of batches that are not recorded: once when it begins, and once when it ends.
 use Rattle.std.specs.Prelude.{Bool, true, false, Option, Some, None}
-use Rattle.rld_serve.specs.declared.trouble.News.{News}
-use Rattle.rld_serve.specs.declared.trouble.News.TheVariants.{Began, Over}
+use Rattle.rld_state.specs.declared.trouble.News.{News}
+use Rattle.rld_state.specs.declared.trouble.News.TheVariants.{Began, Over}
 
 abbrev pub news_of : (before now : Bool) → Option News
 news_of false true = Some Began

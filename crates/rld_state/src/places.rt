@@ -1,12 +1,12 @@
 ghost use Rattle.std.specs.Prelude.{◌≡◌};
-ghost use Rattle.rld_serve.specs.Places.{places_in};
+ghost use Rattle.rld_state.specs.Places.{places_in};
 
 use rld_refusals::Places;
 use rsl_shard::Row;
 
 /// The places of an account, by the rows of all accounts.
 #[tactic(auto, unfolding(crate::specs::Places::places_in))]
-pub(crate) fn places_in(rows: &[Row], account: u32) -> Option<Places>
+pub fn places_in(rows: &[Row], account: u32) -> Option<Places>
     ensures { result ≡ places_in account rows.now }
 {
     for row in rows {

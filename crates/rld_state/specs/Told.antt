@@ -1,10 +1,10 @@
 -- How grave it is what an operator is told but for refusals.
 use Rattle.rld_refusals.specs.declared.priority.Priority.{Priority}
 use Rattle.rld_refusals.specs.declared.priority.Priority.TheVariants as priorities
-use Rattle.rld_serve.specs.declared.rolled.Notice.TheVariants.{NotBegun, Begun, NotPutAway, PutAway}
-use Rattle.rld_serve.specs.declared.told.Told.{Told}
-use Rattle.rld_serve.specs.declared.told.Told.TheVariants.{Recording, Generations, Accounts}
-use Rattle.rld_serve.specs.declared.trouble.News.TheVariants.{Began, Over}
+use Rattle.rld_state.specs.declared.rolled.Notice.TheVariants.{NotBegun, Begun, NotPutAway, PutAway}
+use Rattle.rld_state.specs.declared.told.Told.{Told}
+use Rattle.rld_state.specs.declared.told.Told.TheVariants.{Recording, Generations, Accounts}
+use Rattle.rld_state.specs.declared.trouble.News.TheVariants.{Began, Over}
 
 -- an error where nothing is answered, a warning where something fails beside that, and else a notice
 abbrev pub priority_of : Told → Priority

@@ -1,7 +1,7 @@
 -- When the next generation of a running server begins.
 use Rattle.std.specs.Prelude.{◌≡◌, ◌⊎◌, ℕ, ◌-◌, ◌≤◌}
 use Rattle.rld_look.specs.Totals.{plus}
-use Rattle.rld_serve.specs.declared.timer.RollTimer.{RollTimer}
+use Rattle.rld_state.specs.declared.timer.RollTimer.{RollTimer}
 
 -- a generation has had so many moves, or has lasted for so many seconds
 abbrev pub IsFull : (moves seconds : ℕ) → Type 0

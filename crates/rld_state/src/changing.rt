@@ -4,15 +4,15 @@ ghost use Rattle.std.specs.Prelude.{◌≡◌, ◌||◌, [], ℕ, IfOk, IsErrOf,
 ghost use Rattle.std.specs.Arc.{arc_value};
 ghost use Rattle.rld_admit.specs.Admitted.{AreAdmitted};
 ghost use Rattle.rld_books.specs.Saved.{IsServerOf};
-ghost use Rattle.rld_serve.specs.Keeping.{is_over};
+ghost use Rattle.rld_state.specs.Keeping.{is_over};
 ghost use Rattle.rld_spelling.specs.Tables.{table_of};
 ghost use Rattle.rld_start.specs.NextHeaders.{generation_named};
 ghost use Rattle.rld_store.specs.Premises.{Only};
 ghost use Rattle.rld_store.specs.Standing.{StandsFor};
 
-use crate::keeper::Keeper;
 use crate::reloaded::Passage;
 use crate::rolled::RollFault;
+use crate::state::ServerState;
 use rld_log::{FileLog, Log};
 use rld_pace::{PacedLog, Pacing};
 use rld_spelling::Header;
@@ -29,9 +29,9 @@ use std::sync::Arc;
 pub(crate) struct Opening<'p> {
     /// The books that it opens with, and the log of its first generation.
     pub(crate) store: Store<PacedLog<'p, FileLog>>,
-    /// The header of that.
+    /// The header of that generation.
     pub(crate) header: Header,
-    /// That the log is on the disk.
+    /// What shows that the log is on the disk.
     pub(crate) synced: Synced,
     /// How it follows the present one.
     pub(crate) passage: Passage,
@@ -40,21 +40,21 @@ pub(crate) struct Opening<'p> {
 /// An era that goes on, and what is left of the former one. That takes some time to drop: let it be done
 /// where nobody waits.
 #[derive(Drop)]
-pub(crate) struct Entered<'p> {
+pub struct Entered<'p> {
     /// How it follows the former one.
-    pub(crate) passage: Passage,
-    /// The store of that.
-    pub(crate) former: Store<PacedLog<'p, FileLog>>,
+    pub passage: Passage,
+    /// The store of the former one.
+    pub former: Store<PacedLog<'p, FileLog>>,
 }
 
-impl<'p> Keeper<Store<PacedLog<'p, FileLog>>> {
+impl<'p> ServerState<Store<PacedLog<'p, FileLog>>> {
     /// Begins the era of other accounts, whose files were made, with what is admitted of the books. Its
     /// log is synced to the disk, whatever the pacing, before anything is recorded in it.
     ///
     /// Where that fails the log is removed before anything more is recorded, as where a generation does
     /// not begin (`roll`): then the present era goes on. `Ended` comes where the log cannot be removed
     /// for good, and where nothing more could be recorded before: then nothing more is recorded.
-    pub(crate) fn begin_era<G: Generations>(
+    pub fn begin_era<G: Generations>(
         &mut self,
         alloc: Global,
         generations: &G,
@@ -141,7 +141,7 @@ impl<'p> Keeper<Store<PacedLog<'p, FileLog>>> {
     }
 }
 
-impl<L: Log + Drop> Keeper<Store<L>> {
+impl<L: Log + Drop> ServerState<Store<L>> {
     /// What is admitted of the books to other accounts, as a store that begins the generation of this
     /// header in an empty log. What stands in the log where it fails is to be removed.
     fn admit(

@@ -1,5 +1,5 @@
 ghost use Rattle.std.specs.Prelude.{◌≡◌, ◌↔◌, IsTrue};
-ghost use Rattle.rld_serve.specs.Due.{IsDue, just_begun, put_off, second_later};
+ghost use Rattle.rld_state.specs.Due.{IsDue, just_begun, put_off, second_later};
 
 /// After how many moves a generation has to end.
 const MOST_MOVES: u64 = 1_000_000;
@@ -12,14 +12,14 @@ const PAUSE_SECS: u64 = 60;
 
 /// How long the generation of a running server has lasted, and how long the next one has still to wait.
 #[derive(Clone, Copy, Debug, PartialEq, Eq)]
-pub(crate) struct RollTimer {
+pub struct RollTimer {
     seconds: u64,
     pause: u64,
 }
 
 impl RollTimer {
-    /// Of a generation that has just begun.
-    pub(crate) fn new() -> RollTimer
+    /// The timer of a generation that has just begun.
+    pub fn new() -> RollTimer
         ensures { result ≡ just_begun }
     {
         RollTimer {
@@ -28,8 +28,8 @@ impl RollTimer {
         }
     }
 
-    /// A second passes.
-    pub(crate) fn pass_second(&mut self)
+    /// Lets a second pass.
+    pub fn pass_second(&mut self)
         ensures { self.new ≡ second_later self.old }
     {
         self.seconds = self.seconds.saturating_add(1);
@@ -37,14 +37,14 @@ impl RollTimer {
     }
 
     /// Whether the next generation shall begin, after so many moves of this one.
-    pub(crate) fn is_due(&self, moves: u64) -> bool
+    pub fn is_due(&self, moves: u64) -> bool
         ensures { IsTrue result ↔ IsDue self.now moves }
     {
         self.pause == 0 && (moves >= MOST_MOVES || self.seconds >= MOST_SECS)
     }
 
-    /// The next generation could not begin: it is tried again a minute later.
-    pub(crate) fn put_off(&mut self)
+    /// Notes that the next generation could not begin: it is tried again a minute later.
+    pub fn put_off(&mut self)
         ensures { self.new ≡ put_off self.old }
     {
         self.pause = PAUSE_SECS;

@@ -1,5 +1,5 @@
 ghost use Rattle.std.specs.Prelude.{◌≡◌};
-ghost use Rattle.rld_serve.specs.Told.{priority_of};
+ghost use Rattle.rld_state.specs.Told.{priority_of};
 
 use crate::reloaded::Reloaded;
 use crate::rolled::Notice;
@@ -9,18 +9,18 @@ use std::fmt;
 
 /// What an operator is told but for refusals.
 #[derive(Clone, Copy, Debug, PartialEq, Eq)]
-pub(crate) enum Told {
+pub enum Told {
     /// How batches are recorded.
     Recording(News),
     /// How generations follow each other, and where old logs go.
     Generations(Notice),
-    /// That the accounts were read anew.
+    /// What came of accounts that were read anew.
     Accounts(Reloaded),
 }
 
 impl Told {
     /// How grave it is.
-    pub(crate) fn priority(self) -> Priority
+    pub fn priority(self) -> Priority
         ensures { result ≡ priority_of self }
     {
         match self {
@@ -35,11 +35,11 @@ impl Told {
 
 /// A line of what an operator is told.
 #[derive(Clone, Copy, Debug)]
-pub(crate) struct ToldLine {
+pub struct ToldLine {
     /// Who reads it.
-    pub(crate) sink: Sink,
+    pub sink: Sink,
     /// What he is told.
-    pub(crate) told: Told,
+    pub told: Told,
 }
 
 impl fmt::Display for ToldLine {
@@ -56,7 +56,7 @@ impl fmt::Display for ToldLine {
 
 /// Lines of ASCII, as octets.
 #[derive(Clone, Copy, Debug)]
-pub(crate) struct Ascii<'a>(pub(crate) &'a [u8]);
+pub struct Ascii<'a>(pub &'a [u8]);
 
 impl fmt::Display for Ascii<'_> {
     fn fmt<W: fmt::Write>(&self, f: &mut fmt::Formatter<W>) -> fmt::Result {

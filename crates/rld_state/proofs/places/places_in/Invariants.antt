@@ -1,6 +1,6 @@
 use Rattle.std.proofs.Common.{◌≡◌, drop}
-use Rattle.rld_serve.specs.Places.{places_in}
-use Rattle.rld_serve.proofs.places.places_in.Given as goal
+use Rattle.rld_state.specs.Places.{places_in}
+use Rattle.rld_state.proofs.places.places_in.Given as goal
 
 -- the rows that were looked at are other accounts'
 abbrev pub invariant-loop-row : goal.invariant-loop-row

@@ -1,0 +1,6 @@
+pub mod Due
+pub mod Keeping
+pub mod Notices
+pub mod Places
+pub mod Told
+pub mod Troubled
