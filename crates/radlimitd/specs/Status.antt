@@ -1,6 +1,6 @@
 -- The exit status of the program.
 use Rattle.std.specs.Prelude.{Result, Ok, Err}
-use Rattle.rld_serve.specs.Fault as running
+use Rattle.rld_edges.specs.Fault as running
 use Rattle.rld_start.specs.Status as starting
 use Rattle.rld_start.specs.declared.status.EndStatus.{EndStatus}
 use Rattle.rld_start.specs.declared.status.EndStatus.TheVariants as statuses

@@ -5,10 +5,10 @@ ghost use Rattle.std.specs.Arc.{arc_value};
 
 use crate::accounts::Accounts;
 use crate::ask_fault::AskFault;
-use crate::control::Operator;
 use crate::server::Server;
 use rld_answers::{Holder, accounts_text, links_text, status_text};
 use rld_control::{Command, NamedSession};
+use rld_edges::Operator;
 use rld_free::Stop;
 use rld_log::FileLog;
 use rld_pace::PacedLog;

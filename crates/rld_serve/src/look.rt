@@ -143,7 +143,7 @@ impl<'a, G, A, R: time::Clock + Wait> Server<'a, G, A, R> {
         let mut looks = Vec::new(self.alloc);
         let of_ipv4 = self.socket_table(IPV4_TABLE);
         let of_ipv6 = self.socket_table(IPV6_TABLE);
-        for pair in self.sockets.pairs.as_slice() {
+        for pair in self.sockets.pairs() {
             let table = if pair.address.is_ipv4() {
                 &of_ipv4
             } else {

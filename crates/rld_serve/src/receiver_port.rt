@@ -1,12 +1,9 @@
 ghost use Rattle.std.specs.Prelude.{◌≡◌};
 ghost use Rattle.rld_serve.specs.Waiting.{peer_of};
 
-use crate::fault::RunFault;
-use crate::readiness::Readiness;
-use crate::recess::Recess;
-use crate::shutdown::Shutdown;
 use crate::status_desk::StatusDesk;
 use mio::Waker;
+use rld_edges::{Readiness, Recess, RunFault, Shutdown};
 use rld_peers::{Patience, PeerPort};
 use rsl_port::{PortFault, reception};
 use rsl_wire::MAX_LEN;

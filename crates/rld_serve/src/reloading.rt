@@ -4,9 +4,9 @@ ghost use Rattle.std.specs.Prelude.{◌≡◌, IfOk, IfSome, length};
 
 use crate::accounts::{Accounts, AccountsFault};
 use crate::ask_fault::AskFault;
-use crate::recess::Rest;
 use crate::server::{Present, Server};
 use rld_counts::ClientCounts;
+use rld_edges::Rest;
 use rld_log::FileLog;
 use rld_pace::PacedLog;
 use rld_start::{Generations, NextEra, generation_named, has_same_clients, is_same_era};

@@ -2,11 +2,10 @@
 //! waits for whoever reads them.
 
 use crate::accounts::Accounts;
-use crate::fault::RunFault;
 use crate::look::Holdings;
-use crate::pen::Pen;
 use crate::server::Server;
 use rld_counts::Counts;
+use rld_edges::{Pen, RunFault};
 use rld_refusals::{Refusal, Taken, write_left_out};
 use rld_start::Generations;
 use rld_state::{Ascii, Told, ToldLine};

@@ -1,8 +1,8 @@
 //! How one generation follows another while the server runs.
 
 use crate::accounts::Accounts;
-use crate::fault::RunFault;
 use crate::server::Server;
+use rld_edges::RunFault;
 use rld_start::{Generations, generation_named};
 use rld_state::{Notice, RollFault, RollTimer, Told, Trouble, notice_of_archive, notice_of_roll};
 use std::net::Net;

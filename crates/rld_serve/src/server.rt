@@ -2,17 +2,14 @@ ghost use Rattle.std.specs.Prelude.{◌≡◌, IfOk};
 ghost use Rattle.rsl_port.specs.Told.{no_numbers};
 
 use crate::accounts::Accounts;
-use crate::control::Control;
-use crate::fault::{RunFault, outcome_of};
-use crate::job::{Job, ports_of};
-use crate::readiness::Readiness;
 use crate::receiver_port::ReceiverPort;
-use crate::recess::Recess;
 use crate::rolling::Rolls;
 use crate::shared_recorder::SharedRecorder;
-use crate::shutdown::{Shutdown, Start};
-use crate::sockets::{Bound, Sockets};
 use crate::status_desk::StatusDesk;
+use rld_edges::{
+    Bound, Control, Job, Readiness, Recess, RunFault, Shutdown, Sockets, Start, outcome_of,
+    ports_of,
+};
 use rld_log::FileLog;
 use rld_look::{History, Pages};
 use rld_networks::Network;
@@ -356,7 +353,7 @@ where
 
     /// Answers operators, one after the other.
     fn answer_all(&self, control: &Control) -> Result<(), RunFault> {
-        let mut readiness = Readiness::of(self.rt, self.alloc, &control.listener)?;
+        let mut readiness = Readiness::of(self.rt, self.alloc, control.listener())?;
         if !self.has_started()? {
             return Ok(());
         }
@@ -364,7 +361,7 @@ where
             if self.shutdown.is_over() {
                 break;
             }
-            match control.listener.accept() {
+            match control.listener().accept() {
                 Ok((stream, _)) => self.answer(&stream),
                 Err(_) => readiness.wait()?,
             }

@@ -1,8 +1,8 @@
 //! The worker that shows the server to those who ask.
 
 use crate::accounts::Accounts;
-use crate::fault::RunFault;
 use crate::server::Server;
+use rld_edges::RunFault;
 use rld_look::{Look, Pages, Shown};
 use rld_start::Generations;
 use rsl_wire::NoMemory;

@@ -1,6 +1,7 @@
 //! The control: a unix socket over which an operator asks the running server.
 
-use crate::fault::RunFault;
+ghost use Rattle.std.specs.Prelude.{◌≡◌};
+
 use rld_control::{Command, read_line};
 use rsl_wire::NoMemory;
 use std::alloc::Global;
@@ -29,7 +30,7 @@ const _: () = prove!(SILENCE_SECS == 1 && PATIENCE_SECS == 5 && PART_LEN == 4_09
 /// The listening socket of a server's control.
 #[derive(Drop)]
 pub struct Control {
-    pub(crate) listener: UnixListener,
+    listener: UnixListener,
 }
 
 impl Control {
@@ -46,6 +47,13 @@ impl Control {
         listener.set_nonblocking(true)?;
         Ok(Control { listener })
     }
+
+    /// The socket, at which operators connect.
+    pub fn listener(&self) -> &UnixListener
+        ensures { result.now ≡ self.now.listener }
+    {
+        &self.listener
+    }
 }
 
 /// Whether a socket is there at which nobody answers.
@@ -58,15 +66,15 @@ fn is_left<R: Files<File = File> + Net>(rt: &R, path: &str) -> bool {
 
 /// An operator who has connected: for him the server has so much patience.
 #[derive(Drop)]
-pub(crate) struct Operator<'a, C> {
+pub struct Operator<'a, C> {
     stream: &'a UnixStream,
     clock: &'a C,
     start: Instant,
 }
 
 impl<'a, C: Clock> Operator<'a, C> {
-    /// Who has connected just now.
-    pub(crate) fn new(clock: &'a C, stream: &'a UnixStream) -> io::Result<Operator<'a, C>> {
+    /// The operator who has connected just now.
+    pub fn new(clock: &'a C, stream: &'a UnixStream) -> io::Result<Operator<'a, C>> {
         stream.set_read_timeout(Some(Duration::from_secs(SILENCE_SECS)))?;
         stream.set_write_timeout(Some(Duration::from_secs(SILENCE_SECS)))?;
         Ok(Operator {
@@ -76,8 +84,8 @@ impl<'a, C: Clock> Operator<'a, C> {
         })
     }
 
-    /// What he asks: `None` where the line is no command's.
-    pub(crate) fn asked(&self, alloc: Global) -> io::Result<Option<Command>> {
+    /// The command that he asks for: `None` where the line is no command's.
+    pub fn asked(&self, alloc: Global) -> io::Result<Option<Command>> {
         let mut room = [0u8; LINE_LEN];
         let mut line = Line { operator: self };
         match read_line(&mut line, &mut room)? {
@@ -90,7 +98,7 @@ impl<'a, C: Clock> Operator<'a, C> {
     }
 
     /// Answers him. Where he does not read it in time he has no more of it.
-    pub(crate) fn answer(&self, text: &[u8]) {
+    pub fn answer(&self, text: &[u8]) {
         let mut to = self.stream;
         for part in text.chunks(PART_LEN) {
             if self.has_taken_long() || to.write_all(part).is_err() {

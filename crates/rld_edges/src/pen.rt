@@ -19,7 +19,7 @@ const ROOM: Token = Token(0);
 /// Standard error, which is written to only where it has room: a pipe or a socket that nobody reads
 /// keeps no worker waiting.
 #[derive(Drop)]
-pub(crate) struct Pen {
+pub struct Pen {
     poll: Poll,
     events: Events,
     can_fill: bool,
@@ -28,7 +28,7 @@ pub(crate) struct Pen {
 impl Pen {
     /// Standard error of this process. `Down` comes where the system has no room to wait for it, and
     /// `NoMemory` where memory is refused.
-    pub(crate) fn of<N: Net>(net: &N, alloc: Global) -> Result<Pen, RunFault> {
+    pub fn of<N: Net>(net: &N, alloc: Global) -> Result<Pen, RunFault> {
         let poll = Poll::new(net)?;
         let events = Events::with_capacity(alloc, 1)?;
         let can_fill = poll
@@ -44,7 +44,7 @@ impl Pen {
 
     /// Whether it takes 4,096 octets without a wait, which is waited for for a tenth of a second. A
     /// file always takes them, as far as the system can tell.
-    pub(crate) fn has_room(&mut self) -> bool {
+    pub fn has_room(&mut self) -> bool {
         !self.can_fill || self.find_room().unwrap_or(true)
     }
 

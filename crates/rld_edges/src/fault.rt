@@ -1,6 +1,6 @@
 ghost use Rattle.std.specs.Prelude.{◌≡◌};
-ghost use Rattle.rld_serve.specs.Fault.{fault_in, graver, gravest};
-ghost use Rattle.rld_serve.specs.declared.fault.RunFault.TheVariants.{Down as down, NoMemory as no_memory};
+ghost use Rattle.rld_edges.specs.Fault.{fault_in, graver, gravest};
+ghost use Rattle.rld_edges.specs.declared.fault.RunFault.TheVariants.{Down as down, NoMemory as no_memory};
 
 use rld_start::EndStatus;
 use rsl_wire::NoMemory;
@@ -33,7 +33,7 @@ pub enum RunFault {
 }
 
 impl RunFault {
-    ghost use Rattle.rld_serve.specs.Fault.{gravity, status_of};
+    ghost use Rattle.rld_edges.specs.Fault.{gravity, status_of};
 
     /// How the server ends: where its start or a call to the system failed, where memory was refused, or
     /// where the disk could not be synced.
@@ -94,7 +94,7 @@ impl From<io::Error> for RunFault {
 
 /// The fault of a server whose workers ended so: the gravest, and of those that are as grave the first.
 /// A worker that ended because it was asked to has none.
-pub(crate) fn outcome_of(ended: &[Result<(), RunFault>]) -> Result<(), RunFault>
+pub fn outcome_of(ended: &[Result<(), RunFault>]) -> Result<(), RunFault>
     ensures { fault_in result ≡ gravest ended.now }
 {
     let mut outcome = Ok(());

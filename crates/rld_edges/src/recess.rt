@@ -16,7 +16,7 @@ const _: () = prove!(REST_LOOKS * REST_SLEEP_MICROS == 2_000_000);
 
 /// What is found of receivers that shall rest.
 #[derive(Clone, Copy, Debug, PartialEq, Eq)]
-pub(crate) enum Rest {
+pub enum Rest {
     /// All of them rest.
     All,
     /// One does not, in some two seconds, or the server shall end.
@@ -27,7 +27,7 @@ pub(crate) enum Rest {
 /// that was prepared by the former accounts, and takes no datagram until the recess is over. What comes
 /// meanwhile waits in the room of its socket.
 #[derive(Drop)]
-pub(crate) struct Recess {
+pub struct Recess {
     /// How often it was switched on or off: an odd number while it is on.
     switches: AtomicU64,
     resting: AtomicU64,
@@ -35,8 +35,8 @@ pub(crate) struct Recess {
 }
 
 impl Recess {
-    /// That of so many receivers, none of which rests.
-    pub(crate) fn new(alloc: Global, receivers: usize) -> Result<Recess, AllocError> {
+    /// A recess of so many receivers, none of which rests.
+    pub fn new(alloc: Global, receivers: usize) -> Result<Recess, AllocError> {
         let mut wakers = Vec::with_capacity(alloc, receivers)?;
         for _ in 0..receivers {
             wakers.push(Mutex::new(None))?;
@@ -50,12 +50,12 @@ impl Recess {
 
     /// How often it was switched on or off. Who asks before he looks at the accounts can find out later
     /// whether they may have changed since (`is_since`).
-    pub(crate) fn switches(&self) -> u64 {
+    pub fn switches(&self) -> u64 {
         self.switches.load(Ordering::SeqCst)
     }
 
     /// Whether there is a recess, or has been one since it was switched so often.
-    pub(crate) fn is_since(&self, switches: u64) -> bool {
+    pub fn is_since(&self, switches: u64) -> bool {
         switches % 2 == 1 || self.switches() != switches
     }
 
@@ -65,14 +65,14 @@ impl Recess {
     }
 
     /// The receiver with this number is woken by this from now on, where it waits for its socket.
-    pub(crate) fn wake_by<W: Wait>(&self, rt: &W, receiver: usize, waker: Waker) {
+    pub fn wake_by<W: Wait>(&self, rt: &W, receiver: usize, waker: Waker) {
         if let Some(place) = self.wakers.get(receiver) {
             *place.lock(rt) = Some(waker);
         }
     }
 
     /// Has a receiver rest until the recess is over, or the server shall end.
-    pub(crate) fn rest<C: time::Clock + Wait>(&self, rt: &C, shutdown: &Shutdown) {
+    pub fn rest<C: time::Clock + Wait>(&self, rt: &C, shutdown: &Shutdown) {
         self.resting.fetch_add(1, Ordering::SeqCst);
         for _ in rt.forever() {
             if !self.is_on() || shutdown.is_over() {
@@ -86,7 +86,7 @@ impl Recess {
     /// Begins a recess, and waits until all receivers rest. One that has just ended an earlier rest may be
     /// counted still: it finds that there is a recess again before it takes a datagram. One worker alone
     /// begins recesses, and ends each.
-    pub(crate) fn begin<C: time::Clock + Wait>(&self, rt: &C, shutdown: &Shutdown) -> Rest {
+    pub fn begin<C: time::Clock + Wait>(&self, rt: &C, shutdown: &Shutdown) -> Rest {
         self.switches.fetch_add(1, Ordering::SeqCst);
         self.wake_all(rt);
         let receivers = self.wakers.len() as u64;
@@ -103,7 +103,7 @@ impl Recess {
     }
 
     /// Ends the recess.
-    pub(crate) fn end(&self) {
+    pub fn end(&self) {
         self.switches.fetch_add(1, Ordering::SeqCst);
     }
 

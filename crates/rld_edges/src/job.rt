@@ -1,6 +1,6 @@
 ghost use Rattle.std.specs.Prelude.{◌≡◌, ◌++◌, map, IfOk, OnOk};
 ghost use Rattle.std.specs.List.{filter_map, flat_map};
-ghost use Rattle.rld_serve.specs.Jobs.{jobs_of, jobs_on, port_of, receivers_on, seen};
+ghost use Rattle.rld_edges.specs.Jobs.{jobs_of, jobs_on, port_of, receivers_on, seen};
 
 use crate::control::Control;
 use crate::sockets::{Bound, Pair, Sockets};
@@ -9,7 +9,7 @@ use std::alloc::{AllocError, Global};
 
 /// What a worker of a server does.
 #[derive(Clone, Copy, Drop)]
-pub(crate) enum Job<'a> {
+pub enum Job<'a> {
     /// It takes datagrams from this socket, for this port.
     Receive(&'a Bound, Port),
     /// It makes ticks.
@@ -27,7 +27,7 @@ impl Sockets {
     /// one that makes ticks, one that answers at the control, and one that writes on standard error. It
     /// fails only where memory is refused.
     #[tactic(auto, using(crate::proofs::Pushing::three_more))]
-    pub(crate) fn jobs<'a>(
+    pub fn jobs<'a>(
         &'a self,
         alloc: Global,
         control: &'a Control,
@@ -80,7 +80,7 @@ fn push_receivers<'a>(
 }
 
 /// The port of each receiver among these jobs. It fails only where memory is refused.
-pub(crate) fn ports_of(alloc: Global, jobs: &[Job<'_>]) -> Result<Vec<Port>, AllocError>
+pub fn ports_of(alloc: Global, jobs: &[Job<'_>]) -> Result<Vec<Port>, AllocError>
     ensures { IfOk result (λ ports. ports.items ≡ filter_map port_of jobs.now) }
 {
     let mut ports = Vec::new(alloc);

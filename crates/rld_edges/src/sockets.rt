@@ -1,6 +1,6 @@
 ghost use Rattle.std.specs.Prelude.{◌≡◌, map, IfOk};
 ghost use Rattle.rld_config.specs.declared.listen.Listen.{Listen as OneListen};
-ghost use Rattle.rld_serve.specs.Jobs.{receivers_in};
+ghost use Rattle.rld_edges.specs.Jobs.{receivers_in};
 
 use crate::fault::RunFault;
 use rld_config::Listen;
@@ -9,22 +9,22 @@ use std::net::{IpAddr, Net, SocketAddr, UdpSocket};
 
 /// A UDP socket of a server.
 #[derive(Drop)]
-pub(crate) struct Bound {
-    pub(crate) socket: UdpSocket,
+pub struct Bound {
+    pub socket: UdpSocket,
     /// Whether Status-Server packets are answered on it.
-    pub(crate) status_server: bool,
+    pub status_server: bool,
 }
 
 /// Both sockets of a `[[listen]]`, the address and the ports that they are bound to, and how many
 /// receivers take from each.
 #[derive(Drop)]
-pub(crate) struct Pair {
-    pub(crate) address: IpAddr,
-    pub(crate) auth_port: u16,
-    pub(crate) acct_port: u16,
-    pub(crate) auth: Bound,
-    pub(crate) acct: Bound,
-    pub(crate) receivers: u16,
+pub struct Pair {
+    pub address: IpAddr,
+    pub auth_port: u16,
+    pub acct_port: u16,
+    pub auth: Bound,
+    pub acct: Bound,
+    pub receivers: u16,
 }
 
 /// The UDP sockets of a server, of which nothing was read yet.
@@ -48,6 +48,13 @@ impl Sockets {
             pairs.push(pair_of(net, listen)?)?;
         }
         Ok(Sockets { pairs })
+    }
+
+    /// The sockets of each `[[listen]]`, in the file's order.
+    pub fn pairs(&self) -> &[Pair]
+        ensures { result.now ≡ self.now.pairs.items }
+    {
+        self.pairs.as_slice()
     }
 }
 

@@ -3,11 +3,11 @@ use Rattle.std.specs.Prelude.{ℕ, List, [], ◌∷◌, ◌++◌, replicate, Opt
 use Rattle.std.specs.List.{flat_map}
 use Rattle.rsl_event.specs.declared.meaning.Port.{Port}
 use Rattle.rsl_event.specs.declared.meaning.Port.TheVariants.{Auth, Acct}
-use Rattle.rld_serve.specs.declared.control.Control.{Control}
-use Rattle.rld_serve.specs.declared.job.Job.{Job}
-use Rattle.rld_serve.specs.declared.job.Job.TheVariants as jobs
-use Rattle.rld_serve.specs.declared.sockets.Bound.{Bound}
-use Rattle.rld_serve.specs.declared.sockets.Pair.{Pair}
+use Rattle.rld_edges.specs.declared.control.Control.{Control}
+use Rattle.rld_edges.specs.declared.job.Job.{Job}
+use Rattle.rld_edges.specs.declared.job.Job.TheVariants as jobs
+use Rattle.rld_edges.specs.declared.sockets.Bound.{Bound}
+use Rattle.rld_edges.specs.declared.sockets.Pair.{Pair}
 
 -- a job, by the values that it borrows
 pub data JobSeen : Type 0 where

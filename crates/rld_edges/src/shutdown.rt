@@ -10,7 +10,7 @@ const START_SLEEP_MILLIS: u64 = 1;
 
 /// What a worker finds that waits for the others.
 #[derive(Clone, Copy, Debug, PartialEq, Eq)]
-pub(crate) enum Start {
+pub enum Start {
     /// All have started.
     All,
     /// One has ended already.
@@ -21,15 +21,15 @@ pub(crate) enum Start {
 
 /// What the workers of a server tell each other: how many have started, and that all shall end.
 #[derive(Drop)]
-pub(crate) struct Shutdown {
+pub struct Shutdown {
     workers: u64,
     started: AtomicU64,
     is_over: AtomicBool,
 }
 
 impl Shutdown {
-    /// No worker of so many has started.
-    pub(crate) fn new(workers: usize) -> Shutdown {
+    /// The shutdown of so many workers, of which none has started.
+    pub fn new(workers: usize) -> Shutdown {
         Shutdown {
             workers: workers as u64,
             started: AtomicU64::new(0),
@@ -39,7 +39,7 @@ impl Shutdown {
 
     /// Tells that a worker has started, and waits until all have, for some five seconds at most. A
     /// worker for which no thread can be made starts only once another has ended.
-    pub(crate) fn await_start<C: time::Clock>(&self, clock: &C) -> Start {
+    pub fn await_start<C: time::Clock>(&self, clock: &C) -> Start {
         self.started.fetch_add(1, Ordering::SeqCst);
         for _ in 0..START_LOOKS {
             if self.is_over() {
@@ -54,12 +54,12 @@ impl Shutdown {
     }
 
     /// Tells all workers to end.
-    pub(crate) fn end(&self) {
+    pub fn end(&self) {
         self.is_over.store(true, Ordering::SeqCst);
     }
 
     /// Whether all workers shall end.
-    pub(crate) fn is_over(&self) -> bool {
+    pub fn is_over(&self) -> bool {
         self.is_over.load(Ordering::SeqCst)
     }
 }

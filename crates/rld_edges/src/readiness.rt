@@ -20,15 +20,15 @@ const WAKE: Token = Token(1);
 
 /// What waits for one socket, whose own calls do not wait.
 #[derive(Drop)]
-pub(crate) struct Readiness {
+pub struct Readiness {
     poll: Poll,
     events: Events,
 }
 
 impl Readiness {
-    /// Of this socket. `Down` comes where the system has no room to wait for it, and `NoMemory` where
-    /// memory is refused.
-    pub(crate) fn of<N: Net, S: AsRawFd>(
+    /// What waits for this socket. `Down` comes where the system has no room to wait for it, and
+    /// `NoMemory` where memory is refused.
+    pub fn of<N: Net, S: AsRawFd>(
         net: &N,
         alloc: Global,
         socket: &S,
@@ -43,13 +43,13 @@ impl Readiness {
 
     /// What ends a wait from another thread: the one that is under way, or else the next. `Down` comes
     /// where the system has no room for it.
-    pub(crate) fn waker(&self) -> Result<Waker, RunFault> {
+    pub fn waker(&self) -> Result<Waker, RunFault> {
         Ok(Waker::new(self.poll.registry(), WAKE)?)
     }
 
     /// Waits until the socket may have something, for at most a second. To be called after a call on
     /// the socket that would have waited: it is told of what has come since then.
-    pub(crate) fn wait(&mut self) -> io::Result<()> {
+    pub fn wait(&mut self) -> io::Result<()> {
         self.poll
             .poll(&mut self.events, Some(Duration::from_secs(WAIT_SECS)))
     }

@@ -2,8 +2,8 @@
 use Rattle.std.specs.Prelude.{ℕ, ◌<◌, List, [], ◌∷◌, Option, Some, None, Result, Ok, Err, nat_lt, if◌then◌else◌}
 use Rattle.rld_start.specs.declared.status.EndStatus.{EndStatus}
 use Rattle.rld_start.specs.declared.status.EndStatus.TheVariants as statuses
-use Rattle.rld_serve.specs.declared.fault.RunFault.{RunFault}
-use Rattle.rld_serve.specs.declared.fault.RunFault.TheVariants.{Unbound, Threads, Down, NoMemory, Unsynced}
+use Rattle.rld_edges.specs.declared.fault.RunFault.{RunFault}
+use Rattle.rld_edges.specs.declared.fault.RunFault.TheVariants.{Unbound, Threads, Down, NoMemory, Unsynced}
 
 -- how grave a fault is
 abbrev pub gravity : RunFault → ℕ

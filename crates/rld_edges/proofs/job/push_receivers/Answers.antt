@@ -1,8 +1,8 @@
 use Rattle.std.proofs.Common.{refl, sym, map}
 use Rattle.std.proofs.lemmas.List.{append-nil}
-use Rattle.rld_serve.specs.Jobs.{Receives, seen}
-use Rattle.rld_serve.proofs.Pushing.{one_more}
-use Rattle.rld_serve.proofs.job.push_receivers.Goals as goal
+use Rattle.rld_edges.specs.Jobs.{Receives, seen}
+use Rattle.rld_edges.proofs.Pushing.{one_more}
+use Rattle.rld_edges.proofs.job.push_receivers.Goals as goal
 
 pub loop-init : goal.loop-init
 loop-init c = sym (append-nil (map seen c.args.jobs.now.items))
