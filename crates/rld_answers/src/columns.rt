@@ -6,7 +6,7 @@ use std::alloc::{AllocError, Global};
 const WIDTH: usize = 80;
 
 /// Where the next word of a line stands.
-#[derive(Clone, Copy, Debug)]
+#[derive(Clone, Copy)]
 pub(crate) struct Columns {
     column: usize,
 }

@@ -1,7 +1,7 @@
 use rld_look::AccountLook;
 
 /// Where an account stands among the fullest: by what it holds of its places, and then in file order.
-#[derive(Clone, Copy, Debug)]
+#[derive(Clone, Copy)]
 pub(crate) struct Place {
     /// How much of its places it holds, in millionths.
     fullness: u64,

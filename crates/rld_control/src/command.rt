@@ -8,7 +8,7 @@ use rsl_wire::{NoMemory, Octets};
 use std::alloc::Global;
 
 /// What a running server is asked.
-#[derive(Debug, PartialEq, Eq, Drop)]
+#[derive(PartialEq, Eq, Drop)]
 pub enum Command {
     /// What it is and does.
     Status,

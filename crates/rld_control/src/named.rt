@@ -22,7 +22,7 @@ use rsl_wire::{NoMemory, Octets};
 use std::alloc::{AllocError, Global};
 
 /// A session as an operator names it.
-#[derive(Debug, PartialEq, Eq, Drop)]
+#[derive(PartialEq, Eq, Drop)]
 pub struct NamedSession {
     /// The name of its account.
     pub account: Octets,

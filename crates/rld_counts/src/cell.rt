@@ -11,7 +11,7 @@ use std::marker::Model;
 
 /// What a receiver has counted: how the datagrams ended, in all and of each client, and how long the
 /// answers took.
-#[derive(Debug, Drop)]
+#[derive(Drop)]
 pub struct Cell {
     counts: Counts,
     clients: Vec<Counts>,

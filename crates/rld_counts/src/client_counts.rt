@@ -8,7 +8,7 @@ use std::marker::Model;
 /// The counts of so many clients, of which no datagram has come: what a cell takes where it begins to
 /// count by client anew. It is made before, since memory for it can be refused. A contract sees how many
 /// clients there are.
-#[derive(Debug, Drop)]
+#[derive(Drop)]
 pub struct ClientCounts {
     each: Vec<Counts>,
 }

@@ -9,7 +9,7 @@ use std::marker::Model;
 
 /// How many datagrams ended how. A contract sees the list of the counts, by the ends' numbers. A count
 /// stops at 2^64 - 1.
-#[derive(Clone, Copy, Debug, PartialEq, Eq)]
+#[derive(Clone, Copy, PartialEq, Eq)]
 pub struct Counts {
     counters: [u64; ENDS],
 }

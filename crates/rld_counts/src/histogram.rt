@@ -11,7 +11,7 @@ pub const BUCKETS: usize = 25;
 
 /// How long answers took: how many times are in each bucket, and their sum. A time is in the first
 /// bucket whose bound is not below it. A number stops at 2^64 - 1.
-#[derive(Clone, Copy, Debug, PartialEq, Eq)]
+#[derive(Clone, Copy, PartialEq, Eq)]
 pub struct Histogram {
     counters: [u64; BUCKETS],
     micros: u64,

@@ -15,7 +15,7 @@ const REST_SLEEP_MICROS: u64 = 200;
 const _: () = prove!(REST_LOOKS * REST_SLEEP_MICROS == 2_000_000);
 
 /// What is found of receivers that shall rest.
-#[derive(Clone, Copy, Debug, PartialEq, Eq)]
+#[derive(Clone, Copy, PartialEq, Eq)]
 pub enum Rest {
     /// All of them rest.
     All,

@@ -9,7 +9,7 @@ const START_LOOKS: u64 = 5_000;
 const START_SLEEP_MILLIS: u64 = 1;
 
 /// What a worker finds that waits for the others.
-#[derive(Clone, Copy, Debug, PartialEq, Eq)]
+#[derive(Clone, Copy, PartialEq, Eq)]
 pub enum Start {
     /// All have started.
     All,

@@ -3,7 +3,7 @@ use rsl_wire::NoMemory;
 use std::alloc::AllocFailed;
 
 /// Why the octets of an era's file give no configuration.
-#[derive(Clone, Copy, Debug, PartialEq, Eq)]
+#[derive(Clone, Copy, PartialEq, Eq)]
 pub enum TableFault {
     /// Memory was refused.
     NoMemory,

@@ -28,7 +28,7 @@ const IDENTIFIER: u8 = 0;
 const SOURCE_PORT: u16 = 0;
 
 /// A Stop of a session, as its access server would have sent it.
-#[derive(Debug, Drop)]
+#[derive(Drop)]
 pub struct Stop {
     /// The number of the session's account.
     pub account: u32,

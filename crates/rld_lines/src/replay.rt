@@ -32,7 +32,7 @@ pub struct LogFile<'a> {
 }
 
 /// What was found in a log whose lines were written.
-#[derive(Clone, Copy, Debug, PartialEq, Eq)]
+#[derive(Clone, Copy, PartialEq, Eq)]
 pub struct Printed {
     /// How many moves it has.
     pub moves: u64,

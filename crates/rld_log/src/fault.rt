@@ -51,13 +51,11 @@ pub struct Damage {
 }
 
 /// Why the payloads of a file were not read.
-#[derive(Clone, Copy, Debug, PartialEq, Eq, Error)]
+#[derive(Clone, Copy, Debug, PartialEq, Eq)]
 pub enum ReadFault {
     /// Memory was refused.
-    #[error("no memory")]
     NoMemory,
     /// The file is damaged.
-    #[error("{0}")]
     Damaged(Damage),
 }
 

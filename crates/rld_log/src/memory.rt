@@ -8,7 +8,7 @@ use crate::log::{Crash, Ending, Log};
 use std::alloc::{AllocError, Global};
 
 /// What was done to a log since its last sync.
-#[derive(Debug, Drop)]
+#[derive(Drop)]
 pub(crate) enum Step {
     /// These octets were added.
     Append(Vec<u8>),
@@ -19,7 +19,7 @@ pub(crate) enum Step {
 }
 
 /// How a life of a log in memory goes.
-#[derive(Clone, Copy, Debug, PartialEq, Eq)]
+#[derive(Clone, Copy, PartialEq, Eq)]
 pub struct Life {
     /// How many calls succeed at first.
     pub calls: u64,

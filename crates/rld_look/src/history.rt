@@ -109,7 +109,7 @@ impl History {
 }
 
 /// What had come at a moment.
-#[derive(Clone, Copy, Debug, PartialEq, Eq)]
+#[derive(Clone, Copy, PartialEq, Eq)]
 pub(crate) struct Came {
     pub(crate) accepts: u64,
     pub(crate) limit_rejects: u64,

@@ -42,7 +42,7 @@ pub struct Look {
 }
 
 /// How the datagrams of a client ended.
-#[derive(Clone, Copy, Debug, PartialEq, Eq)]
+#[derive(Clone, Copy, PartialEq, Eq)]
 pub struct ClientLook {
     /// The client's address.
     pub address: [u8; 4],
@@ -60,7 +60,7 @@ pub struct AccountLook {
 }
 
 /// What came in a minute, and what was held at its end.
-#[derive(Clone, Copy, Debug, PartialEq, Eq)]
+#[derive(Clone, Copy, PartialEq, Eq)]
 pub struct Minute {
     /// The second in which it began.
     pub start: u64,
@@ -77,7 +77,7 @@ pub struct Minute {
 }
 
 /// What waits at a UDP socket, as the system tells it.
-#[derive(Clone, Copy, Debug, PartialEq, Eq)]
+#[derive(Clone, Copy, PartialEq, Eq)]
 pub struct SocketLook {
     /// The socket's UDP port.
     pub port: u16,
@@ -88,7 +88,7 @@ pub struct SocketLook {
 }
 
 /// Whether batches are being recorded.
-#[derive(Clone, Copy, Debug, PartialEq, Eq)]
+#[derive(Clone, Copy, PartialEq, Eq)]
 pub enum Recording {
     /// They are.
     Recorded,

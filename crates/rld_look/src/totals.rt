@@ -5,7 +5,7 @@ use crate::look::AccountLook;
 use rsl_shard::Row;
 
 /// What all accounts hold, each number at most 2^64 - 1.
-#[derive(Clone, Copy, Debug, PartialEq, Eq)]
+#[derive(Clone, Copy, PartialEq, Eq)]
 pub struct Totals {
     /// How many accounts there are.
     pub accounts: u64,

@@ -8,7 +8,7 @@ ghost use Rattle.rld_metrics.specs.Text.{escaped_octet, head_of, label, seconds,
 use std::alloc::{AllocError, Global};
 
 /// What a metric is.
-#[derive(Clone, Copy, Debug, PartialEq, Eq)]
+#[derive(Clone, Copy, PartialEq, Eq)]
 pub(crate) struct Head<'a> {
     /// Its name.
     pub(crate) name: &'a str,

@@ -1,7 +1,7 @@
 use crate::ticks::Ticks;
 
 /// When a sync of a log reaches the disk.
-#[derive(Clone, Copy, Debug, PartialEq, Eq)]
+#[derive(Clone, Copy, PartialEq, Eq)]
 pub enum Pace {
     /// Each time.
     Always,

@@ -10,7 +10,7 @@ use rld_log::{Crash, Ending, Log, LogFault};
 use std::alloc::Global;
 
 /// What a kill would leave of a log.
-#[derive(Clone, Copy, Debug, PartialEq, Eq)]
+#[derive(Clone, Copy, PartialEq, Eq)]
 pub(crate) enum End {
     /// What a read returns, and nothing else.
     Settled,

@@ -16,7 +16,7 @@ const FULL: u64 = 1_000_000;
 
 /// Where an account stands among all: first by how much of its places is free, in millionths, then by
 /// its place in the file.
-#[derive(Clone, Copy, Debug, PartialEq, Eq, PartialOrd, Ord)]
+#[derive(Clone, Copy, PartialEq, Eq, PartialOrd, Ord)]
 struct Rank {
     free: u64,
     number: usize,

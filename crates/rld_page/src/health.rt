@@ -4,7 +4,7 @@ ghost use Rattle.rld_page.specs.Health.{health_of, health_text};
 use rld_look::Recording;
 
 /// Whether a server is well: it is as long as its batches are recorded, since it answers nothing else.
-#[derive(Clone, Copy, Debug, PartialEq, Eq)]
+#[derive(Clone, Copy, PartialEq, Eq)]
 pub enum Health {
     /// It is.
     Well,

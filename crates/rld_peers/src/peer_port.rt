@@ -14,7 +14,7 @@ pub struct PeerDatagram {
 }
 
 /// Whether to wait for a datagram.
-#[derive(Clone, Copy, Debug, PartialEq, Eq)]
+#[derive(Clone, Copy, PartialEq, Eq)]
 pub enum Patience {
     /// For a while.
     Some,

@@ -16,7 +16,7 @@ pub const MOST_LINES: u64 = 20;
 const _: () = prove!(MOST_LINES == 20);
 
 /// What became of a refusal that was noted.
-#[derive(Clone, Copy, Debug, PartialEq, Eq)]
+#[derive(Clone, Copy, PartialEq, Eq)]
 pub enum Noted {
     /// It waits for its line.
     Waits,
@@ -28,7 +28,7 @@ pub enum Noted {
 
 /// The refusals that wait for their lines, and how many of each cause get none. A contract sees the
 /// list of those that wait, the oldest first, and the counts of the others.
-#[derive(Debug, Drop)]
+#[derive(Drop)]
 pub struct Backlog {
     waiting: Vec<Refusal>,
     lines: Counts,
@@ -48,7 +48,7 @@ impl Model for Backlog {
 }
 
 /// What was taken from a backlog: of what it had noted, as much waited as was not left out, of each cause.
-#[derive(Debug, Drop)]
+#[derive(Drop)]
 pub struct Taken {
     /// The refusals that waited, the oldest first: at most `MOST_LINES` of each cause.
     pub waited: Vec<Refusal>,

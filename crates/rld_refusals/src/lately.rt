@@ -12,7 +12,7 @@ pub const MOST_LATELY: usize = 64;
 const _: () = prove!(MOST_LATELY == 64);
 
 /// The last refusals. A contract sees their list, the oldest first.
-#[derive(Debug, Drop)]
+#[derive(Drop)]
 pub(crate) struct Lately {
     refusals: Vec<Refusal>,
 }

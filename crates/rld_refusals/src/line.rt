@@ -13,7 +13,7 @@ use rsl_wire::Octets;
 use std::alloc::{AllocError, Global};
 
 /// The places of an account.
-#[derive(Clone, Copy, Debug, PartialEq, Eq)]
+#[derive(Clone, Copy, PartialEq, Eq)]
 pub struct Places {
     /// How many it holds.
     pub held: u32,

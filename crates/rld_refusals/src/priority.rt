@@ -4,7 +4,7 @@ ghost use Rattle.rld_refusals.specs.Line.{mark_of, name_of, port_of, priority_of
 use rld_counts::{AuthEnd, End};
 
 /// Who reads the lines that a server writes.
-#[derive(Clone, Copy, Debug, PartialEq, Eq)]
+#[derive(Clone, Copy, PartialEq, Eq)]
 pub enum Sink {
     /// systemd's journal, which takes a mark at the front of a line as its priority.
     Journal,
@@ -13,7 +13,7 @@ pub enum Sink {
 }
 
 /// How grave a line is, by the names of RFC 5424 section 6.2.1.
-#[derive(Clone, Copy, Debug, PartialEq, Eq)]
+#[derive(Clone, Copy, PartialEq, Eq)]
 pub enum Priority {
     /// The server does not do its work.
     Error,

@@ -10,7 +10,7 @@ use rsl_wire::{Attrs, NoMemory, Octets, read};
 use std::alloc::Global;
 
 /// A datagram that has ended, as a receiver knows it.
-#[derive(Clone, Copy, Debug)]
+#[derive(Clone, Copy)]
 pub struct Refused<'a> {
     /// When it ended, in seconds since 1970.
     pub moment: u64,
@@ -25,7 +25,7 @@ pub struct Refused<'a> {
 }
 
 /// What is told of a datagram that was refused.
-#[derive(Debug, PartialEq, Eq, Drop)]
+#[derive(PartialEq, Eq, Drop)]
 pub struct Refusal {
     /// When it ended, in seconds since 1970.
     pub moment: u64,

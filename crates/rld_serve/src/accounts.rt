@@ -2,7 +2,7 @@ use rsl_accounts::Config;
 use std::alloc::{AllocError, Global};
 
 /// Why the accounts cannot be read anew.
-#[derive(Debug, Drop)]
+#[derive(Drop)]
 pub enum AccountsFault {
     /// The account file is wrong, or does not go with the server's file. The text says where and how, in
     /// one line without its line feed.

@@ -3,7 +3,7 @@ use rsl_wire::NoMemory;
 use std::alloc::{AllocError, AllocFailed};
 
 /// Why a running server does not do what it is asked.
-#[derive(Clone, Copy, Debug, PartialEq, Eq)]
+#[derive(Clone, Copy, PartialEq, Eq)]
 pub(crate) enum AskFault {
     /// The line is no command's.
     UnknownCommand,

@@ -39,7 +39,7 @@ const MAX_PORTS: u64 = 16;
 const MAX_TIME: u64 = 86_400;
 
 /// An account of an era.
-#[derive(Debug, PartialEq, Eq, Drop)]
+#[derive(PartialEq, Eq, Drop)]
 pub struct EraAccount {
     /// Its User-Name: 1 to 64 visible characters of ASCII, an octet each.
     pub name: Octets,
@@ -48,14 +48,14 @@ pub struct EraAccount {
 }
 
 /// A client of an era.
-#[derive(Clone, Copy, Debug, PartialEq, Eq)]
+#[derive(Clone, Copy, PartialEq, Eq)]
 pub struct EraClient {
     /// Its IPv4 address, its first octet first.
     pub address: [u8; 4],
 }
 
 /// What holds while an era lasts. Accounts and clients have the numbers of their places here.
-#[derive(Debug, PartialEq, Eq, Drop)]
+#[derive(PartialEq, Eq, Drop)]
 pub struct Era {
     /// The boot number, with which each Class attribute of the era begins.
     pub boot: u64,

@@ -2,17 +2,14 @@ ghost use Rattle.std.specs.Prelude.{◌≡◌};
 ghost use Rattle.rld_spelling.specs.declared.fault.SpellFault.TheVariants.{NoMemory};
 
 use std::alloc::AllocError;
-use thiserror::Error;
 
 /// Why nothing was spelled.
-#[derive(Clone, Copy, Debug, PartialEq, Eq, Error)]
+#[derive(Clone, Copy, Debug, PartialEq, Eq)]
 pub enum SpellFault {
     /// Memory was refused.
-    #[error("no memory")]
     NoMemory,
     /// The value has no spelling: a name or an id has over 253 octets, an account or a client is not
     /// there, or what is called an account's own move is none.
-    #[error("nothing that can be written")]
     Unfit,
 }
 

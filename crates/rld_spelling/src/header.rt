@@ -12,7 +12,7 @@ use std::alloc::AllocError;
 pub const FORMAT_VERSION: u64 = 1;
 
 /// What stands at the beginning of a generation.
-#[derive(Clone, Copy, Debug, PartialEq, Eq)]
+#[derive(Clone, Copy, PartialEq, Eq)]
 pub struct Header {
     /// The number of the era.
     pub era: u64,

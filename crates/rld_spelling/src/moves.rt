@@ -39,7 +39,7 @@ const STRAY: u8 = 6;
 /// How many accounts and clients there are. An account and a client are named by numbers below
 /// these, in the order of the configuration. What is spelled and read of moves depends on nothing
 /// else.
-#[derive(Clone, Copy, Debug, PartialEq, Eq)]
+#[derive(Clone, Copy, PartialEq, Eq)]
 pub struct Counts {
     /// The accounts.
     pub accounts: u32,

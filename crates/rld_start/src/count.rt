@@ -5,7 +5,7 @@ use rld_folder::Generation;
 use rsl_shard::Row;
 
 /// What a new era has taken over of one with another account file.
-#[derive(Clone, Copy, Debug, PartialEq, Eq)]
+#[derive(Clone, Copy, PartialEq, Eq)]
 pub struct Admitted {
     /// The generation whose books it has taken over.
     pub from: Generation,
@@ -14,7 +14,7 @@ pub struct Admitted {
 }
 
 /// What a start found in the folder.
-#[derive(Clone, Copy, Debug, PartialEq, Eq)]
+#[derive(Clone, Copy, PartialEq, Eq)]
 pub struct Found {
     /// The number of the era.
     pub era: u64,

@@ -11,7 +11,7 @@ use rld_log::{HEAD_LEN, first_frame, whole_len};
 use rld_spelling::Header;
 
 /// What stands at the front of a log.
-#[derive(Clone, Copy, Debug, PartialEq, Eq)]
+#[derive(Clone, Copy, PartialEq, Eq)]
 pub enum First {
     /// No whole snapshot: the generation was not begun.
     Unbegun,

@@ -19,7 +19,7 @@ use std::alloc::Global;
 use std::fs::{File, Files};
 
 /// What a rebase has done.
-#[derive(Clone, Copy, Debug, PartialEq, Eq)]
+#[derive(Clone, Copy, PartialEq, Eq)]
 pub struct Rebased {
     /// The generation whose books were cut.
     pub from: Generation,

@@ -5,7 +5,7 @@ use std::fmt;
 use thiserror::Error;
 
 /// What came of accounts that were read anew. It prints as the line of an answer, without its line feed.
-#[derive(Clone, Copy, Debug, PartialEq, Eq)]
+#[derive(Clone, Copy, PartialEq, Eq)]
 pub enum Reloaded {
     /// The era of this number goes on: names, rules, addresses and shards are as before.
     GoesOn(u64),
@@ -14,7 +14,7 @@ pub enum Reloaded {
 }
 
 /// How an era has followed another while the server runs.
-#[derive(Clone, Copy, Debug, PartialEq, Eq)]
+#[derive(Clone, Copy, PartialEq, Eq)]
 pub struct Passage {
     /// The number of the era that has ended.
     pub former: u64,

@@ -11,7 +11,7 @@ const MOST_SECS: u64 = 600;
 const PAUSE_SECS: u64 = 60;
 
 /// How long the generation of a running server has lasted, and how long the next one has still to wait.
-#[derive(Clone, Copy, Debug, PartialEq, Eq)]
+#[derive(Clone, Copy, PartialEq, Eq)]
 pub struct RollTimer {
     seconds: u64,
     pause: u64,

@@ -8,7 +8,7 @@ use rld_refusals::{Priority, Sink};
 use std::fmt;
 
 /// What an operator is told but for refusals.
-#[derive(Clone, Copy, Debug, PartialEq, Eq)]
+#[derive(Clone, Copy, PartialEq, Eq)]
 pub enum Told {
     /// How batches are recorded.
     Recording(News),
@@ -34,7 +34,7 @@ impl Told {
 }
 
 /// A line of what an operator is told.
-#[derive(Clone, Copy, Debug)]
+#[derive(Clone, Copy)]
 pub struct ToldLine {
     /// Who reads it.
     pub sink: Sink,
@@ -55,7 +55,7 @@ impl fmt::Display for ToldLine {
 }
 
 /// Lines of ASCII, as octets.
-#[derive(Clone, Copy, Debug)]
+#[derive(Clone, Copy)]
 pub struct Ascii<'a>(pub &'a [u8]);
 
 impl fmt::Display for Ascii<'_> {

@@ -4,7 +4,7 @@ ghost use Rattle.rld_state.specs.Troubled.{news_of};
 use std::fmt;
 
 /// What an operator is told of how batches are recorded. It prints as a line of standard error.
-#[derive(Clone, Copy, Debug, PartialEq, Eq)]
+#[derive(Clone, Copy, PartialEq, Eq)]
 pub enum News {
     /// Batches are not recorded from now on.
     Began,
@@ -24,7 +24,7 @@ impl fmt::Display for News {
 }
 
 /// Whether batches are not recorded, as it was told last.
-#[derive(Clone, Copy, Debug, PartialEq, Eq)]
+#[derive(Clone, Copy, PartialEq, Eq)]
 pub struct Trouble {
     is_there: bool,
 }

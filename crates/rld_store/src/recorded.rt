@@ -5,7 +5,7 @@ use std::marker::Model;
 /// one, so what is answered from it is on the disk.
 ///
 /// A contract sees the decisions.
-#[derive(Debug, Drop)]
+#[derive(Drop)]
 pub struct Recorded {
     decisions: Vec<Decision>,
 }

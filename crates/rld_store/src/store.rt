@@ -33,7 +33,7 @@ use std::alloc::Global;
 use std::mem;
 
 /// What stands behind the whole frames of a log.
-#[derive(Clone, Copy, Debug, PartialEq, Eq)]
+#[derive(Clone, Copy, PartialEq, Eq)]
 pub enum End {
     /// Nothing: what a read gives is on the disk.
     Settled,

@@ -4,7 +4,7 @@ ghost use Rattle.rld_turn.specs.Counted.{AddsUp, counted, ends_of, no_counts};
 use crate::ends::Ends;
 
 /// What a receiver did.
-#[derive(Clone, Copy, Debug, PartialEq, Eq)]
+#[derive(Clone, Copy, PartialEq, Eq)]
 pub struct Counts {
     /// The turns, each of at most 64 datagrams.
     pub turns: u64,

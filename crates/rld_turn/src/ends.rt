@@ -19,7 +19,7 @@ pub enum End {
 }
 
 /// How many datagrams of a turn ended so.
-#[derive(Clone, Copy, Debug, PartialEq, Eq)]
+#[derive(Clone, Copy, PartialEq, Eq)]
 pub(crate) struct Ends {
     pub(crate) dropped: u64,
     pub(crate) refused: u64,
@@ -29,7 +29,7 @@ pub(crate) struct Ends {
 }
 
 /// What comes after a turn.
-#[derive(Clone, Copy, Debug, PartialEq, Eq)]
+#[derive(Clone, Copy, PartialEq, Eq)]
 pub(crate) enum Ending {
     /// Another turn.
     Open,
@@ -40,7 +40,7 @@ pub(crate) enum Ending {
 }
 
 /// What a turn did.
-#[derive(Clone, Copy, Debug, PartialEq, Eq)]
+#[derive(Clone, Copy, PartialEq, Eq)]
 pub(crate) struct Turn {
     /// How its datagrams ended.
     pub(crate) ends: Ends,

@@ -4,7 +4,7 @@ use crate::ends::End;
 use rsl_event::Source;
 
 /// What a watcher is told of a datagram.
-#[derive(Clone, Copy, Debug)]
+#[derive(Clone, Copy)]
 pub struct Ended<'a> {
     /// Where it came from.
     pub source: Source,
@@ -38,7 +38,7 @@ pub trait Watch {
 }
 
 /// A watcher that notes nothing.
-#[derive(Clone, Copy, Debug)]
+#[derive(Clone, Copy)]
 pub struct Unwatched;
 
 impl Watch for Unwatched {

@@ -3,7 +3,7 @@ ghost use Rattle.http_header.specs.FieldValue.{is_visible_text};
 ghost use Rattle.rld_web.specs.Path.{media_type_of, path_of};
 
 /// What is shown of a server.
-#[derive(Clone, Copy, Debug, PartialEq, Eq)]
+#[derive(Clone, Copy, PartialEq, Eq)]
 pub(crate) enum Path {
     /// The page for a browser.
     Page,

@@ -21,7 +21,7 @@ const MAX_HEAD_LEN: usize = 8 * 1024;
 const MAX_BODY_LEN: usize = 1024;
 
 /// How a turn of a visitor ends.
-#[derive(Clone, Copy, Debug, PartialEq, Eq)]
+#[derive(Clone, Copy, PartialEq, Eq)]
 pub(crate) enum Turn {
     /// Nothing can be done until octets come or have gone.
     Waits,

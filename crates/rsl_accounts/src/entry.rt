@@ -15,7 +15,7 @@ use crate::settings::knows_own_times;
 use crate::text::Text;
 
 /// An account. What each login reads of it stands first, as fields lie in memory in their order.
-#[derive(Debug, PartialEq, Eq, Drop)]
+#[derive(PartialEq, Eq, Drop)]
 pub struct Entry {
     /// The password: 1 to 128 octets of UTF-8 without NUL.
     pub password: Secret,

@@ -21,7 +21,7 @@ pub(crate) const MAX_TIME: u64 = 86_400;
 pub(crate) const MIN_INTERIM: u64 = 60;
 
 /// The session limit of one account: how many places it has, and for how long a place is kept.
-#[derive(Clone, Copy, Debug, PartialEq, Eq)]
+#[derive(Clone, Copy, PartialEq, Eq)]
 pub struct Rules {
     /// Places that the account's sessions may hold at once: 0 to 64.
     pub places: u64,

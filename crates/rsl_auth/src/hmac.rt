@@ -31,7 +31,7 @@ pub fn hmac_md5(key: &[u8], message: &[u8]) -> [u8; 16]
 /// What HMAC-MD5 makes of a key before any message: the two digests after the key's blocks (RFC
 /// 2104 section 4). Whoever signs again and again with one key keeps this, and spares the digests
 /// of four blocks each time.
-#[derive(Debug, Drop)]
+#[derive(Drop)]
 pub struct HmacKey {
     /// The digest that was given K xor ipad.
     inner: Md5,

@@ -67,7 +67,7 @@ impl Model for Book {
 }
 
 /// How much a book stores.
-#[derive(Clone, Copy, Debug, PartialEq, Eq)]
+#[derive(Clone, Copy, PartialEq, Eq)]
 pub struct Stored {
     /// The links, at most the places of the account times its ports.
     pub links: u64,

@@ -24,7 +24,7 @@ use rsl_wire::Attrs;
 
 /// The attributes of an Access-Request, and what its meaning hangs on among them, which one walk
 /// finds.
-#[derive(Debug, Drop)]
+#[derive(Drop)]
 pub(crate) struct AccessAttributes<'a> {
     /// All of them.
     pub all: Attrs<'a>,

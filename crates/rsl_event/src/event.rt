@@ -5,7 +5,7 @@ use rsl_wire::{NoMemory, Octets};
 use std::alloc::Global;
 
 /// Where a datagram came from: an IPv4 address and a UDP port.
-#[derive(Clone, Copy, Debug, PartialEq, Eq)]
+#[derive(Clone, Copy, PartialEq, Eq)]
 pub struct Source {
     /// The IPv4 address, its first octet first.
     pub address: [u8; 4],
@@ -15,7 +15,7 @@ pub struct Source {
 
 /// What an Access-Request is known by. A packet that is sent again has the same key
 /// (RFC 2865 section 2.5).
-#[derive(Clone, Copy, Debug, PartialEq, Eq)]
+#[derive(Clone, Copy, PartialEq, Eq)]
 pub struct Key {
     /// Where it came from.
     pub source: Source,
@@ -39,7 +39,7 @@ impl Key {
 }
 
 /// What happens to an account.
-#[derive(Debug, PartialEq, Eq, Drop)]
+#[derive(PartialEq, Eq, Drop)]
 pub enum Act {
     /// An Access-Request whose password is right.
     Ask {
@@ -114,7 +114,7 @@ impl Act {
 }
 
 /// An act, and the moment at which it happened.
-#[derive(Debug, PartialEq, Eq, Drop)]
+#[derive(PartialEq, Eq, Drop)]
 pub struct Event {
     /// Seconds, by the clock of whoever hands them in. A later event may have a lower moment.
     pub moment: u64,

@@ -5,11 +5,10 @@ use crate::event::Act;
 use crate::nas::Nas;
 use rsl_wire::{NoMemory, Octets, Packet};
 use std::alloc::Global;
-use std::error::Error;
 use std::fmt;
 
 /// Which of the server's two ports a datagram came to.
-#[derive(Clone, Copy, Debug, PartialEq, Eq)]
+#[derive(Clone, Copy, PartialEq, Eq)]
 pub enum Port {
     /// The authentication port, usually 1812 (RFC 2865 section 3).
     Auth,
@@ -19,7 +18,7 @@ pub enum Port {
 
 /// What is noted of an accounting packet that is no account's business: of another status, or of a
 /// name that no account has. What the packet does not have is empty.
-#[derive(Debug, PartialEq, Eq, Drop)]
+#[derive(PartialEq, Eq, Drop)]
 pub struct Note {
     /// The access server.
     pub nas: Nas,
@@ -46,7 +45,7 @@ impl Note {
 }
 
 /// What a datagram means.
-#[derive(Debug, PartialEq, Eq, Drop)]
+#[derive(PartialEq, Eq, Drop)]
 pub enum Meaning {
     /// A request on the authentication port whose attributes are malformed: it is rejected, and
     /// nothing of it is repeated.
@@ -139,8 +138,6 @@ impl fmt::Display for Dropped {
     }
 }
 
-impl Error for Dropped {}
-
 impl From<NoMemory> for Dropped {
     ghost from_gives = { λ _ dropped. dropped ≡ Dropped.NoMemory };
 
@@ -150,7 +147,7 @@ impl From<NoMemory> for Dropped {
 }
 
 /// A datagram that was understood.
-#[derive(Debug, Drop)]
+#[derive(Drop)]
 pub struct Prepared<'a> {
     /// Its packet.
     pub packet: Packet<'a>,

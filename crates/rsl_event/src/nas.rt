@@ -5,7 +5,7 @@ use std::alloc::Global;
 
 /// What an access server calls itself in a packet. The three kinds are apart even where their
 /// octets are equal.
-#[derive(Debug, PartialEq, Eq, Drop)]
+#[derive(PartialEq, Eq, Drop)]
 pub enum NasName {
     /// The value of the first NAS-Identifier (RFC 2865 section 5.32), of any length.
     Identifier(Octets),
@@ -43,7 +43,7 @@ impl NasName {
 }
 
 /// An access server: the client that sends its packets, and its name.
-#[derive(Debug, PartialEq, Eq, Drop)]
+#[derive(PartialEq, Eq, Drop)]
 pub struct Nas {
     /// The client's number, in the order of the configuration.
     pub client: u32,

@@ -4,7 +4,7 @@ ghost use Rattle.rsl_event.specs.Occurrences.{value_of};
 
 /// The attributes of one Type among those of a request: how many there are, and the value of the
 /// first.
-#[derive(Clone, Copy, Debug)]
+#[derive(Clone, Copy)]
 pub(crate) struct Occurrences<'a> {
     /// How many there are.
     pub count: usize,

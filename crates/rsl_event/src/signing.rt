@@ -12,7 +12,7 @@ use rsl_auth::{HmacKey, SIGNATURE_LEN};
 use rsl_wire::Draft;
 
 /// Whether a packet that is written has a Message-Authenticator (RFC 3579 section 3.2).
-#[derive(Clone, Copy, Debug, PartialEq, Eq)]
+#[derive(Clone, Copy, PartialEq, Eq)]
 pub enum Signing {
     /// It has none.
     Plain,

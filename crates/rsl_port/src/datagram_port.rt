@@ -5,15 +5,13 @@ ghost use Rattle.rsl_port.specs.Told.{CanReceive, CanSend, after_receive, after_
 
 use rsl_event::Source;
 use rsl_wire::Octets;
-use thiserror::Error;
 
 /// A call of a port failed.
-#[derive(Clone, Copy, Debug, PartialEq, Eq, Error)]
-#[error("port failed")]
+#[derive(Clone, Copy, PartialEq, Eq)]
 pub struct PortFault;
 
 /// A datagram, with the source that it came from or that it goes to.
-#[derive(Debug, PartialEq, Eq, Drop)]
+#[derive(PartialEq, Eq, Drop)]
 pub struct Datagram {
     /// The other side's address and port.
     pub source: Source,
@@ -74,7 +72,7 @@ pub trait DatagramPort {
 ///
 /// A port holds one of these, hands its calls' results to `note_receive` and `note_send`, and gives
 /// it as its `numbers`.
-#[derive(Clone, Copy, Debug, PartialEq, Eq)]
+#[derive(Clone, Copy, PartialEq, Eq)]
 pub struct Numbers {
     /// The calls of `receive`.
     pub receives: u64,

@@ -3,7 +3,7 @@ ghost use Rattle.rsl_receive.specs.Counted.{AddsUp, no_counts};
 ghost use Rattle.rsl_receive.specs.Turned.{counted, is_down};
 
 /// What a receiver did.
-#[derive(Clone, Copy, Debug, PartialEq, Eq)]
+#[derive(Clone, Copy, PartialEq, Eq)]
 pub struct Counts {
     /// The turns: calls of the port's `receive`.
     pub turns: u64,
@@ -55,7 +55,7 @@ impl Counts {
 }
 
 /// How a turn of a receiver ended.
-#[derive(Clone, Copy, Debug, PartialEq, Eq)]
+#[derive(Clone, Copy, PartialEq, Eq)]
 pub(crate) enum Turn {
     /// The port's `receive` failed.
     Down,

@@ -12,16 +12,13 @@ use rsl_service::{Gate, Pass, Service, Tally};
 use rsl_wire::MAX_LEN;
 use std::alloc::Global;
 use std::sync::Wait;
-use thiserror::Error;
 
 /// Why a receiver ended before its last turn.
-#[derive(Clone, Copy, Debug, PartialEq, Eq, Error)]
+#[derive(Clone, Copy, PartialEq, Eq)]
 pub enum ReceiveFault {
     /// The port's `receive` failed. These are the counts up to and with that turn.
-    #[error("port failed")]
     Down(Counts),
     /// Memory for the buffer was refused. Nothing was received.
-    #[error("no memory")]
     NoMemory,
 }
 
@@ -103,7 +100,7 @@ struct Receiver<'a, L0: Tally, L1: Tally, L2: Tally, L3: Tally, G: Gate, R> {
 }
 
 /// Why a datagram has no answer.
-#[derive(Clone, Copy, Debug, PartialEq, Eq)]
+#[derive(Clone, Copy, PartialEq, Eq)]
 pub(crate) enum Unanswered {
     /// It has no meaning.
     Dropped,

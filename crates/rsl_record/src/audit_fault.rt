@@ -2,26 +2,22 @@ ghost use Rattle.std.specs.Prelude.{◌≡◌};
 ghost use Rattle.rsl_record.specs.declared.audit_fault.AuditFault.TheVariants.{NoMemory as no_memory};
 
 use rsl_wire::NoMemory;
-use thiserror::Error;
 
 /// Why a record was not kept right, or that memory was refused.
-#[derive(Clone, Copy, Debug, PartialEq, Eq, Error)]
+#[derive(Clone, Copy, Debug, PartialEq, Eq)]
 pub enum AuditFault {
     /// The first segment is of no shard, or does not open with the new books of its shard and no
     /// line before it.
-    #[error("does not begin from empty")]
     NotFromEmpty,
     /// The segment with this number, counted from 0, does not go on where the lines before it
     /// end: it is of another shard, counts other lines before it, has 2^64 lines or more with
     /// those, or opens with other books.
-    #[error("gap before segment {segment}")]
     Gap {
         /// The segment's number, from 0.
         segment: u64,
     },
     /// The shard does not take the move of the line at this position, or its decision is not that
     /// of the session rule.
-    #[error("wrong decision at {position}")]
     WrongDecision {
         /// The account whose own move it is.
         account: Option<u32>,
@@ -29,7 +25,6 @@ pub enum AuditFault {
         position: u64,
     },
     /// Memory was refused.
-    #[error("no memory")]
     NoMemory,
 }
 

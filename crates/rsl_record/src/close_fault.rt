@@ -2,7 +2,6 @@ ghost use Rattle.std.specs.Prelude.{◌≡◌};
 ghost use Rattle.rsl_record.specs.declared.close_fault.CloseFault.TheVariants.{NoMemory as no_memory};
 
 use rsl_wire::NoMemory;
-use std::error::Error;
 use std::fmt;
 
 /// Why a record isn't settled, or that memory was refused.
@@ -56,5 +55,3 @@ impl fmt::Display for CloseFault {
         }
     }
 }
-
-impl Error for CloseFault {}

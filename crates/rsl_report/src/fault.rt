@@ -1,9 +1,7 @@
 use std::io;
-use thiserror::Error;
 
 /// A writer failed: a write to it was an error, or it took no octet where there was one to take.
-#[derive(Clone, Copy, Debug, PartialEq, Eq, Error)]
-#[error("write fault")]
+#[derive(Clone, Copy, Debug, PartialEq, Eq)]
 pub struct WriteFault;
 
 impl From<io::Error> for WriteFault {

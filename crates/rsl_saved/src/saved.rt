@@ -3,7 +3,7 @@ use rsl_session::{KeptAsk, KeptStop};
 use rsl_wire::Octets;
 
 /// What had a link.
-#[derive(Debug, PartialEq, Eq, Drop)]
+#[derive(PartialEq, Eq, Drop)]
 pub enum SavedHolder {
     /// The accept number that reserved it.
     Reserved(u64),
@@ -13,7 +13,7 @@ pub enum SavedHolder {
 }
 
 /// A link of a saved book.
-#[derive(Debug, PartialEq, Eq, Drop)]
+#[derive(PartialEq, Eq, Drop)]
 pub struct SavedLink {
     /// Its access server.
     pub nas: Nas,
@@ -29,7 +29,7 @@ pub struct SavedLink {
 /// All that the book of one account held.
 ///
 /// It has no rules: those are the account's, and a book is put back under them.
-#[derive(Debug, PartialEq, Eq, Drop)]
+#[derive(PartialEq, Eq, Drop)]
 pub struct SavedBook {
     /// The account's clock, in seconds: the greatest moment so far.
     pub clock: u64,

@@ -14,7 +14,7 @@ use std::marker::Model;
 
 /// A text that fits an attribute: 1 to 253 octets (RFC 2865 section 5). A contract sees it as the
 /// list of its octets.
-#[derive(Debug, Drop)]
+#[derive(Drop)]
 pub struct AttributeText {
     octets: Octets,
 }
@@ -75,8 +75,8 @@ impl Eq for AttributeText {
 }
 
 /// A password that a User-Password can hide: 1 to 128 octets (RFC 2865 section 5.2). It is a
-/// secret, so `Debug` does not print it. A contract sees it as the list of its octets.
-#[derive(Debug, Drop)]
+/// secret. A contract sees it as the list of its octets.
+#[derive(Drop)]
 pub struct Password {
     secret: Secret,
 }

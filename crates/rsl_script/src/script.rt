@@ -11,7 +11,7 @@ use rsl_accounts::{Client, Entry, Settings};
 use std::alloc::Global;
 
 /// A script whose lines are all right.
-#[derive(Debug, Drop)]
+#[derive(Drop)]
 pub struct Script {
     /// The settings: the last `set` of each counts.
     pub settings: Settings,

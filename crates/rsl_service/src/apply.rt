@@ -19,7 +19,7 @@ use std::sync::ledger::Share;
 use std::sync::{Mutex, Wait};
 
 /// The answer to a datagram.
-#[derive(Debug, PartialEq, Eq, Drop)]
+#[derive(PartialEq, Eq, Drop)]
 pub struct Answered {
     /// Its word.
     pub said: Said,

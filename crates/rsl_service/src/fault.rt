@@ -5,10 +5,9 @@ ghost use Rattle.rsl_service.specs.declared.fault.StepFault.TheVariants.{NoMemor
 
 use rsl_wire::NoMemory;
 use std::alloc::AllocError;
-use thiserror::Error;
 
 /// Why a step was not made.
-#[derive(Debug, Clone, Copy, PartialEq, Eq, Drop)]
+#[derive(Clone, Copy, PartialEq, Eq, Drop)]
 pub(crate) enum StepFault {
     /// Memory was refused.
     NoMemory,
@@ -33,24 +32,20 @@ impl From<AllocError> for StepFault {
 }
 
 /// Why a pass was not opened.
-#[derive(Debug, Clone, Copy, PartialEq, Eq, Drop, Error)]
+#[derive(Clone, Copy, Debug, PartialEq, Eq, Drop)]
 pub enum PassFault {
     /// 1,024 passes were opened.
-    #[error("too many passes")]
     TooMany,
     /// Memory was refused.
-    #[error("no memory")]
     NoMemory,
 }
 
 /// Why a journal was not handed out.
-#[derive(Debug, Clone, Copy, PartialEq, Eq, Drop, Error)]
+#[derive(Clone, Copy, Debug, PartialEq, Eq, Drop)]
 pub enum CutFault {
     /// The configuration has no shard of this number.
-    #[error("no such shard")]
     NoShard,
     /// Memory was refused. The journal is as it was.
-    #[error("no memory")]
     NoMemory,
 }
 
@@ -66,16 +61,14 @@ impl From<NoMemory> for CutFault {
 ///
 /// The moves of so many shards, from shard 0 on, had been made by then, and stand: those of a
 /// restart or of a tick, each with its receipt. All else is as it was.
-#[derive(Debug, Clone, Copy, PartialEq, Eq, Drop, Error)]
+#[derive(Clone, Copy, Debug, PartialEq, Eq, Drop)]
 pub enum ApplyFault {
     /// Memory was refused.
-    #[error("no memory, after {swept} shards")]
     NoMemory {
         /// The number of shards that had made their moves.
         swept: u32,
     },
     /// A shard has made 2^64 - 1 moves.
-    #[error("a shard is spent, after {swept} shards")]
     Spent {
         /// The number of shards that had made their moves.
         swept: u32,

@@ -32,7 +32,7 @@ pub trait Gate {
 }
 
 /// A gate that holds no call.
-#[derive(Debug, Clone, Copy, PartialEq, Eq, Drop)]
+#[derive(Clone, Copy, PartialEq, Eq, Drop)]
 pub struct Open;
 
 impl Gate for Open {

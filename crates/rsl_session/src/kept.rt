@@ -13,7 +13,7 @@ const _: () = prove!(KEPT_ASKS == 8);
 const _: () = prove!(KEPT_STOPS == 16);
 
 /// A fresh ask, as it is kept for its repeats.
-#[derive(Debug, PartialEq, Eq, Drop)]
+#[derive(PartialEq, Eq, Drop)]
 pub struct KeptAsk {
     /// What it is known by.
     pub key: Key,
@@ -28,7 +28,7 @@ pub struct KeptAsk {
 }
 
 /// A stop, as it is kept to ignore what comes late of its session.
-#[derive(Debug, PartialEq, Eq, Drop)]
+#[derive(PartialEq, Eq, Drop)]
 pub struct KeptStop {
     /// The session that was stopped.
     pub session: Session,

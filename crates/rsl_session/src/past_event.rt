@@ -2,7 +2,7 @@ use crate::outcome::Outcome;
 use rsl_event::Event;
 
 /// An event of an account's past, with what it did.
-#[derive(Debug, PartialEq, Eq, Drop)]
+#[derive(PartialEq, Eq, Drop)]
 pub struct PastEvent {
     /// The event.
     pub event: Event,

@@ -6,7 +6,7 @@ use rsl_wire::Octets;
 
 /// A session: the access server that it is at, and the Acct-Session-Id that it has there (RFC 2866
 /// section 5.5).
-#[derive(Debug, PartialEq, Eq, Drop)]
+#[derive(PartialEq, Eq, Drop)]
 pub struct Session {
     /// The access server.
     pub nas: Nas,

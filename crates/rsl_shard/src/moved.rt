@@ -6,7 +6,7 @@ use rsl_wire::NoMemory;
 use std::alloc::Global;
 
 /// What happens to a shard, in one step.
-#[derive(Debug, PartialEq, Eq, Drop)]
+#[derive(PartialEq, Eq, Drop)]
 pub enum Move {
     /// An event of one account: an ask, an alive or a stop.
     Own {

@@ -7,7 +7,7 @@ use rsl_accounts::Config;
 use rsl_event::{Event, Meaning};
 
 /// The moves that a datagram makes, by what it means.
-#[derive(Debug, Drop)]
+#[derive(Drop)]
 pub enum Moves {
     /// None: the datagram is answered, and changes and notes nothing.
     Nothing,

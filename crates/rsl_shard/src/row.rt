@@ -4,7 +4,7 @@ ghost use Rattle.rsl_shard.specs.Rows.{row_of};
 use rsl_book::Book;
 
 /// What an account holds, as a line of the report has it.
-#[derive(Clone, Copy, Debug, PartialEq, Eq)]
+#[derive(Clone, Copy, PartialEq, Eq)]
 pub struct Row {
     /// The account's number, in file order.
     pub account: u32,

@@ -6,7 +6,7 @@ use std::marker::Model;
 
 /// The octets of a reply, in the room in which they were written: that they are an answer takes no
 /// memory. A contract sees the list of the octets.
-#[derive(Debug, Drop)]
+#[derive(Drop)]
 pub struct ReplyOctets {
     octets: Vec<u8>,
 }

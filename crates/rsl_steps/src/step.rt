@@ -4,7 +4,7 @@ use rsl_shard::Shard;
 use rsl_wire::Octets;
 
 /// What reaches the server.
-#[derive(Debug, PartialEq, Eq, Drop)]
+#[derive(PartialEq, Eq, Drop)]
 pub enum Step {
     /// A datagram.
     Datagram {
@@ -36,7 +36,7 @@ pub enum Step {
 }
 
 /// What a step is answered.
-#[derive(Debug, PartialEq, Eq, Drop)]
+#[derive(PartialEq, Eq, Drop)]
 pub enum Answer {
     /// A reply: its word, and its octets.
     Reply(Said, ReplyOctets),

@@ -1,17 +1,13 @@
 use std::alloc::AllocError;
-use thiserror::Error;
 
-/// Why a reader gives no text. It prints as what is said of a file.
-#[derive(Clone, Copy, Debug, PartialEq, Eq, Error)]
+/// Why a reader gives no text.
+#[derive(Clone, Copy, PartialEq, Eq)]
 pub enum TextFault {
     /// The file is not there, a read failed, or the reads came to no end.
-    #[error("unreadable")]
     Unreadable,
     /// There are more octets than the text may have.
-    #[error("too long")]
     TooLong,
     /// Memory was refused.
-    #[error("no memory")]
     NoMemory,
 }
 

@@ -10,7 +10,7 @@ const _: () = prove!(ATTR_HEADER_LEN == 2);
 const _: () = prove!(MAX_VALUE_LEN == 253);
 
 /// An attribute to be written: its Type and its Value (RFC 2865 section 5).
-#[derive(Clone, Copy, Debug)]
+#[derive(Clone, Copy)]
 pub struct Attr<'a> {
     /// The Type.
     pub kind: u8,

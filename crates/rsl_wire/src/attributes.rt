@@ -3,11 +3,9 @@ ghost use Rattle.rsl_wire.specs.Attributes.{attribute_of, first_attribute};
 
 use crate::attr::ATTR_HEADER_LEN;
 use std::marker::Model;
-use thiserror::Error;
 
 /// The list of attributes is malformed.
-#[derive(Clone, Copy, Debug, PartialEq, Eq, Error)]
-#[error("no attribute begins at octet {at} of the attributes")]
+#[derive(Clone, Copy, Debug, PartialEq, Eq)]
 pub struct BadAttribute {
     /// The offset, in the octets of the attributes, of the first attribute whose Length is missing,
     /// under 2, or past the end.
@@ -22,7 +20,7 @@ pub struct BadAttribute {
 /// | 0 | Type |
 /// | 1 | Length of Type, Length and Value |
 /// | 2 to Length - 1 | Value, 0 to 253 octets |
-#[derive(Debug, Drop)]
+#[derive(Drop)]
 pub struct Attrs<'a> {
     rest: &'a [u8],
 }

@@ -23,16 +23,14 @@ use crate::fault::NoMemory;
 use crate::packet::{AUTHENTICATOR_START, HEADER_LEN, MAX_LEN};
 use std::alloc::Global;
 use std::marker::Model;
-use thiserror::Error;
 
 /// An attribute's value has over 253 octets, or the packet would have over 4,096.
-#[derive(Clone, Copy, Debug, PartialEq, Eq, Error)]
-#[error("too long for a packet")]
+#[derive(Clone, Copy, Debug, PartialEq, Eq)]
 pub struct TooLong;
 
 /// A packet that is being written: its Identifier and its attributes so far, in room for 4,096
 /// octets that was taken before.
-#[derive(Debug, Drop)]
+#[derive(Drop)]
 pub struct Draft {
     octets: Vec<u8>,
 }

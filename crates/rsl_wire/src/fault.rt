@@ -1,9 +1,7 @@
 use std::alloc::{AllocError, AllocFailed};
-use thiserror::Error;
 
 /// Memory was refused. What the call was lent is as it was, unless the call says otherwise.
-#[derive(Clone, Copy, Debug, PartialEq, Eq, Error)]
-#[error("no memory")]
+#[derive(Clone, Copy, Debug, PartialEq, Eq)]
 pub struct NoMemory;
 
 impl From<AllocError> for NoMemory {

@@ -8,16 +8,13 @@ use crate::draft::Draft;
 use crate::fault::NoMemory;
 use crate::packet::{HEADER_LEN, MAX_LEN};
 use std::alloc::Global;
-use thiserror::Error;
 
 /// Why a packet could not be built.
-#[derive(Clone, Copy, Debug, PartialEq, Eq, Error)]
+#[derive(Clone, Copy, Debug, PartialEq, Eq)]
 pub enum BuildFault {
     /// A value has over 253 octets, or the packet would have over 4,096.
-    #[error("too long for a packet")]
     TooLong,
     /// Memory was refused.
-    #[error("no memory")]
     NoMemory,
 }
 

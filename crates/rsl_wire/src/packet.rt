@@ -2,7 +2,6 @@ ghost use Rattle.std.specs.Prelude.{◌≡◌};
 ghost use Rattle.rsl_wire.specs.Packet.{IsPacket, packet_octets};
 
 use crate::attributes::{Attrs, BadAttribute};
-use thiserror::Error;
 
 /// Octets of Code, Identifier and Length, after which the Authenticator stands (RFC 2865 section 3).
 pub const AUTHENTICATOR_START: usize = 4;
@@ -22,13 +21,11 @@ const _: () = prove!(HEADER_LEN == 20);
 const _: () = prove!(MAX_LEN == 4096);
 
 /// Why a datagram has no packet.
-#[derive(Clone, Copy, Debug, PartialEq, Eq, Error)]
+#[derive(Clone, Copy, Debug, PartialEq, Eq)]
 pub enum WireFault {
     /// It has fewer than 20 octets.
-    #[error("fewer than 20 octets")]
     Short,
     /// Its Length is under 20, over 4,096, or over the octets that came.
-    #[error("a Length under 20, over 4096 or over the datagram")]
     BadLength,
 }
 
@@ -41,7 +38,7 @@ pub enum WireFault {
 /// | 2 to 3 | Length of the whole packet, high octet first |
 /// | 4 to 19 | Authenticator |
 /// | 20 to Length - 1 | Attributes |
-#[derive(Debug, Drop)]
+#[derive(Drop)]
 pub struct Packet<'a> {
     /// The Code.
     pub code: u8,

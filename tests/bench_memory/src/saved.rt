@@ -4,7 +4,7 @@ ghost use Rattle.rsl_accounts.specs.Limits.{RulesFit};
 
 use crate::TRIES;
 use crate::given::Given;
-use crate::printed::Hex;
+use crate::printed::{Hex, StoredText};
 use crate::shard::{first_events, move_of};
 use crate::stop::Stop;
 use rld_fields::push_number;
@@ -161,8 +161,8 @@ fn put_back(alloc: Global, rules: Rules, clients: u32, octets: &[u8]) -> Result<
 fn tell_back<R: Print>(rt: &R, book: &Book, back: &[Book]) -> Result<(), Stop> {
     for one in back {
         println!(rt;
-            "Back: {:?} held {}, the same {}",
-            one.stored(),
+            "Back: {} held {}, the same {}",
+            StoredText(one.stored()),
             one.held(),
             one.same(book)
         )?;

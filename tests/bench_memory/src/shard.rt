@@ -1,6 +1,7 @@
 //! A shard that takes the events of one account.
 
 use crate::given::Given;
+use crate::printed::{RowText, StoredText};
 use crate::stop::Stop;
 use crate::{BOOT, TRIES};
 use rsl_accounts::Config;
@@ -123,9 +124,9 @@ fn tell_shard<R: Print>(rt: &R, shard: &Shard) -> Result<(), Stop> {
     print!(rt; " | {} of {} lines", shard.moves(), shard.total())?;
     if let Some(book) = shard.book(0) {
         print!(rt;
-            ", {:?} {:?} now {}",
-            Row::of(0, book),
-            book.stored(),
+            ", {} {} now {}",
+            RowText(&Row::of(0, book)),
+            StoredText(book.stored()),
             book.now()
         )?;
     }
@@ -138,7 +139,11 @@ fn tell_rows<R: Print>(rt: &R, alloc: Global, shard: &Shard) -> Result<(), Stop>
     for _ in 0..TRIES {
         match shard.rows(alloc) {
             Ok(rows) => {
-                println!(rt; "rows: {rows:?}")?;
+                print!(rt; "rows: [")?;
+                for (place, row) in rows.iter().enumerate() {
+                    print!(rt; "{}{}", if place == 0 { "" } else { ", " }, RowText(row))?;
+                }
+                println!(rt; "]")?;
                 return Ok(());
             }
             Err(NoMemory) => println!(rt; "rows: refused")?,

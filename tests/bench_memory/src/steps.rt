@@ -2,7 +2,7 @@
 
 use crate::BOOT;
 use crate::given::Given;
-use crate::printed::Hex;
+use crate::printed::{Hex, RowText, StoredText};
 use crate::stop::Stop;
 use rsl_accounts::Config;
 use rsl_book::Book;
@@ -68,9 +68,9 @@ fn tell_ran<R: Print>(rt: &R, config: &Config, ran: &Ran) -> Result<(), Stop> {
     for account in 0..config.accounts() {
         if let Some(book) = book_of(config, &ran.shards, account) {
             println!(rt;
-                "{:?} {:?} now {}",
-                Row::of(account, book),
-                book.stored(),
+                "{} {} now {}",
+                RowText(&Row::of(account, book)),
+                StoredText(book.stored()),
                 book.now()
             )?;
         }

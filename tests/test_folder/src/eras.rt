@@ -47,7 +47,7 @@ fn say_era(rt: &HostRuntime, what: &str, word: &str, other: &str) -> io::Result<
     match is_era_file(rt.alloc(), &config, BOOT, file.as_slice()) {
         Ok(true) => println!(rt; "{what}: the era goes on"),
         Ok(false) => say_file(rt, what, &config),
-        Err(fault) => println!(rt; "{what}: {fault}"),
+        Err(_) => println!(rt; "{what}: no memory"),
     }
 }
 
@@ -55,6 +55,6 @@ fn say_era(rt: &HostRuntime, what: &str, word: &str, other: &str) -> io::Result<
 fn say_file(rt: &HostRuntime, what: &str, config: &Config) -> io::Result<()> {
     match era_file(rt.alloc(), config, BOOT) {
         Ok(file) => println!(rt; "{what}: {}", hex::encode(rt.alloc(), file.as_slice())?),
-        Err(fault) => println!(rt; "{what}: {fault}"),
+        Err(_) => println!(rt; "{what}: no memory"),
     }
 }

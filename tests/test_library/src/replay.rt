@@ -4,6 +4,7 @@
 //! A script stands in a row with `/` between its lines, and so does what it prints.
 
 use rsl_accounts::{Config, ConfigFault, Field};
+use rsl_event::Port;
 use rsl_replay::{ReplayFault, lines_of, replay, steps_of};
 use rsl_script::{EventLine, Script};
 use rsl_steps::{Answer, Step, run};
@@ -67,13 +68,20 @@ fn told_step(alloc: Global, step: &Step) -> Result<String, Fail> {
             source,
             octets,
         } => {
-            let mut text = format!(in alloc; "{moment} {port:?} ")?;
+            let mut text = format!(in alloc; "{moment} {} ", port_name(*port))?;
             let [a, b, c, d] = source.address;
             write!(text, "{a}.{b}.{c}.{d}:{} ", source.port)?;
             push_hex(&mut text, alloc, octets.as_slice())?;
             Ok(text)
         }
-        other => Ok(format!(in alloc; "{other:?}")?),
+        Step::Sweep { .. } | Step::Tick { .. } => Err("a step without a datagram")?,
+    }
+}
+
+pub(crate) fn port_name(port: Port) -> &'static str {
+    match port {
+        Port::Auth => "Auth",
+        Port::Acct => "Acct",
     }
 }
 

@@ -12,11 +12,12 @@ mod replies;
 mod signatures;
 
 use rsl_accounts::Config;
-use rsl_event::{Decision, Port, Prepared, Said, Source, prepare, reply, room, said};
+use rsl_event::{Decision, Meaning, Port, Prepared, Said, Source, prepare, reply, room, said};
 use std::alloc::Global;
 use std::io::Eprint;
 use std::test::Fail;
 use test_rows::{Hex, Subject, check_rows, number, octets_of, printed, push_printed, replaced};
+use test_timelines::{push_act, push_nas, push_note, push_value};
 
 const AUTH: Port = Port::Auth;
 
@@ -212,7 +213,7 @@ impl Subject for MeaningRows {
     }
 }
 
-/// What a datagram means or why it is dropped, as its Debug.
+/// What a datagram means or why it is dropped, in the layout of a Debug.
 fn meaning_of(
     alloc: Global,
     config: &Config,
@@ -221,9 +222,33 @@ fn meaning_of(
     datagram: &[u8],
 ) -> Result<String, Fail> {
     match prepare(alloc, config, BOOT, port, source, datagram) {
-        Ok(prepared) => printed(alloc, &prepared.meaning),
+        Ok(prepared) => told(alloc, &prepared.meaning),
         Err(dropped) => printed(alloc, &dropped),
     }
+}
+
+fn told(alloc: Global, meaning: &Meaning) -> Result<String, Fail> {
+    let mut text = String::new(alloc);
+    match meaning {
+        Meaning::Bare => text.push_str("Bare")?,
+        Meaning::Reject => text.push_str("Reject")?,
+        Meaning::Own { account, act } => {
+            push_value(&mut text, "Own { account: ", account, ", act: ")?;
+            push_act(&mut text, act)?;
+            text.push_str(" }")?;
+        }
+        Meaning::Restart { nas } => {
+            text.push_str("Restart { nas: ")?;
+            push_nas(&mut text, nas)?;
+            text.push_str(" }")?;
+        }
+        Meaning::Stray(note) => {
+            text.push_str("Stray(")?;
+            push_note(&mut text, note)?;
+            text.push(')')?;
+        }
+    }
+    Ok(text)
 }
 
 /// The replies to datagrams from a source to a port.

@@ -1,9 +1,7 @@
 //! Tests of `rsl_wire`: the Access-Request of RFC 2865 section 7.1, read and written, what is no
 //! packet, and hostile lists of attributes.
 
-use rsl_wire::{
-    Attr, Attrs, BuildFault, Draft, NoMemory, Octets, Packet, TooLong, WireFault, build, read,
-};
+use rsl_wire::{Attr, Attrs, BuildFault, Draft, NoMemory, Octets, Packet, TooLong, build, read};
 use std::alloc::Global;
 use std::test::Fail;
 use test_rows::{
@@ -405,50 +403,6 @@ none | | | (0, true, true, true)
 23 and 22 octets | 6e*23 | 6e*22 | (23, false, true, false)
 65535 octets | 6e*65535 | 6e*65535 | (65535, false, true, true)
 65535 and 65534 octets | 6e*65535 | 6e*65534 | (65535, false, true, false)
-",
-    )
-}
-
-/// The name of a fault: what it prints.
-struct Printed;
-
-impl Subject for Printed {
-    fn found(&self, alloc: Global, fields: &[&str]) -> Result<String, Fail> {
-        match fields {
-            ["Short"] => shown(alloc, &WireFault::Short),
-            ["BadLength"] => shown(alloc, &WireFault::BadLength),
-            ["TooLong"] => shown(alloc, &TooLong),
-            ["BuildFault::TooLong"] => shown(alloc, &BuildFault::TooLong),
-            ["BuildFault::NoMemory"] => shown(alloc, &BuildFault::NoMemory),
-            ["NoMemory"] => shown(alloc, &NoMemory),
-            ["BadAttribute of", list] => bad_attribute(alloc, list),
-            _ => Err("an unknown fault")?,
-        }
-    }
-}
-
-/// What the fault of a list of attributes prints.
-fn bad_attribute(alloc: Global, list: &str) -> Result<String, Fail> {
-    let datagram = with_header(alloc, list)?;
-    match read(&datagram)?.attributes() {
-        Ok(_) => Err("no bad attribute")?,
-        Err(bad) => shown(alloc, &bad),
-    }
-}
-
-#[test]
-fn faults_are_printed(rt: HostRuntime) -> Result<(), Fail> {
-    check_rows(
-        &rt,
-        &Printed,
-        "
-few octets | Short | fewer than 20 octets
-a Length | BadLength | a Length under 20, over 4096 or over the datagram
-too long | TooLong | too long for a packet
-too long to build | BuildFault::TooLong | too long for a packet
-no memory to build | BuildFault::NoMemory | no memory
-no memory | NoMemory | no memory
-a bad attribute | BadAttribute of | 01036e02 | no attribute begins at octet 3 of the attributes
 ",
     )
 }

@@ -12,6 +12,8 @@ mod journals;
 #[cfg(test)]
 mod lists;
 #[cfg(test)]
+mod outcomes;
+#[cfg(test)]
 mod records;
 #[cfg(test)]
 mod rule;

@@ -8,13 +8,14 @@ mod sizes;
 mod sweeps;
 mod yielding;
 
+use crate::outcomes::push_outcome;
 use rsl_accounts::Rules;
 use rsl_event::Event;
 use rsl_rule::{decide, decision, outcome, places};
 use rsl_session::PastEvent;
 use std::process::Abort;
 use std::test::Fail;
-use test_timelines::{event_of, rules_of, text_of};
+use test_timelines::{event_of, push_value, rules_of, text_of};
 
 /// The name of a timeline, its rules, and its lines.
 type Row<'a> = (&'a str, &'a str, &'a [&'a str]);
@@ -62,7 +63,11 @@ impl Account {
         })?;
         self.events.push(event_of(rt, line)?)?;
         let held = places(rt.alloc(), &self.rules, &self.events)?;
-        Ok(format!(in rt.alloc(); "{} -> {did:?}, {held}", text_of(line))?)
+        let mut told = String::from_str(rt.alloc(), text_of(line))?;
+        told.push_str(" -> ")?;
+        push_outcome(&mut told, &did)?;
+        push_value(&mut told, ", ", &held, "")?;
+        Ok(told)
     }
 
     /// Whether `decide` says of each event so far what `decision` says of what it did.

@@ -1,6 +1,7 @@
 //! Books: a worked row, and random ones there and back.
 
 use crate::draw::{COUNTS, Draw};
+use crate::written::books_told;
 use rld_fields::{ReadFault, push_number};
 use rld_spelling::{push_book, read_books};
 use std::alloc::Global;
@@ -10,7 +11,7 @@ use test_rows::{Subject, check_rows, octets_of, printed};
 /// The books that are drawn.
 const BOOKS: u64 = 10_000; // quick: 200
 
-/// Reads the books of a snapshot, and writes them again: the Debug of what was read, or the fault and
+/// Reads the books of a snapshot, and writes them again: what was read, or the fault and
 /// its offset.
 struct Snapshots;
 
@@ -30,7 +31,7 @@ impl Subject for Snapshots {
                 if again.as_slice() != octets.as_slice() {
                     return Err("written otherwise than it was read")?;
                 }
-                printed(alloc, &books)
+                books_told(alloc, &books)
             }
             Err(ReadFault::NoMemory) => return Err("no memory")?,
             Err(ReadFault::Malformed(fault)) => {

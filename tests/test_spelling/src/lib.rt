@@ -17,3 +17,5 @@ mod lived;
 mod moves;
 #[cfg(test)]
 mod tables;
+#[cfg(test)]
+mod written;

@@ -1,6 +1,7 @@
 //! Moves: worked rows, and random ones there and back.
 
 use crate::draw::{COUNTS, Draw};
+use crate::written::moves_told;
 use rld_fields::ReadFault;
 use rld_spelling::{Counts, SpellFault};
 use rsl_event::{Act, Event, Nas, NasName};
@@ -19,7 +20,7 @@ const FEW: Counts = Counts {
     clients: 2,
 };
 
-/// Reads the moves of a batch, and writes them again: the Debug of what was read, or the fault and its
+/// Reads the moves of a batch, and writes them again: what was read, or the fault and its
 /// offset.
 struct Batches;
 
@@ -36,7 +37,7 @@ impl Subject for Batches {
                 if again.as_slice() != octets.as_slice() {
                     return Err("written otherwise than it was read")?;
                 }
-                printed(alloc, &moves)
+                moves_told(alloc, &moves)
             }
             Err(ReadFault::NoMemory) => return Err("no memory")?,
             Err(ReadFault::Malformed(fault)) => {

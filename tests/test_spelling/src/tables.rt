@@ -1,5 +1,6 @@
 //! Tables of eras and headers: worked rows, and tables that are not written.
 
+use crate::written::{era_told, header_told};
 use rld_fields::{Fault, ReadFault};
 use rld_spelling::{Era, EraAccount, EraClient, Header, SpellFault};
 use rsl_accounts::Rules;
@@ -29,7 +30,7 @@ impl Subject for Headers {
                 if again.as_slice() != octets.as_slice() {
                     return Err("written otherwise than it was read")?;
                 }
-                printed(alloc, &header)
+                header_told(alloc, &header)
             }
             Err(fault) => shown_fault(alloc, fault, octets.len()),
         }
@@ -70,7 +71,7 @@ impl Subject for Tables {
                 if again.as_slice() != octets.as_slice() {
                     return Err("written otherwise than it was read")?;
                 }
-                printed(alloc, &era)
+                era_told(alloc, &era)
             }
             Err(ReadFault::NoMemory) => return Err("no memory")?,
             Err(ReadFault::Malformed(fault)) => shown_fault(alloc, fault, octets.len()),

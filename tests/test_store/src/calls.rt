@@ -127,7 +127,7 @@ fn check_opened<R: Abort + AllocGlobal>(
     rt: &R,
     opened: &mut Opened<MemoryLog>,
 ) -> Result<(), Fail> {
-    assert_eq!(rt; opened.header, HEADER);
+    assert!(rt; opened.header == HEADER);
     assert_eq!(rt; opened.moves, 3);
     assert_eq!(rt; opened.torn, 0);
     let store = &mut opened.store;

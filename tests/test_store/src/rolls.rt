@@ -54,7 +54,7 @@ fn check_second<R: Abort + AllocGlobal>(
     rt: &R,
     opened: &mut Opened<MemoryLog>,
 ) -> Result<(), Fail> {
-    assert_eq!(rt; opened.header, SECOND);
+    assert!(rt; opened.header == SECOND);
     assert_eq!(rt; opened.moves, 1);
     check_held(rt, &opened.store, [1, 1])?;
     // what the first generation answered is answered so again

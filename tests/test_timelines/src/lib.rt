@@ -14,11 +14,17 @@
 //! test crates alone. No call has a clause: each is proved not to stop the program.
 #![tactic(auto)]
 
+mod written;
+
 use rsl_accounts::Rules;
 use rsl_event::{Act, Event, Key, Nas, NasName, Source};
 use rsl_wire::Octets;
 use std::alloc::Global;
 use std::test::Fail;
+pub use written::{
+    push_act, push_event, push_key, push_nas, push_note, push_octets, push_option, push_rules,
+    push_value,
+};
 
 /// The rules of a line: one place and one port a place, where it does not tell them.
 pub fn rules_of(line: &str) -> Result<Rules, Fail> {

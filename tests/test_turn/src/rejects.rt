@@ -5,10 +5,10 @@
 
 use crate::coming::config_of;
 use rld_why::why_rejected;
-use rsl_event::{Port, Source, prepare};
+use rsl_event::{MeaningKind, Port, Source, prepare};
 use std::alloc::Global;
 use std::test::Fail;
-use test_rows::{Subject, check_rows, octets_of, printed};
+use test_rows::{Subject, check_rows, octets_of};
 
 /// The requests of rows.
 #[derive(Clone, Copy)]
@@ -27,7 +27,15 @@ impl Subject for Rejects {
         };
         let prepared = prepare(alloc, &config, 1, Port::Auth, source, octets.as_slice())?;
         let cause = why_rejected(&config, source, octets.as_slice());
-        printed(alloc, &(prepared.meaning.kind(), cause))
+        let mut text = String::new(alloc);
+        match prepared.meaning.kind() {
+            MeaningKind::Bare => text.push_str("(Bare, ")?,
+            MeaningKind::Reject => text.push_str("(Reject, ")?,
+            MeaningKind::Ask(account) => write!(text, "(Ask({account}), ")?,
+            MeaningKind::Account => text.push_str("(Account, ")?,
+        }
+        write!(text, "{cause:?})")?;
+        Ok(text)
     }
 }
 

@@ -10,6 +10,7 @@ use std::alloc::Global;
 use std::io::{self, ErrorKind, Read};
 use std::test::Fail;
 use test_rows::{Subject, check_rows, printed, replaced, shown};
+use test_timelines::{push_rules, push_value};
 
 /// The sample with the edits that the fields write.
 fn file_of(alloc: Global, fields: &[&str]) -> Result<String, Fail> {
@@ -318,7 +319,14 @@ fn contents(alloc: Global, client: &Client, nemo: &Entry) -> Result<String, Fail
     let texts = (nemo.name.as_str(), str::from_utf8(password)?);
     let attributes = (nemo.service_type, nemo.framed_protocol);
     let times = (nemo.session_timeout, nemo.idle_timeout);
-    printed(alloc, &(client, texts, attributes, times, nemo.rules))
+    let mut text = String::new(alloc);
+    push_value(&mut text, "(", &client, ", ")?;
+    push_value(&mut text, "", &texts, ", ")?;
+    push_value(&mut text, "", &attributes, ", ")?;
+    push_value(&mut text, "", &times, ", ")?;
+    push_rules(&mut text, &nemo.rules)?;
+    text.push(')')?;
+    Ok(text)
 }
 
 #[test]

@@ -2,6 +2,7 @@ ghost use Rattle.rsl_accounts.specs.Limits.{RulesFit};
 
 use super::draw::Draw;
 use super::found::Found;
+use crate::outcomes::push_outcome;
 use rsl_accounts::Rules;
 use rsl_book::Book;
 use rsl_event::{Act, Decision, Event};
@@ -9,6 +10,8 @@ use rsl_rule::{decide, decision, outcome, places, places_held};
 use rsl_session::{Outcome, PastEvent};
 use rsl_wire::NoMemory;
 use std::alloc::Global;
+use std::test::Fail;
+use test_timelines::{push_event, push_rules};
 
 /// An account's events so far, on two books and as the rule sees them.
 #[derive(Drop)]
@@ -30,7 +33,7 @@ pub(crate) fn difference(
     draw: &mut Draw,
     found: &mut Found,
     events: u64,
-) -> Result<Option<String>, NoMemory> {
+) -> Result<Option<String>, Fail> {
     draw.begin();
     let rules = draw.rules();
     let mut account = Account::new(alloc, rules)?;
@@ -92,7 +95,7 @@ impl Account {
         draw: &mut Draw,
         found: &mut Found,
         events: u64,
-    ) -> Result<Option<String>, NoMemory>
+    ) -> Result<Option<String>, Fail>
         requires { RulesFit rules.now }
     {
         for _ in 0..events {
@@ -175,7 +178,24 @@ impl Account {
     }
 
     /// The account's rules and history.
-    fn told(&self, alloc: Global, rules: &Rules) -> Result<String, NoMemory> {
-        Ok(format!(in alloc; "{rules:?} {:?}", self.history)?)
+    fn told(&self, alloc: Global, rules: &Rules) -> Result<String, Fail> {
+        let mut text = String::new(alloc);
+        push_rules(&mut text, rules)?;
+        text.push_str(" [")?;
+        for (place, past) in self.history.iter().enumerate() {
+            text.push_str(if place == 0 { "" } else { ", " })?;
+            push_past(&mut text, past)?;
+        }
+        text.push(']')?;
+        Ok(text)
     }
+}
+
+fn push_past(text: &mut String, past: &PastEvent) -> Result<(), Fail> {
+    text.push_str("PastEvent { event: ")?;
+    push_event(text, &past.event)?;
+    text.push_str(", outcome: ")?;
+    push_outcome(text, &past.outcome)?;
+    text.push_str(" }")?;
+    Ok(())
 }

@@ -1,5 +1,6 @@
 //! Long pasts: no call wants memory that it need not have.
 
+use crate::outcomes::push_outcome;
 use rsl_accounts::Rules;
 use rsl_event::Event;
 use rsl_rule::{decide, outcome, places};
@@ -60,7 +61,9 @@ fn told_of_event(
     for past in events {
         push_past(alloc, rules, &mut history, past)?;
     }
-    Ok(format!(in alloc; "{:?}", outcome_of(alloc, rules, &history, event)?)?)
+    let mut text = String::new(alloc);
+    push_outcome(&mut text, &outcome_of(alloc, rules, &history, event)?)?;
+    Ok(text)
 }
 
 /// Adds an event and what it did to a history.
