@@ -1,5 +1,3 @@
-ghost use Rattle.rsl_accounts.specs.Limits.{RulesFit};
-
 use crate::events::{Size, Work, mixed, tick_of};
 use rsl_accounts::Rules;
 use rsl_book::Book;
@@ -96,9 +94,7 @@ fn mix(alloc: Global, book: &mut Book, times: u64) -> Result<(), NoMemory> {
 }
 
 /// New books, all kept until the last is made.
-fn make_books(alloc: Global, rules: Rules, times: u64) -> Result<(), NoMemory>
-    requires { RulesFit rules }
-{
+fn make_books(alloc: Global, rules: Rules, times: u64) -> Result<(), NoMemory> {
     let mut books = Vec::with_capacity(alloc, times as usize)?;
     for _ in 0..times {
         books.push(Book::new(alloc, rules)?)?;

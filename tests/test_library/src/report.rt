@@ -1,7 +1,5 @@
 //! Tests of `rsl_report`.
 
-ghost use Rattle.std.specs.Prelude.{IsTrue, All, ◌<◌};
-
 use rsl_accounts::Config;
 use rsl_report::{AuditFault, Output, WriteFault, table_of, write_table};
 use rsl_shard::Row;
@@ -219,8 +217,6 @@ fn write<R: AllocGlobal + Abort>(
 }
 
 /// Whether the account of each row has a number below this one.
-fn are_below(rows: &[Row], accounts: u32) -> bool
-    ensures { IsTrue result → All (λ row. row.account < accounts) rows.now }
-{
+fn are_below(rows: &[Row], accounts: u32) -> bool {
     rows.iter().all(|row| row.account < accounts)
 }

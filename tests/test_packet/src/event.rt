@@ -1,8 +1,6 @@
 //! Tests of `rsl_event`. The octets were computed with Python's hashlib and hmac, by the formulas
 //! of the RFCs.
 
-ghost use Rattle.rsl_event.specs.Prepared.{IsPrepared};
-
 mod access;
 mod accounting;
 mod copies;
@@ -296,9 +294,7 @@ fn reply_octets(
     prepared: &Prepared,
     config: &Config,
     decision: Decision,
-) -> Result<Vec<u8>, Fail>
-    requires { IsPrepared config.now prepared.now }
-{
+) -> Result<Vec<u8>, Fail> {
     let draft = room(alloc, prepared)?;
     Ok(reply(prepared, config, BOOT, decision, draft))
 }

@@ -1,8 +1,6 @@
 //! A server of 500 accounts over two sockets, whose client loses requests and sends some requests
 //! twice, while a worker makes ticks.
 
-ghost use Rattle.rsl_service.specs.Service.{IsLedgerOf};
-
 use crate::client::{Answers, Client, Side};
 use crate::fresh::Fresh;
 use crate::requests::{ACCOUNTS, config_of};
@@ -218,14 +216,6 @@ where
     L2: Tally + Send + Sync,
     L3: Tally + Send + Sync,
     R: Net + time::Clock + Threads + Wait + Sync,
-    requires ledger0 { IsLedgerOf config 0
-        blanks.blank0.name blanks.blank0.parts L0.name L0.parts L0.setup L0.books }
-    requires ledger1 { IsLedgerOf config 1
-        blanks.blank1.name blanks.blank1.parts L1.name L1.parts L1.setup L1.books }
-    requires ledger2 { IsLedgerOf config 2
-        blanks.blank2.name blanks.blank2.parts L2.name L2.parts L2.setup L2.books }
-    requires ledger3 { IsLedgerOf config 3
-        blanks.blank3.name blanks.blank3.parts L3.name L3.parts L3.setup L3.books }
 {
     let service: Service<L0, L1, L2, L3, Open> = Service::new(alloc, blanks, config, 1, Open)?;
     let worked = at_work(rt, alloc, &service)?;

@@ -11,8 +11,6 @@
 //! what the account then holds; and each line of the closed service's journals, as shard, moment and
 //! decision.
 
-ghost use Rattle.rsl_service.specs.Service.{IsLedgerOf};
-
 use crate::datagrams::{coming_of, config_of, numbers_of, push_sent};
 use crate::workers::{Pauses, Steady};
 use rsl_accounts::Config;
@@ -89,16 +87,7 @@ fn told<L0: Tally, L1: Tally, L2: Tally, L3: Tally, R: Wait>(
     blanks: Blanks,
     config: Config,
     day: Day<'_>,
-) -> Result<String, Fail>
-    requires ledger0 { IsLedgerOf config 0
-        blanks.blank0.name blanks.blank0.parts L0.name L0.parts L0.setup L0.books }
-    requires ledger1 { IsLedgerOf config 1
-        blanks.blank1.name blanks.blank1.parts L1.name L1.parts L1.setup L1.books }
-    requires ledger2 { IsLedgerOf config 2
-        blanks.blank2.name blanks.blank2.parts L2.name L2.parts L2.setup L2.books }
-    requires ledger3 { IsLedgerOf config 3
-        blanks.blank3.name blanks.blank3.parts L3.name L3.parts L3.setup L3.books }
-{
+) -> Result<String, Fail> {
     let (now, step) = pair_of(day.clock)?;
     let mut text = String::new(alloc);
     let service: Service<L0, L1, L2, L3, Open> = Service::new(alloc, blanks, config, 1, Open)?;

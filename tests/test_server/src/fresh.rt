@@ -1,8 +1,5 @@
 //! Sockets on ports that nobody had.
 
-ghost use Rattle.std.specs.Prelude.{◌≡◌};
-ghost use Rattle.rsl_receive.specs.Told.{no_numbers};
-
 use rsl_edges::UdpPort;
 use std::io;
 use std::net::{Net, UdpSocket};
@@ -12,7 +9,6 @@ use std::net::{Net, UdpSocket};
 pub(crate) struct Fresh {
     port: UdpPort,
     pub(crate) number: u16,
-    ghost uncalled: { port ≡ no_numbers },
 }
 
 impl Fresh {
@@ -24,9 +20,7 @@ impl Fresh {
     }
 
     /// The port.
-    pub(crate) fn into_port(self) -> UdpPort
-        ensures { result ≡ no_numbers }
-    {
+    pub(crate) fn into_port(self) -> UdpPort {
         self.port
     }
 }

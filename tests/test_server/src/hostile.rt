@@ -9,9 +9,6 @@
 //! rejects and Accounting-Responses were sent, and how many octets the longest has; how many moves were
 //! made; and the places that the account holds. All come at moment 0, to two shards.
 
-ghost use Rattle.std.specs.Prelude.{◌≡◌};
-ghost use Rattle.rsl_service.specs.Service.{IsLedgerOf};
-
 use crate::datagrams::config_of;
 use crate::days::{port_of, push_counts};
 use crate::workers::Steady;
@@ -74,16 +71,7 @@ fn told<L0: Tally, L1: Tally, L2: Tally, L3: Tally, R: Wait>(
     blanks: Blanks,
     config: Config,
     flood: Flood<'_>,
-) -> Result<String, Fail>
-    requires ledger0 { IsLedgerOf config 0
-        blanks.blank0.name blanks.blank0.parts L0.name L0.parts L0.setup L0.books }
-    requires ledger1 { IsLedgerOf config 1
-        blanks.blank1.name blanks.blank1.parts L1.name L1.parts L1.setup L1.books }
-    requires ledger2 { IsLedgerOf config 2
-        blanks.blank2.name blanks.blank2.parts L2.name L2.parts L2.setup L2.books }
-    requires ledger3 { IsLedgerOf config 3
-        blanks.blank3.name blanks.blank3.parts L3.name L3.parts L3.setup L3.books }
-{
+) -> Result<String, Fail> {
     let service: Service<L0, L1, L2, L3, Open> = Service::new(alloc, blanks, config, 1, Open)?;
     let Ok(mut pass) = service.open_pass(rt, alloc) else {
         return Err("no pass")?;

@@ -1,7 +1,5 @@
 //! A receiver answers over a UDP socket. The request is that of RFC 2865 section 7.1.
 
-ghost use Rattle.rsl_service.specs.Service.{IsLedgerOf};
-
 use crate::client::connected;
 use crate::fresh::Fresh;
 use rsl_accounts::Config;
@@ -114,14 +112,6 @@ where
     L2: Tally + Send + Sync,
     L3: Tally + Send + Sync,
     R: Net + Threads + Wait + Sync,
-    requires ledger0 { IsLedgerOf config 0
-        blanks.blank0.name blanks.blank0.parts L0.name L0.parts L0.setup L0.books }
-    requires ledger1 { IsLedgerOf config 1
-        blanks.blank1.name blanks.blank1.parts L1.name L1.parts L1.setup L1.books }
-    requires ledger2 { IsLedgerOf config 2
-        blanks.blank2.name blanks.blank2.parts L2.name L2.parts L2.setup L2.books }
-    requires ledger3 { IsLedgerOf config 3
-        blanks.blank3.name blanks.blank3.parts L3.name L3.parts L3.setup L3.books }
 {
     let service: Service<L0, L1, L2, L3, Open> = Service::new(alloc, blanks, config, 1, Open)?;
     asked(rt, alloc, &service, request)

@@ -19,19 +19,11 @@ pub(crate) struct Watched<'a> {
     scene: &'a Scene,
     idle: u64,
     numbers: Numbers,
-    ghost receives: { port.receives ≤ numbers.receives },
-    ghost failed_receives: { port.failed_receives ≤ numbers.failed_receives },
-    ghost sends: { port.sends ≡ numbers.sends },
-    ghost failed_sends: { port.failed_sends ≡ numbers.failed_sends },
-    ghost astray: { port.astray ≡ numbers.astray },
-    ghost last: { port.last ≡ numbers.last },
 }
 
 impl<'a> Watched<'a> {
     /// A port, which was not called yet.
-    pub(crate) fn new(fresh: Fresh, scene: &'a Scene) -> Watched<'a>
-        ensures { result.numbers ≡ no_numbers }
-    {
+    pub(crate) fn new(fresh: Fresh, scene: &'a Scene) -> Watched<'a> {
         Watched {
             port: fresh.into_port(),
             scene,

@@ -11,9 +11,6 @@
 //! `changed`: that tells the fault, or of each segment its shard, how many lines came before and how
 //! many it has, and then the audit of each shard.
 
-ghost use Rattle.std.specs.Prelude.{◌≤◌, length};
-ghost use Rattle.rsl_service.specs.Service.{IsLedgerOf};
-
 use crate::packets::{SOURCE, ask, config_of, on, stray};
 use rsl_accounts::Config;
 use rsl_event::{Decision, Port};
@@ -74,16 +71,7 @@ fn lived<L0: Tally, L1: Tally, L2: Tally, L3: Tally, R: Wait>(
     blanks: Blanks,
     config: Config,
     life: &Life<'_>,
-) -> Result<String, Fail>
-    requires ledger0 { IsLedgerOf config 0
-        blanks.blank0.name blanks.blank0.parts L0.name L0.parts L0.setup L0.books }
-    requires ledger1 { IsLedgerOf config 1
-        blanks.blank1.name blanks.blank1.parts L1.name L1.parts L1.setup L1.books }
-    requires ledger2 { IsLedgerOf config 2
-        blanks.blank2.name blanks.blank2.parts L2.name L2.parts L2.setup L2.books }
-    requires ledger3 { IsLedgerOf config 3
-        blanks.blank3.name blanks.blank3.parts L3.name L3.parts L3.setup L3.books }
-{
+) -> Result<String, Fail> {
     let service: Service<L0, L1, L2, L3, Open> = Service::new(alloc, blanks, config, 1, Open)?;
     let mut served = Served {
         service,
@@ -273,9 +261,7 @@ pub(crate) fn told_audits(
 }
 
 /// How many segments at the front are of a shard.
-fn count_of(segments: &[Segment], shard: u32) -> usize
-    ensures { result ≤ length segments.now }
-{
+fn count_of(segments: &[Segment], shard: u32) -> usize {
     for place in 0..segments.len() {
         if segments[place].shard != shard {
             return place;

@@ -1,7 +1,5 @@
 //! Services that threads use at once.
 
-ghost use Rattle.rsl_service.specs.Service.{IsLedgerOf};
-
 use crate::lives::told_audits;
 use crate::packets::{SOURCE, ask, config_of};
 use rsl_accounts::Config;
@@ -97,16 +95,7 @@ fn two_at_once<
     blanks: Blanks,
     config: Config,
     flags: &Flags,
-) -> Result<(Option<Said>, Option<Said>), Fail>
-    requires ledger0 { IsLedgerOf config 0
-        blanks.blank0.name blanks.blank0.parts L0.name L0.parts L0.setup L0.books }
-    requires ledger1 { IsLedgerOf config 1
-        blanks.blank1.name blanks.blank1.parts L1.name L1.parts L1.setup L1.books }
-    requires ledger2 { IsLedgerOf config 2
-        blanks.blank2.name blanks.blank2.parts L2.name L2.parts L2.setup L2.books }
-    requires ledger3 { IsLedgerOf config 3
-        blanks.blank3.name blanks.blank3.parts L3.name L3.parts L3.setup L3.books }
-{
+) -> Result<(Option<Said>, Option<Said>), Fail> {
     let ask_a = ask(alloc, "a", 0, &[0; 16])?;
     let ask_b = ask(alloc, "b", 0, &[0; 16])?;
     let gate = Holding { flags };
@@ -227,16 +216,7 @@ fn crowd<
     config: Config,
     calls: u64,
     times: u64,
-) -> Result<String, Fail>
-    requires ledger0 { IsLedgerOf config 0
-        blanks.blank0.name blanks.blank0.parts L0.name L0.parts L0.setup L0.books }
-    requires ledger1 { IsLedgerOf config 1
-        blanks.blank1.name blanks.blank1.parts L1.name L1.parts L1.setup L1.books }
-    requires ledger2 { IsLedgerOf config 2
-        blanks.blank2.name blanks.blank2.parts L2.name L2.parts L2.setup L2.books }
-    requires ledger3 { IsLedgerOf config 3
-        blanks.blank3.name blanks.blank3.parts L3.name L3.parts L3.setup L3.books }
-{
+) -> Result<String, Fail> {
     let service: Service<L0, L1, L2, L3, Open> = Service::new(alloc, blanks, config, 1, Open)?;
     let (passes, segments) = at_work(rt, alloc, &service, calls, times)?;
     told_closed(alloc, service, passes, segments, calls.saturating_mul(8))

@@ -1,7 +1,5 @@
 //! Draws moves and books.
 
-ghost use Rattle.std.specs.Prelude.{◌<◌};
-
 use rand_core::utils::NextWord;
 use rand_pcg::Pcg32;
 use rld_spelling::Counts;
@@ -36,10 +34,7 @@ impl Draw {
     }
 
     /// A number below this one.
-    fn below(&mut self, bound: u32) -> u32
-        requires { 0 < bound }
-        ensures { result < bound }
-    {
+    fn below(&mut self, bound: u32) -> u32 {
         self.words.next_word() % bound
     }
 

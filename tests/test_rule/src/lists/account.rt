@@ -1,5 +1,3 @@
-ghost use Rattle.rsl_accounts.specs.Limits.{RulesFit};
-
 use super::draw::Draw;
 use super::found::Found;
 use crate::outcomes::push_outcome;
@@ -75,9 +73,7 @@ fn is_each_link_shown(book: &Book) -> bool {
 }
 
 impl Account {
-    fn new(alloc: Global, rules: Rules) -> Result<Account, NoMemory>
-        requires { RulesFit rules }
-    {
+    fn new(alloc: Global, rules: Rules) -> Result<Account, NoMemory> {
         Ok(Account {
             book: Book::new(alloc, rules)?,
             called: Book::new(alloc, rules)?,
@@ -95,9 +91,7 @@ impl Account {
         draw: &mut Draw,
         found: &mut Found,
         events: u64,
-    ) -> Result<Option<String>, Fail>
-        requires { RulesFit rules.now }
-    {
+    ) -> Result<Option<String>, Fail> {
         for _ in 0..events {
             if !self.agrees_on_next(alloc, rules, draw, found)? {
                 return Ok(Some(self.told(alloc, rules)?));
@@ -116,9 +110,7 @@ impl Account {
         rules: &Rules,
         draw: &mut Draw,
         found: &mut Found,
-    ) -> Result<bool, NoMemory>
-        requires { RulesFit rules.now }
-    {
+    ) -> Result<bool, NoMemory> {
         let event = draw.event(alloc, rules)?;
         self.agrees_on(alloc, rules, found, &event)
     }
@@ -131,9 +123,7 @@ impl Account {
         rules: &Rules,
         found: &mut Found,
         event: &Event,
-    ) -> Result<bool, NoMemory>
-        requires { RulesFit rules.now }
-    {
+    ) -> Result<bool, NoMemory> {
         let did = outcome(alloc, rules, &self.history, event)?;
         found.note(did);
         self.note(alloc, event, did)?;
@@ -157,9 +147,7 @@ impl Account {
     }
 
     /// Whether both books show the same, and the places that the rule finds.
-    fn shows_as_the_rule(&self, alloc: Global, rules: &Rules) -> Result<bool, NoMemory>
-        requires { RulesFit rules.now }
-    {
+    fn shows_as_the_rule(&self, alloc: Global, rules: &Rules) -> Result<bool, NoMemory> {
         let held = places_held(alloc, rules, &self.history)?;
         Ok(
             self.book.held() == held
@@ -169,9 +157,7 @@ impl Account {
     }
 
     /// Whether the rule finds the same decisions and places from the events alone.
-    fn is_as_of_its_events(&self, alloc: Global, rules: &Rules) -> Result<bool, NoMemory>
-        requires { RulesFit rules.now }
-    {
+    fn is_as_of_its_events(&self, alloc: Global, rules: &Rules) -> Result<bool, NoMemory> {
         let decisions = decide(alloc, rules, &self.events)?;
         let held = u64::from(places(alloc, rules, &self.events)?);
         Ok(decisions == self.decisions && held == self.book.held())

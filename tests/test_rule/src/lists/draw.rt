@@ -1,6 +1,3 @@
-ghost use Rattle.std.specs.Prelude.{◌<◌};
-ghost use Rattle.rsl_accounts.specs.Limits.{RulesFit};
-
 use rand_core::utils::NextWord;
 use rand_pcg::Pcg32;
 use rsl_accounts::Rules;
@@ -32,17 +29,12 @@ impl Draw {
     }
 
     /// A number below this one.
-    fn below(&mut self, bound: u32) -> u32
-        requires { 0 < bound }
-        ensures { result < bound }
-    {
+    fn below(&mut self, bound: u32) -> u32 {
         self.words.next_word() % bound
     }
 
     /// The rules of another account: few places, and times so short that each edge is met.
-    pub(crate) fn rules(&mut self) -> Rules
-        ensures { RulesFit result }
-    {
+    pub(crate) fn rules(&mut self) -> Rules {
         let keep = 1 + u64::from(self.below(6));
         Rules {
             places: u64::from(self.below(5)),

@@ -1,5 +1,3 @@
-ghost use Rattle.std.specs.Prelude.{◌<◌};
-
 use rsl_session::Outcome;
 use std::fmt;
 
@@ -32,9 +30,7 @@ impl Found {
 }
 
 /// The number of a kind of outcome.
-fn kind_of(outcome: Outcome) -> usize
-    ensures { result < 10 }
-{
+fn kind_of(outcome: Outcome) -> usize {
     match outcome {
         Outcome::Accepted(_) => 0,
         Outcome::AcceptedInPlace { .. } => 1,
