@@ -21,5 +21,6 @@ def path_of(name):
             sys.exit(str(fault))
     path = proofs.program(name)
     if not os.access(path, os.X_OK):
-        sys.exit(f"{os.path.relpath(path, repository.TOP)} is not there: `./radlimit prove` proves and builds it, and with PROGRAMS=unproved a build that is not proved is taken")
+        where = os.path.relpath(path, repository.TOP)
+        sys.exit(f"{where} is not there: `./radlimit prove` builds it; PROGRAMS=unproved takes a build that is not proved")
     return path
