@@ -1,39 +1,42 @@
-//! The program `bench_memory`: does one work on a script of `radlimit replay`, which standard input
-//! has, and tells all that can be seen of it, so that memory can be refused to it from outside.
-//! `bench_memory WORK`:
+//! The program `bench_memory`: does works that take memory, on a script of `radlimit replay` that
+//! standard input has, and prints what they come to. It prints the same whichever single allocation
+//! is refused, which `rt try --fail-alloc` does.
 //!
-//! | WORK | What it does |
+//! | Work | What it does |
 //! |---|---|
-//! | `calls` | makes each call that takes memory and that no other work makes |
+//! | `calls` | reads a script and an account file, writes packets, and asks the session rule |
 //! | `saved` | writes the moves and the book of the first account, reads them again, and puts the book back |
-//! | `steps` | has `run` of `rsl_steps` answer the script's steps, and then those that were not refused |
+//! | `steps` | has `run` of `rsl_steps` answer the script's steps |
 //! | `shard` | gives the events of the first account to a shard, and cuts it |
-//! | `service` | gives the script's datagrams and ticks to a service, and closes it |
-//! | `cuts` | the same, but cuts each shard at each tick and at the end, and settles the record |
-//! | `receive` | has two receivers take the script's datagrams from ports over memory |
-//! | `expire` | the same as `service`, but a worker makes the ticks, and each shard is cut after each turn |
+//! | `service` | gives the script's datagrams and ticks to a service, of which a worker makes some, cuts shards, settles and closes |
+//! | `receivers` | has two receivers take the script's datagrams from ports over memory |
+//! | `store` | begins a store over a log in memory, records, has a generation follow, and opens it again |
 //!
-//! After `receive` come the numbers of the steps to leave out, from 1, and after `expire` those of
-//! the worker's turns, at which it then only pauses; a 0 leaves nothing out. Without a WORK it does
-//! each in turn. A call that is refused memory is told, and is made again. Where memory is refused
-//! outside of these calls the work is given up, and the status is 3. `bench/refused-memory` runs it.
+//! Where a call is refused, what is seen of its subject has to be the same as before, or a line says that
+//! it is not; then the call is made again. Where a call has no subject, the work begins anew.
+//!
+//! `bench_memory WORK AHEAD` does one work, and makes so many allocations before it, so that a refusal
+//! of one fixed number can be tried on each of the work's. A last line says which call was refused, or
+//! how many allocations could be made after the work until one was refused. `bench/refused-memory`
+//! runs it.
 #![tactic(auto)]
 
 mod calls;
-mod ending;
 mod given;
-mod life;
+mod page;
 mod printed;
-mod receiving;
+mod receivers;
 mod saved;
 mod served;
+mod service;
 mod shard;
 mod steps;
 mod stop;
-mod ticking;
-mod told;
+mod store;
+mod worker;
 
-use life::Way;
+use given::Given;
+use page::Page;
 use std::alloc::Global;
 use std::env::{self, Env};
 use std::io::Read;
@@ -47,71 +50,159 @@ const MAX_SCRIPT_LEN: u64 = 1_048_576;
 /// How often a call is made until it is not refused.
 const TRIES: u32 = 3;
 
+/// The most allocations that are made after the works.
+const MOST_LEFT: u64 = 100_000;
+
 /// The boot number of every server.
 const BOOT: u64 = 1;
 
-/// The works, in the order in which they are done where none is named.
-const WORKS: [&str; 8] = [
-    "calls", "saved", "steps", "shard", "service", "cuts", "receive", "expire",
+/// A work.
+#[derive(Clone, Copy, Debug, PartialEq, Eq)]
+enum Work {
+    Calls,
+    Saved,
+    Steps,
+    Shard,
+    Service,
+    Receivers,
+    Store,
+}
+
+impl Work {
+    /// Its name.
+    fn name(self) -> &'static str {
+        match self {
+            Work::Calls => "calls",
+            Work::Saved => "saved",
+            Work::Steps => "steps",
+            Work::Shard => "shard",
+            Work::Service => "service",
+            Work::Receivers => "receivers",
+            Work::Store => "store",
+        }
+    }
+}
+
+const WORKS: [Work; 7] = [
+    Work::Calls,
+    Work::Saved,
+    Work::Steps,
+    Work::Shard,
+    Work::Service,
+    Work::Receivers,
+    Work::Store,
 ];
 
 fn main(rt: HostRuntime) -> ExitCode {
     match worked(&rt) {
         Ok(()) => ExitCode::SUCCESS,
         Err(stop) => {
-            let _ = eprintln!(rt; "{stop}");
-            ExitCode::from(stop.status().number())
+            let _ = eprintln!(rt; "{stop:?}");
+            ExitCode::from(stop as u8)
         }
     }
 }
 
-/// Does what the arguments say.
+/// Does what the arguments say: each work, or one behind so many allocations.
 fn worked<R: AllocGlobal + Env + Input + Print + Wait>(rt: &R) -> Result<(), Stop> {
     let alloc = rt.alloc();
-    let mut words = env::args(rt)?;
-    let _program = words.next();
-    let work = words.next();
-    let mut left_out = Vec::new(alloc);
-    for word in words {
-        match word.as_str().parse::<usize>() {
-            Ok(number) => left_out.push(number)?,
-            Err(_) => return Err(Stop::Usage),
-        }
-    }
+    let asked = asked_of(rt)?;
     let mut text = Vec::new(alloc);
     rt.reader().take(MAX_SCRIPT_LEN).read_to_end(&mut text)?;
-    match work {
-        Some(work) => do_work(rt, alloc, work.as_str(), &text, left_out),
-        None => do_each(rt, alloc, &text),
+    let mut page = Page::new(rt, alloc);
+    match asked {
+        None => do_works(&mut page, &text, &WORKS),
+        Some((work, ahead)) => {
+            for _ in 0..ahead {
+                allocate(alloc)?;
+            }
+            do_works(&mut page, &text, &[work])?;
+            match page.refused() {
+                Some(call) => Ok(println!(rt; "{call} refused")?),
+                None => tell_left(rt, alloc),
+            }
+        }
     }
 }
 
-/// Does each work, under its name.
-fn do_each<R: Print + Wait>(rt: &R, alloc: Global, text: &[u8]) -> Result<(), Stop> {
+/// The work that the arguments ask for, and the number of allocations before it.
+fn asked_of<R: AllocGlobal + Env>(rt: &R) -> Result<Option<(Work, u64)>, Stop> {
+    let mut words = env::args(rt)?;
+    let _program = words.next();
+    let (Some(name), Some(ahead)) = (words.next(), words.next()) else {
+        return Ok(None);
+    };
     for work in WORKS {
-        println!(rt; "== {work}")?;
-        do_work(rt, alloc, work, text, Vec::new(alloc))?;
+        if work.name() == name.as_str() {
+            return match ahead.as_str().parse::<u64>() {
+                Ok(ahead) => Ok(Some((work, ahead))),
+                Err(_) => Err(Stop::Failed),
+            };
+        }
+    }
+    Err(Stop::Failed)
+}
+
+/// Makes an allocation, and lets it go.
+fn allocate(alloc: Global) -> Result<(), Stop> {
+    let _octet: Vec<u8> = Vec::with_capacity(alloc, 1)?;
+    Ok(())
+}
+
+/// Tells how many allocations can be made until one is refused, or that none is.
+fn tell_left<R: Print>(rt: &R, alloc: Global) -> Result<(), Stop> {
+    for made in 0..MOST_LEFT {
+        if allocate(alloc).is_err() {
+            return Ok(println!(rt; "{made} left")?);
+        }
+    }
+    Ok(println!(rt; "as ever")?)
+}
+
+/// Does works on the text of a script.
+fn do_works<R: Print + Wait>(page: &mut Page<R>, text: &[u8], works: &[Work]) -> Result<(), Stop> {
+    let given = read(page, text)?;
+    for work in works {
+        do_work(page, &given, *work)?;
     }
     Ok(())
 }
 
-/// Does a work on the text of a script.
-fn do_work<R: Print + Wait>(
-    rt: &R,
-    alloc: Global,
-    work: &str,
-    text: &[u8],
-    left_out: Vec<usize>,
-) -> Result<(), Stop> {
+/// What the text of a script gives.
+fn read<'a, R: Print>(page: &mut Page<R>, text: &'a [u8]) -> Result<Given<'a>, Stop> {
+    for _ in 0..TRIES {
+        match Given::read(page.alloc, text) {
+            Err(Stop::NoMemory) => page.note("script", true)?,
+            given => return given,
+        }
+    }
+    Err(Stop::NoMemory)
+}
+
+/// Does a work until it comes to its end, and prints what it told then.
+fn do_work<R: Print + Wait>(page: &mut Page<R>, given: &Given, work: Work) -> Result<(), Stop> {
+    for _ in 0..TRIES {
+        page.text.clear();
+        match tell(page, given, work) {
+            Err(Stop::NoMemory) => page.note(work.name(), true)?,
+            told => {
+                told?;
+                return page.print(work.name());
+            }
+        }
+    }
+    Err(Stop::NoMemory)
+}
+
+/// Tells what a work comes to.
+fn tell<R: Print + Wait>(page: &mut Page<R>, given: &Given, work: Work) -> Result<(), Stop> {
     match work {
-        "calls" => calls::tell(rt, alloc, text),
-        "saved" => saved::tell(rt, alloc, text),
-        "steps" => steps::tell(rt, alloc, text),
-        "shard" => shard::tell(rt, alloc, text),
-        "service" => life::tell(rt, alloc, text, left_out, Way::Uncut),
-        "cuts" => life::tell(rt, alloc, text, left_out, Way::Cut),
-        "receive" => life::tell(rt, alloc, text, left_out, Way::Received),
-        "expire" => life::tell(rt, alloc, text, left_out, Way::Ticked),
-        _ => Err(Stop::Usage),
+        Work::Calls => calls::tell(page, given),
+        Work::Saved => saved::tell(page, given),
+        Work::Steps => steps::tell(page, given),
+        Work::Shard => shard::tell(page, given),
+        Work::Service => service::tell(page, given),
+        Work::Receivers => receivers::tell(page, given),
+        Work::Store => store::tell(page, given),
     }
 }

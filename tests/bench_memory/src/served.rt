@@ -1,17 +1,21 @@
 //! A service, and the steps that it is given.
 
-use crate::TRIES;
-use crate::life::{Life, Way};
+use crate::page::Page;
+use crate::printed::Hex;
 use crate::stop::Stop;
-use crate::told::Told;
-use rsl_event::{Dropped, Port, Source};
-use rsl_record::{HasReceipts, Receipt};
-use rsl_service::{CutFault, Open, Pass, PassFault, Service, Tally};
+use crate::{BOOT, TRIES};
+use rsl_accounts::Config;
+use rsl_event::{Dropped, Port};
+use rsl_record::{CloseFault, HasReceipts, Receipt, settle};
+use rsl_report::{AuditFault, audit};
+use rsl_service::{Answered, ApplyFault, Blanks, CutFault, Open, Pass, PassFault, Service, Tally};
 use rsl_shard::{Row, Segment};
 use rsl_steps::Step;
-use rsl_wire::NoMemory;
 use std::alloc::Global;
 use std::sync::Wait;
+
+/// The most shards of a service.
+const MAX_SHARDS: usize = 4;
 
 /// A service, a pass for each port, and the segments that were cut.
 #[derive(Drop)]
@@ -20,59 +24,209 @@ pub(crate) struct Served<L0: Tally, L1: Tally, L2: Tally, L3: Tally> {
     pub auth: Pass<L0, L1, L2, L3>,
     pub acct: Pass<L0, L1, L2, L3>,
     pub segments: Vec<Segment>,
+    /// How many lines each shard has more than where nothing is refused: a restart or a tick that is
+    /// made again is made again in the shards that were swept.
+    pub more: [i64; MAX_SHARDS],
 }
 
-/// A service with its passes.
-pub(crate) fn with_passes<L0: Tally, L1: Tally, L2: Tally, L3: Tally, R: Print + Wait>(
-    rt: &R,
-    alloc: Global,
-    service: Service<L0, L1, L2, L3, Open>,
-) -> Result<Served<L0, L1, L2, L3>, Stop> {
-    let auth = opened(rt, alloc, &service)?;
-    let acct = opened(rt, alloc, &service)?;
-    Ok(Served {
-        service,
-        auth,
-        acct,
-        segments: Vec::new(alloc),
-    })
+/// What is seen of a service: what each account holds, and how many lines each shard has, as it is where
+/// nothing is refused.
+#[derive(Debug, PartialEq, Eq, Drop)]
+pub(crate) struct Seen {
+    pub rows: Vec<Row>,
+    pub lines: Vec<i64>,
 }
 
-/// A new pass.
+/// What a step came to.
+#[derive(Drop)]
+enum Came {
+    Answered(Answered),
+    Ticked,
+    Dropped(Dropped),
+}
+
+impl<L0: Tally, L1: Tally, L2: Tally, L3: Tally> Served<L0, L1, L2, L3> {
+    /// A new service with its passes.
+    pub(crate) fn new<R: Print + Wait>(
+        page: &mut Page<R>,
+        blanks: Blanks,
+        config: Config,
+    ) -> Result<Served<L0, L1, L2, L3>, Stop> {
+        let alloc = page.alloc;
+        let service = Service::<L0, L1, L2, L3, Open>::new(alloc, blanks, config, BOOT, Open)?;
+        let auth = opened(page, &service)?;
+        let acct = opened(page, &service)?;
+        Ok(Served {
+            service,
+            auth,
+            acct,
+            segments: Vec::new(alloc),
+            more: [0; MAX_SHARDS],
+        })
+    }
+
+    /// What is seen of the service.
+    pub(crate) fn seen<R: Print + Wait>(&self, page: &mut Page<R>) -> Result<Seen, Stop> {
+        let (rt, alloc) = (page.rt(), page.alloc);
+        page.look(
+            self,
+            &|served: &Self| {
+                let rows = served.service.report(rt, alloc)?;
+                let mut lines = Vec::new(alloc);
+                for shard in 0..served.service.config().shards() {
+                    lines.push(served.lines(shard))?;
+                }
+                Ok(Seen { rows, lines })
+            },
+        )
+    }
+
+    /// How many lines a shard has by the passes, as it is where nothing is refused.
+    fn lines(&self, shard: u32) -> i64 {
+        let made = lines_in(self.auth.receipts(), shard) + lines_in(self.acct.receipts(), shard);
+        made as i64 - self.more[shard as usize]
+    }
+
+    /// Tells what is seen of the service, at the end of a line.
+    pub(crate) fn show<R: Print>(page: &mut Page<R>, seen: &Seen) -> Result<(), Stop> {
+        for row in &seen.rows {
+            write!(
+                page.text,
+                " {}/{}/{}/{}/{}",
+                row.held, row.reserved, row.live, row.stale, row.over
+            )?;
+        }
+        writeln!(page.text, " lines {:?}", seen.lines)?;
+        Ok(())
+    }
+
+    /// Gives a step to the service, and tells what it came to. A restart sweeps each shard by itself,
+    /// and one call makes the ticks of all shards.
+    pub(crate) fn take<R: Print + Wait>(
+        &mut self,
+        page: &mut Page<R>,
+        step: &Step,
+    ) -> Result<(), Stop> {
+        if matches!(step, Step::Sweep { .. } | Step::Tick { shard: 1.., .. }) {
+            return Ok(());
+        }
+        let before = self.seen(page)?;
+        let mut refused = None;
+        for _ in 0..TRIES {
+            match self.give(page, step) {
+                Err(ApplyFault::Spent { .. }) => return Err(Stop::Failed),
+                Err(ApplyFault::NoMemory { swept }) => {
+                    refused = Some((swept, self.seen(page)?));
+                    for shard in 0..swept {
+                        self.more[shard as usize] += 1;
+                    }
+                }
+                Ok(came) => {
+                    let after = self.seen(page)?;
+                    if let Some((swept, between)) = &refused {
+                        let is_right = is_between(&before, between, &after, *swept);
+                        page.note(name_of(step, *swept), is_right)?;
+                    }
+                    tell_came(page, &came)?;
+                    return Self::show(page, &after);
+                }
+            }
+        }
+        Err(Stop::NoMemory)
+    }
+
+    /// The service, and the pass of a port.
+    pub(crate) fn lend(
+        &mut self,
+        port: Port,
+    ) -> (&Service<L0, L1, L2, L3, Open>, &mut Pass<L0, L1, L2, L3>) {
+        match port {
+            Port::Auth => (&self.service, &mut self.auth),
+            Port::Acct => (&self.service, &mut self.acct),
+        }
+    }
+
+    /// What a step comes to.
+    fn give<R: Print + Wait>(&mut self, page: &Page<R>, step: &Step) -> Result<Came, ApplyFault> {
+        let (rt, alloc) = (page.rt(), page.alloc);
+        match step {
+            Step::Datagram {
+                moment,
+                port,
+                source,
+                octets,
+            } => {
+                let (service, pass) = self.lend(*port);
+                match service.prepare(alloc, *port, *source, octets.as_slice()) {
+                    Ok(prepared) => Ok(Came::Answered(service.apply(
+                        rt, alloc, pass, *moment, prepared,
+                    )?)),
+                    Err(Dropped::NoMemory) => Err(ApplyFault::NoMemory { swept: 0 }),
+                    Err(dropped) => Ok(Came::Dropped(dropped)),
+                }
+            }
+            Step::Sweep { moment, .. } | Step::Tick { moment, .. } => {
+                let (service, pass) = self.lend(Port::Acct);
+                service.expire(rt, alloc, pass, *moment)?;
+                Ok(Came::Ticked)
+            }
+        }
+    }
+
+    /// Cuts each shard.
+    pub(crate) fn cut_each<R: Print + Wait>(&mut self, page: &mut Page<R>) -> Result<(), Stop> {
+        let before = self.seen(page)?;
+        for shard in 0..self.service.config().shards() {
+            cut(page, &self.service, &mut self.segments, shard)?;
+        }
+        let after = self.seen(page)?;
+        page.check("cut", after == before)
+    }
+
+    /// Settles the record, of which the last segments stand for the journals, where they were cut too:
+    /// then closes the service, and tells how long the journal of each shard is, and its audit.
+    pub(crate) fn end<R: Print + Wait>(
+        mut self,
+        page: &mut Page<R>,
+        config: &Config,
+    ) -> Result<(), Stop> {
+        let alloc = page.alloc;
+        let given = self.segments.len();
+        self.cut_each(page)?;
+        let Served {
+            service,
+            auth,
+            acct,
+            segments,
+            more,
+        } = self;
+        let passes = vec![in alloc; auth, acct]?;
+        let (given, present) = segments.split_at(given);
+        match settle(alloc, config, 2, &passes, given, present) {
+            Err(CloseFault::NoMemory) => return Err(Stop::NoMemory),
+            settled => writeln!(page.text, "settled: {settled:?}")?,
+        }
+        match service.close(alloc, passes, segments) {
+            Ok(closed) => tell_journals(page, config, &closed.segments, &more),
+            Err(CloseFault::NoMemory) => Err(Stop::NoMemory),
+            Err(fault) => Ok(writeln!(page.text, "closed: {fault:?}")?),
+        }
+    }
+}
+
+/// A new pass. One that is refused is not counted by the service.
 fn opened<L0: Tally, L1: Tally, L2: Tally, L3: Tally, R: Print + Wait>(
-    rt: &R,
-    alloc: Global,
+    page: &mut Page<R>,
     service: &Service<L0, L1, L2, L3, Open>,
 ) -> Result<Pass<L0, L1, L2, L3>, Stop> {
     for _ in 0..TRIES {
-        match service.open_pass(rt, alloc) {
+        match service.open_pass(page.rt(), page.alloc) {
+            Err(PassFault::NoMemory) => page.note("open_pass", true)?,
+            Err(PassFault::TooMany) => return Err(Stop::Failed),
             Ok(pass) => return Ok(pass),
-            Err(PassFault::NoMemory) => println!(rt; "open: refused")?,
-            Err(PassFault::TooMany) => println!(rt; "open: too many")?,
         }
     }
     Err(Stop::NoMemory)
-}
-
-/// What a datagram came to, which a pass brings.
-fn answered<L0: Tally, L1: Tally, L2: Tally, L3: Tally, R: Wait>(
-    rt: &R,
-    alloc: Global,
-    service: &Service<L0, L1, L2, L3, Open>,
-    pass: &mut Pass<L0, L1, L2, L3>,
-    moment: u64,
-    port: Port,
-    source: Source,
-    octets: &[u8],
-) -> Told {
-    match service.prepare(alloc, port, source, octets) {
-        Ok(prepared) => match service.apply(rt, alloc, pass, moment, prepared) {
-            Ok(answered) => Told::Answered(answered),
-            Err(fault) => Told::from(fault),
-        },
-        Err(Dropped::NoMemory) => Told::Refused { swept: 0 },
-        Err(dropped) => Told::Dropped(dropped),
-    }
 }
 
 /// How many receipts are of a shard.
@@ -83,177 +237,95 @@ fn lines_in(receipts: &[Receipt], shard: u32) -> usize {
         .count()
 }
 
-/// Tells what each account holds: of each the places, and the links that are reserved, live and
-/// stale, and the alives over.
-pub(crate) fn tell_held<L0: Tally, L1: Tally, L2: Tally, L3: Tally, R: Print + Wait>(
-    rt: &R,
-    alloc: Global,
-    service: &Service<L0, L1, L2, L3, Open>,
-) -> Result<(), Stop> {
-    let rows = reported(rt, alloc, service)?;
-    print!(rt; " |")?;
-    for row in &rows {
-        print!(rt;
-            " {}/{}/{}/{}/{}",
-            row.held, row.reserved, row.live, row.stale, row.over
-        )?;
+/// What a call is named that was refused after so many shards.
+fn name_of(step: &Step, swept: u32) -> &'static str {
+    match (step, swept) {
+        (Step::Datagram { .. }, 0) => "datagram",
+        (Step::Datagram { .. }, _) => "second sweep",
+        (_, 0) => "tick",
+        _ => "second tick",
+    }
+}
+
+/// Tells what a step came to.
+fn tell_came<R: Print>(page: &mut Page<R>, came: &Came) -> Result<(), Stop> {
+    match came {
+        Came::Answered(answered) => {
+            let octets = Hex(answered.octets.as_slice());
+            write!(page.text, "{:?} {octets}", answered.said)?;
+        }
+        Came::Ticked => write!(page.text, "ticked")?,
+        Came::Dropped(dropped) => write!(page.text, "drop {dropped}")?,
     }
     Ok(())
 }
 
-/// What each account holds. Where it is refused, that stands in the line.
-fn reported<L0: Tally, L1: Tally, L2: Tally, L3: Tally, R: Print + Wait>(
-    rt: &R,
-    alloc: Global,
-    service: &Service<L0, L1, L2, L3, Open>,
-) -> Result<Vec<Row>, Stop> {
-    for _ in 0..TRIES {
-        match service.report(rt, alloc) {
-            Ok(rows) => return Ok(rows),
-            Err(NoMemory) => print!(rt; " (no report)")?,
-        }
-    }
-    Err(Stop::NoMemory)
+/// Whether after a refusal the shards that were swept are as after the call, with a line more, and the
+/// others as before it.
+pub(crate) fn is_between(before: &Seen, between: &Seen, after: &Seen, swept: u32) -> bool {
+    is_mixed(
+        &before.rows,
+        &between.rows,
+        &after.rows,
+        swept,
+        before.lines.len(),
+    ) && before.lines.iter().zip(&between.lines).enumerate().all(|(shard, (old, new))| *new
+        == *old + i64::from((shard as u32) < swept))
 }
 
-impl<L0: Tally, L1: Tally, L2: Tally, L3: Tally> Served<L0, L1, L2, L3> {
-    /// Gives the steps of a life to the service.
-    pub(crate) fn take_each<R: Print + Wait>(
-        &mut self,
-        rt: &R,
-        alloc: Global,
-        life: &Life,
-    ) -> Result<(), Stop> {
-        for step in &life.steps {
-            self.take(rt, alloc, step)?;
-            if life.way == Way::Cut && matches!(step, Step::Tick { shard: 0, .. }) {
-                self.cut_each(rt, alloc)?;
-            }
-        }
-        Ok(())
-    }
-
-    /// Gives a step to the service, and tells what it came to. A restart sweeps each shard by
-    /// itself, and one call makes the ticks of all shards.
-    pub(crate) fn take<R: Print + Wait>(
-        &mut self,
-        rt: &R,
-        alloc: Global,
-        step: &Step,
-    ) -> Result<(), Stop> {
-        for _ in 0..TRIES {
-            let told = match step {
-                Step::Datagram {
-                    moment,
-                    port,
-                    source,
-                    octets,
-                } => self.answer(rt, alloc, *moment, *port, *source, octets.as_slice()),
-                Step::Tick { shard: 0, moment } => self.tick(rt, alloc, *moment),
-                Step::Tick { .. } | Step::Sweep { .. } => return Ok(()),
-            };
-            print!(rt; "{told}")?;
-            self.show(rt, alloc)?;
-            if !matches!(told, Told::Refused { .. }) {
-                return Ok(());
-            }
-        }
-        Err(Stop::NoMemory)
-    }
-
-    /// What a datagram came to.
-    fn answer<R: Wait>(
-        &mut self,
-        rt: &R,
-        alloc: Global,
-        moment: u64,
-        port: Port,
-        source: Source,
-        octets: &[u8],
-    ) -> Told {
-        let service = &self.service;
-        match port {
-            Port::Auth => answered(
-                rt,
-                alloc,
-                service,
-                &mut self.auth,
-                moment,
-                port,
-                source,
-                octets,
-            ),
-            Port::Acct => answered(
-                rt,
-                alloc,
-                service,
-                &mut self.acct,
-                moment,
-                port,
-                source,
-                octets,
-            ),
-        }
-    }
-
-    /// What the ticks of all shards came to.
-    fn tick<R: Wait>(&mut self, rt: &R, alloc: Global, moment: u64) -> Told {
-        match self.service.expire(rt, alloc, &mut self.acct, moment) {
-            Ok(()) => Told::Ticked,
-            Err(fault) => Told::from(fault),
-        }
-    }
-
-    /// Tells, at the end of a line, what each account holds, and for each shard how many receipts
-    /// each pass has.
-    pub(crate) fn show<R: Print + Wait>(&self, rt: &R, alloc: Global) -> Result<(), Stop> {
-        tell_held(rt, alloc, &self.service)?;
-        print!(rt; " | lines")?;
-        for shard in 0..self.service.config().shards() {
-            let auth = lines_in(self.auth.receipts(), shard);
-            let acct = lines_in(self.acct.receipts(), shard);
-            print!(rt; " {auth}+{acct}")?;
-        }
-        println!(rt; "")?;
-        Ok(())
-    }
-
-    /// Cuts each shard.
-    pub(crate) fn cut_each<R: Print + Wait>(&mut self, rt: &R, alloc: Global) -> Result<(), Stop> {
-        cut_shards(rt, alloc, &self.service, &mut self.segments)
-    }
+/// Whether the accounts of the shards that were swept are as after a call, and the others as before it.
+pub(crate) fn is_mixed(
+    before: &[Row],
+    between: &[Row],
+    after: &[Row],
+    swept: u32,
+    shards: usize,
+) -> bool {
+    let both = before.iter().zip(after).zip(between);
+    both.enumerate().all(|(account, ((old, new), row))| {
+        let is_swept = ((account % shards) as u32) < swept;
+        row == if is_swept { new } else { old }
+    })
 }
 
-/// Cuts each shard of a service, and puts the segments behind the others.
-pub(crate) fn cut_shards<L0: Tally, L1: Tally, L2: Tally, L3: Tally, R: Print + Wait>(
-    rt: &R,
-    alloc: Global,
+/// Cuts a shard, and puts the segment behind the others.
+pub(crate) fn cut<L0: Tally, L1: Tally, L2: Tally, L3: Tally, R: Print + Wait>(
+    page: &mut Page<R>,
     service: &Service<L0, L1, L2, L3, Open>,
     segments: &mut Vec<Segment>,
-) -> Result<(), Stop> {
-    for shard in 0..service.config().shards() {
-        segments.push(cut(rt, alloc, service, shard)?)?;
-    }
-    Ok(())
-}
-
-/// Cuts a shard.
-fn cut<L0: Tally, L1: Tally, L2: Tally, L3: Tally, R: Print + Wait>(
-    rt: &R,
-    alloc: Global,
-    service: &Service<L0, L1, L2, L3, Open>,
     shard: u32,
-) -> Result<Segment, Stop> {
+) -> Result<(), Stop> {
     for _ in 0..TRIES {
-        match service.cut(rt, alloc, shard) {
-            Ok(segment) => {
-                let lines = segment.lines.len();
-                println!(rt; "cut {shard}: {} and {lines} lines", segment.first)?;
-                return Ok(segment);
-            }
-            Err(CutFault::NoMemory) => println!(rt; "cut {shard}: refused")?,
-            Err(CutFault::NoShard) => println!(rt; "cut {shard}: no shard")?,
+        match service.cut(page.rt(), page.alloc, shard) {
+            Err(CutFault::NoMemory) => page.note("cut", true)?,
+            Err(CutFault::NoShard) => return Err(Stop::Failed),
+            Ok(segment) => return Ok(segments.push(segment)?),
         }
     }
     Err(Stop::NoMemory)
+}
+
+/// Tells of each shard how many segments its journal has and where it ends, and its audit.
+fn tell_journals<R: Print>(
+    page: &mut Page<R>,
+    config: &Config,
+    segments: &[Segment],
+    more: &[i64; MAX_SHARDS],
+) -> Result<(), Stop> {
+    let mut rest = segments;
+    for shard in 0..config.shards() {
+        let count = rest.iter().filter(|segment| segment.shard == shard).count();
+        let (mine, others) = rest.split_at(count);
+        let lines: usize = mine.iter().map(|segment| segment.lines.len()).sum();
+        let lines = lines as i64 - more[shard as usize];
+        match audit(page.alloc, config, mine) {
+            Err(AuditFault::NoMemory) => return Err(Stop::NoMemory),
+            audited => writeln!(
+                page.text,
+                "shard {shard}: {count} segments, {lines} lines, audit {audited:?}"
+            )?,
+        }
+        rest = others;
+    }
+    Ok(())
 }

@@ -1,46 +1,33 @@
 use rld_fields::ReadFault;
+use rld_log::LogFault;
 use rld_spelling::SpellFault;
+use rld_store::StoreFault;
 use rsl_accounts::ConfigFault;
 use rsl_book::RestoreFault;
 use rsl_receive::ReceiveFault;
-use rsl_report::ExitStatus;
 use rsl_script::ScriptFault;
 use rsl_wire::NoMemory;
 use std::alloc::{AllocError, AllocFailed};
 use std::io::{self, ErrorKind};
-use thiserror::Error;
 
-/// Why a work was given up. It prints as the text for standard error.
-#[derive(Clone, Copy, Debug, PartialEq, Eq, Error)]
+/// Why a work was given up. The process ends with its number.
+#[derive(Clone, Copy, Debug, PartialEq, Eq)]
 pub(crate) enum Stop {
-    /// The arguments are wrong.
-    #[error("usage: bench_memory [calls | saved | steps | shard | service | cuts | receive NUMBER.. | expire NUMBER..]")]
-    Usage,
-    /// The script is wrong.
-    #[error("bad script: {0}")]
-    Script(ScriptFault),
-    /// The configuration of the script is refused.
-    #[error("bad script: {0}")]
-    Config(ConfigFault),
-    /// What was written is not read, or not put back.
-    #[error("not as it was written")]
-    Unread,
+    /// The arguments or the script are wrong, or a call failed for another cause than these.
+    Failed = 1,
     /// A read or a write failed.
-    #[error("input or output fault")]
-    InputOutput,
-    /// Memory was refused outside of the calls that are made again.
-    #[error("no memory")]
-    NoMemory,
+    InputOutput = 2,
+    /// Memory was refused.
+    NoMemory = 3,
 }
 
 impl Stop {
-    /// The status with which the process ends.
-    pub(crate) fn status(self) -> ExitStatus {
-        match self {
-            Stop::Usage | Stop::Script(_) | Stop::Config(_) | Stop::Unread =>
-                ExitStatus::WrongInput,
-            Stop::InputOutput => ExitStatus::InputOutput,
-            Stop::NoMemory => ExitStatus::NoMemory,
+    /// That memory was refused, or that a call failed.
+    fn of(is_memory: bool) -> Stop {
+        if is_memory {
+            Stop::NoMemory
+        } else {
+            Stop::Failed
         }
     }
 }
@@ -65,64 +52,54 @@ impl<T: Drop> From<AllocFailed<T>> for Stop {
 
 impl From<ScriptFault> for Stop {
     fn from(fault: ScriptFault) -> Stop {
-        match fault {
-            ScriptFault::NoMemory => Stop::NoMemory,
-            _ => Stop::Script(fault),
-        }
+        Stop::of(matches!(fault, ScriptFault::NoMemory))
     }
 }
 
 impl From<ConfigFault> for Stop {
     fn from(fault: ConfigFault) -> Stop {
-        match fault {
-            ConfigFault::NoMemory => Stop::NoMemory,
-            _ => Stop::Config(fault),
-        }
+        Stop::of(matches!(fault, ConfigFault::NoMemory))
     }
 }
 
 impl From<SpellFault> for Stop {
     fn from(fault: SpellFault) -> Stop {
-        match fault {
-            SpellFault::NoMemory => Stop::NoMemory,
-            SpellFault::Unfit => Stop::Unread,
-        }
+        Stop::of(matches!(fault, SpellFault::NoMemory))
     }
 }
 
 impl From<ReadFault> for Stop {
     fn from(fault: ReadFault) -> Stop {
-        match fault {
-            ReadFault::NoMemory => Stop::NoMemory,
-            ReadFault::Malformed(_) => Stop::Unread,
-        }
+        Stop::of(matches!(fault, ReadFault::NoMemory))
     }
 }
 
 impl From<RestoreFault> for Stop {
     fn from(fault: RestoreFault) -> Stop {
-        match fault {
-            RestoreFault::NoMemory => Stop::NoMemory,
-            _ => Stop::Unread,
-        }
+        Stop::of(matches!(fault, RestoreFault::NoMemory))
     }
 }
 
 impl From<ReceiveFault> for Stop {
     fn from(fault: ReceiveFault) -> Stop {
-        match fault {
-            ReceiveFault::Down(_) => Stop::InputOutput,
-            ReceiveFault::NoMemory => Stop::NoMemory,
-        }
+        Stop::of(matches!(fault, ReceiveFault::NoMemory))
+    }
+}
+
+impl From<StoreFault> for Stop {
+    fn from(fault: StoreFault) -> Stop {
+        Stop::of(matches!(
+            fault,
+            StoreFault::NoMemory | StoreFault::Log(LogFault::NoMemory)
+        ))
     }
 }
 
 impl From<io::Error> for Stop {
     fn from(error: io::Error) -> Stop {
-        if error.kind() == ErrorKind::OutOfMemory {
-            Stop::NoMemory
-        } else {
-            Stop::InputOutput
+        match error.kind() {
+            ErrorKind::OutOfMemory => Stop::NoMemory,
+            _ => Stop::InputOutput,
         }
     }
 }
