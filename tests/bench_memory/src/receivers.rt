@@ -2,7 +2,7 @@
 
 use crate::given::Given;
 use crate::page::Page;
-use crate::printed::Hex;
+use crate::printed::{CountsText, Hex};
 use crate::served::{Seen, Served};
 use crate::stop::Stop;
 use crate::worker::Standing;
@@ -138,7 +138,7 @@ fn is_as_without_one<R: Print + Wait>(
     given: &Given,
     received: &Received,
 ) -> Result<bool, Stop> {
-    let mut before = None;
+    let mut before: Option<&Step> = None;
     for (number, step) in given.steps.iter().enumerate() {
         if let Step::Datagram { .. } = step {
             let without = receive_all(page, given, Some(number))?;
@@ -189,10 +189,10 @@ fn tell_received<R: Print>(page: &mut Page<R>, received: &Received) -> Result<()
         sent,
         seen,
     } = received;
-    writeln!(page.text, "{auth:?}\n{acct:?}")?;
+    writeln!(page.text, "{}\n{}", CountsText(auth), CountsText(acct))?;
     for octets in sent {
         writeln!(page.text, "sent {}", Hex(octets.as_slice()))?;
     }
-    writeln!(page.text, "{seen:?}")?;
+    writeln!(page.text, "{seen}")?;
     Ok(())
 }

@@ -2,7 +2,7 @@
 
 use crate::given::Given;
 use crate::page::Page;
-use crate::printed::Hex;
+use crate::printed::{Hex, StoredText};
 use crate::shard::move_of;
 use crate::stop::Stop;
 use rld_fields::push_number;
@@ -73,7 +73,11 @@ fn tell_book<R: Print>(
     for saved in &read_books(alloc, &octets, clients)? {
         let back = Book::restore(alloc, rules, saved)?;
         let (stored, held, same) = (back.stored(), back.held(), back.same(&book));
-        writeln!(page.text, "back: {stored:?} held {held}, the same {same}")?;
+        writeln!(
+            page.text,
+            "back: {} held {held}, the same {same}",
+            StoredText(stored)
+        )?;
     }
     Ok(())
 }

@@ -1,7 +1,7 @@
 //! A service, and the steps that it is given.
 
 use crate::page::Page;
-use crate::printed::Hex;
+use crate::printed::{Hex, RowTexts};
 use crate::stop::Stop;
 use crate::{BOOT, TRIES};
 use rsl_accounts::Config;
@@ -12,6 +12,7 @@ use rsl_service::{Answered, ApplyFault, Blanks, CutFault, Open, Pass, PassFault,
 use rsl_shard::{Row, Segment};
 use rsl_steps::Step;
 use std::alloc::Global;
+use std::fmt;
 use std::sync::Wait;
 
 /// The most shards of a service.
@@ -31,10 +32,21 @@ pub(crate) struct Served<L0: Tally, L1: Tally, L2: Tally, L3: Tally> {
 
 /// What is seen of a service: what each account holds, and how many lines each shard has, as it is where
 /// nothing is refused.
-#[derive(Debug, PartialEq, Eq, Drop)]
+#[derive(PartialEq, Eq, Drop)]
 pub(crate) struct Seen {
     pub rows: Vec<Row>,
     pub lines: Vec<i64>,
+}
+
+impl fmt::Display for Seen {
+    fn fmt<W: fmt::Write>(&self, f: &mut fmt::Formatter<W>) -> fmt::Result {
+        write!(
+            f,
+            "Seen {{ rows: {}, lines: {:?} }}",
+            RowTexts(&self.rows),
+            self.lines
+        )
+    }
 }
 
 /// What a step came to.

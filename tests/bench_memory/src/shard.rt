@@ -2,18 +2,41 @@
 
 use crate::given::Given;
 use crate::page::Page;
+use crate::printed::{RowText, RowTexts, StoredText};
 use crate::stop::Stop;
 use rsl_book::Stored;
 use rsl_event::{Act, Event};
 use rsl_shard::{Move, Row, Shard};
+use std::fmt;
 
 /// What is seen of a shard of one account.
-#[derive(Clone, Copy, Debug, PartialEq, Eq)]
+#[derive(Clone, Copy, PartialEq, Eq)]
 struct Seen {
     moves: usize,
     total: u64,
     /// What its book shows, stores and has for a clock.
     book: Option<(Row, Stored, u64)>,
+}
+
+impl fmt::Display for Seen {
+    fn fmt<W: fmt::Write>(&self, f: &mut fmt::Formatter<W>) -> fmt::Result {
+        write!(
+            f,
+            "Seen {{ moves: {}, total: {}, book: ",
+            self.moves, self.total
+        )?;
+        match &self.book {
+            Some((row, stored, now)) => {
+                write!(
+                    f,
+                    "Some(({}, {}, {now})) }}",
+                    RowText(row),
+                    StoredText(*stored)
+                )
+            }
+            None => f.write_str("None }"),
+        }
+    }
 }
 
 /// What is seen of a shard.
@@ -40,7 +63,7 @@ pub(crate) fn tell<R: Print>(page: &mut Page<R>, given: &Given) -> Result<(), St
         step(page, &mut shard, event)?;
     }
     let rows = page.insist("rows", &mut shard, look_at, |shard| Ok(shard.rows(alloc)?))?;
-    writeln!(page.text, "rows: {rows:?}")?;
+    writeln!(page.text, "rows: {}", RowTexts(&rows))?;
     copy_book(page, &mut shard)
 }
 
@@ -50,7 +73,7 @@ fn step<R: Print>(page: &mut Page<R>, shard: &mut Shard, event: &Event) -> Resul
     let decision = page.insist("step", shard, look_at, |shard| {
         Ok(shard.step(alloc, move_of(0, event.try_copy(alloc)?))?)
     })?;
-    writeln!(page.text, "step: {decision:?} {:?}", look_at(shard)?)?;
+    writeln!(page.text, "step: {decision:?} {}", look_at(shard)?)?;
     Ok(())
 }
 
@@ -74,7 +97,7 @@ fn cut<R: Print>(page: &mut Page<R>, shard: &mut Shard) -> Result<(), Stop> {
     let lines = segment.lines.len();
     writeln!(
         page.text,
-        "cut: {} and {lines} lines {:?}",
+        "cut: {} and {lines} lines {}",
         segment.first,
         look_at(shard)?
     )?;

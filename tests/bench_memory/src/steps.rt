@@ -3,7 +3,7 @@
 use crate::BOOT;
 use crate::given::Given;
 use crate::page::Page;
-use crate::printed::Hex;
+use crate::printed::{Hex, RowText, StoredText};
 use crate::stop::Stop;
 use rsl_accounts::Config;
 use rsl_book::Book;
@@ -74,7 +74,12 @@ fn tell_ran<R: Print>(page: &mut Page<R>, config: &Config, ran: &Ran) -> Result<
     for account in 0..config.accounts() {
         if let Some(book) = book_of(config, &ran.shards, account) {
             let (row, stored, now) = (Row::of(account, book), book.stored(), book.now());
-            writeln!(page.text, "{row:?} {stored:?} now {now}")?;
+            writeln!(
+                page.text,
+                "{} {} now {now}",
+                RowText(&row),
+                StoredText(stored)
+            )?;
         }
     }
     for shard in &ran.shards {
