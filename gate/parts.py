@@ -184,6 +184,14 @@ PATIENT = (
     "damaged", "package", "launcher", "reload", "unrecorded", "freeradius", "killed-server", "copied", "killed-log",
 )
 
+# the parts that an unproved run tries, the longest first. There none looks at how soon an answer comes, and all run beside
+# one another. Each other part takes over a minute on builds that are not proved, since these check each access, and a
+# server of 16,384 accounts takes half a minute to start there; or it is about the proofs
+SHORT = (
+    "streams", "freeradius", "full-disk", "failing-daemon", "refusals", "failing-sockets", "killed-log", "page", "radclient",
+    "copied", "changed", "examples", "monitoring",
+)
+
 # the UDP ports that they share out, so that a server which is killed and starts again finds its own ports free
 PORTS = range(20_000, 32_000)
 
@@ -209,15 +217,24 @@ def apart(name, ports, words):
     return (int(told[1]), int(told[2])) if told else (0, 1)
 
 
-def run_all(names, words=()):
-    """Parts, with the words that `check` has to be given for one: first the patient ones, as many at once as leave a
-    processor free, and then the others, one by one."""
-    patient = [name for name in PATIENT if name in names]
-    share = len(PORTS) // max(len(patient), 1)
-    with ThreadPoolExecutor(max(1, len(os.sched_getaffinity(0)) - 1)) as pool:
+def run_together(names, lanes, words):
+    """Parts side by side, so many at once, each by a run of `check` that is given words."""
+    share = len(PORTS) // len(names)
+    with ThreadPoolExecutor(lanes) as pool:
         works = [
             pool.submit(timed, PARTS[name][0], apart, name, PORTS[at * share : (at + 1) * share], words)
-            for at, name in enumerate(patient)
+            for at, name in enumerate(names)
         ]
-        found = [work.result() for work in works]
-    return found + [timed(*PARTS[name]) for name in PARTS if name in names and name not in PATIENT]
+        return [work.result() for work in works]
+
+
+def run_short():
+    """The parts of an unproved run."""
+    return run_together(SHORT, len(os.sched_getaffinity(0)), [])
+
+
+def run_proved():
+    """Every part on the proved programs: first the patient ones, as many at once as leave a processor free, and then the
+    others, one by one."""
+    found = run_together(PATIENT, max(1, len(os.sched_getaffinity(0)) - 1), ["--proofs"])
+    return found + [timed(*PARTS[name]) for name in PARTS if name not in PATIENT]
