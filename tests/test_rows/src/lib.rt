@@ -16,11 +16,6 @@
 //! ",
 //! )
 //! ```
-//!
-//! `printed` of a tuple is the cheapest way to an answer: its caller has no text of its own to drop.
-//!
-//! No call has a clause: what they answer shows where a row fails. Each is proved not to stop the
-//! program, once, and not anew in each crate of tests.
 #![tactic(auto)]
 
 mod numbers;

@@ -11,7 +11,7 @@
 //! - `tick MOMENT`
 //!
 //! What stands after ` -> ` tells what is expected of the event, and is not read here. It is for
-//! test crates alone. No call has a clause: each is proved not to stop the program.
+//! test crates alone.
 #![tactic(auto)]
 
 mod written;
