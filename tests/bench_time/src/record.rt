@@ -12,7 +12,6 @@ pub(crate) fn record_of(
     lines: u64,
 ) -> Result<Vec<Segment>, NoMemory> {
     // A configuration has a shard: this call tells it.
-    let _shards = config.shards();
     let mut shard = Shard::new(alloc, config, 0)?;
     let mut segments = Vec::new(alloc);
     for number in 0..lines {

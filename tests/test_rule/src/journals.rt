@@ -28,7 +28,6 @@ impl<R: AllocGlobal> Subject for Ticked<'_, R> {
 /// What is found after so many ticks.
 fn after_ticks(alloc: Global, config: &Config, ticks: u64) -> Result<String, Fail> {
     // A configuration has a shard: this call tells it.
-    let _shards = config.shards();
     let mut shard = Shard::new(alloc, config, 0)?;
     tick_ready(alloc, &mut shard, ticks)?;
     cut_of(alloc, &mut shard)
