@@ -229,8 +229,8 @@ def run_together(names, lanes, words):
 
 
 def run_short():
-    """The parts of an unproved run."""
-    return run_together(SHORT, len(os.sched_getaffinity(0)), [])
+    """The parts of an unproved run: one more at once than there are processors, since each waits most of the time."""
+    return run_together(SHORT, len(os.sched_getaffinity(0)) + 1, [])
 
 
 def run_proved():
