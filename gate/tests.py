@@ -147,8 +147,17 @@ def as_nobody(folder):
 
 
 def try_program(name):
+    """Whether a program compiles, ends in time, and prints what its crate has."""
+    try:
+        return compare_printed(name, unproved.built(name))
+    except (unproved.BuildFault, subprocess.TimeoutExpired) as fault:
+        print(fault)
+        return 0, 1
+
+
+def compare_printed(name, path):
     """What a program prints, in a folder that has its data/, over what it is given: line by line as its crate has it."""
-    folder, path = os.path.join(repository.TESTS, name), unproved.built(name)
+    folder = os.path.join(repository.TESTS, name)
     words = octets_of(folder, "args").decode().splitlines()
     with tempfile.TemporaryDirectory() as top:
         room, program = os.path.join(top, "room"), shutil.copy(path, top)
