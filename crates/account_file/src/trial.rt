@@ -9,7 +9,7 @@ use std::fs::Files;
 use std::io::Read;
 
 /// What is in a file.
-#[derive(Clone, Copy, Debug, PartialEq, Eq)]
+#[derive(Clone, Copy, Debug)]
 pub(crate) struct Counts {
     clients: u32,
     accounts: u32,

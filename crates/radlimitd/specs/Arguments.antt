@@ -1,41 +1,95 @@
 -- What the arguments of the program ask for.
-use Rattle.std.specs.Prelude.{ℕ, List, [], ◌∷◌, codes, bytes_eq, if◌then◌else◌, Option, None, Some}
+use Rattle.std.specs.Prelude.{ℕ, ◌==◌, ◌&&◌, ◌||◌, nat_le, Bool, false, List, [], ◌∷◌, length, codes, bytes_eq, if◌then◌else◌, Option, None, Some, Result, Ok, Err}
 use Rattle.radlimitd.specs.declared.command.Command.{Command}
-use Rattle.radlimitd.specs.declared.command.Command.TheVariants.{Check, Lines, Run, Rebase, Ask, Version, Help}
+use Rattle.radlimitd.specs.declared.command.Command.TheVariants.{Do, HelpOn, Help, Version}
+use Rattle.radlimitd.specs.declared.command.Misuse.{Misuse}
+use Rattle.radlimitd.specs.declared.command.Misuse.TheVariants.{NoCommand, UnknownCommand, Words}
+use Rattle.radlimitd.specs.declared.topic.Topic.{Topic}
+use Rattle.radlimitd.specs.declared.topic.Topic.TheVariants as topics
 
--- a word alone
-abbrev pub command_of_word : (word : List ℕ) → Option Command
-command_of_word word =
-    if bytes_eq word (codes "version") then Some Version
-    else if bytes_eq word (codes "help") then Some Help
+-- the command of a name
+abbrev pub topic_of : (word : List ℕ) → Option Topic
+topic_of word =
+    if bytes_eq word (codes "check") then Some topics.Check
+    else if bytes_eq word (codes "init") then Some topics.Init
+    else if bytes_eq word (codes "run") then Some topics.Run
+    else if bytes_eq word (codes "status") then Some topics.Status
+    else if bytes_eq word (codes "accounts") then Some topics.Accounts
+    else if bytes_eq word (codes "sessions") then Some topics.Sessions
+    else if bytes_eq word (codes "free") then Some topics.Free
+    else if bytes_eq word (codes "reload") then Some topics.Reload
+    else if bytes_eq word (codes "stop") then Some topics.Stop
+    else if bytes_eq word (codes "lines") then Some topics.Lines
+    else if bytes_eq word (codes "rebase") then Some topics.Rebase
     else None
 
--- a word with the names of one or more files behind it
-abbrev pub command_of_files : (word : List ℕ) → Option Command
-command_of_files word = if bytes_eq word (codes "lines") then Some Lines else None
+-- how many words a command takes: the name of a file or a folder, or of several files; flags before it, or those of a
+-- session, as one or more
+abbrev pub takes : Topic → (words : ℕ) → Bool
+takes topics.Lines words = nat_le 1 words
+takes topics.Sessions words = words == 2 || words == 3
+takes topics.Free words = nat_le 2 words
+takes topics.Check words = words == 1
+takes topics.Init words = words == 1
+takes topics.Run words = words == 1
+takes topics.Status words = words == 1 || words == 2
+takes topics.Accounts words = words == 1 || words == 2 || words == 3
+takes topics.Reload words = words == 1
+takes topics.Stop words = words == 1
+takes topics.Rebase words = words == 1
 
--- a word with the name of a file behind it
-abbrev pub command_of_file : (word : List ℕ) → Option Command
-command_of_file word =
-    if bytes_eq word (codes "check") then Some Check
-    else if bytes_eq word (codes "run") then Some Run
-    else if bytes_eq word (codes "rebase") then Some Rebase
-    else if bytes_eq word (codes "status") then Some Ask
-    else if bytes_eq word (codes "accounts") then Some Ask
-    else if bytes_eq word (codes "reload") then Some Ask
-    else if bytes_eq word (codes "stop") then Some Ask
-    else command_of_files word
+-- the flag that asks for help
+abbrev pub is_flag : (word : List ℕ) → Bool
+is_flag word = bytes_eq word (codes "--help") || bytes_eq word (codes "-h")
 
--- a word with others and the name of a file behind it, or with the names of files
-abbrev pub command_of_words : (word : List ℕ) → Option Command
-command_of_words word =
-    if bytes_eq word (codes "sessions") then Some Ask
-    else if bytes_eq word (codes "free") then Some Ask
-    else command_of_files word
+abbrev pub is_help : (word : List ℕ) → Bool
+is_help word = bytes_eq word (codes "help") || is_flag word
 
--- the arguments behind the name of the program
-abbrev pub command_of : List (List ℕ) → Option Command
-command_of (word ∷ []) = command_of_word word
-command_of (word ∷ file ∷ []) = command_of_file word
-command_of (word ∷ file ∷ other ∷ files) = command_of_words word
-command_of [] = None
+abbrev pub is_version : (word : List ℕ) → Bool
+is_version word =
+    bytes_eq word (codes "version")
+    || bytes_eq word (codes "--version")
+    || bytes_eq word (codes "-V")
+
+-- the one word after a command asks for help on it
+abbrev pub asks_for_help : List (List ℕ) → Bool
+asks_for_help (word ∷ []) = is_flag word
+asks_for_help [] = false
+asks_for_help (word ∷ other ∷ words) = false
+
+-- a command by the words after its name, or help on it
+abbrev pub to_do : Topic → (words : List (List ℕ)) → Result Command Misuse
+to_do topic words =
+    if asks_for_help words then Ok (HelpOn topic)
+    else if takes topic (length words) then Ok (Do topic)
+    else Err (Words topic)
+
+-- the command of a name, if there is one
+abbrev pub named_to_do : Option Topic → (words : List (List ℕ)) → Result Command Misuse
+named_to_do (Some topic) words = to_do topic words
+named_to_do None words = Err UnknownCommand
+
+abbrev pub about : (word : List ℕ) → (words : List (List ℕ)) → Result Command Misuse
+about word words = named_to_do (topic_of word) words
+
+-- help on the command of a name, if there is one
+abbrev pub help_on_named : Option Topic → Result Command Misuse
+help_on_named (Some topic) = Ok (HelpOn topic)
+help_on_named None = Err UnknownCommand
+
+-- help on the command that the next word names, or on all
+abbrev pub help_on : (words : List (List ℕ)) → Result Command Misuse
+help_on [] = Ok Help
+help_on (word ∷ words) = help_on_named (topic_of word)
+
+-- whether nothing follows
+abbrev pub is_alone : (words : List (List ℕ)) → Bool
+is_alone words = length words == 0
+
+-- the words after the name of the program
+abbrev pub command_of : List (List ℕ) → Result Command Misuse
+command_of [] = Err NoCommand
+command_of (word ∷ words) =
+    if is_help word then help_on words
+    else if is_version word && is_alone words then Ok Version
+    else about word words

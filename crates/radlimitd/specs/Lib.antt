@@ -1,3 +1,4 @@
 pub mod Arguments
 pub mod Paces
+pub mod Proofs
 pub mod Status

@@ -1,8 +1,8 @@
 -- The pace of a server's logs.
 use Rattle.rld_config.specs.declared.sync.SyncPolicy.{SyncPolicy}
 use Rattle.rld_config.specs.declared.sync.SyncPolicy.TheVariants as policies
-use Rattle.rld_pace.specs.declared.pace.Pace.{Pace}
-use Rattle.rld_pace.specs.declared.pace.Pace.TheVariants as paces
+use Rattle.rld_log.specs.declared.pace.Pace.{Pace}
+use Rattle.rld_log.specs.declared.pace.Pace.TheVariants as paces
 
 abbrev pub pace_of : SyncPolicy → Pace
 pace_of policies.Always = paces.Always

@@ -5,17 +5,19 @@ use Rattle.rld_start.specs.Status as starting
 use Rattle.rld_start.specs.declared.status.EndStatus.{EndStatus}
 use Rattle.rld_start.specs.declared.status.EndStatus.TheVariants as statuses
 use Rattle.radlimitd.specs.declared.fault.Fault.{Fault}
-use Rattle.radlimitd.specs.declared.fault.Fault.TheVariants.{Usage, BadFile, BadLog, Start, Run, Control, Silent, Refused, InputOutput, NoMemory}
+use Rattle.radlimitd.specs.declared.fault.Fault.TheVariants.{Usage, BadFile, BadLog, Start, Run, Control, Silent, Taken, Unwritten, Refused, InputOutput, NoMemory}
 
 -- wrong arguments, a wrong file and a damaged one are wrong input
 abbrev pub fault_status : Fault → EndStatus
-fault_status Usage = statuses.WrongInput
+fault_status (Usage misuse) = statuses.WrongInput
 fault_status (BadFile bad) = statuses.WrongInput
 fault_status (BadLog bad) = statuses.WrongInput
 fault_status (Start fault) = starting.status_of fault
 fault_status (Run fault) = running.status_of fault
 fault_status (Control path) = statuses.InputOutput
 fault_status (Silent path) = statuses.InputOutput
+fault_status (Taken path) = statuses.InputOutput
+fault_status (Unwritten path) = statuses.InputOutput
 fault_status (Refused text) = statuses.InputOutput
 fault_status InputOutput = statuses.InputOutput
 fault_status NoMemory = statuses.NoMemory

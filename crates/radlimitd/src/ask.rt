@@ -1,5 +1,7 @@
+use crate::command::Misuse;
 use crate::fault::Fault;
 use crate::files::server_file;
+use crate::topic::Topic;
 use rld_config::Paths;
 use rld_control::{Command, Reply};
 use std::alloc::Global;
@@ -18,21 +20,25 @@ const ANSWER_LEN: u64 = 16_777_216;
 /// Asks the running server of the file that the last word names what the others say, and writes the
 /// lines that it answers.
 ///
-/// `Usage` comes where they say nothing that a server can be asked, before anything is read.
+/// `Usage` comes where they say nothing that a server can be asked by this command, before anything is read.
 /// `Silent` comes where no server answers whole at the control that the file says, and `Refused` with
 /// what the server says instead.
 pub(crate) fn ask<R: Files + Net, W: Write>(
     rt: &R,
     alloc: Global,
+    topic: Topic,
     words: &[String],
     writer: &mut W,
 ) -> Result<(), Fault> {
     let Some((name, words)) = words.split_last() else {
-        return Err(Fault::Usage);
+        return Err(Fault::Usage(Misuse::Words(topic)));
     };
+    if name.as_str().starts_with("--") {
+        return Err(Fault::Usage(Misuse::Words(topic)));
+    }
     let line = line_of(alloc, words)?;
     if Command::read(alloc, line.as_bytes())?.is_none() {
-        return Err(Fault::Usage);
+        return Err(Fault::Usage(Misuse::Unreadable(topic)));
     }
     let name = name.as_str();
     let server = server_file(rt, alloc, name)?;

@@ -31,8 +31,8 @@ pub(crate) fn check<F: Files, W: Write>(
     Ok(writer.flush()?)
 }
 
-/// Tells in how many accounts the live time is under two of the intervals that accepts ask for, and
-/// the first of them; nothing where there is none.
+/// Writes in how many accounts the live time is under two of the intervals that accepts ask for,
+/// and the first of them; nothing where there is none.
 fn tell_short_lives<W: Write>(config: &Config, writer: &mut W) -> Result<(), Fault> {
     if let Some(first) = config.first_short_live() {
         let name = config.entry(first).name.as_str();

@@ -1,84 +1,146 @@
 ghost use Rattle.std.specs.Prelude.{◌≡◌, map, string_bytes};
-ghost use Rattle.radlimitd.specs.Arguments.{command_of, command_of_file, command_of_files, command_of_word, command_of_words};
+ghost use Rattle.radlimitd.specs.Arguments.{
+  about,
+  asks_for_help,
+  command_of,
+  help_on,
+  is_flag,
+  is_help,
+  is_version,
+  to_do,
+};
+
+use crate::topic::Topic;
+use std::fmt;
 
 /// What the program is asked to do.
-#[derive(Clone, Copy, Debug, PartialEq, Eq)]
+#[derive(Clone, Copy, Debug)]
 pub(crate) enum Command {
-    /// To check a server's file, which the second word names.
-    Check,
-    /// To run a server, whose file the second word names.
-    Run,
-    /// To print the moves of logs, which the words behind the first name.
-    Lines,
-    /// To cut the books of the state folder of a file to the present.
-    Rebase,
-    /// To ask the running server of a file, which the last word names. The words before it are the line
-    /// that is asked.
-    Ask,
-    /// To print its version.
-    Version,
+    /// To do this, by the words after its name.
+    Do(Topic),
+    /// To print how this goes, what it prints, and its exit statuses.
+    HelpOn(Topic),
     /// To print what it can be asked.
     Help,
+    /// To print its version.
+    Version,
+}
+
+/// What is wrong with the arguments.
+#[derive(Clone, Copy, Debug)]
+pub(crate) enum Misuse {
+    /// One is not UTF-8.
+    NotUtf8,
+    /// There is none.
+    NoCommand,
+    /// No command has this name.
+    UnknownCommand,
+    /// It is not given as many words as it takes.
+    Words(Topic),
+    /// The words of `free` name no session, that of `sessions` no account, or a flag is none that it takes.
+    Unreadable(Topic),
+}
+
+impl fmt::Display for Misuse {
+    /// Writes what is wrong, and how the command goes.
+    fn fmt<W: fmt::Write>(&self, f: &mut fmt::Formatter<W>) -> fmt::Result {
+        match self {
+            Misuse::NotUtf8 => f.write_str("an argument is not UTF-8"),
+            Misuse::NoCommand => {
+                f.write_str("usage: radlimitd COMMAND ..; `radlimitd help` has the commands")
+            }
+            Misuse::UnknownCommand => {
+                f.write_str("no such command; `radlimitd help` has the commands")
+            }
+            Misuse::Words(topic) => write!(f, "usage: {topic}"),
+            Misuse::Unreadable(topic) => write!(f, "usage: {topic}{}", topic.form()),
+        }
+    }
 }
 
 impl Command {
-    /// What the words behind the name of the program ask for.
-    pub(crate) fn of_words(words: &[String]) -> Option<Command>
+    /// What the words after the name of the program ask for.
+    pub(crate) fn of_words(words: &[String]) -> Result<Command, Misuse>
         ensures { result ≡ command_of (map string_bytes words.now) }
     {
-        match words {
-            [word] => Command::of_word(word.as_str()),
-            [word, _file] => Command::of_file(word.as_str()),
-            [word, ..] => Command::of_several(word.as_str()),
-            _ => None,
+        let [word, rest @ ..] = words else {
+            return Err(Misuse::NoCommand);
+        };
+        let word = word.as_str();
+        if is_help(word) {
+            return Command::help_on(rest);
+        }
+        if is_version(word) && rest.is_empty() {
+            return Ok(Command::Version);
+        }
+        Command::about(word, rest)
+    }
+
+    /// What is asked for by a word for help, with others after it: help on the command of the next, or on all.
+    fn help_on(words: &[String]) -> Result<Command, Misuse>
+        ensures { result ≡ help_on (map string_bytes words.now) }
+    {
+        let [word, ..] = words else {
+            return Ok(Command::Help);
+        };
+        match Topic::of_word(word.as_str()) {
+            Some(topic) => Ok(Command::HelpOn(topic)),
+            None => Err(Misuse::UnknownCommand),
         }
     }
 
-    /// What a word alone asks for.
-    fn of_word(word: &str) -> Option<Command>
-        ensures { result ≡ command_of_word word.now }
+    /// What is asked for by the name of a command, with others after it.
+    fn about(word: &str, words: &[String]) -> Result<Command, Misuse>
+        ensures { result ≡ about word.now (map string_bytes words.now) }
     {
-        match word {
-            "version" => Some(Command::Version),
-            "help" => Some(Command::Help),
-            _ => None,
+        match Topic::of_word(word) {
+            Some(topic) => Command::to_do(topic, words),
+            None => Err(Misuse::UnknownCommand),
         }
     }
 
-    /// What a word asks for with the name of a file behind it.
-    fn of_file(word: &str) -> Option<Command>
-        ensures { result ≡ command_of_file word.now }
+    /// That command, by the words after its name, or help on it.
+    fn to_do(topic: Topic, words: &[String]) -> Result<Command, Misuse>
+        ensures { result ≡ to_do topic (map string_bytes words.now) }
     {
-        match word {
-            "check" => Some(Command::Check),
-            "run" => Some(Command::Run),
-            "rebase" => Some(Command::Rebase),
-            "status" => Some(Command::Ask),
-            "accounts" => Some(Command::Ask),
-            "reload" => Some(Command::Ask),
-            "stop" => Some(Command::Ask),
-            _ => Command::of_files(word),
+        if asks_for_help(words) {
+            Ok(Command::HelpOn(topic))
+        } else if topic.takes(words.len()) {
+            Ok(Command::Do(topic))
+        } else {
+            Err(Misuse::Words(topic))
         }
     }
+}
 
-    /// What a word asks for with others and the name of a file behind it, or with the names of files.
-    fn of_several(word: &str) -> Option<Command>
-        ensures { result ≡ command_of_words word.now }
-    {
-        match word {
-            "sessions" => Some(Command::Ask),
-            "free" => Some(Command::Ask),
-            _ => Command::of_files(word),
-        }
+/// Whether the one word after the name of a command asks for help on it.
+fn asks_for_help(words: &[String]) -> bool
+    ensures { result ≡ asks_for_help (map string_bytes words.now) }
+{
+    match words {
+        [] => false,
+        [word] => is_flag(word.as_str()),
+        [_, _, ..] => false,
     }
+}
 
-    /// What a word asks for with the names of one or more files behind it.
-    fn of_files(word: &str) -> Option<Command>
-        ensures { result ≡ command_of_files word.now }
-    {
-        match word {
-            "lines" => Some(Command::Lines),
-            _ => None,
-        }
-    }
+/// Whether a word asks for help.
+fn is_help(word: &str) -> bool
+    ensures { result ≡ is_help word.now }
+{
+    word == "help" || is_flag(word)
+}
+
+/// Whether a word is the flag that asks for help.
+fn is_flag(word: &str) -> bool
+    ensures { result ≡ is_flag word.now }
+{
+    matches!(word, "--help" | "-h")
+}
+
+/// Whether a word asks for the version.
+fn is_version(word: &str) -> bool
+    ensures { result ≡ is_version word.now }
+{
+    matches!(word, "version" | "--version" | "-V")
 }

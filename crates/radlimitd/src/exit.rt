@@ -8,7 +8,7 @@ use std::io::Write;
 use std::process::ExitCode;
 
 /// The status of the process: 0 where all was done, else that of the fault, which is said in one
-/// line on standard error. Where standard error takes nothing, the status still tells.
+/// line on standard error. Where standard error takes nothing, the status still says it.
 pub(crate) fn exit_code<S: Write>(stderr: &mut S, outcome: Result<(), Fault>) -> ExitCode
     ensures { exit_status result ≡ number_of (status_after outcome) }
 {

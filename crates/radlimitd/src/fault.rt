@@ -2,6 +2,7 @@ ghost use Rattle.std.specs.Prelude.{◌≡◌};
 ghost use Rattle.radlimitd.specs.declared.fault.Fault.TheVariants.{InputOutput, NoMemory as no_memory, Run, Start};
 
 use crate::bad_file::{BadFile, BadLog};
+use crate::command::Misuse;
 use rld_serve::RunFault;
 use rld_start::{EndStatus, StartFault};
 use rsl_wire::NoMemory;
@@ -13,8 +14,8 @@ use thiserror::Error;
 #[derive(Debug, Drop, Error)]
 pub(crate) enum Fault {
     /// The arguments are wrong.
-    #[error("usage: radlimitd check FILE or radlimitd run FILE or radlimitd lines FILE.. or radlimitd status FILE or radlimitd accounts FILE or radlimitd sessions NAME FILE or radlimitd free NAME CLIENT NAS SESSION FILE or radlimitd reload FILE or radlimitd stop FILE or radlimitd rebase FILE or radlimitd version or radlimitd help")]
-    Usage,
+    #[error("{0}")]
+    Usage(Misuse),
     /// The server's file is wrong, or the account file that it names.
     #[error("{0}")]
     BadFile(BadFile),
@@ -33,6 +34,12 @@ pub(crate) enum Fault {
     /// No server answers at the control of this path.
     #[error("{0}: no server answers")]
     Silent(String),
+    /// A file that was to be written new is there already.
+    #[error("{0}: is there already, and nothing is written over")]
+    Taken(String),
+    /// A new file cannot be written.
+    #[error("{0}: cannot be written")]
+    Unwritten(String),
     /// The server does not do what it was asked.
     #[error("{0}")]
     Refused(String),
@@ -52,12 +59,15 @@ impl Fault {
         ensures { result ≡ fault_status self.now }
     {
         match self {
-            Fault::Usage | Fault::BadFile(_) | Fault::BadLog(_) => EndStatus::WrongInput,
+            Fault::Usage(_) | Fault::BadFile(_) | Fault::BadLog(_) => EndStatus::WrongInput,
             Fault::Start(fault) => fault.status(),
             Fault::Run(fault) => fault.status(),
-            Fault::Control(_) | Fault::Silent(_) | Fault::Refused(_) | Fault::InputOutput => {
-                EndStatus::InputOutput
-            }
+            Fault::Control(_)
+            | Fault::Silent(_)
+            | Fault::Taken(_)
+            | Fault::Unwritten(_)
+            | Fault::Refused(_)
+            | Fault::InputOutput => EndStatus::InputOutput,
             Fault::NoMemory => EndStatus::NoMemory,
         }
     }

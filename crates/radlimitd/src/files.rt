@@ -20,7 +20,7 @@ const MAX_FILE_LEN: u32 = 16_777_216;
 pub(crate) struct AccountFile {
     /// Its configuration.
     pub(crate) config: Config,
-    /// Its mode, as the system tells it.
+    /// Its mode, as the system gives it.
     pub(crate) mode: u32,
 }
 

@@ -2,7 +2,7 @@ ghost use Rattle.std.specs.Prelude.{◌≡◌};
 ghost use Rattle.radlimitd.specs.Paces.{pace_of};
 
 use rld_config::SyncPolicy;
-use rld_pace::Pace;
+use rld_log::Pace;
 
 /// The pace of a server's logs, as its file says.
 pub(crate) fn pace_of(sync: SyncPolicy) -> Pace

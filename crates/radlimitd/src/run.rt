@@ -1,11 +1,14 @@
+use crate::VERSION;
 use crate::accounts::ServerAccounts;
 use crate::fault::Fault;
 use crate::files::{AccountFile, accounts_for, server_file};
 use crate::pace::pace_of;
+use crate::proof::proof_in;
 use crate::sink::sink_of;
 use rld_config::Paths;
 use rld_folder::{Folder, FolderFault};
-use rld_pace::{Pacing, Ticks};
+use rld_log::{Pacing, Ticks};
+use rld_look::Build;
 use rld_serve::{Control, Plan, RunFault, Sockets, serve};
 use rld_start::{FolderGenerations, StartFault, Started, start};
 use rld_web::Web;
@@ -23,14 +26,14 @@ use std::time::Clock;
 /// Runs the server of this file until it is killed or cannot go on.
 ///
 /// What keeps it from starting comes in this order: the clock, the server's file, the account file,
-/// a network whose client the account file does not have;
-/// `busy`, where another process has the state folder, or what is wrong with the folder itself; a socket
-/// that cannot be bound, those of RADIUS before that of the page; a control that cannot be made; and
-/// last what is wrong with the files of the folder. So where an address, a port or a path cannot be had
-/// nothing has changed in the folder, but that it may be new, with an empty `lock` in it.
+/// a network whose client the account file does not have; `busy`, where another process has the
+/// state folder, or what is wrong with the folder itself; a socket that cannot be bound, those of
+/// RADIUS before that of the page; a control that cannot be made; and last what is wrong with the
+/// files of the folder. So where an address, a port or a path cannot be used nothing has changed in
+/// the folder, but that it may be new, with an empty `lock` in it.
 ///
-/// The files of a server that runs are asked of the system by `files`: a thread may be handed no other
-/// handle of files than the system's own.
+/// A server that runs reads its files by `files`: a thread may be handed no other handle of files
+/// than the system's own.
 pub(crate) fn run<R>(rt: &R, files: &HostRuntime, alloc: Global, name: &str) -> Result<(), Fault>
 where
     R: Env
@@ -47,6 +50,10 @@ where
 {
     let now = rt.since_1970()?.as_secs();
     let sink = sink_of(rt, alloc)?;
+    let build = Build {
+        version: VERSION,
+        proof: proof_in(rt, alloc)?,
+    };
     let server = server_file(rt, alloc, name)?;
     let paths = Paths::of(alloc, name, &server)?;
     let path = paths.accounts.as_str();
@@ -81,6 +88,7 @@ where
         path,
     };
     let plan = Plan {
+        build,
         networks: server.networks.as_slice(),
         boot,
         start: now,
@@ -104,8 +112,8 @@ where
     )?)
 }
 
-/// Where the server is shown, if its file says so. `Unbound` comes where the address and port cannot be
-/// had.
+/// Where the server is shown, if its file says so. `Unbound` comes where the address and port
+/// cannot be bound.
 fn web_of<N: Net<Listener = TcpListener, Stream = TcpStream>>(
     net: &N,
     source: &HostRuntime,

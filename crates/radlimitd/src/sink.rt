@@ -1,4 +1,4 @@
-use rld_refusals::Sink;
+use rld_look::Sink;
 use std::alloc::{AllocError, Global};
 use std::env::{self, Env};
 use std::fs::{self, File, Files};

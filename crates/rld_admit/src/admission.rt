@@ -12,7 +12,7 @@ ghost use Rattle.rld_admit.specs.Begun.{begun_at, begun_by_all, begun_in};
 
 use crate::carry::{carry, new_saved};
 use crate::clients::next_numbers;
-use rld_books::{ServerBooks, ServerFault};
+use rld_books::{BlankBooks, ServerBooks, ServerFault};
 use rsl_accounts::Config;
 use rsl_saved::SavedBook;
 use rsl_wire::NoMemory;
@@ -98,7 +98,7 @@ impl Passage<'_> {
 /// client that is gone. Links that find no place under the account's rules, in the order in which
 /// they opened, are left out; their sessions are over, as any that find no place. Every other account
 /// begins with a new book. The boot number is to stay, so that accept numbers in Class attributes
-/// name the same reservations.
+/// name the same reservations. They stand in blank books where these were made for that era's accounts.
 ///
 /// `NoMemory` comes where memory is refused, and `Misfit` for no books that a server has
 /// (`laws::carried_books_fit`). The books of the era that ends stay as they are.
@@ -107,6 +107,7 @@ pub fn admit(
     old: &Config,
     books: &ServerBooks,
     new: &Config,
+    blanks: BlankBooks,
 ) -> Result<ServerBooks, ServerFault>
     ensures server { IfOk result (λ made. IsServerOf new.now made) }
     ensures admitted { IfOk result (λ made. (boot next : ℕ) →
@@ -122,6 +123,6 @@ pub fn admit(
         numbers: numbers.as_slice(),
     };
     let kept = passage.all_books(alloc)?;
-    let made = ServerBooks::restore(alloc, new, kept.as_slice())?;
+    let made = ServerBooks::restore_in(alloc, new, blanks, kept.as_slice())?;
     Ok(made)
 }

@@ -47,7 +47,7 @@ fn members(links: &[SavedLink], nas: &Nas, id: &Octets) -> usize
     count
 }
 
-/// By how many places a bundle of so many links grows with one more.
+/// The places that one more link takes in a bundle that has `members` links: one or none.
 fn share_more(ports: u64, members: u64) -> u64
     requires ports { 1 ≤ ports }
     requires few { members ≤ 9223372036854775807 }
@@ -58,7 +58,7 @@ fn share_more(ports: u64, members: u64) -> u64
         .saturating_sub(members.div_ceil(ports))
 }
 
-/// How many places more links take with one more behind them.
+/// How many places more links take with one more after them.
 fn places_more(ports: u64, links: &[SavedLink], link: &SavedLink) -> u64
     requires { 1 ≤ ports }
     ensures { places_of ports

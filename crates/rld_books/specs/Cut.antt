@@ -71,6 +71,6 @@ late_in now book =
     + sum_by (λ (ask : KeptAsk). late now ask.at) book.asks
     + sum_by (λ (stop : KeptStop). late now stop.at) book.stops
 
--- those of all books of a server
+-- the later moments of all books of a server
 abbrev pub late_in_server : (now : ℕ) → List BooksSeen → ℕ
 late_in_server now server = sum_by (late_in now) (saved_server server)

@@ -1,3 +1,4 @@
+pub mod Blank
 pub mod Clocks
 pub mod Cut
 pub mod CutLaws

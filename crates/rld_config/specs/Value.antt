@@ -80,7 +80,7 @@ list_of (item value rest) = value ∷ list_of rest
 abbrev pub are_tables : List Data → Bool
 are_tables items = list_all (λ value. is_some (as_table value)) items
 
--- one table or more, but no more than so many
+-- one table or more, but no more than `most`
 abbrev pub tables_of_list : (most : ℕ) → List Data → Option (List Data)
 tables_of_list most items =
     if are_tables items && is_between 1 most (length items) then Some items else None

@@ -1,4 +1,4 @@
--- What an operator is told of an account file that is right.
+-- What an operator learns about an account file that is right.
 use Rattle.std.specs.Prelude.{ℕ, ◌+◌, ◌*◌, Bool, not, ◌==◌, nat_lt, bit_and, if◌then◌else◌, List, [], ◌∷◌, ◌++◌, length, map}
 use Rattle.std.specs.List.{flat_map}
 use Rattle.std.specs.Prelude.{◌/◌}
@@ -45,7 +45,7 @@ books_octets (entry ∷ entries) = book_octets entry.rules + books_octets entrie
 abbrev pub megabytes : ℕ → ℕ
 megabytes octets = (octets + 999999) / 1000000
 
--- what is told: of each client in the file's order, of each network, of the file, of its accounts
+-- all warnings: of each client in the file's order, of each network, of the file, of its accounts
 unfoldable pub warnings_of : Configuration → List Network → (mode : ℕ) → List Warning
 warnings_of config networks mode =
     flat_map client_warnings config.clients

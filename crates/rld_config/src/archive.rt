@@ -2,13 +2,13 @@ ghost use Rattle.std.specs.Prelude.{◌≡◌};
 ghost use Rattle.rld_config.specs.Value.{archive_word};
 
 /// How long the files of the state folder are kept that no start needs any more.
-#[derive(Clone, Copy, Debug, PartialEq, Eq)]
+#[derive(Clone, Copy, Debug)]
 pub enum Archive {
     /// For ever.
     Keep,
     /// Not at all.
     Nothing,
-    /// So many days: 1 to 36,500.
+    /// For this number of days: 1 to 36,500.
     Days(u16),
 }
 

@@ -16,7 +16,7 @@ const MAX_RECEIVERS: u64 = 16;
 const MAX_PATH_LEN: u64 = 4_095;
 
 /// A key of the server's file.
-#[derive(Clone, Copy, Debug, PartialEq, Eq)]
+#[derive(Clone, Copy, Debug)]
 pub enum Key {
     /// The path of the account file.
     Accounts,

@@ -34,5 +34,5 @@ pub use paths::Paths;
 pub use place::{Place, break_of};
 pub use server::ServerFile;
 pub use sync::SyncPolicy;
-pub use warning::{Warning, warnings};
+pub use warning::{Warning, books_octets, warnings};
 pub use web::Web;

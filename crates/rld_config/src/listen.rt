@@ -23,7 +23,7 @@ pub(crate) const AUTH_PORT: u16 = 1812;
 pub(crate) const ACCT_PORT: u16 = 1813;
 
 /// Two ports of an address that packets come to.
-#[derive(Clone, Copy, Debug, PartialEq, Eq)]
+#[derive(Clone, Copy, Debug)]
 pub struct Listen {
     /// An address of this machine, or 0.0.0.0 for all its IPv4 addresses, or :: for all addresses.
     pub address: IpAddr,

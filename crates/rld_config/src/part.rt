@@ -8,7 +8,7 @@ use std::fmt;
 
 /// A table of the server's file. It prints as what stands before one of its keys in a fault: the
 /// head as nothing, and the second `listen` as `listen 2` and a blank.
-#[derive(Clone, Copy, Debug, PartialEq, Eq)]
+#[derive(Clone, Copy, Debug)]
 pub enum Part {
     /// The head of the file.
     Head,

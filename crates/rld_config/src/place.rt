@@ -6,7 +6,7 @@ use rsl_wire::NoMemory;
 use std::alloc::Global;
 
 /// A place in a text.
-#[derive(Clone, Copy, Debug, PartialEq, Eq)]
+#[derive(Clone, Copy, Debug)]
 pub struct Place {
     /// The number of its line, from 1.
     pub line: u64,

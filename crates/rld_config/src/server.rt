@@ -171,7 +171,7 @@ fn listens_of_tables(alloc: Global, tables: &[Value]) -> Result<Vec<Listen>, Ser
     Ok(listens)
 }
 
-/// The same, if no two sockets have one port.
+/// What each table `listen` says, in the file's order, if no two sockets have one port.
 #[tactic(auto, unfolding(crate::specs::Server::listens_of))]
 fn listens_apart(alloc: Global, tables: &[Value]) -> Result<Vec<Listen>, ServerFault>
     requires { length tables.now ≤ 16 }
@@ -233,7 +233,7 @@ fn networks_of_tables(alloc: Global, tables: &[Value]) -> Result<Vec<Network>, S
     Ok(networks)
 }
 
-/// The same, if no two networks have one prefix.
+/// What each table `network` says, in the file's order, if no two networks have one prefix.
 #[tactic(auto, unfolding(crate::specs::Server::networks_of))]
 fn networks_apart(alloc: Global, tables: &[Value]) -> Result<Vec<Network>, ServerFault>
     requires { length tables.now ≤ 256 }

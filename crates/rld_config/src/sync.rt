@@ -3,7 +3,7 @@ ghost use Rattle.rld_config.specs.Value.{sync_word};
 
 /// When the system has to write what was recorded to the disk. Under each, what was answered
 /// survives a kill of the process; they differ where the power is lost.
-#[derive(Clone, Copy, Debug, PartialEq, Eq)]
+#[derive(Clone, Copy, Debug)]
 pub enum SyncPolicy {
     /// Before each answer: no answer is lost.
     Always,

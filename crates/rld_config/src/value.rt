@@ -281,7 +281,7 @@ pub(crate) fn archive(file: &Value) -> Result<Archive, ServerFault>
     }
 }
 
-/// The tables that a value is, if there is one and there are no more than so many.
+/// The items of a value that is an array of 1 to `most` tables.
 pub(crate) fn tables_of(value: &Value, most: u64) -> Option<&[Value]>
     ensures value { option_map (λ tables. map view tables.now) result
         ≡ tables_of most (view value.now) }
@@ -290,7 +290,7 @@ pub(crate) fn tables_of(value: &Value, most: u64) -> Option<&[Value]>
     tables_of_list(value.as_array()?.as_slice(), most)
 }
 
-/// The items of an array, if they are tables, one or more, but no more than so many.
+/// The items, if they are 1 to `most` tables.
 fn tables_of_list(items: &[Value], most: u64) -> Option<&[Value]>
     ensures value { option_map (λ tables. map view tables.now) result
         ≡ tables_of_list most (map view items.now) }

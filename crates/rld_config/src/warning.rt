@@ -1,4 +1,4 @@
-//! What an operator is told of an account file that is right.
+//! What an operator learns about an account file that is right.
 ghost use Rattle.std.specs.Prelude.{◌≡◌, ◌≤◌, ◌*◌, ◌++◌, ◌<◌, IfOk, OnOk, length};
 ghost use Rattle.std.specs.List.{flat_map};
 ghost use Rattle.rsl_accounts.specs.Limits.{RulesFit};
@@ -37,7 +37,7 @@ const LINK: u64 = 172;
 const MEGABYTE: u64 = 1_000_000;
 
 /// Something that an operator should know of an account file that is right. It prints as a line.
-#[derive(Clone, Copy, Debug, PartialEq, Eq)]
+#[derive(Clone, Copy, Debug)]
 pub enum Warning {
     /// The client of this address need not sign its Access-Requests.
     NotSigned([u8; 4]),
@@ -165,8 +165,9 @@ fn others_read(mode: u32) -> bool
     mode & OTHERS_READ != 0
 }
 
-/// The octets that the books of the accounts take.
-fn books_octets(config: &Config) -> u64
+/// The octets of memory that the books of the accounts take: for each 3,440 with one link, and 172 for each
+/// further one.
+pub fn books_octets(config: &Config) -> u64
     ensures value { result ≡ books_octets config.now.accounts }
     ensures most { result ≤ 179396 * length config.now.accounts }
     ensures few { length config.now.accounts ≤ 16384 }

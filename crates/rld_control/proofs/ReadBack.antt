@@ -18,12 +18,14 @@ use Rattle.rsl_event.specs.declared.nas.NasName.TheVariants.{Identifier, Address
 use Rattle.rld_values.specs.Laws.{AreOctets, ReadsBack, ReadsBackBehindKeys, ReadsHexBack}
 use Rattle.rld_values.specs.Read.{octets_of_hex, octets_of_word, unescaped}
 use Rattle.rld_values.specs.Values.{dotted, escaped, escaped_octet, hex, hex_octet, word}
-use Rattle.rld_control.specs.Command.{command_of, command_with, line_of}
+use Rattle.rld_control.specs.Command.{command_of, command_with, flagged_sessions, line_of, sessions_of}
 use Rattle.rld_control.specs.Laws.{IsCommand, IsNamedSession, IsNasName}
 use Rattle.rld_control.specs.Named.{named, named_by, named_session_of, nas_of_word, nas_word, server_words, session_words, with_account, with_client}
 use Rattle.rld_control.specs.Words.{Parted, by_first_word, by_parts, is_space, parted}
 use Rattle.rld_control.specs.declared.command.Command.{Command}
 use Rattle.rld_control.specs.declared.command.Command.TheVariants.{Status, Accounts, Sessions, Free, Reload, Stop}
+use Rattle.rld_control.specs.declared.form.Form.TheVariants.{Lines, Json}
+use Rattle.rld_control.specs.declared.form.Selection.TheVariants.{All, Held, Full}
 use Rattle.rld_control.specs.declared.named.NamedSession.{NamedSession}
 
 -- ---- words without a space
@@ -70,6 +72,20 @@ parted_at one rest free =
 at_word : {A : Type 0} → (with : List ℕ → List ℕ → Option A) (alone : Option A) (one rest : List ℕ)
     → no_space one ≡ true → by_first_word with alone (one ++ 32 ∷ rest) ≡ with one rest
 at_word with alone one rest free = ap (by_parts with alone) (parted_at one rest free)
+
+-- where no space stands
+nowhere : (one : List ℕ) → no_space one ≡ true → position_or_len is_space one ≡ length one
+nowhere [] free = refl
+nowhere (octet ∷ one) free =
+    next_place (not (is_space octet)) one (position_or_len is_space one) (λ others. nowhere one others) free
+
+-- a word alone
+by_itself : {A : Type 0} → (with : List ℕ → List ℕ → Option A) (none : Option A) (one : List ℕ)
+    → no_space one ≡ true → by_first_word with none one ≡ none
+by_itself with none one free =
+    let at : position_or_len is_space one ≡ length one = nowhere one free in
+    let found : position is_space one ≡ None = rw at (grind (arith, nat_tests)) in
+    rw found refl
 
 -- ---- what is written has none
 
@@ -178,12 +194,24 @@ session_read words values digits session is =
 
 pub line_read : ReadsBack → ReadsBackBehindKeys → ReadsHexBack → (command : Command) → IsCommand command
     → command_of (line_of command) ≡ Some command
-line_read words values digits Status is = refl
-line_read words values digits Accounts is = refl
+line_read words values digits (Status Lines) is = refl
+line_read words values digits (Status Json) is = refl
+line_read words values digits (Accounts Lines All) is = refl
+line_read words values digits (Accounts Lines Held) is = refl
+line_read words values digits (Accounts Lines Full) is = refl
+line_read words values digits (Accounts Json All) is = refl
+line_read words values digits (Accounts Json Held) is = refl
+line_read words values digits (Accounts Json Full) is = refl
 line_read words values digits Reload is = refl
 line_read words values digits Stop is = refl
-line_read words values digits (Sessions account) is =
-    at_word command_with _ (codes "sessions") (word account) refl ∙ ap (option_map (λ (octets : List ℕ). Sessions octets)) (words account is)
+line_read words values digits (Sessions Lines account) is =
+    at_word command_with _ (codes "sessions") (word account) refl
+    ∙ (by_itself flagged_sessions (sessions_of Lines (word account)) (word account) (word_free account is)
+    ∙ ap (option_map (λ (octets : List ℕ). Sessions Lines octets)) (words account is))
+line_read words values digits (Sessions Json account) is =
+    at_word command_with _ (codes "sessions") (codes "--json " ++ word account) refl
+    ∙ (at_word flagged_sessions _ (codes "--json") (word account) refl
+    ∙ ap (option_map (λ (octets : List ℕ). Sessions Json octets)) (words account is))
 line_read words values digits (Free session) is =
     at_word command_with _ (codes "free") (session_words session) refl
     ∙ ap (option_map (λ (session : NamedSession). Free session)) (session_read words values digits session is)

@@ -1,5 +1,6 @@
--- What a line asks a running server for: a word, and behind it those that it wants, each behind one space.
-use Rattle.std.specs.Prelude.{ℕ, List, ◌∷◌, ◌++◌, codes, Option, Some, None, bytes_eq, if◌then◌else◌}
+-- What a line asks a running server for: a word, and after it those that it wants, each after one
+-- space.
+use Rattle.std.specs.Prelude.{ℕ, List, [], ◌∷◌, ◌++◌, codes, Option, Some, None, ◌||◌, bytes_eq, if◌then◌else◌}
 use Rattle.std.specs.Option.{option_map}
 use Rattle.rld_values.specs.Read.{octets_of_word}
 use Rattle.rld_values.specs.Values.{word}
@@ -7,30 +8,75 @@ use Rattle.rld_control.specs.Named.{named_session_of, session_words}
 use Rattle.rld_control.specs.Words.{by_first_word}
 use Rattle.rld_control.specs.declared.command.Command.{Command}
 use Rattle.rld_control.specs.declared.command.Command.TheVariants.{Status, Accounts, Sessions, Free, Reload, Stop}
+use Rattle.rld_control.specs.declared.form.Form.{Form}
+use Rattle.rld_control.specs.declared.form.Form.TheVariants.{Lines, Json}
+use Rattle.rld_control.specs.declared.form.Selection.{Selection}
+use Rattle.rld_control.specs.declared.form.Selection.TheVariants.{All, Held, Full}
+
+-- ---- as they are written
+
+abbrev pub form_flag : Form → List ℕ
+form_flag Lines = []
+form_flag Json = codes " --json"
+
+abbrev pub selection_flag : Selection → List ℕ
+selection_flag All = []
+selection_flag Held = codes " --held"
+selection_flag Full = codes " --full"
 
 -- the line of a command
 abbrev pub line_of : Command → List ℕ
-line_of Status = codes "status"
-line_of Accounts = codes "accounts"
-line_of (Sessions account) = codes "sessions " ++ word account
+line_of (Status form) = codes "status" ++ form_flag form
+line_of (Accounts form selection) = codes "accounts" ++ form_flag form ++ selection_flag selection
+line_of (Sessions Lines account) = codes "sessions " ++ word account
+line_of (Sessions Json account) = codes "sessions --json " ++ word account
 line_of (Free session) = codes "free " ++ session_words session
 line_of Reload = codes "reload"
 line_of Stop = codes "stop"
 
+-- ---- as they are read
+
 -- the command of a word alone
 abbrev pub command_alone : (word : List ℕ) → Option Command
 command_alone word =
-    if bytes_eq word (codes "status") then Some Status
-    else if bytes_eq word (codes "accounts") then Some Accounts
+    if bytes_eq word (codes "status") then Some (Status Lines)
+    else if bytes_eq word (codes "accounts") then Some (Accounts Lines All)
     else if bytes_eq word (codes "reload") then Some Reload
     else if bytes_eq word (codes "stop") then Some Stop
     else None
 
--- the command of a word with others behind it
+-- of `status` with flags after it
+abbrev pub status_with : (flags : List ℕ) → Option Command
+status_with flags = if bytes_eq flags (codes "--json") then Some (Status Json) else None
+
+-- of `accounts` with flags after it
+abbrev pub accounts_with : (flags : List ℕ) → Option Command
+accounts_with flags =
+    if bytes_eq flags (codes "--json") then Some (Accounts Json All)
+    else if bytes_eq flags (codes "--held") then Some (Accounts Lines Held)
+    else if bytes_eq flags (codes "--full") then Some (Accounts Lines Full)
+    else if bytes_eq flags (codes "--json --held") || bytes_eq flags (codes "--held --json") then Some (Accounts Json Held)
+    else if bytes_eq flags (codes "--json --full") || bytes_eq flags (codes "--full --json") then Some (Accounts Json Full)
+    else None
+
+-- of `sessions` with the word of an account
+abbrev pub sessions_of : Form → (word : List ℕ) → Option Command
+sessions_of form word = option_map (λ (account : List ℕ). Sessions form account) (octets_of_word word)
+
+-- and with a flag before the word
+abbrev pub flagged_sessions : (flag word : List ℕ) → Option Command
+flagged_sessions flag word = if bytes_eq flag (codes "--json") then sessions_of Json word else None
+
+abbrev pub sessions_with : (words : List ℕ) → Option Command
+sessions_with words = by_first_word flagged_sessions (sessions_of Lines words) words
+
+-- the command of a word with others after it
 abbrev pub command_with : (word words : List ℕ) → Option Command
 command_with word words =
-    if bytes_eq word (codes "sessions") then option_map Sessions (octets_of_word words)
+    if bytes_eq word (codes "sessions") then sessions_with words
     else if bytes_eq word (codes "free") then option_map Free (named_session_of words)
+    else if bytes_eq word (codes "status") then status_with words
+    else if bytes_eq word (codes "accounts") then accounts_with words
     else None
 
 -- the command of a line

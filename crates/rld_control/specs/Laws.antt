@@ -22,10 +22,10 @@ pub record IsNamedSession (named : NamedSession) : Type 0 where
 
 -- names, addresses and ids are octets
 abbrev pub IsCommand : Command → Type 0
-IsCommand (Sessions account) = AreOctets account
+IsCommand (Sessions form account) = AreOctets account
 IsCommand (Free session) = IsNamedSession session
-IsCommand Status = Unit {0}
-IsCommand Accounts = Unit {0}
+IsCommand (Status form) = Unit {0}
+IsCommand (Accounts form selection) = Unit {0}
 IsCommand Reload = Unit {0}
 IsCommand Stop = Unit {0}
 

@@ -6,7 +6,7 @@ use Rattle.std.specs.Option.{option_map}
 abbrev pub is_space : ℕ → Bool
 is_space octet = octet == 32
 
--- what stands before the first space, and what behind it; none where there is no space
+-- what stands before the first space, and what after it; none where there is no space
 pub record Parted : Type 0 where
   pub word : List ℕ
   pub words : List ℕ

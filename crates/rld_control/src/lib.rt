@@ -1,19 +1,28 @@
 //! What an operator asks a running server by its unix socket, a line at a time, and how an answer ends:
-//! lines, of which the last is `ok`, or `error` and why.
+//! lines, of which the last is `ok`, or `error` and why. And how an operator frees the place of a session
+//! that its access server has forgotten: by the Stop that the access server would have sent.
 //!
 //! The promise: a line is the command that `specs/Command.antt` says, or none; the line of a command asks
 //! for it, and no name or id in it can be taken for another word (`specs/Laws.antt`); and an answer says
-//! what `specs/Reply.antt` says.
+//! what `specs/Reply.antt` says. The Stop is of exactly the session that is named, its octets are an
+//! Accounting-Request of RFC 2866 sealed with the client's secret, and to the server they mean that Stop and
+//! nothing else (`specs/Stops.antt`).
 #![tactic(auto)]
 
 mod command;
+mod fault;
+mod form;
 pub mod laws;
 mod line;
 mod named;
 mod reply;
+mod stop;
 mod words;
 
 pub use command::Command;
+pub use fault::FreeFault;
+pub use form::{Form, Selection};
 pub use line::read_line;
 pub use named::{NamedSession, push_server};
 pub use reply::Reply;
+pub use stop::Stop;

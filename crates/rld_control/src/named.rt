@@ -6,7 +6,6 @@ ghost use Rattle.rld_control.specs.Named.{
   nas_of_word,
   nas_word,
   server_words,
-  session_words,
   with_account,
   with_client,
 };
@@ -22,7 +21,7 @@ use rsl_wire::{NoMemory, Octets};
 use std::alloc::{AllocError, Global};
 
 /// A session as an operator names it.
-#[derive(PartialEq, Eq, Drop)]
+#[derive(Drop)]
 pub struct NamedSession {
     /// The name of its account.
     pub account: Octets,
@@ -47,19 +46,9 @@ impl NamedSession {
             None => Ok(None),
         }
     }
-
-    /// Writes the words that name it. It fails only where memory is refused.
-    #[tactic(auto, unfolding(crate::specs::Named::session_words))]
-    pub fn push_words(&self, alloc: Global, out: &mut Vec<u8>) -> Result<(), AllocError>
-        ensures { OnOk result (out.new.items ≡ out.old.items ++ session_words self.now) }
-    {
-        push_server(alloc, out, self.account.as_slice(), self.client, &self.nas)?;
-        out.push(32)?;
-        push_word(out, self.session.as_slice())
-    }
 }
 
-/// The session of this account's word and those behind it.
+/// The session of this account's word and the words after it.
 fn with_account(
     alloc: Global,
     account: &[u8],
@@ -73,7 +62,7 @@ fn with_account(
     }
 }
 
-/// The session of an account's word, a client's and those behind them.
+/// The session of an account's word, a client's and the words after them.
 fn with_client(
     alloc: Global,
     account: &[u8],

@@ -1,7 +1,7 @@
 ghost use Rattle.rld_control.specs.Reply.{IsReply};
 
 /// How an answer of a running server ends, and what stands before that.
-#[derive(Clone, Copy, PartialEq, Eq)]
+#[derive(Clone, Copy)]
 pub enum Reply<'a> {
     /// It was done. These are the lines before the last, each with its line feed.
     Done(&'a [u8]),

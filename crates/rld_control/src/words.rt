@@ -2,7 +2,8 @@ ghost use Rattle.std.specs.Prelude.{◌≡◌, ◌+◌, ◌<◌, ℕ, take, drop
 ghost use Rattle.std.specs.List.{position};
 ghost use Rattle.rld_control.specs.Words.{is_space};
 
-/// What stands before the first space of a line, and what stands behind it. `None` where there is no space.
+/// What stands before the first space of a line, and what stands after it. `None` where there is no
+/// space.
 pub(crate) fn parted(line: &[u8]) -> Option<(&[u8], &[u8])>
     ensures { MatchOption result (position is_space line.now ≡ None) (λ parts. (at : ℕ)
         × (position is_space line.now ≡ Some at) × (parts.0.now ≡ take at line.now) × (parts.1.now ≡ drop (at + 1) line.now)) }

@@ -3,7 +3,7 @@ ghost use Rattle.rld_counts.specs.Ends.{acct_ends, acct_name, acct_number};
 ghost use Rattle.rld_counts.specs.declared.acct_end.AcctEnd.{AcctEnd as OneEnd};
 
 /// How a datagram that came to the accounting port ended.
-#[derive(Clone, Copy, PartialEq, Eq)]
+#[derive(Clone, Copy)]
 pub enum AcctEnd {
     /// It was dropped: it has fewer than 20 octets.
     Short,

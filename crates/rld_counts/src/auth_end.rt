@@ -3,7 +3,7 @@ ghost use Rattle.rld_counts.specs.Ends.{auth_ends, auth_name, auth_number};
 ghost use Rattle.rld_counts.specs.declared.auth_end.AuthEnd.{AuthEnd as OneEnd};
 
 /// How a datagram that came to the authentication port ended.
-#[derive(Clone, Copy, PartialEq, Eq)]
+#[derive(Clone, Copy)]
 pub enum AuthEnd {
     /// It was dropped: it has fewer than 20 octets.
     Short,

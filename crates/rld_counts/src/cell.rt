@@ -31,8 +31,8 @@ impl Model for Cell {
 }
 
 impl Cell {
-    /// That of a receiver that has taken nothing, for so many clients. It fails only where memory is
-    /// refused.
+    /// The cell of a receiver that has taken nothing, with counts for each of `clients` clients. It fails
+    /// only where memory is refused.
     pub fn new(alloc: Global, clients: u32) -> Result<Cell, AllocError>
         ensures none { IfOk result (HasCounted []) }
         ensures clients { IfOk result (λ cell. length cell.clients ≡ clients) }

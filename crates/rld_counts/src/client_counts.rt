@@ -5,9 +5,8 @@ use crate::counts::Counts;
 use std::alloc::{AllocError, Global};
 use std::marker::Model;
 
-/// The counts of so many clients, of which no datagram has come: what a cell takes where it begins to
-/// count by client anew. It is made before, since memory for it can be refused. A contract sees how many
-/// clients there are.
+/// Counts by client that are all 0: what a cell takes where it begins to count by client anew. They are
+/// made before, since memory for them can be refused. A contract sees the number of clients.
 #[derive(Drop)]
 pub struct ClientCounts {
     each: Vec<Counts>,
@@ -25,7 +24,7 @@ impl Model for ClientCounts {
 }
 
 impl ClientCounts {
-    /// That of so many clients. It fails only where memory is refused.
+    /// Counts of 0 for each of `clients` clients. It fails only where memory is refused.
     pub fn new(alloc: Global, clients: u32) -> Result<ClientCounts, AllocError>
         ensures { IfOk result (λ counts. counts ≡ clients) }
     {
@@ -42,7 +41,7 @@ impl ClientCounts {
     }
 }
 
-/// The counts of so many clients, of which no datagram has come.
+/// Counts of 0 for each of `clients` clients.
 fn new_clients(alloc: Global, clients: u32) -> Result<Vec<Counts>, AllocError>
     ensures len { IfOk result (λ each. length each.items ≡ clients) }
     ensures none { IfOk result (λ each. AreCounted [] each.items) }

@@ -9,7 +9,7 @@ use std::marker::Model;
 
 /// How many datagrams ended how. A contract sees the list of the counts, by the ends' numbers. A count
 /// stops at 2^64 - 1.
-#[derive(Clone, Copy, PartialEq, Eq)]
+#[derive(Clone, Copy)]
 pub struct Counts {
     counters: [u64; ENDS],
 }
@@ -27,7 +27,7 @@ impl Model for Counts {
 }
 
 impl Counts {
-    /// Those of no datagram.
+    /// The counts of no datagram.
     #[tactic(auto, unfolding(crate::specs::Tally::tally_of, crate::specs::Tally::how_many))]
     pub fn new() -> Counts
         ensures { result ≡ counts_of [] }

@@ -8,7 +8,7 @@ use crate::auth_end::AuthEnd;
 pub const ENDS: usize = 36;
 
 /// How a datagram ended, with the port that it came to.
-#[derive(Clone, Copy, PartialEq, Eq)]
+#[derive(Clone, Copy)]
 pub enum End {
     /// It came to the authentication port.
     Auth(AuthEnd),

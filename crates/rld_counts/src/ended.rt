@@ -1,7 +1,7 @@
 use crate::end::End;
 
 /// What is noted of a datagram once it is done with.
-#[derive(Clone, Copy, PartialEq, Eq)]
+#[derive(Clone, Copy)]
 pub struct Ended {
     /// How it ended.
     pub end: End,

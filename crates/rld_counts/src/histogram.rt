@@ -11,7 +11,7 @@ pub const BUCKETS: usize = 25;
 
 /// How long answers took: how many times are in each bucket, and their sum. A time is in the first
 /// bucket whose bound is not below it. A number stops at 2^64 - 1.
-#[derive(Clone, Copy, PartialEq, Eq)]
+#[derive(Clone, Copy)]
 pub struct Histogram {
     counters: [u64; BUCKETS],
     micros: u64,
@@ -31,7 +31,7 @@ impl Model for Histogram {
 }
 
 impl Histogram {
-    /// That of no time.
+    /// An empty histogram.
     #[tactic(auto, unfolding(crate::specs::Tally::tally_of, crate::specs::Tally::how_many))]
     pub fn new() -> Histogram
         ensures { result ≡ times_of [] }

@@ -28,7 +28,7 @@ seen jobs.Show = Shows
 abbrev pub receivers_in : Pair → ℕ
 receivers_in pair = pair.receivers
 
--- so many receivers on a socket
+-- `receivers` receivers on a socket
 abbrev pub receivers_on : Bound → Port → ℕ → List JobSeen
 receivers_on socket port receivers = replicate receivers (Receives socket port)
 

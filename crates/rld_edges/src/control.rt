@@ -34,7 +34,8 @@ pub struct Control {
 }
 
 impl Control {
-    /// Makes the socket, whose calls do not wait. Who may ask is said by the folder that it stands in.
+    /// Makes the socket, whose calls do not wait. Who may write to the socket, whose mode the umask says,
+    /// and may enter its folder, may ask.
     ///
     /// A socket that is there, and that nobody answers at, is removed first: it is left by a server that
     /// was killed. The error is the system's: the path is too long for a socket, a file of another kind
@@ -64,7 +65,7 @@ fn is_left<R: Files<File = File> + Net>(rt: &R, path: &str) -> bool {
     }
 }
 
-/// An operator who has connected: for him the server has so much patience.
+/// An operator who has connected: for him the server has `PATIENCE_SECS` seconds.
 #[derive(Drop)]
 pub struct Operator<'a, C> {
     stream: &'a UnixStream,
@@ -73,7 +74,7 @@ pub struct Operator<'a, C> {
 }
 
 impl<'a, C: Clock> Operator<'a, C> {
-    /// The operator who has connected just now.
+    /// The operator who has connected just now. The error is the system's.
     pub fn new(clock: &'a C, stream: &'a UnixStream) -> io::Result<Operator<'a, C>> {
         stream.set_read_timeout(Some(Duration::from_secs(SILENCE_SECS)))?;
         stream.set_write_timeout(Some(Duration::from_secs(SILENCE_SECS)))?;
@@ -84,7 +85,8 @@ impl<'a, C: Clock> Operator<'a, C> {
         })
     }
 
-    /// The command that he asks for: `None` where the line is no command's.
+    /// The command that he asks for: `None` where the line is no command's. The error is the
+    /// system's, or that he takes too long or memory is refused.
     pub fn asked(&self, alloc: Global) -> io::Result<Option<Command>> {
         let mut room = [0u8; LINE_LEN];
         let mut line = Line { operator: self };

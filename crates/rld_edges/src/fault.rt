@@ -11,12 +11,12 @@ use thiserror::Error;
 
 /// Why a server has not started, or has ended without being asked. It prints as the line for standard
 /// error.
-#[derive(Clone, Copy, Debug, PartialEq, Eq, Error)]
+#[derive(Clone, Copy, Debug, Error)]
 pub enum RunFault {
     /// A socket could not be bound to this address and port.
     #[error("{0}: cannot be bound")]
     Unbound(SocketAddr),
-    /// A thread could not be had for each worker.
+    /// A worker has not started on a thread of its own.
     #[error("no thread for each receiver")]
     Threads,
     /// A call of the system failed without which nothing can be received.

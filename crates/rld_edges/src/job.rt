@@ -23,8 +23,8 @@ pub enum Job<'a> {
 }
 
 impl Sockets {
-    /// What the workers of a server do: so many receivers on each socket as the server's file says,
-    /// one that makes ticks, one that answers at the control, and one that writes on standard error. It
+    /// The jobs of a server's workers: the receivers that the server's file gives each socket, and one
+    /// worker each that makes ticks, that answers at the control, and that writes on standard error. It
     /// fails only where memory is refused.
     #[tactic(auto, using(crate::proofs::Pushing::three_more))]
     pub fn jobs<'a>(
@@ -42,7 +42,7 @@ impl Sockets {
         Ok(jobs)
     }
 
-    /// So many receivers on each socket as the server's file says.
+    /// The receivers that the server's file gives each socket.
     fn receivers(&self, alloc: Global) -> Result<Vec<Job<'_>>, AllocError>
         ensures { IfOk result (λ jobs.
             map seen jobs.items ≡ flat_map jobs_on self.now.pairs.items) }
@@ -64,7 +64,7 @@ fn push_pair<'a>(jobs: &mut Vec<Job<'a>>, pair: &'a Pair) -> Result<(), AllocErr
     Ok(())
 }
 
-/// Adds so many receivers of a socket.
+/// Adds the receivers of a socket, `receivers` in number.
 fn push_receivers<'a>(
     jobs: &mut Vec<Job<'a>>,
     socket: &'a Bound,

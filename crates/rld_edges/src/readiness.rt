@@ -1,6 +1,6 @@
 use crate::fault::RunFault;
 use mio::unix::SourceFd;
-use mio::{Events, Interest, Poll, Token, Waker};
+use mio::{Events, Interest, Poll, Token};
 use std::alloc::Global;
 use std::io;
 use std::net::Net;
@@ -14,9 +14,6 @@ const _: () = prove!(WAIT_SECS == 1);
 
 /// The name of the one socket that is waited for.
 const SOCKET: Token = Token(0);
-
-/// The name of what ends a wait from another thread.
-const WAKE: Token = Token(1);
 
 /// What waits for one socket, whose own calls do not wait.
 #[derive(Drop)]
@@ -41,14 +38,9 @@ impl Readiness {
         Ok(Readiness { poll, events })
     }
 
-    /// What ends a wait from another thread: the one that is under way, or else the next. `Down` comes
-    /// where the system has no room for it.
-    pub fn waker(&self) -> Result<Waker, RunFault> {
-        Ok(Waker::new(self.poll.registry(), WAKE)?)
-    }
-
-    /// Waits until the socket may have something, for at most a second. To be called after a call on
-    /// the socket that would have waited: it is told of what has come since then.
+    /// Waits until the socket may have something, for at most a second. To be called after a call
+    /// on the socket that would have waited: it sees only what has come since then. The error is
+    /// the system's.
     pub fn wait(&mut self) -> io::Result<()> {
         self.poll
             .poll(&mut self.events, Some(Duration::from_secs(WAIT_SECS)))

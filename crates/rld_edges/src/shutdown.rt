@@ -9,7 +9,7 @@ const START_LOOKS: u64 = 5_000;
 const START_SLEEP_MILLIS: u64 = 1;
 
 /// What a worker finds that waits for the others.
-#[derive(Clone, Copy, PartialEq, Eq)]
+#[derive(Clone, Copy)]
 pub enum Start {
     /// All have started.
     All,
@@ -28,7 +28,7 @@ pub struct Shutdown {
 }
 
 impl Shutdown {
-    /// The shutdown of so many workers, of which none has started.
+    /// The shutdown of a server with this number of workers, none of which has started.
     pub fn new(workers: usize) -> Shutdown {
         Shutdown {
             workers: workers as u64,
@@ -37,7 +37,8 @@ impl Shutdown {
         }
     }
 
-    /// Tells that a worker has started, and waits until all have, for some five seconds at most. A
+    /// Notes that a worker has started, and waits until all have, for some five seconds at most.
+    /// Gives `Over` as soon as one has ended, and `Missing` where one has not started by then. A
     /// worker for which no thread can be made starts only once another has ended.
     pub fn await_start<C: time::Clock>(&self, clock: &C) -> Start {
         self.started.fetch_add(1, Ordering::SeqCst);

@@ -10,20 +10,26 @@ use std::net::{IpAddr, Net, SocketAddr, UdpSocket};
 /// A UDP socket of a server.
 #[derive(Drop)]
 pub struct Bound {
+    /// The socket, whose calls do not wait.
     pub socket: UdpSocket,
     /// Whether Status-Server packets are answered on it.
     pub status_server: bool,
 }
 
-/// Both sockets of a `[[listen]]`, the address and the ports that they are bound to, and how many
-/// receivers take from each.
+/// Both sockets of a `[[listen]]` of the server's file.
 #[derive(Drop)]
 pub struct Pair {
+    /// The address of both sockets.
     pub address: IpAddr,
+    /// The UDP port of the socket for authentication.
     pub auth_port: u16,
+    /// The UDP port of the socket for accounting.
     pub acct_port: u16,
+    /// The socket for authentication.
     pub auth: Bound,
+    /// The socket for accounting.
     pub acct: Bound,
+    /// How many receivers take from each of both sockets.
     pub receivers: u16,
 }
 
@@ -36,9 +42,9 @@ pub struct Sockets {
 impl Sockets {
     /// Binds both sockets of each `[[listen]]`, in the file's order. No call on them waits.
     ///
-    /// `Unbound` comes with the first address and port that cannot be had: there is no room for a
-    /// socket, the address is not this machine's, or the port is taken or not allowed. `NoMemory` comes
-    /// where memory is refused. The sockets that were bound before are then closed.
+    /// `Unbound` comes with the first address and port that cannot be bound: there is no room for a
+    /// socket, the address is not this machine's, or the port is taken or not allowed. `NoMemory`
+    /// comes where memory is refused. The sockets that were bound before are then closed.
     pub fn bind<N: Net>(net: &N, alloc: Global, listens: &[Listen]) -> Result<Sockets, RunFault>
         ensures { IfOk result (λ sockets. map receivers_in sockets.pairs.items
             ≡ map (λ (listen : OneListen). listen.receivers) listens.now) }

@@ -1,7 +1,7 @@
 -- A field of a format: how a value is spelled in octets, how it is read, and which values have a
 -- spelling.
 --
--- Reading goes from left to right. It gives the value and the octets behind it, or the first fault:
+-- Reading goes from left to right. It gives the value and the octets after it, or the first fault:
 -- its cause, and how many octets are left where it stands. Fields are put together here, and the
 -- lemmas of this crate put together in the same way that they are read as they are spelled.
 use Rattle.std.specs.Prelude.{◌≡◌, ℕ, ◌<◌, ◌≤◌, List, [], ◌∷◌, ◌++◌, length, take, drop, slice_index, Bool, true, false, Option, Some, None, Result, Ok, Err, IfSome, nat_lt, nat_eq, if◌then◌else◌}
@@ -34,7 +34,7 @@ pub record IsRead {A : Type 0} (field : Field A) : Type 0 where
 abbrev pub fault_at : {A : Type 0} → Cause → List ℕ → Result A Fault
 fault_at cause octets = Err (record { cause = cause; left = length octets })
 
--- what is read behind a value that was read
+-- what is read after a value that was read
 abbrev pub then_read : {A B : Type 0} → Reading A → (A → List ℕ → Reading B) → Reading B
 then_read (Ok x) next = next x.0 x.1
 then_read (Err fault) next = Err fault
@@ -71,7 +71,7 @@ fixed count = record {
   Fits = λ octets. length octets ≡ count;
 }
 
--- at most 253 octets, behind an octet that has their number
+-- at most 253 octets, after an octet that has their number
 unfoldable pub short_at : List ℕ → Reading (List ℕ)
 short_at [] = fault_at CutShort []
 short_at (count ∷ rest) =
@@ -114,7 +114,7 @@ checked cause check field = record {
   Fits = λ x. field.Fits x × (check x ≡ true);
 }
 
--- one behind the other
+-- one after the other
 abbrev pub both : {A B : Type 0} → Field A → Field B → Field (A × B)
 both a b = record {
   spell = λ x. a.spell x.0 ++ b.spell x.1;

@@ -6,13 +6,13 @@ use Rattle.rld_fields.specs.Numbers.{number}
 use Rattle.rld_fields.specs.declared.fault.Cause.TheVariants.{Trailing}
 use Rattle.rld_fields.specs.declared.fault.Fault.{Fault}
 
--- so many values, one behind the other
+-- `count` values, one after the other
 unfoldable pub values_at : {A : Type 0} → (List ℕ → Reading A) → (count : ℕ) → List ℕ → Reading (List A)
 values_at read zero octets = Ok ([], octets)
 values_at read (suc count) octets =
     then_read (read octets) (λ x rest. made_of (λ xs. x ∷ xs) (values_at read count rest))
 
--- the values that a list has, behind their number, which a field of its own spells
+-- the values that a list has, after their number, which a field of its own spells
 abbrev pub listed : {A : Type 0} → (count : Field ℕ) → Field A → Field (List A)
 listed count field = record {
   spell = λ xs. count.spell (length xs) ++ flat_map field.spell xs;
@@ -20,7 +20,7 @@ listed count field = record {
   Fits = λ xs. count.Fits (length xs) × All field.Fits xs;
 }
 
--- the same with any number of values
+-- a list with any number of values, after that number
 abbrev pub list_of : {A : Type 0} → Field A → Field (List A)
 list_of field = listed number field
 

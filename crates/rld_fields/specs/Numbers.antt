@@ -28,7 +28,8 @@ number_octets n =
     else (if nat_lt n (2 ^ 32) then 254 ∷ to_be_bytes w32 n
     else 255 ∷ to_be_bytes w64 n))
 
--- a number that is at least so great, else it is refused at its mark, behind which these octets are
+-- a number that is at least `least`, else it is refused at its mark, which the octets `behind`
+-- follow
 abbrev pub at_least : (least mark : ℕ) → List ℕ → Reading ℕ → Reading ℕ
 at_least least mark behind (Ok x) = if nat_lt x.0 least then fault_at LongNumber (mark ∷ behind) else Ok x
 at_least least mark behind (Err fault) = Err fault

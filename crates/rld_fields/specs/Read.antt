@@ -10,7 +10,7 @@ abbrev pub Reads : {A : Type 0} → Result A Fault → (left : List ℕ) → Rea
 Reads (Ok x) left reading = reading ≡ Ok (x, left)
 Reads (Err fault) left reading = reading ≡ Err fault
 
--- the same of a value that is seen by `view`
+-- the value, seen by `view`, with these octets left, or the fault
 abbrev pub ReadsSeen : {X A : Type 0} → (view : X → A) → Result X Fault → (left : List ℕ) → Reading A → Type 0
 ReadsSeen view (Ok x) left reading = reading ≡ Ok (view x, left)
 ReadsSeen view (Err fault) left reading = reading ≡ Err fault
@@ -30,7 +30,7 @@ abbrev pub Gives : {X A : Type 0} → (view : X → A) → Result X ReadFault �
 Gives view (Ok x) reading = reading ≡ Ok (view x)
 Gives view (Err fault) reading = FaultIs fault reading
 
--- the same of a value that is seen by `view`
+-- the value, seen by `view`, with these octets left, or the fault, unless memory was refused
 abbrev pub ReadsInto : {X A : Type 0} → (view : X → A) → Result X ReadFault → (left : List ℕ) → Reading A → Type 0
 ReadsInto view (Ok x) left reading = reading ≡ Ok (view x, left)
 ReadsInto view (Err fault) left reading = FaultIs fault reading

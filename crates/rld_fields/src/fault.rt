@@ -40,13 +40,13 @@ pub enum Cause {
     /// A tag is none of those that can stand there.
     #[error("an unknown tag")]
     UnknownTag,
-    /// Octets stand behind the last value.
+    /// Octets stand after the last value.
     #[error("octets behind the end")]
     Trailing,
 }
 
 /// The first fault of some octets.
-#[derive(Clone, Copy, Debug, PartialEq, Eq)]
+#[derive(Clone, Copy, Debug)]
 pub struct Fault {
     /// What is wrong.
     pub cause: Cause,
@@ -64,7 +64,7 @@ impl Fault {
 }
 
 /// Why nothing was read.
-#[derive(Clone, Copy, Debug, PartialEq, Eq)]
+#[derive(Clone, Copy, Debug)]
 pub enum ReadFault {
     /// Memory was refused.
     NoMemory,

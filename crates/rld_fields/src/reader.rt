@@ -72,7 +72,7 @@ impl<'a> Reader<'a> {
         }
     }
 
-    /// The next octets, so many, lent. `CutShort` comes where fewer are left.
+    /// The next `count` octets, lent. `CutShort` comes where fewer are left.
     #[tactic(auto, unfolding(crate::specs::Field::fixed_at))]
     pub fn octets(&mut self, count: usize) -> Result<&'a [u8], Fault>
         ensures { ReadsSeen (λ octets. octets.now) result self.new (fixed_at count self.old) }
@@ -107,7 +107,7 @@ impl<'a> Reader<'a> {
         Ok(octets)
     }
 
-    /// At most 253 octets behind their number, lent. `TooLong` comes where the number is over 253,
+    /// At most 253 octets after their number, lent. `TooLong` comes where the number is over 253,
     /// `CutShort` where fewer are left.
     #[tactic(auto, unfolding(crate::specs::Field::short_at))]
     pub fn short(&mut self) -> Result<&'a [u8], Fault>
@@ -233,7 +233,7 @@ impl<'a> Reader<'a> {
     }
 }
 
-/// A number that is at least so great, or the fault.
+/// A number that is at least `least`, or the fault.
 fn at_least(least: u64, number: u64, fault: Fault) -> Result<u64, Fault>
     ensures { result ≡ (if nat_lt number least then Err fault else Ok number) }
 {

@@ -6,7 +6,7 @@ ghost use Rattle.rld_fields.specs.Numbers.{number_octets};
 use crate::reader::{MARK_2, MARK_4, MARK_8};
 use std::alloc::AllocError;
 
-/// Spells a number behind the octets that are there. It fails only where memory is refused.
+/// Spells a number after the octets that are there. It fails only where memory is refused.
 #[tactic(auto, unfolding(crate::specs::Numbers::number_octets))]
 pub fn push_number(out: &mut Vec<u8>, number: u64) -> Result<(), AllocError>
     ensures { OnOk result (out.new.items ≡ out.old.items ++ number_octets number) }
@@ -33,7 +33,7 @@ pub fn push_pair(out: &mut Vec<u8>, number: u16) -> Result<(), AllocError>
     out.extend_from_slice(&number.to_be_bytes())
 }
 
-/// Spells at most 253 octets behind their number. It fails only where memory is refused.
+/// Spells at most 253 octets after their number. It fails only where memory is refused.
 pub fn push_short(out: &mut Vec<u8>, octets: &[u8]) -> Result<(), AllocError>
     requires { length octets.now ≤ 253 }
     ensures { OnOk result (out.new.items ≡ out.old.items ++ short.spell octets.now) }

@@ -12,7 +12,7 @@ older_log newest Lock = None
 older_log newest (Era era) = None
 older_log newest (Log generation) = if precedes generation newest then Some generation else None
 
--- those of all files: not the newest one, and none that is newer
+-- the generations whose logs are among the files: not the newest one, and none that is newer
 abbrev pub older_logs : (newest : Generation) → List FileName → List Generation
 older_logs newest files = filter_map (older_log newest) files
 
@@ -37,10 +37,11 @@ logless_era files archived newest (Log generation) = None
 logless_era files archived newest (Era era) =
     if is_logless files archived newest era then Some era else None
 
--- those of all files of the folder
+-- the eras of all such tables in the folder
 abbrev pub logless_eras : (files archived : List FileName) → (newest : Generation) → List ℕ
 logless_eras files archived newest = filter_map (logless_era files archived newest) files
 
--- a file that changed last at this second is kept for so many days, of 86,400 seconds
+-- at second `now` a file that last changed at second `changed` has been kept for more than `days`
+-- days, of 86,400 seconds
 abbrev pub IsExpired : (days changed now : ℕ) → Type 0
 IsExpired days changed now = changed + days * 86400 < now

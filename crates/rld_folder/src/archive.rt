@@ -1,6 +1,9 @@
 //! What becomes of the logs that no start needs any more: they go to a folder of their own beside the
 //! others, `archive`, or they are removed, and so are the tables of eras of which no log is left.
 
+ghost use Rattle.std.specs.Prelude.{◌≡◌, All, IfOk};
+ghost use Rattle.rld_folder.specs.Newest.{Precedes};
+
 use crate::fault::FolderFault;
 use crate::folder::{Folder, files_among, make_folder, path_in, sync_names};
 use crate::name::{FileName, Generation};
@@ -10,6 +13,20 @@ use std::fs::{self, File};
 use std::io::ErrorKind;
 use std::rt::Files;
 use std::time::UNIX_EPOCH;
+
+/// Shows that the log of a generation is on the disk, as the log stood when this value was made.
+/// Only `Folder::sync_log` makes one.
+#[derive(Drop)]
+pub struct Synced {
+    generation: Generation,
+}
+
+/// Shows that the log of a generation was removed, and that the names of the folder were synced then.
+/// Only `Folder::remove_log` makes one.
+#[derive(Drop)]
+pub struct Removed {
+    generation: Generation,
+}
 
 /// What became of several files: the first fault, where one has a fault.
 fn first_fault(
@@ -75,14 +92,16 @@ impl Folder {
         files: &R,
         alloc: Global,
         generation: Generation,
-    ) -> Result<(), FolderFault> {
+    ) -> Result<Synced, FolderFault>
+        ensures { IfOk result (λ synced. synced.generation ≡ generation) }
+    {
         let path = self.path_of(alloc, FileName::Log(generation))?;
         let file = match File::open(files, path.as_str()) {
             Ok(file) => file,
             Err(error) => return Err(FolderFault::of(&error, FolderFault::Unopened)),
         };
         match file.sync_all() {
-            Ok(()) => Ok(()),
+            Ok(()) => Ok(Synced { generation }),
             Err(_) => Err(FolderFault::Unsynced),
         }
     }
@@ -94,30 +113,39 @@ impl Folder {
         files: &R,
         alloc: Global,
         generation: Generation,
-    ) -> Result<(), FolderFault> {
+    ) -> Result<Removed, FolderFault>
+        ensures { IfOk result (λ removed. removed.generation ≡ generation) }
+    {
         let path = self.path_of(alloc, FileName::Log(generation))?;
         remove_file(files, path.as_str())?;
-        self.sync(files)
+        self.sync(files)?;
+        Ok(Removed { generation })
     }
 
-    /// Removes logs. Where it fails for one the others are removed all the same, and the first fault is
-    /// given, as of `remove_log`.
+    /// Removes logs before a generation whose log is on the disk. Where it fails for one the others are
+    /// removed all the same, and the first fault is given, as of `remove_log`.
     pub fn remove_logs<R: Files<File = File>>(
         &self,
         files: &R,
         alloc: Global,
         logs: &[Generation],
-    ) -> Result<(), FolderFault> {
+        newest: &Synced,
+    ) -> Result<(), FolderFault>
+        requires { All (λ log. Precedes log newest.now.generation) logs.now }
+    {
         let mut outcome = Ok(());
         for generation in logs {
-            outcome = first_fault(outcome, self.remove_log(files, alloc, *generation));
+            if let Err(fault) = self.remove_log(files, alloc, *generation) {
+                outcome = first_fault(outcome, Err(fault));
+            }
         }
         outcome
     }
 
-    /// Removes the tables of eras, and syncs the names behind them. Where it fails for one the others are
-    /// removed all the same, and the first fault is given: `Unremoved` where a table is not there or
-    /// cannot be removed. After `Unsynced` they are gone, and a loss of power may bring them back.
+    /// Removes the tables of eras, and then syncs the names. Where it fails for one the others are
+    /// removed all the same, and the first fault is given: `Unremoved` where a table is not there
+    /// or cannot be removed. After `Unsynced` they are gone, and a loss of power may bring them
+    /// back.
     pub fn remove_eras<R: Files<File = File>>(
         &self,
         files: &R,
@@ -145,8 +173,9 @@ impl Folder {
         remove_file(files, path.as_str())
     }
 
-    /// Moves logs to the archive, which is made, with mode 700, where it is not there. Where it fails
-    /// for one the others are moved all the same, and the first fault is given.
+    /// Moves logs before a generation whose log is on the disk to the archive, which is made, with mode
+    /// 700, where it is not there. Where it fails for one the others are moved all the same, and the first
+    /// fault is given.
     ///
     /// `Unmade` where the archive cannot be made; then nothing has changed. `Unmoved` where a log is
     /// not there or cannot be moved, or the archive has one of its name. After `Unsynced` they are
@@ -156,7 +185,10 @@ impl Folder {
         files: &R,
         alloc: Global,
         logs: &[Generation],
-    ) -> Result<(), FolderFault> {
+        newest: &Synced,
+    ) -> Result<(), FolderFault>
+        requires { All (λ log. Precedes log newest.now.generation) logs.now }
+    {
         if logs.is_empty() {
             return Ok(());
         }
@@ -199,10 +231,10 @@ impl Folder {
         }
     }
 
-    /// Removes the logs of the archive that were kept for so many days at this second since 1970, by
-    /// the moment of their last change. Where it fails for one the others are removed all the same,
-    /// and the first fault is given: `Unread` where the archive, or what the system knows of a log,
-    /// cannot be read, and `Unremoved` where one cannot be removed.
+    /// Removes the logs of the archive that have been kept for more than `days` days at second
+    /// `now` since 1970, by the moment of their last change. Where it fails for one the others are
+    /// removed all the same, and the first fault is given: `Unread` where the archive, or what the
+    /// system knows of a log, cannot be read, and `Unremoved` where one cannot be removed.
     pub fn remove_expired<R: Files<File = File> + Alloc<A = Global> + Clone + Drop>(
         &self,
         rt: &R,
@@ -221,7 +253,7 @@ impl Folder {
     }
 }
 
-/// Removes a file that was kept for so many days.
+/// Removes a file that has been kept for more than `days` days at second `now` since 1970.
 fn remove_if_expired<R: Files<File = File>>(
     files: &R,
     path: &str,

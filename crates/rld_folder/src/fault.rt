@@ -3,7 +3,7 @@ use std::io::{self, ErrorKind};
 use thiserror::Error;
 
 /// Why a call on a server's folder failed.
-#[derive(Clone, Copy, Debug, PartialEq, Eq, Error)]
+#[derive(Clone, Copy, Debug, Error)]
 pub enum FolderFault {
     /// Memory was refused.
     #[error("no memory")]

@@ -9,6 +9,7 @@ mod name;
 mod newest;
 mod older;
 
+pub use archive::{Removed, Synced};
 pub use fault::FolderFault;
 pub use folder::Folder;
 pub use name::{FileName, Generation};

@@ -6,7 +6,7 @@ ghost use Rattle.rld_folder.specs.declared.name.FileName.{FileName as OneName};
 use std::alloc::{AllocError, Global};
 
 /// A generation of an era.
-#[derive(Clone, Copy, Debug, PartialEq, Eq)]
+#[derive(Clone, Copy, Debug)]
 pub struct Generation {
     /// The number of the era, from 0.
     pub era: u64,
@@ -15,7 +15,7 @@ pub struct Generation {
 }
 
 /// What a file of a folder is for.
-#[derive(Clone, Copy, Debug, PartialEq, Eq)]
+#[derive(Clone, Copy, Debug)]
 pub enum FileName {
     /// `lock`: the running server holds it.
     Lock,
@@ -33,7 +33,7 @@ fn number_of(word: &str) -> Option<u64>
     word.parse().ok()
 }
 
-/// The number behind a beginning.
+/// The number after a beginning.
 fn number_behind(name: &str, beginning: &str) -> Option<u64>
     ensures only { (number : ℕ) → number < 2 ^ 64 → name.now ≡ beginning.now ++ decimal number →
         result ≡ Some number }
@@ -42,7 +42,7 @@ fn number_behind(name: &str, beginning: &str) -> Option<u64>
     number_of(name.strip_prefix(beginning)?)
 }
 
-/// The words of the two numbers behind `log-`.
+/// The words of the two numbers after `log-`.
 fn words_behind(name: &str) -> Option<(&str, &str)>
     ensures { (era number : ℕ) → era < 2 ^ 64 →
         name.now ≡ codes "log-" ++ (decimal era ++ (codes "-" ++ decimal number)) →

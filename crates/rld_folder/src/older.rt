@@ -1,7 +1,8 @@
 //! The logs that no start needs any more, and the tables of eras of which no log is left.
 
-ghost use Rattle.std.specs.Prelude.{◌≡◌, ◌↔◌, IfOk, IsTrue};
+ghost use Rattle.std.specs.Prelude.{◌≡◌, ◌↔◌, All, IfOk, IfSome, IsTrue};
 ghost use Rattle.std.specs.List.{list_any};
+ghost use Rattle.rld_folder.specs.Newest.{Precedes};
 ghost use Rattle.rld_folder.specs.Older.{IsExpired, has_log, is_log_of, is_logless, logless_era, logless_eras, older_log, older_logs};
 
 use crate::name::{FileName, Generation};
@@ -12,7 +13,8 @@ const DAY_SECS: u64 = 86_400;
 
 /// The generation that a file is the log of, where it is before the newest one.
 fn older_log(newest: Generation, file: FileName) -> Option<Generation>
-    ensures { result ≡ older_log newest file }
+    ensures older { result ≡ older_log newest file }
+    ensures before { IfSome result (λ log. Precedes log newest) }
 {
     match file {
         FileName::Log(generation) if generation.precedes(newest) => Some(generation),
@@ -27,7 +29,8 @@ pub fn older_logs(
     files: &[FileName],
     newest: Generation,
 ) -> Result<Vec<Generation>, AllocError>
-    ensures { IfOk result (λ logs. logs.items ≡ older_logs newest files.now) }
+    ensures logs { IfOk result (λ logs. logs.items ≡ older_logs newest files.now) }
+    ensures before { IfOk result (λ logs. All (λ log. Precedes log newest) logs.items) }
 {
     let mut logs = Vec::new(alloc);
     for file in files {
@@ -109,8 +112,8 @@ pub fn logless_eras(
     Ok(eras)
 }
 
-/// Whether a file that changed last at this second was kept for so many days. Both moments are in
-/// seconds since 1970.
+/// Whether a file that last changed at `changed` has been kept for more than `days` days at `now`.
+/// Both moments are in seconds since 1970.
 pub fn is_expired(days: u16, changed: u64, now: u64) -> bool
     ensures { IsTrue result ↔ IsExpired days changed now }
 {

@@ -114,8 +114,8 @@ line file config number moved decision =
     escaped file ++ (32 ∷ (decimal number ++ (32 ∷ (decimal (moment_of moved) ++ (32 ∷ (move_text config moved
     ++ (codes " -> " ++ (decision_text decision ++ 10 ∷ []))))))))
 
--- the lines of moves, each with the decision of the books at that point; before the first of them the
--- era had so many moves
+-- the lines of moves, each with the decision of the books at that point; before the first of them
+-- the era had `number` moves
 unfoldable pub lines_of : (file : List ℕ) → Configuration → (number : ℕ) → (server : List BooksSeen)
     → List Move → List ℕ
 lines_of file config number server [] = []

@@ -32,11 +32,11 @@ pub struct LogFile<'a> {
 }
 
 /// What was found in a log whose lines were written.
-#[derive(Clone, Copy, PartialEq, Eq)]
+#[derive(Clone, Copy)]
 pub struct Printed {
     /// How many moves it has.
     pub moves: u64,
-    /// How many octets stand behind its whole frames, as a torn end.
+    /// How many octets follow its whole frames: its torn end.
     pub torn: usize,
 }
 
@@ -98,8 +98,8 @@ impl<'a> Replay<'a> {
         }
     }
 
-    /// Makes a move of a payload that begins at an offset of the file, and writes its line behind the
-    /// octets that are there.
+    /// Makes a move of a payload that begins at an offset of the file, and writes its line after
+    /// the octets that are there.
     #[tactic(auto, unfolding(crate::specs::Lines::line))]
     fn push_line(
         &mut self,
@@ -219,9 +219,12 @@ fn payloads_of<'a>(alloc: Global, octets: &'a [u8]) -> Result<Vec<&'a [u8]>, Lin
 
 /// Writes the lines of a log, of an era whose file has the octets of `table`.
 ///
-/// Of a log whose generation was not begun there are none. Where a frame is spoilt before a whole
-/// one, or the header is not that of the log's name and of the table, none is written. Where a payload
-/// spells nothing that can stand there, the lines of the batches before it are.
+/// Of a log whose generation was not begun there are none. `Table` comes where `table` is damaged,
+/// and `Log` where a frame is spoilt before a whole one, or where the header is not that of the
+/// log's name and of the table: then none is written. `Log` comes too where a payload spells
+/// nothing that can stand there or what it spells is of no account of the era, `Unwritten` where
+/// the writer failed, and `NoMemory` where memory is refused. Where a batch has such a payload, the
+/// lines of the batches before it are written.
 pub fn write_lines<W: Write>(
     alloc: Global,
     table: &[u8],
@@ -256,7 +259,7 @@ pub fn write_lines<W: Write>(
     })
 }
 
-/// How many octets stand behind the whole frames.
+/// How many octets follow the whole frames.
 fn torn_of(octets: &[u8]) -> usize {
     match whole_len(octets) {
         Ok(whole) => octets.len().saturating_sub(whole),

@@ -98,7 +98,7 @@ fn live_over<L: Log>(alloc: Global, config: &Config, log: L, batches: Vec<Vec<Mo
 }
 
 /// Lives one after another, each over what the one before it left, and each ended by a crash of the
-/// kind that its plan says. The log is handed back where memory for what is told is refused.
+/// kind that its plan says. The log is handed back where memory for the answers is refused.
 ///
 /// The premises: the log tells what it holds, and of a loss of power, that no torn write of a frame
 /// passes for one.

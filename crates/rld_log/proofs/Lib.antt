@@ -3,3 +3,4 @@ pub mod Callers
 pub mod Losing
 pub mod Readings
 pub mod Recordings
+pub mod Steps

@@ -1,5 +1,5 @@
 -- Frames. A frame is four octets of length, sixteen of MD5, and a payload. A file is whole frames, and
--- behind them a torn end or nothing.
+-- after them a torn end or nothing.
 use Rattle.std.specs.Prelude.{◌≡◌, ℕ, ◌<◌, ◌^◌, List, ◌++◌, length}
 use Rattle.std.specs.List.{flat_map, AllByRecursion}
 use Rattle.std.specs.Int.{w32, to_be_bytes}
@@ -34,7 +34,7 @@ NoBlock octets = (sum payload rest : List ℕ) → IsBlock sum payload → octet
 abbrev pub NoFrame : List ℕ → Type 0
 NoFrame octets = (payload rest : List ℕ) → Fits payload → octets ≡ frame payload ++ rest → ⊥
 
--- a frame stands at the front, or behind what has the shape of one
+-- a frame stands at the front, or after what has the shape of one
 pub data HasFrame : List ℕ → Type 0 where
   first : (octets payload rest : List ℕ) → Fits payload → octets ≡ frame payload ++ rest → HasFrame octets
   behind : (octets sum payload rest : List ℕ) → IsBlock sum payload → octets ≡ block sum payload ++ rest → HasFrame rest → HasFrame octets
@@ -50,8 +50,8 @@ pub record HasPayloads (file : List ℕ) (payloads : List (List ℕ)) : Type 0 w
   pub fit : AllByRecursion Fits payloads
   pub torn : IsTorn tail
 
--- A file that is damaged at an offset: frames stand up to it, none stands there, and one stands behind
--- what has the shape of frames.
+-- A file that is damaged at an offset: frames stand up to it, none stands there, and one stands
+-- after what has the shape of frames.
 pub record IsDamagedAt (file : List ℕ) (at : ℕ) : Type 0 where
   pub payloads : List (List ℕ)
   pub tail : List ℕ

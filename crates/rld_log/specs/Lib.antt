@@ -3,6 +3,7 @@ pub mod Laws
 pub mod Log
 pub mod Memory
 pub mod MemorySeen
+pub mod Pacing
 pub mod Passing
 pub mod Reading
 pub mod Recording

@@ -51,7 +51,7 @@ NoMore old new = (ending : Ending) (left : List ℕ) → new ending left → old
 abbrev pub Only : List ℕ → (Ending → List ℕ → Type 0) → Type 0
 Only octets may_leave = (ending : Ending) (left : List ℕ) → may_leave ending left → left ≡ octets
 
--- old, and something behind it
+-- old, and something after it
 pub record Extends (old new : List ℕ) : Type 0 where
   pub tail : List ℕ
   pub added : new ≡ old ++ tail

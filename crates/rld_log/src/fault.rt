@@ -51,7 +51,7 @@ pub struct Damage {
 }
 
 /// Why the payloads of a file were not read.
-#[derive(Clone, Copy, Debug, PartialEq, Eq)]
+#[derive(Clone, Copy, Debug)]
 pub enum ReadFault {
     /// Memory was refused.
     NoMemory,

@@ -21,7 +21,7 @@ enum End {
 ///
 /// It tells nothing: that a file does what a `Log` that tells does is trusted, and is argued here.
 /// `read` returns what the process and those before it wrote. `append` makes one write at the end,
-/// and only where the end is known: behind a torn write nothing is added. `cut` sets the length.
+/// and only where the end is known: after a torn write nothing is added. `cut` sets the length.
 /// `sync` asks the system to put octets and length on the disk, and believes its answer. The file
 /// must have no other writer, and its name has to be synced in its folder by whoever makes it.
 #[derive(Drop)]

@@ -11,7 +11,7 @@ pub const DIGEST_LEN: usize = 16;
 /// How many octets of a frame stand before its payload: its length and its digest.
 pub const HEAD_LEN: usize = 20;
 
-/// What has the shape of a frame, and what stands behind it.
+/// What has the shape of a frame, and what stands after it.
 #[derive(Clone, Copy)]
 struct Block<'a> {
     /// The octets in the place of the digest.
@@ -102,7 +102,7 @@ pub fn first_frame(octets: &[u8]) -> Option<(&[u8], &[u8])>
     Some((found.payload, found.rest))
 }
 
-/// Whether a frame stands at the front, or behind what has the shape of one.
+/// Whether a frame stands at the front, or after what has the shape of one.
 pub(crate) fn has_frame(octets: &[u8]) -> bool
     ensures { IsTrue result ↔ HasFrame octets.now }
 {

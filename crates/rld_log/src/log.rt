@@ -2,7 +2,7 @@ use crate::fault::LogFault;
 use std::alloc::Global;
 
 /// How a life of a log ends.
-#[derive(Clone, Copy, PartialEq, Eq)]
+#[derive(Clone, Copy)]
 pub enum Ending {
     /// The process is killed: what it wrote is the system's.
     Kill,

@@ -19,7 +19,7 @@ pub(crate) enum Step {
 }
 
 /// How a life of a log in memory goes.
-#[derive(Clone, Copy, PartialEq, Eq)]
+#[derive(Clone, Copy)]
 pub struct Life {
     /// How many calls succeed at first.
     pub calls: u64,
@@ -31,7 +31,7 @@ pub struct Life {
     pub kept: usize,
 }
 
-/// A log in memory, for proofs and tests: its calls fail and its lives end as they are told to.
+/// A log in memory, for proofs and tests: its calls fail and its lives end as each `Life` says.
 /// A kill leaves what was written; a loss of power leaves what was synced, and as many octets more
 /// as the life says.
 ///

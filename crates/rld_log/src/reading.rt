@@ -6,8 +6,8 @@ use crate::fault::{Damage, ReadFault};
 use crate::frame::{first_frame, has_frame};
 use std::alloc::Global;
 
-/// The length of the whole frames of a file; what stands behind them is a torn end. A file is
-/// damaged where a frame stands behind one that was spoilt.
+/// The length of the whole frames of a file; what stands after them is a torn end. A file is
+/// damaged where a frame stands after one that was spoilt.
 pub fn whole_len(octets: &[u8]) -> Result<usize, Damage>
     ensures whole { IfOk result (λ len. EndsAt octets.now len) }
     ensures damage { IfErr result (λ damage. IsDamagedAt octets.now damage.offset) }

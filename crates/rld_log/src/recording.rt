@@ -39,7 +39,7 @@ pub fn open<L: Log>(alloc: Global, log: &mut L) -> Result<Opened, OpenFault>
         (before : List (List ℕ)) → HasPayloads (L.seen log.old) before →
         (ending : OneEnding) (left : List ℕ) → L.may_leave log.new ending left → HasPayloads left before }
 
-    // Damage is told where it is, and is never cut off.
+    // Damage is reported at its offset, and is never cut off.
     ensures damage { IsTrue (L.tells log.new) → (damage : OneDamage) → result ≡ Err (Damaged damage) →
         IsDamagedAt (L.seen log.old) damage.offset }
     ensures uncut { IsTrue (L.tells log.new) → (at : ℕ) → IsDamagedAt (L.seen log.old) at → L.seen log.new ≡ L.seen log.old }
@@ -88,8 +88,8 @@ pub fn record<L: Log>(alloc: Global, log: &mut L, payload: &[u8]) -> Result<(), 
     Ok(())
 }
 
-/// Cuts off what a record or a write that failed may have left behind the whole frames, which have
-/// so many octets, and syncs that: then the log is settled without the payload. It may be tried
+/// Cuts off what a record or a write that failed may have left after the whole frames, which have
+/// `whole` octets, and syncs that: then the log is settled without the payload. It may be tried
 /// again where it fails, but not after a sync that failed.
 pub fn mend<L: Log>(log: &mut L, whole: usize) -> Result<(), LogFault>
     ensures told { IsTrue (L.tells log.new) → IsTrue (L.tells log.old) }

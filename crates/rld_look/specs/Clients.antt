@@ -7,7 +7,7 @@ use Rattle.rld_counts.specs.Tally.{kept}
 use Rattle.rld_counts.specs.declared.end.End.{End}
 use Rattle.rld_look.specs.declared.look.ClientLook.{ClientLook}
 
--- the counts, or those of no datagram
+-- the counts if there are some, else counts of no datagram
 abbrev pub counts_or_none : Option (List ℕ) → List ℕ
 counts_or_none counts = unwrap_or counts (counts_of [])
 

@@ -1,4 +1,8 @@
-pub mod Totals
-pub mod History
-pub mod Clients
 pub mod Accounts
+pub mod Backlog
+pub mod Clients
+pub mod History
+pub mod Lately
+pub mod Line
+pub mod Refusal
+pub mod Totals

@@ -1,6 +1,6 @@
-ghost use Rattle.std.specs.Prelude.{◌≡◌, ◌≤◌, IfOk, length};
-ghost use Rattle.std.specs.List.{AllByRecursion};
-ghost use Rattle.rld_look.specs.Accounts.{IsNamed, held_in};
+ghost use Rattle.std.specs.Prelude.{◌≡◌, IfOk};
+ghost use Rattle.std.specs.List.Sorted.{IsNonDecreasingBy, IsPermutation};
+ghost use Rattle.rld_look.specs.Accounts.{held_in, look_of, looks_of};
 
 use crate::look::AccountLook;
 use rsl_accounts::Config;
@@ -13,23 +13,40 @@ use std::alloc::Global;
 pub fn account_looks(
     alloc: Global,
     config: &Config,
-    rows: Vec<Row>,
+    rows: &[Row],
 ) -> Result<Vec<AccountLook>, NoMemory>
-    ensures named { IfOk result (λ looks. AllByRecursion (IsNamed config.now) looks.items) }
-    ensures len { IfOk result (λ looks. length looks.items ≤ length rows.items) }
+    ensures rows { IfOk result (λ looks. IsPermutation (looks_of config.now rows.now) looks.items) }
+    ensures order { IfOk result (λ looks. IsNonDecreasingBy (λ look. look.row.account) looks.items) }
 {
-    let mut rows = rows;
-    rows.sort_unstable_by_key(|row| row.account);
+    let mut looks = looks_of(alloc, config, rows)?;
+    looks.sort_unstable_by_key(|look| look.row.account);
+    Ok(looks)
+}
+
+/// What the account of each row holds, in the order of the rows. It fails only where memory is refused.
+#[tactic(auto, using(crate::proofs::Showing::look_steps))]
+fn looks_of(alloc: Global, config: &Config, rows: &[Row]) -> Result<Vec<AccountLook>, NoMemory>
+    ensures { IfOk result (λ looks. looks.items ≡ looks_of config.now rows.now) }
+{
     let mut looks = Vec::new(alloc);
-    for row in rows.as_slice() {
-        if row.account < config.accounts() {
-            looks.push(AccountLook {
-                name: config.entry(row.account).name.try_copy(alloc)?,
-                row: *row,
-            })?;
+    for row in rows {
+        if let Some(look) = look_of(alloc, config, row)? {
+            looks.push(look)?;
         }
     }
     Ok(looks)
+}
+
+/// What the account of a row holds; none where the row is of no account. It fails only where memory is
+/// refused.
+fn look_of(alloc: Global, config: &Config, row: &Row) -> Result<Option<AccountLook>, NoMemory>
+    ensures { IfOk result (λ look. look ≡ look_of config.now row.now) }
+{
+    if row.account >= config.accounts() {
+        return Ok(None);
+    }
+    let name = config.entry(row.account).name.try_copy(alloc)?;
+    Ok(Some(AccountLook { name, row: *row }))
 }
 
 /// How many places all of these rows hold, at most 2^64 - 1.

@@ -45,7 +45,7 @@ fn both(auth: Option<Counts>, acct: Option<Counts>) -> Counts
     counts
 }
 
-/// The counts, or those of no datagram.
+/// The counts if there are some, else counts of no datagram.
 fn counts_or_none(counts: Option<Counts>) -> Counts
     ensures { result ≡ counts_or_none counts }
 {

@@ -50,7 +50,8 @@ impl Model for History {
 }
 
 impl History {
-    /// That of a server that starts at this second since 1970. It fails only where memory is refused.
+    /// The history of a server that starts at the second `now` since 1970. It fails only where
+    /// memory is refused.
     pub fn new(alloc: Global, now: u64) -> Result<History, AllocError>
         ensures { IfOk result (λ history. history ≡ nothing_yet now) }
     {
@@ -62,15 +63,16 @@ impl History {
         })
     }
 
-    /// Whether another minute has begun at this second.
+    /// Whether another minute has begun at the second `now` since 1970.
     pub fn has_passed(&self, now: u64) -> bool
         ensures { IsTrue result ↔ (now / 60 ≢ self.now.current) }
     {
         now / MINUTE_SECS != self.current
     }
 
-    /// Ends the minute that is going on, and begins that of this second: all datagrams until then
-    /// have ended so, and so many places are held.
+    /// Ends the minute that is going on, and begins the minute of the second `now` since 1970.
+    /// `counts` are the ends of all datagrams until then, and `held` the places that are held. It
+    /// fails only where memory is refused, and then the history is as before.
     pub fn begin_minute(&mut self, now: u64, counts: &Counts, held: u64) -> Result<(), AllocError>
         ensures ok { OnOk result (self.new
             ≡ with_minute self.old (now / 60) (came_in counts.now) held) }
@@ -109,7 +111,7 @@ impl History {
 }
 
 /// What had come at a moment.
-#[derive(Clone, Copy, PartialEq, Eq)]
+#[derive(Clone, Copy)]
 pub(crate) struct Came {
     pub(crate) accepts: u64,
     pub(crate) limit_rejects: u64,
@@ -118,7 +120,7 @@ pub(crate) struct Came {
 }
 
 impl Came {
-    /// Nothing.
+    /// Nothing: each number is 0.
     fn new() -> Came
         ensures { result ≡ no_came }
     {
@@ -184,7 +186,7 @@ fn answered_requests() -> [End; 6]
     ]
 }
 
-/// Adds a minute behind those that are kept, if it was whole: the oldest then makes room.
+/// Adds a minute after those that are kept, if it was whole: the oldest then makes room.
 fn keep_last(minutes: &mut Vec<Minute>, minute: Minute, is_whole: bool) -> Result<(), AllocError>
     ensures ok { OnOk result (minutes.new.items
         ≡ kept_minutes minutes.old.items minute is_whole) }

@@ -1,21 +1,37 @@
-//! What a running server shows of itself at a moment: plain data, for whoever prints it.
+//! What an operator sees of a running server: what it shows of itself at a moment, as plain data
+//! for whoever prints it; and refusals, the datagrams that were not served, with what an operator
+//! learns of each.
 //!
-//! The promise: totals are those of the accounts that are shown (`specs/Totals.antt`), and a minute of the
-//! history has what came since it began (`specs/History.antt`).
+//! The promise: totals are those of the accounts that are shown (`specs/Totals.antt`), and a minute
+//! of the history has what came since it began (`specs/History.antt`). Which ends are refusals, and
+//! what an operator learns of one, is said in `specs/Refusal.antt`.
 #![tactic(auto)]
 
 mod accounts;
+mod backlog;
+mod build;
 mod clients;
 mod history;
+mod lately;
+mod line;
 mod look;
 mod pages;
+mod priority;
+mod refusal;
+mod refusals;
 mod socket_table;
 mod totals;
 
 pub use accounts::{account_looks, held_in};
+pub use backlog::{Backlog, MOST_LINES, Noted, Taken};
+pub use build::{Build, Proof};
 pub use clients::client_looks;
 pub use history::History;
+pub use line::{Places, write_left_out};
 pub use look::{AccountLook, ClientLook, Look, Minute, Recording, SocketLook};
 pub use pages::{Pages, Shown};
+pub use priority::{Priority, Sink};
+pub use refusal::{Refusal, Refused, is_refusal};
+pub use refusals::Refusals;
 pub use socket_table::socket_in;
 pub use totals::Totals;

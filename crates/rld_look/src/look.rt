@@ -1,15 +1,18 @@
 ghost use Rattle.std.specs.Prelude.{◌≡◌};
 ghost use Rattle.rld_look.specs.Totals.{totals_of};
 
+use crate::build::Build;
+use crate::refusal::Refusal;
 use crate::totals::Totals;
 use rld_counts::{Counts, Histogram};
-use rld_refusals::Refusal;
 use rsl_accounts::Text;
 use rsl_shard::Row;
 
 /// What a running server shows of itself at a moment. A second is one since 1970.
 #[derive(Drop)]
 pub struct Look {
+    /// The build that runs.
+    pub build: Build,
     /// The second of its start.
     pub start: u64,
     /// The second in which it was looked at.
@@ -20,15 +23,17 @@ pub struct Look {
     pub generation: u64,
     /// How many moves that generation has.
     pub moves: u64,
+    /// The octets of memory that the books of its accounts take.
+    pub memory: u64,
     /// Whether batches are being recorded.
     pub recording: Recording,
     /// How the datagrams of both ports ended.
     pub counts: Counts,
-    /// How those of each client ended, in file order.
+    /// How the datagrams of each client ended, in file order.
     pub clients: Vec<ClientLook>,
     /// How long the answers of the authentication port took.
     pub auth_times: Histogram,
-    /// How long those of the accounting port took.
+    /// How long the answers of the accounting port took.
     pub acct_times: Histogram,
     /// What each account holds, in file order.
     pub accounts: Vec<AccountLook>,
@@ -36,13 +41,13 @@ pub struct Look {
     pub minutes: Vec<Minute>,
     /// The datagrams that were refused lately, the oldest first.
     pub refusals: Vec<Refusal>,
-    /// What waits at each socket, in the order of the server's file. None where the system does not
-    /// tell it.
+    /// What waits at each socket, in the order of the server's file. A socket of which the system
+    /// says nothing is left out.
     pub sockets: Vec<SocketLook>,
 }
 
 /// How the datagrams of a client ended.
-#[derive(Clone, Copy, PartialEq, Eq)]
+#[derive(Clone, Copy)]
 pub struct ClientLook {
     /// The client's address.
     pub address: [u8; 4],
@@ -60,7 +65,7 @@ pub struct AccountLook {
 }
 
 /// What came in a minute, and what was held at its end.
-#[derive(Clone, Copy, PartialEq, Eq)]
+#[derive(Clone, Copy)]
 pub struct Minute {
     /// The second in which it began.
     pub start: u64,
@@ -76,23 +81,23 @@ pub struct Minute {
     pub held: u64,
 }
 
-/// What waits at a UDP socket, as the system tells it.
-#[derive(Clone, Copy, PartialEq, Eq)]
+/// What waits at a UDP socket, as the system gives it.
+#[derive(Clone, Copy)]
 pub struct SocketLook {
     /// The socket's UDP port.
     pub port: u16,
     /// How much of its room is taken by datagrams that wait, in octets.
     pub waiting: u64,
-    /// How many datagrams the system dropped since the socket was bound, since there was no room.
+    /// How many datagrams the system has dropped for want of room since the socket was bound.
     pub dropped: u64,
 }
 
 /// Whether batches are being recorded.
-#[derive(Clone, Copy, PartialEq, Eq)]
+#[derive(Clone, Copy)]
 pub enum Recording {
-    /// They are.
+    /// Batches are being recorded.
     Recorded,
-    /// One was not, lately: the disk is full or fails, or memory is refused.
+    /// A batch was not recorded lately: the disk is full or fails, or memory is refused.
     Failing,
 }
 

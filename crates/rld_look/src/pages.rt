@@ -12,13 +12,13 @@ pub trait Shown {
     /// What it shows of itself now. It fails only where memory is refused.
     fn take_look(&self) -> Result<Look, NoMemory>;
 
-    /// Whether it shall end.
+    /// Whether the server shall end.
     fn is_over(&self) -> bool;
 }
 
 /// What shows a server to those who ask, from a thread of its own.
 pub trait Pages {
-    /// Shows a server until it shall end, which is noticed within a second. The error is the system's:
-    /// nobody who asks could be waited for.
+    /// Shows a server until it shall end, which is noticed within a second. The error is the
+    /// system's, where whoever asks cannot be waited for.
     fn show<S: Shown, R: Net + Clock + Wait>(&self, rt: &R, server: &S) -> io::Result<()>;
 }

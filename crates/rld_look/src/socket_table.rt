@@ -6,8 +6,8 @@ ghost use Rattle.std.specs.Prelude.{◌≡◌, IfSome};
 use crate::look::SocketLook;
 use std::net::{IpAddr, Ipv4Addr, Ipv6Addr};
 
-/// What a table says of the socket that is bound to this address and port, if it has it. A number of the
-/// table that is none gives nothing.
+/// What a table says of the socket that is bound to this address and port. `None` comes where the
+/// table has no such socket, or has something else where a number should stand.
 pub fn socket_in(table: &str, address: IpAddr, port: u16) -> Option<SocketLook>
     ensures { IfSome result (λ socket. socket.port ≡ port) }
 {
@@ -62,18 +62,18 @@ fn is_host(digits: &str, address: IpAddr) -> bool {
     }
 }
 
-/// Its octets as a number in the order of the machine: the first is the least.
+/// The octets of an IPv4 address as a number in the order of the machine: the first is the least.
 fn number_of_ipv4(address: Ipv4Addr) -> u32 {
     u32::from_le_bytes(address.octets())
 }
 
-/// Four such numbers, one behind the other.
+/// The octets of an IPv6 address as four such numbers of 32 bits, one after the other.
 fn number_of_ipv6(address: Ipv6Addr) -> u128 {
     let [a, b, c, d, e, f, g, h, i, j, k, l, m, n, o, p] = address.octets();
     u128::from_be_bytes([d, c, b, a, h, g, f, e, l, k, j, i, p, o, n, m])
 }
 
-/// The number behind the colon of a word, in hexadecimal digits.
+/// The number after the colon of a word, in hexadecimal digits.
 fn hex_behind_colon(word: &str) -> Option<u64> {
     let (_, digits) = word.split_once(':')?;
     u64::from_str_radix(digits, 16).ok()

@@ -5,7 +5,7 @@ use crate::look::AccountLook;
 use rsl_shard::Row;
 
 /// What all accounts hold, each number at most 2^64 - 1.
-#[derive(Clone, Copy, PartialEq, Eq)]
+#[derive(Clone, Copy)]
 pub struct Totals {
     /// How many accounts there are.
     pub accounts: u64,
@@ -24,7 +24,7 @@ pub struct Totals {
 }
 
 impl Totals {
-    /// Those of no account.
+    /// The totals of no account: each number is 0.
     pub(crate) fn new() -> Totals
         ensures { result ≡ no_totals }
     {
@@ -39,7 +39,7 @@ impl Totals {
         }
     }
 
-    /// Those of all of these accounts.
+    /// The totals of all of these accounts.
     pub(crate) fn of(accounts: &[AccountLook]) -> Totals
         ensures { result ≡ totals_of accounts.now }
     {
@@ -50,7 +50,7 @@ impl Totals {
         totals
     }
 
-    /// Those with one account more.
+    /// These totals with one account more.
     fn with(self, row: &Row) -> Totals
         ensures { result ≡ with_row self row.now }
     {

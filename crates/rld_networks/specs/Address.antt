@@ -53,7 +53,7 @@ abbrev pub bits : IpAddr → ℕ
 bits (V4 address) = ipv4_bits address
 bits (V6 address) = ipv6_bits address
 
--- the number that its first bits are, so many
+-- the number that its first `len` bits are
 abbrev pub front : IpAddr → (len : ℕ) → ℕ
 front address len = bits address / 2 ^ (width address - len)
 
@@ -67,8 +67,8 @@ abbrev pub covers : IpAddr → IpAddr → Bool
 covers one other =
     same_address one other || bits one == 0 && (is_ipv6 one || same_family one other)
 
--- so many bits of the address are a prefix: it is canonical and has as many, and all bits behind them
--- are 0
+-- the first `len` bits of the address are a prefix: it is canonical and has as many, and all bits
+-- after them are 0
 abbrev pub is_prefix : IpAddr → (len : ℕ) → Bool
 is_prefix address len =
     not (is_some (mapped address)) && nat_le len (width address)

@@ -95,22 +95,22 @@ fn bits(address: IpAddr) -> u128
     }
 }
 
-/// How many bits of an address are left behind the first ones, so many.
+/// How many bits of an address are left after the first `len`.
 fn rest(address: IpAddr, len: u8) -> u8
     ensures { result ≡ width address - len }
 {
     width(address).saturating_sub(len)
 }
 
-/// The first bits of an address, so many, as one number.
+/// The first `len` bits of an address, as one number.
 pub(crate) fn front(address: IpAddr, len: u8) -> u128
     ensures { result ≡ front address len }
 {
     without_last(bits(address), rest(address, len))
 }
 
-/// Whether so many bits of the address are a prefix: it is canonical, has as many, and all bits behind
-/// them are 0.
+/// Whether the first `len` bits of the address are a prefix: it is canonical, has as many, and all
+/// bits after them are 0.
 pub(crate) fn is_prefix(address: IpAddr, len: u8) -> bool
     ensures { result ≡ is_prefix address len }
 {
@@ -119,7 +119,7 @@ pub(crate) fn is_prefix(address: IpAddr, len: u8) -> bool
         && last(bits(address), rest(address, len)) == 0
 }
 
-/// A number without its last bits, so many.
+/// A number without its last `bits` bits.
 #[tactic(auto, using(crate::proofs::Bits::without_all))]
 fn without_last(number: u128, bits: u8) -> u128
     ensures { result ≡ number / 2 ^ bits }
@@ -130,7 +130,7 @@ fn without_last(number: u128, bits: u8) -> u128
     }
 }
 
-/// The last bits of a number, so many.
+/// The last `bits` bits of a number.
 #[tactic(auto, using(crate::proofs::Bits::all_bits))]
 fn last(number: u128, bits: u8) -> u128
     ensures { result ≡ number % 2 ^ bits }

@@ -1,7 +1,7 @@
 use crate::prefix::Prefix;
 
 /// A network: the addresses of a prefix stand for one client.
-#[derive(Clone, Copy, Debug, PartialEq, Eq)]
+#[derive(Clone, Copy, Debug)]
 pub struct Network {
     /// The addresses that it holds.
     pub prefix: Prefix,

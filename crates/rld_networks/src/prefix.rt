@@ -3,7 +3,7 @@ use std::net::IpAddr;
 
 /// A prefix of addresses, as 192.0.2.0/24 or 2001:db8:7::/64 (RFC 4632 section 3.1, RFC 4291 section
 /// 2.3). It prints so.
-#[derive(Clone, Copy, Debug, PartialEq, Eq)]
+#[derive(Clone, Copy, Debug)]
 pub struct Prefix {
     /// The first address that it holds: no ::ffff:a.b.c.d, which is written as IPv4.
     pub address: IpAddr,

@@ -8,8 +8,8 @@ use std::net::IpAddr;
 
 /// The prefix that a text writes: an address, a slash, and how many of its bits have to be the same,
 /// as `192.0.2.0/24` or `2001:db8:7::/64`. `None` for any other text: where the number is over 32, or
-/// over 128 for IPv6, or begins with a 0, where a bit behind so many is set, as in `192.0.2.1/24`, and
-/// where the address is IPv4 but written as ::ffff:a.b.c.d.
+/// over 128 for IPv6, or begins with a 0, where a bit after that many is set, as in `192.0.2.1/24`,
+/// and where the address is IPv4 but written as ::ffff:a.b.c.d.
 #[tactic(auto, unfolding(crate::specs::Prefix::prefix_of))]
 pub fn prefix_of(text: &[u8]) -> Option<Prefix>
     ensures { result ≡ prefix_of text.now }

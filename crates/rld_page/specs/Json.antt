@@ -20,7 +20,7 @@ json_octet octet =
     then codes "\\u00" ++ (hex_digit (octet / 16) ∷ hex_digit (octet % 16) ∷ [])
     else octet ∷ []
 
--- a member that is a number, behind another member
+-- a member that is a number, after another member
 unfoldable pub member_json : (name : List ℕ) → (number : ℕ) → List ℕ
 member_json name number = codes ",\"" ++ (name ++ (codes "\":" ++ decimal number))
 
@@ -44,7 +44,7 @@ row_json row =
 unfoldable pub account_json : AccountLook → List ℕ
 account_json account = name_json account.name ++ row_json account.row
 
--- an account behind another one
+-- an account after another one
 abbrev pub more_json : AccountLook → List ℕ
 more_json account = codes "," ++ account_json account
 

@@ -23,7 +23,7 @@ struct Rank {
 }
 
 impl Rank {
-    /// That of this account.
+    /// The rank of the account with the number `number`.
     fn of(number: usize, row: &Row) -> Rank {
         Rank {
             free: FULL.saturating_sub(fullness(row)),

@@ -36,7 +36,7 @@ fn answered(minute: &Minute) -> u64 {
         .saturating_add(minute.rejects)
 }
 
-/// The most of all minutes.
+/// The most Access-Requests that were answered in one of these minutes.
 fn most_answered(minutes: &[Minute]) -> u64 {
     let mut most = 0u64;
     for minute in minutes {
@@ -45,7 +45,7 @@ fn most_answered(minutes: &[Minute]) -> u64 {
     most
 }
 
-/// The most of all minutes.
+/// The most places that were held at the end of one of these minutes.
 fn most_held(minutes: &[Minute]) -> u64 {
     let mut most = 0u64;
     for minute in minutes {
@@ -54,7 +54,7 @@ fn most_held(minutes: &[Minute]) -> u64 {
     most
 }
 
-/// Where the first of so many minutes begins, so that the last one ends at the right.
+/// Where the first of these minutes begins, so that the last one ends at the right.
 fn first_left(minutes: &[Minute]) -> u64 {
     (MINUTES.saturating_sub(minutes.len()) as u64).saturating_mul(MINUTE_WIDTH)
 }

@@ -27,7 +27,7 @@ pub fn page(alloc: Global, look: &Look) -> Result<Vec<u8>, AllocError>
     Ok(text)
 }
 
-/// All that stands behind the document's type.
+/// All that stands after the document's type.
 fn behind_type(alloc: Global, look: &Look) -> Result<Vec<u8>, AllocError> {
     let mut html = Html::new(alloc);
     write_head(&mut html, look)?;

@@ -23,7 +23,7 @@ pub(crate) fn share(part: u64, whole: u64) -> u64
     (part * 1_000 / u128::from(whole)) as u64
 }
 
-/// How many came in a second, in tenths, where so many came in a minute: rounded to the nearest.
+/// Datagrams a second, in tenths, by those of a minute: rounded to the nearest.
 pub(crate) fn tenths(a_minute: u64) -> u64
     ensures { result ≡ tenths_of a_minute }
 {
@@ -66,7 +66,7 @@ fn write_three(html: &mut Html, number: u64) -> Result<(), AllocError> {
     html.digit((number % 10) as u8)
 }
 
-/// Writes tenths, with one place behind the point.
+/// Writes tenths, with one decimal.
 pub(crate) fn write_tenths(html: &mut Html, tenths: u64) -> Result<(), AllocError> {
     write_grouped(html, tenths / 10)?;
     html.markup(".")?;

@@ -4,16 +4,16 @@ ghost use Rattle.rld_page.specs.Health.{health_of, health_text};
 use rld_look::Recording;
 
 /// Whether a server is well: it is as long as its batches are recorded, since it answers nothing else.
-#[derive(Clone, Copy, PartialEq, Eq)]
+#[derive(Clone, Copy)]
 pub enum Health {
-    /// It is.
+    /// The server is well.
     Well,
-    /// It is not: batches are not recorded, and so not answered.
+    /// The server is not well: batches are not recorded, and so not answered.
     Failing,
 }
 
 impl Health {
-    /// That of a server which records so.
+    /// The health of a server which records so.
     pub fn of(recording: Recording) -> Health
         ensures { result ≡ health_of recording }
     {
@@ -23,7 +23,7 @@ impl Health {
         }
     }
 
-    /// The line that says it.
+    /// The line that says it, with its line feed.
     pub fn text(self) -> &'static str
         ensures { result.now ≡ health_text self }
     {

@@ -39,7 +39,7 @@ fn push_list(alloc: Global, out: &mut Vec<u8>, accounts: &[AccountLook]) -> Resu
     }
 }
 
-/// Writes the accounts behind the first one.
+/// Writes the accounts after the first one.
 fn push_more(alloc: Global, out: &mut Vec<u8>, accounts: &[AccountLook]) -> Result<(), AllocError>
     ensures { OnOk result (out.new.items ≡ out.old.items ++ flat_map more_json accounts.now) }
 {
@@ -49,7 +49,7 @@ fn push_more(alloc: Global, out: &mut Vec<u8>, accounts: &[AccountLook]) -> Resu
     Ok(())
 }
 
-/// Writes an account behind another one.
+/// Writes an account after another one.
 fn push_next(alloc: Global, out: &mut Vec<u8>, account: &AccountLook) -> Result<(), AllocError>
     ensures { OnOk result (out.new.items ≡ out.old.items ++ more_json account.now) }
 {

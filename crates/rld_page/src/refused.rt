@@ -3,7 +3,7 @@
 use crate::ends::words;
 use crate::figures::write_moment;
 use crate::html::Html;
-use rld_refusals::Refusal;
+use rld_look::Refusal;
 use rsl_event::NasName;
 use std::alloc::AllocError;
 

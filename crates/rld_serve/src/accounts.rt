@@ -13,7 +13,8 @@ pub enum AccountsFault {
 
 /// Where a running server reads its accounts anew.
 pub trait Accounts {
-    /// The accounts, clients and rules as they are now.
+    /// Reads the accounts, clients and rules as they are now. `Wrong` comes where the account file
+    /// is wrong or does not go with the server's file, and `NoMemory` where memory is refused.
     fn read(&self, alloc: Global) -> Result<Config, AccountsFault>;
 }
 

@@ -6,15 +6,13 @@ ghost use Rattle.std.specs.Arc.{arc_value};
 use crate::accounts::Accounts;
 use crate::ask_fault::AskFault;
 use crate::server::Server;
-use rld_answers::{Holder, accounts_text, links_text, status_text};
-use rld_control::{Command, NamedSession};
+use rld_control::{Command, Form, NamedSession, Selection, Stop};
 use rld_edges::Operator;
-use rld_free::Stop;
-use rld_log::FileLog;
-use rld_pace::PacedLog;
+use rld_log::{FileLog, PacedLog};
 use rld_start::Generations;
 use rld_state::ServerState;
 use rld_store::Store;
+use rld_text::{Holder, accounts_text, links_text, status_json, status_text};
 use rsl_accounts::Config;
 use rsl_port::{Clock, SystemClock};
 use rsl_saved::SavedLink;
@@ -64,9 +62,9 @@ where
     /// The answer to a command, which is done.
     fn answer_to(&self, command: Command) -> Result<Vec<u8>, AskFault> {
         match command {
-            Command::Status => self.status(),
-            Command::Accounts => self.accounts(),
-            Command::Sessions(name) => self.sessions(name.as_slice()),
+            Command::Status(form) => self.status(form),
+            Command::Accounts(form, selection) => self.accounts(form, selection),
+            Command::Sessions(form, name) => self.sessions(form, name.as_slice()),
             Command::Free(named) => self.free(&named),
             Command::Reload => self.reload(),
             Command::Stop => {
@@ -82,15 +80,19 @@ where
     }
 
     /// What the server is and does.
-    fn status(&self) -> Result<Vec<u8>, AskFault> {
+    fn status(&self, form: Form) -> Result<Vec<u8>, AskFault> {
         let look = self.look()?;
-        Ok(status_text(self.alloc, &look)?)
+        match form {
+            Form::Lines => Ok(status_text(self.alloc, &look)?),
+            Form::Json => Ok(status_json(self.alloc, &look)?),
+        }
     }
 
-    /// What each account holds.
-    fn accounts(&self) -> Result<Vec<u8>, AskFault> {
+    /// What each account of a selection holds.
+    fn accounts(&self, form: Form, selection: Selection) -> Result<Vec<u8>, AskFault> {
         let look = self.look()?;
-        Ok(accounts_text(self.alloc, look.accounts.as_slice())?)
+        let accounts = look.accounts.as_slice();
+        Ok(accounts_text(self.alloc, form, selection, accounts)?)
     }
 
     /// The present moment.
@@ -99,7 +101,7 @@ where
     }
 
     /// The links of the account with this name.
-    fn sessions(&self, name: &[u8]) -> Result<Vec<u8>, AskFault> {
+    fn sessions(&self, form: Form, name: &[u8]) -> Result<Vec<u8>, AskFault> {
         let Some(held) = self.held_by(name)? else {
             return Err(AskFault::UnknownAccount);
         };
@@ -111,7 +113,7 @@ where
             live: entry.rules.live,
             moment: self.moment(),
         };
-        Ok(links_text(self.alloc, &holder, held.links.as_slice())?)
+        Ok(links_text(self.alloc, form, &holder, held.links.as_slice())?)
     }
 
     /// What the account with this name holds, if there is one.

@@ -1,9 +1,9 @@
-use rld_free::FreeFault;
+use rld_control::FreeFault;
 use rsl_wire::NoMemory;
 use std::alloc::{AllocError, AllocFailed};
 
 /// Why a running server does not do what it is asked.
-#[derive(Clone, Copy, PartialEq, Eq)]
+#[derive(Clone, Copy)]
 pub(crate) enum AskFault {
     /// The line is no command's.
     UnknownCommand,
@@ -18,7 +18,7 @@ pub(crate) enum AskFault {
 }
 
 impl AskFault {
-    /// The answer that tells it.
+    /// The answer that says why.
     pub(crate) fn text(self) -> &'static str {
         match self {
             AskFault::UnknownCommand => "error unknown command\n",

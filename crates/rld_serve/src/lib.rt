@@ -9,15 +9,17 @@
 mod accounts;
 mod answering;
 mod ask_fault;
+mod current;
 mod look;
-mod receiver_port;
+mod receiving;
 mod reloading;
 mod reporting;
 mod rolling;
 mod server;
 mod shared_recorder;
 mod showing;
-mod status_desk;
+mod socket_port;
+mod status_service;
 
 pub use accounts::{Accounts, AccountsFault};
 pub use rld_edges::{Control, RunFault, Sockets};

@@ -1,20 +1,20 @@
 //! What the running server shows of itself.
 
-use crate::server::{Present, Server};
+use crate::server::Server;
+use rld_config::books_octets;
 use rld_counts::{Cell, Counts};
 use rld_look::{
-    Look, Minute, Recording, SocketLook, account_looks, client_looks, held_in, socket_in,
+    Look, Minute, Places, Recording, SocketLook, account_looks, client_looks, held_in, socket_in,
 };
-use rld_refusals::Places;
 use rld_spelling::Header;
 use rld_state::places_in;
+use rld_watch::{cell_of, counts_of};
 use rsl_accounts::Config;
 use rsl_event::Port;
 use rsl_port::{Clock, SystemClock};
 use rsl_shard::Row;
 use rsl_text::read_file;
 use rsl_wire::NoMemory;
-use std::alloc::AllocError;
 use std::sync::atomic::Ordering;
 use std::sync::{Arc, Wait};
 use std::time;
@@ -22,7 +22,8 @@ use std::time;
 /// The system's table of UDP sockets on IPv4 addresses (proc(5)).
 const IPV4_TABLE: &str = "/proc/self/net/udp";
 
-/// That of the ones on IPv6 addresses; a socket on `::` that takes both kinds is one of them.
+/// The system's table of UDP sockets on IPv6 addresses; a socket on `::` that takes both kinds is
+/// one of them.
 const IPV6_TABLE: &str = "/proc/self/net/udp6";
 
 /// The most octets of a table that are read: it has up to 180 a socket.
@@ -59,17 +60,19 @@ impl<'a, G, A, R: time::Clock + Wait> Server<'a, G, A, R> {
             rows,
         } = holdings;
         Ok(Look {
+            build: self.plan.build,
             start: self.plan.start,
             now: SystemClock::new(self.rt, self.plan.start).now(),
             era: header.era,
             generation: header.generation,
             moves,
+            memory: books_octets(&*config),
             recording: self.recording(),
             counts,
             clients: client_looks(self.alloc, &*config, &auth, &acct)?,
             auth_times: auth.times(),
             acct_times: acct.times(),
-            accounts: account_looks(self.alloc, &*config, rows)?,
+            accounts: account_looks(self.alloc, &*config, rows.as_slice())?,
             minutes: self.minutes()?,
             refusals: self.refusals.lately(self.rt, self.alloc)?,
             sockets: self.socket_looks()?,
@@ -78,35 +81,30 @@ impl<'a, G, A, R: time::Clock + Wait> Server<'a, G, A, R> {
 
     /// What the receivers of each port have counted, and what the store shows: all of the same accounts.
     fn gather(&self) -> Result<(Cell, Cell, Holdings), NoMemory> {
-        let _reloads = self.reloads.lock(self.rt);
-        let clients = self.present()?.config.clients();
-        let auth = self.board.cell(self.rt, self.alloc, Port::Auth, clients)?;
-        let acct = self.board.cell(self.rt, self.alloc, Port::Acct, clients)?;
+        let current = self.current.read(self.rt);
+        let clients = current.config.clients();
+        let readings = self.board.read(self.rt, self.alloc, clients)?;
+        let auth = cell_of(self.alloc, readings.as_slice(), Port::Auth, clients)?;
+        let acct = cell_of(self.alloc, readings.as_slice(), Port::Acct, clients)?;
         Ok((auth, acct, self.holdings()?))
     }
 
     /// Ends the minute that is going on, if another has begun at this second. Where memory for that is
     /// refused it goes on.
     pub(crate) fn end_minute_if_over(&self, now: u64) {
-        if !self.history.lock(self.rt).has_passed(now) {
-            return;
-        }
-        let counts = self.board.counts(self.rt);
-        if let Ok(holdings) = self.holdings() {
-            let held = held_in(holdings.rows.as_slice());
-            let _ = self.history.lock(self.rt).begin_minute(now, &counts, held);
+        if self.history.lock(self.rt).has_passed(now) {
+            let _ = self.end_minute(now);
         }
     }
 
-    /// The accounts that the server has now.
-    pub(crate) fn present(&self) -> Result<Present, AllocError> {
-        let switches = self.recess.switches();
-        let state = self.state.lock(self.rt);
-        Ok(Present {
-            switches,
-            config: state.config()?,
-            era: state.header().era,
-        })
+    /// Ends the minute that is going on. It fails only where memory is refused.
+    fn end_minute(&self, now: u64) -> Result<(), NoMemory> {
+        let readings = self.board.read(self.rt, self.alloc, 0)?;
+        let holdings = self.holdings()?;
+        let counts = counts_of(readings.as_slice());
+        let held = held_in(holdings.rows.as_slice());
+        self.history.lock(self.rt).begin_minute(now, &counts, held)?;
+        Ok(())
     }
 
     /// What the store shows. Its lock is held as long as the rows are copied.
@@ -138,7 +136,7 @@ impl<'a, G, A, R: time::Clock + Wait> Server<'a, G, A, R> {
         Ok(minutes)
     }
 
-    /// What waits at each socket, where the system tells it.
+    /// What waits at each socket of which the system says it.
     fn socket_looks(&self) -> Result<Vec<SocketLook>, NoMemory> {
         let mut looks = Vec::new(self.alloc);
         let of_ipv4 = self.socket_table(IPV4_TABLE);

@@ -4,23 +4,24 @@ ghost use Rattle.std.specs.Prelude.{◌≡◌, IfOk, IfSome, length};
 
 use crate::accounts::{Accounts, AccountsFault};
 use crate::ask_fault::AskFault;
-use crate::server::{Present, Server};
+use crate::current::Current;
+use crate::server::Server;
 use rld_counts::ClientCounts;
-use rld_edges::Rest;
-use rld_log::FileLog;
-use rld_pace::PacedLog;
-use rld_start::{Generations, NextEra, generation_named, has_same_clients, is_same_era};
+use rld_log::{FileLog, PacedLog};
+use rld_start::{Generations, NextEra, has_same_clients, is_same_era};
 use rld_state::{ReloadFault, Reloaded, RollFault, Told};
 use rld_store::Store;
 use rsl_accounts::Config;
 use std::sync::{Arc, Wait};
 use std::{fmt, time};
 
-/// What stands ready before the receivers rest, so that they need not rest long.
+/// What stands ready before the receivers wait, so that they need not wait long.
 #[derive(Drop)]
 struct Change {
     /// The accounts, clients and rules that were read.
     config: Arc<Config>,
+    /// Another handle of these, for the era.
+    held: Arc<Config>,
     /// The files of the era that they begin, if the present one does not go on.
     next: Option<NextEra>,
     /// Counts for their clients, if these are others.
@@ -68,12 +69,7 @@ where
     /// Goes on by other accounts. What is left of a former era is dropped once the receivers go on.
     fn change_accounts(&self, config: Config) -> Result<Reloaded, ReloadFault> {
         let change = self.change_to(config)?;
-        let outcome = match self.recess.begin(self.rt, &self.shutdown) {
-            Rest::All => self.do_change(change),
-            Rest::Missing => self.forget(change),
-        };
-        self.recess.end();
-        let Changed { reloaded, former } = outcome?;
+        let Changed { reloaded, former } = self.do_change(change)?;
         drop(former);
         Ok(reloaded)
     }
@@ -83,8 +79,9 @@ where
         ensures { IfOk result (λ change. IfSome change.counts
             (λ each. length each.items ≡ length self.now.board.places.items)) }
     {
-        let Present { config: former, .. } = self.present()?;
+        let former = self.state.lock(self.rt).config()?;
         let config = Arc::new(self.alloc, config)?;
+        let held = Arc::try_clone(&config)?;
         let counts = if has_same_clients(self.alloc, &*former, &*config)? {
             None
         } else {
@@ -98,6 +95,7 @@ where
         };
         Ok(Change {
             config,
+            held,
             next,
             counts,
         })
@@ -111,22 +109,24 @@ where
         )
     }
 
-    /// Does a change, while the receivers rest.
+    /// Does a change, between the turns of all receivers.
     fn do_change(&self, change: Change) -> Result<Changed<'a>, ReloadFault>
         requires { IfSome change.counts
             (λ each. length each.items ≡ length self.now.board.places.items) }
     {
         let Change {
             config,
+            held,
             next,
             counts,
         } = change;
-        let mut reloads = self.reloads.lock(self.rt);
-        let changed = self.go_on_by(config, next)?;
+        let mut current = self.current.write(self.rt);
+        let changed = self.go_on_by(held, next)?;
         if let Some(counts) = counts {
             self.board.renew(self.rt, counts);
         }
-        *reloads = reloads.saturating_add(1);
+        let era = self.state.lock(self.rt).header().era;
+        *current = Current { config, era };
         Ok(changed)
     }
 
@@ -146,23 +146,13 @@ where
                     former: None,
                 });
             }
-            return Err(ReloadFault::Busy);
+            return Err(ReloadFault::Changed);
         };
         let pacing = self.plan.pacing;
         let entered = state.begin_era(self.alloc, self.generations, config, next, pacing)?;
         Ok(Changed {
-            reloaded: Reloaded::Begun(entered.passage),
+            reloaded: Reloaded::Begun(entered.change),
             former: Some(entered.former),
         })
-    }
-
-    /// Forgets a change that cannot be done now: the log that was made for it goes. Where it cannot be
-    /// removed it stays empty, and an empty log is no generation.
-    fn forget(&self, change: Change) -> Result<Changed<'a>, ReloadFault> {
-        if let Some(next) = change.next {
-            let generation = generation_named(&next.header);
-            let _ = self.generations.remove(self.alloc, generation);
-        }
-        Err(ReloadFault::Busy)
     }
 }

@@ -5,8 +5,8 @@ use crate::accounts::Accounts;
 use crate::look::Holdings;
 use crate::server::Server;
 use rld_counts::Counts;
-use rld_edges::{Pen, RunFault};
-use rld_refusals::{Refusal, Taken, write_left_out};
+use rld_edges::{RunFault, StderrWriter};
+use rld_look::{Refusal, Taken, write_left_out};
 use rld_start::Generations;
 use rld_state::{Ascii, Told, ToldLine};
 use std::net::Net;
@@ -23,11 +23,12 @@ const SLEEPS: u64 = 5;
 
 const _: () = prove!(SLEEP_MILLIS * SLEEPS == 1_000);
 
-/// How much may wait to be told but for refusals.
+/// How many reports may wait to be written, but for refusals.
 const MOST_TOLD: usize = 64;
 
 impl<G, A, R: Wait> Server<'_, G, A, R> {
-    /// Has it told, but for refusals. It is left out where too much waits, or memory is refused.
+    /// Has a report written, but for refusals. It is left out where `MOST_TOLD` reports wait, or
+    /// memory is refused.
     pub(crate) fn tell(&self, told: Told) {
         let mut waiting = self.told.lock(self.rt);
         if waiting.len() < MOST_TOLD {
@@ -42,63 +43,63 @@ where
     A: Accounts,
     R: Net + Eprint + time::Clock + Wait,
 {
-    /// Says on standard error what is to be told, until the server shall end: refusals each second, and
-    /// all else five times a second. What finds no room there is told later, or of refusals how many there
-    /// were.
+    /// Says on standard error what is to be reported, until the server shall end: refusals each
+    /// second, and all else five times a second. What finds no room there is written later, or of
+    /// refusals how many there were.
     pub(crate) fn report_all(&self) -> Result<(), RunFault> {
-        let mut pen = Pen::of(self.rt, self.alloc)?;
+        let mut writer = StderrWriter::of(self.rt, self.alloc)?;
         if !self.has_started()? {
             return Ok(());
         }
-        if pen.has_room() {
+        if writer.has_room() {
             let _ = self.rt.eprintln(self.plan.greeting);
         }
         let mut left_out = Counts::new();
         for _ in self.rt.forever() {
             let is_over = self.shutdown.is_over();
-            self.report(&mut pen, &mut left_out);
+            self.report(&mut writer, &mut left_out);
             if is_over {
                 break;
             }
-            self.pass_second(&mut pen);
+            self.pass_second(&mut writer);
         }
         Ok(())
     }
 
-    /// Lets a second pass, or the time until the server shall end. What is to be told meanwhile, but for
-    /// refusals, is written.
-    fn pass_second(&self, pen: &mut Pen) {
+    /// Lets a second pass, or the time until the server shall end. What is to be reported
+    /// meanwhile, but for refusals, is written.
+    fn pass_second(&self, writer: &mut StderrWriter) {
         for _ in 0..SLEEPS {
             if self.shutdown.is_over() {
                 break;
             }
             thread::sleep(self.rt, Duration::from_millis(SLEEP_MILLIS));
-            self.report_told(pen);
+            self.report_told(writer);
         }
     }
 
     /// Writes what waits. Refusals that are left out are counted, until their number is written.
-    fn report(&self, pen: &mut Pen, left_out: &mut Counts) {
-        let mut has_room = self.report_told(pen);
+    fn report(&self, writer: &mut StderrWriter, left_out: &mut Counts) {
+        let mut has_room = self.report_told(writer);
         let taken = self.refusals.take(self.rt, self.alloc);
         left_out.add(&taken.left_out);
         let holdings = self.holdings_for(&taken);
         for refusal in taken.waited {
-            has_room = has_room && self.report_refusal(pen, holdings.as_ref(), &refusal);
+            has_room = has_room && self.report_refusal(writer, holdings.as_ref(), &refusal);
             if !has_room {
                 left_out.note(refusal.end);
             }
             self.refusals.keep(self.rt, refusal);
         }
-        if has_room && left_out.received() > 0 && self.report_left_out(pen, left_out) {
+        if has_room && left_out.received() > 0 && self.report_left_out(writer, left_out) {
             *left_out = Counts::new();
         }
     }
 
-    /// Writes what is to be told but for refusals, and gives whether all of it found room.
-    fn report_told(&self, pen: &mut Pen) -> bool {
+    /// Writes what is to be reported, but for refusals, and gives whether all of it found room.
+    fn report_told(&self, writer: &mut StderrWriter) -> bool {
         for _ in 0..MOST_TOLD {
-            if !pen.has_room() {
+            if !writer.has_room() {
                 return false;
             }
             let Some(told) = self.take_told() else {
@@ -112,7 +113,7 @@ where
         true
     }
 
-    /// Takes what has waited longest to be told but for refusals.
+    /// Takes the report that has waited longest, but for refusals.
     fn take_told(&self) -> Option<Told> {
         let mut waiting = self.told.lock(self.rt);
         if waiting.is_empty() {
@@ -132,7 +133,7 @@ where
     /// Writes the line of a refusal, and gives whether it found room.
     fn report_refusal(
         &self,
-        pen: &mut Pen,
+        writer: &mut StderrWriter,
         holdings: Option<&Holdings>,
         refusal: &Refusal,
     ) -> bool {
@@ -142,19 +143,19 @@ where
         };
         let mut line = Vec::new(self.alloc);
         let written = refusal.write_line(self.alloc, &mut line, self.plan.sink, places);
-        written.is_ok() && self.write(pen, line.as_slice())
+        written.is_ok() && self.write(writer, line.as_slice())
     }
 
     /// Writes how many refusals were left out, and gives whether that found room.
-    fn report_left_out(&self, pen: &mut Pen, left_out: &Counts) -> bool {
+    fn report_left_out(&self, writer: &mut StderrWriter, left_out: &Counts) -> bool {
         let mut lines = Vec::new(self.alloc);
         let written = write_left_out(self.alloc, &mut lines, self.plan.sink, left_out);
-        written.is_ok() && self.write(pen, lines.as_slice())
+        written.is_ok() && self.write(writer, lines.as_slice())
     }
 
     /// Writes lines, and gives whether they found room.
-    fn write(&self, pen: &mut Pen, lines: &[u8]) -> bool {
-        if !pen.has_room() {
+    fn write(&self, writer: &mut StderrWriter, lines: &[u8]) -> bool {
+        if !writer.has_room() {
             return false;
         }
         let _ = self.rt.eprint(Ascii(lines));

@@ -18,7 +18,7 @@ pub(crate) struct Rolls {
 }
 
 impl Rolls {
-    /// Of a server that has just begun a generation.
+    /// What that worker knows in a server that has just begun a generation.
     pub(crate) fn new() -> Rolls {
         Rolls {
             timer: RollTimer::new(),
@@ -34,8 +34,8 @@ where
     A: Accounts,
     R: Net + Eprint + time::Clock + Wait,
 {
-    /// A second passes: where the next generation is due it begins, and old logs are put away. What goes
-    /// wrong is told. `Unsynced` comes where nothing more can be recorded.
+    /// A second passes: where the next generation is due it begins, and old logs are put away. What
+    /// goes wrong is reported. `Unsynced` comes where nothing more can be recorded.
     pub(crate) fn roll_if_due(&self, rolls: &mut Rolls, now: u64) -> Result<(), RunFault> {
         rolls.timer.pass_second();
         let moves = self.state.lock(self.rt).moves();
@@ -63,10 +63,10 @@ where
         let era = self.state.lock(self.rt).header().era;
         let next = self.generations.next_log(self.alloc, era)?;
         let mut state = self.state.lock(self.rt);
-        state.roll(self.alloc, self.generations, next, self.plan.pacing)
+        Ok(state.roll(self.alloc, self.generations, next, self.plan.pacing)?)
     }
 
-    /// Puts old logs away, and tells where that fails.
+    /// Puts old logs away, and reports where that fails.
     pub(crate) fn put_away(&self, rolls: &mut Rolls, now: u64) {
         let header = self.state.lock(self.rt).header();
         let newest = generation_named(&header);

@@ -1,34 +1,25 @@
-ghost use Rattle.std.specs.Prelude.{◌≡◌, IfOk};
-ghost use Rattle.rsl_port.specs.Told.{no_numbers};
-
 use crate::accounts::Accounts;
-use crate::receiver_port::ReceiverPort;
+use crate::current::Current;
 use crate::rolling::Rolls;
 use crate::shared_recorder::SharedRecorder;
-use crate::status_desk::StatusDesk;
 use rld_edges::{
-    Bound, Control, Job, Readiness, Recess, RunFault, Shutdown, Sockets, Start, outcome_of,
-    ports_of,
+    Control, Job, Readiness, RunFault, Shutdown, Sockets, Start, outcome_of, ports_of,
 };
-use rld_log::FileLog;
-use rld_look::{History, Pages};
+use rld_log::{FileLog, PacedLog, Pacing};
+use rld_look::{Build, History, Pages, Refusals, Sink};
 use rld_networks::Network;
-use rld_pace::{PacedLog, Pacing};
-use rld_peers::{ClientPort, nobody};
-use rld_refusals::{Refusals, Sink};
 use rld_spelling::Header;
 use rld_start::Generations;
 use rld_state::{ServerState, Told, Trouble};
 use rld_store::Store;
-use rld_turn::{ReceiveFault, RecordFault, receive, tick};
-use rld_watch::{Board, Desk, Watcher};
+use rld_turn::{RecordFault, tick};
+use rld_watch::Board;
 use rsl_accounts::Config;
-use rsl_event::Port;
 use rsl_port::{Clock, SystemClock};
 use std::alloc::Global;
 use std::net::{Net, TcpListener, TcpStream};
 use std::sync::atomic::{AtomicBool, Ordering};
-use std::sync::{Arc, Mutex, Wait};
+use std::sync::{Arc, Mutex, RwLock, Wait};
 use std::thread::{self, Threads};
 use std::time::{self, Duration};
 
@@ -37,14 +28,11 @@ const TICK_SECS: u64 = 1;
 
 const _: () = prove!(TICK_SECS == 1);
 
-/// How many turns a receiver takes: more than it can.
-const TURNS: u64 = 1 << 57;
-
-const _: () = prove!(TURNS < 1 << 58);
-
 /// What a server is started with, but for its accounts, its sockets, its store and its folder.
 #[derive(Clone, Copy)]
 pub struct Plan<'a> {
+    /// The build that runs.
+    pub build: Build,
     /// Which addresses stand for its clients.
     pub networks: &'a [Network],
     /// The boot number of its Classes.
@@ -78,19 +66,7 @@ pub(crate) struct Server<'a, G, A, R> {
     pub(crate) history: Mutex<History>,
     pub(crate) is_failing: AtomicBool,
     pub(crate) shutdown: Shutdown,
-    pub(crate) recess: Recess,
-    /// How often the accounts were read anew. Its lock is held while they change, and while the server is
-    /// looked at: so that what is seen of it is of the same accounts.
-    pub(crate) reloads: Mutex<u64>,
-}
-
-/// The accounts, clients and rules of a server, and the era that they are of.
-#[derive(Drop)]
-pub(crate) struct Present {
-    /// How often the recess was switched on or off before they were looked at.
-    pub(crate) switches: u64,
-    pub(crate) config: Arc<Config>,
-    pub(crate) era: u64,
+    pub(crate) current: RwLock<Current>,
 }
 
 /// Serves until it is asked to end or cannot go on: takes RADIUS datagrams from the sockets and
@@ -103,20 +79,20 @@ pub(crate) struct Present {
 /// cannot begin the present one goes on, and it is tried again a minute later. At the start, and once a
 /// generation has begun, the logs before it are put away.
 ///
-/// Where an operator asks for it the accounts are read anew (`reload`). Receivers end their turns then,
-/// and take up again what has waited in the room of their sockets.
+/// Where an operator asks for it the accounts are read anew (`reload`), between the turns of all receivers.
+/// What comes meanwhile waits in the room of the sockets.
 ///
-/// `greeting` is said on standard error once all of them have started. A batch that is not recorded is
-/// said there when it begins, and when batches are recorded again; so is a generation that cannot
-/// begin, and logs that cannot be put away. Each datagram that is refused has a line, up to 20 of a cause
-/// each second, and a line says how many more there were.
+/// `greeting` is said on standard error once all workers have started. A batch that is not recorded
+/// is said there when it begins, and when batches are recorded again; so is a generation that
+/// cannot begin, and logs that cannot be put away. Each datagram that is refused has a line, up to
+/// 20 of a cause each second, and a line says how many more there were.
 ///
 /// `Threads` comes where a worker has not started within some five seconds, `Down` where a socket
 /// fails, `Unsynced` where the store can record nothing more, and `NoMemory` where memory is refused
 /// at the start. All workers end then: no receiver goes on alone. Where several faults come, the
 /// gravest is given.
 ///
-/// The system's table of sockets is asked of it by `files`: a thread may be handed no other handle of
+/// The system's tables of sockets are read by `files`: a thread may be handed no other handle of
 /// files than the system's own.
 pub fn serve<'a, P, G, A, R>(
     rt: &'a R,
@@ -149,6 +125,11 @@ where
     let ports = ports_of(alloc, jobs.as_slice())?;
     let board = Board::new(alloc, config.clients(), ports.as_slice())?;
     let history = History::new(alloc, plan.start)?;
+    let config = Arc::new(alloc, config)?;
+    let current = Current {
+        config: Arc::try_clone(&config)?,
+        era: plan.header.era,
+    };
     let server = Server {
         rt,
         files,
@@ -157,15 +138,14 @@ where
         sockets,
         generations,
         accounts,
-        state: Mutex::new(ServerState::new(store, Arc::new(alloc, config)?, plan.header)),
+        state: Mutex::new(ServerState::new(store, config, plan.header)),
         board,
         refusals: Refusals::new(alloc, ports.len())?,
         told: Mutex::new(Vec::new(alloc)),
         history: Mutex::new(history),
         is_failing: AtomicBool::new(false),
         shutdown: Shutdown::new(jobs.len()),
-        recess: Recess::new(alloc, ports.len())?,
-        reloads: Mutex::new(0),
+        current: RwLock::new(current),
     };
     run_jobs(&server, jobs.as_slice(), pages)
 }
@@ -240,115 +220,11 @@ where
     }
 
     /// The recorder, as a worker sees it whose batches are of this era, or the same in each.
-    fn recorder(&self, era: Option<u64>) -> SharedRecorder<'_, Store<PacedLog<'a, FileLog>>, R> {
-        SharedRecorder::new(self.rt, &self.state, era)
-    }
-
-    /// Takes datagrams from a socket, for a port, until the server shall end: by the accounts that it has
-    /// now, and after each recess by those that it has then. Receivers are the first of all jobs, so a
-    /// receiver has the number of its job. Where there is no memory for its buffers after a recess, or the
-    /// system has no room to wait, it tries again a second later.
-    fn receive_all(&self, socket: &Bound, port: Port, number: usize) -> Result<(), RunFault> {
-        let present = self.present()?;
-        let datagrams = self.port_on(socket, port, number, &present)?;
-        if !self.has_started()? {
-            return Ok(());
-        }
-        self.receive(port, number, &present, datagrams)?;
-        for _ in self.rt.forever() {
-            self.recess.rest(self.rt, &self.shutdown);
-            if self.shutdown.is_over() {
-                break;
-            }
-            match self.receive_again(socket, port, number) {
-                Ok(()) => {}
-                Err(RunFault::NoMemory) => thread::sleep(self.rt, Duration::from_secs(TICK_SECS)),
-                Err(fault) => return Err(fault),
-            }
-        }
-        Ok(())
-    }
-
-    /// Takes datagrams from a socket, for a port, after a recess, until the next one.
-    fn receive_again(&self, socket: &Bound, port: Port, number: usize) -> Result<(), RunFault> {
-        let present = self.present()?;
-        match self.port_on(socket, port, number, &present) {
-            Ok(datagrams) => self.receive(port, number, &present, datagrams),
-            Err(_) => Err(RunFault::NoMemory),
-        }
-    }
-
-    /// Takes datagrams from a port, by these accounts, until a recess begins or the server shall end.
-    fn receive(
+    pub(crate) fn recorder(
         &self,
-        port: Port,
-        number: usize,
-        present: &Present,
-        datagrams: ClientPort<'_, ReceiverPort<'_>>,
-    ) -> Result<(), RunFault>
-        requires { datagrams.numbers ≡ no_numbers }
-    {
-        let config = &*present.config;
-        let desk = Desk {
-            config,
-            board: &self.board,
-            refusals: &self.refusals,
-        };
-        let Some(mut watcher) = Watcher::new(self.rt, self.alloc, desk, number) else {
-            return Ok(());
-        };
-        let mut datagrams = datagrams;
-        let mut recorder = self.recorder(Some(present.era));
-        let mut clock = SystemClock::new(self.rt, self.plan.start);
-        let received = receive(
-            self.alloc,
-            config,
-            self.plan.boot,
-            port,
-            &mut datagrams,
-            &mut recorder,
-            &mut clock,
-            &mut watcher,
-            TURNS,
-        );
-        match received {
-            Err(ReceiveFault::Down(_)) if datagrams.peers().has_failed() => Err(RunFault::Down),
-            Ok(_) | Err(ReceiveFault::Down(_)) => Ok(()),
-            Err(ReceiveFault::Ended(_)) => Err(RunFault::Unsynced),
-            Err(ReceiveFault::NoMemory) => Err(RunFault::NoMemory),
-        }
-    }
-
-    /// A port over a socket, whose sources are the clients of these accounts, until the next recess, for
-    /// which it is woken.
-    fn port_on<'b>(
-        &'b self,
-        bound: &'b Bound,
-        port: Port,
-        number: usize,
-        present: &'b Present,
-    ) -> Result<ClientPort<'b, ReceiverPort<'b>>, RunFault>
-        ensures { IfOk result (λ port. port.numbers ≡ no_numbers) }
-    {
-        let config = &*present.config;
-        let networks = self.plan.networks;
-        let desk = StatusDesk {
-            config,
-            networks,
-            port,
-        };
-        let status = bound.status_server.then_some(desk);
-        let peers = ReceiverPort::open(
-            self.rt,
-            self.alloc,
-            &bound.socket,
-            &self.shutdown,
-            &self.recess,
-            present.switches,
-            status,
-        )?;
-        self.recess.wake_by(self.rt, number, peers.waker()?);
-        Ok(ClientPort::new(self.alloc, peers, networks, nobody(config))?)
+        era: Option<u64>,
+    ) -> SharedRecorder<'_, Store<PacedLog<'a, FileLog>>, R> {
+        SharedRecorder::new(self.rt, &self.state, era)
     }
 
     /// Answers operators, one after the other.

@@ -6,7 +6,7 @@ use std::sync::{Mutex, Wait};
 
 /// The recorder of a server, as one of its workers sees it: each call waits for the lock.
 ///
-/// It tells nothing, since others use the recorder too.
+/// It reports nothing to contracts, since others use the recorder too.
 #[derive(Drop)]
 pub(crate) struct SharedRecorder<'a, S: Recorder, R: Wait> {
     rt: &'a R,
@@ -25,7 +25,7 @@ impl<'a, S: Recorder, R: Wait> SharedRecorder<'a, S, R> {
         SharedRecorder { rt, state, era }
     }
 
-    /// Whether a batch of any worker was not recorded since this was asked last.
+    /// Whether a batch of any worker was not recorded since this call was made last.
     pub(crate) fn take_failed(&self) -> bool {
         self.state.lock(self.rt).take_failed()
     }

@@ -209,7 +209,7 @@ book_of parts = record {
 abbrev pub book_parts : BookSeen → BookParts
 book_parts book = (book.clock, (book.accepts, (book.over, (book.links, (book.asks, book.stops)))))
 
--- each list behind its number
+-- each list after its number
 unfoldable pub links_octets : List SavedLink → List ℕ
 links_octets links = number_octets (length links) ++ flat_map link_octets links
 
@@ -261,7 +261,7 @@ abbrev pub book_field : (clients : ℕ) → Field BookSeen
 book_field clients =
     record { spell = book_octets; read = book_at clients; Fits = BookFits clients }
 
--- books behind their number
+-- books after their number
 abbrev pub books_field : (clients : ℕ) → Field (List BookSeen)
 books_field clients = list_of (book_field clients)
 

@@ -100,7 +100,7 @@ era_of parts = record {
 abbrev pub era_parts : EraSeen → EraParts
 era_parts era = (era.boot, (era.shards, (era.accounts, era.clients)))
 
--- each list behind its number: 1 to 16,384 accounts, and 1 to 256 clients
+-- each list after its number: 1 to 16,384 accounts, and 1 to 256 clients
 unfoldable pub accounts_octets : List EraAccount → List ℕ
 accounts_octets accounts = number_octets (length accounts) ++ flat_map account_octets accounts
 

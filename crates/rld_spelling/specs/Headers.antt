@@ -1,5 +1,5 @@
 -- The header of a generation as octets. The versions of the format and of the session rule come
--- first: a header of other versions is refused by the first of them, and nothing behind it is read.
+-- first: a header of other versions is refused by the first of them, and nothing after it is read.
 use Rattle.std.specs.Prelude.{ℕ, List, ◌++◌}
 use Rattle.rld_fields.specs.declared.fault.Cause.TheVariants.{OtherFormat, OtherRule}
 use Rattle.rld_fields.specs.Field.{Field, Reading, both, seen_as, fixed}

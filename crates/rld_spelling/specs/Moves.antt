@@ -160,6 +160,6 @@ abbrev pub move_field : Counts → Field Move
 move_field counts =
     record { spell = move_octets; read = move_at counts; Fits = MoveFits counts }
 
--- moves of one batch, behind their number
+-- moves of one batch, after their number
 abbrev pub moves_field : Counts → Field (List Move)
 moves_field counts = list_of (move_field counts)

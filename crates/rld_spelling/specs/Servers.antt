@@ -1,4 +1,4 @@
--- Access servers as octets: the client's number, and the name behind a tag of its kind.
+-- Access servers as octets: the client's number, and the name after a tag of its kind.
 use Rattle.std.specs.Prelude.{ℕ, ◌≤◌, List, [], ◌∷◌, ◌++◌, length, nat_eq, Ok, if◌then◌else◌}
 use Rattle.rld_fields.specs.declared.fault.Cause.TheVariants.{CutShort, NoClient, UnknownTag}
 use Rattle.rld_fields.specs.Field.{Field, Reading, fault_at, made_of, both, seen_as, short, short_at}
@@ -47,7 +47,7 @@ nas_as clients = seen_as nas_of nas_parts (both (below NoClient clients) name_fi
 unfoldable pub nas_at : (clients : ℕ) → List ℕ → Reading Nas
 nas_at clients octets = (nas_as clients).read octets
 
--- an access server of one of so many clients
+-- an access server of one of `clients` clients
 abbrev pub nas_field : (clients : ℕ) → Field Nas
 nas_field clients =
     record { spell = nas_octets; read = nas_at clients; Fits = (nas_as clients).Fits }

@@ -266,7 +266,7 @@ fn links_fit(links: &[SavedLink], clients: u32) -> bool
     true
 }
 
-/// Spells links behind their number.
+/// Spells links after their number.
 #[tactic(auto, unfolding(crate::specs::Books::links_octets))]
 fn push_links(out: &mut Vec<u8>, links: &[SavedLink], clients: u32) -> Result<(), AllocError>
     requires { All (link_field clients).Fits links.now }
@@ -279,7 +279,7 @@ fn push_links(out: &mut Vec<u8>, links: &[SavedLink], clients: u32) -> Result<()
     Ok(())
 }
 
-/// Reads so many links.
+/// Reads `count` links.
 #[tactic(auto, using(rld_fields::proofs::Callers::front_steps))]
 fn read_link_count(
     alloc: Global,
@@ -298,7 +298,7 @@ fn read_link_count(
     Ok(links)
 }
 
-/// Reads links behind their number.
+/// Reads links after their number.
 #[tactic(auto, unfolding(crate::specs::Books::links_at))]
 fn read_links(alloc: Global, reader: &mut Reader, clients: u32) -> Result<Vec<SavedLink>, ReadFault>
     ensures { ReadsInto (λ links. links.items) result reader.new (links_at clients reader.old) }
@@ -319,7 +319,7 @@ fn asks_fit(asks: &[KeptAsk], clients: u32) -> bool
     true
 }
 
-/// Spells kept asks behind their number.
+/// Spells kept asks after their number.
 #[tactic(auto, unfolding(crate::specs::Books::asks_octets))]
 fn push_asks(out: &mut Vec<u8>, asks: &[KeptAsk], clients: u32) -> Result<(), AllocError>
     requires { All (kept_ask_field clients).Fits asks.now }
@@ -332,7 +332,7 @@ fn push_asks(out: &mut Vec<u8>, asks: &[KeptAsk], clients: u32) -> Result<(), Al
     Ok(())
 }
 
-/// Reads so many kept asks.
+/// Reads `count` kept asks.
 #[tactic(auto, using(rld_fields::proofs::Callers::front_steps))]
 fn read_ask_count(
     alloc: Global,
@@ -351,7 +351,7 @@ fn read_ask_count(
     Ok(asks)
 }
 
-/// Reads kept asks behind their number.
+/// Reads kept asks after their number.
 #[tactic(auto, unfolding(crate::specs::Books::asks_at))]
 fn read_asks(alloc: Global, reader: &mut Reader, clients: u32) -> Result<Vec<KeptAsk>, ReadFault>
     ensures { ReadsInto (λ asks. asks.items) result reader.new (asks_at clients reader.old) }
@@ -372,7 +372,7 @@ fn stops_fit(stops: &[KeptStop], clients: u32) -> bool
     true
 }
 
-/// Spells kept stops behind their number.
+/// Spells kept stops after their number.
 #[tactic(auto, unfolding(crate::specs::Books::stops_octets))]
 fn push_stops(out: &mut Vec<u8>, stops: &[KeptStop], clients: u32) -> Result<(), AllocError>
     requires { All (kept_stop_field clients).Fits stops.now }
@@ -385,7 +385,7 @@ fn push_stops(out: &mut Vec<u8>, stops: &[KeptStop], clients: u32) -> Result<(),
     Ok(())
 }
 
-/// Reads so many kept stops.
+/// Reads `count` kept stops.
 #[tactic(auto, using(rld_fields::proofs::Callers::front_steps))]
 fn read_stop_count(
     alloc: Global,
@@ -404,7 +404,7 @@ fn read_stop_count(
     Ok(stops)
 }
 
-/// Reads kept stops behind their number.
+/// Reads kept stops after their number.
 #[tactic(auto, unfolding(crate::specs::Books::stops_at))]
 fn read_stops(alloc: Global, reader: &mut Reader, clients: u32) -> Result<Vec<KeptStop>, ReadFault>
     ensures { ReadsInto (λ stops. stops.items) result reader.new (stops_at clients reader.old) }
@@ -415,8 +415,8 @@ fn read_stops(alloc: Global, reader: &mut Reader, clients: u32) -> Result<Vec<Ke
 
 // ---- the whole book
 
-/// Whether a book has a spelling: its access servers are at one of so many clients, and its names and
-/// ids have at most 253 octets.
+/// Whether a book has a spelling: its access servers are at one of `clients` clients, and its names
+/// and ids have at most 253 octets.
 #[tactic(auto, unfolding(crate::specs::Books::BookFits))]
 pub fn book_fits(book: &SavedBook, clients: u32) -> bool
     ensures { IsTrue result ↔ (book_field clients).Fits (book_seen book.now) }
@@ -446,9 +446,9 @@ fn push_fitting(out: &mut Vec<u8>, book: &SavedBook, clients: u32) -> Result<(),
     push_stops(out, book.stops.as_slice(), clients)
 }
 
-/// Spells a book behind the octets that are there. `Unfit` comes exactly where the book has no
+/// Spells a book after the octets that are there. `Unfit` comes exactly where the book has no
 /// spelling, and then nothing is written. Where memory is refused, nothing is said of what stands
-/// behind the earlier octets.
+/// after the earlier octets.
 pub fn push_book(out: &mut Vec<u8>, book: &SavedBook, clients: u32) -> Result<(), SpellFault>
     ensures spelled { OnOk result (out.new.items ≡ out.old.items ++ book_octets (book_seen book.now)) }
     ensures fits { OnOk result ((book_field clients).Fits (book_seen book.now)) }
@@ -484,7 +484,7 @@ fn read_book(alloc: Global, reader: &mut Reader, clients: u32) -> Result<SavedBo
     })
 }
 
-/// Reads so many books.
+/// Reads `count` books.
 #[tactic(auto, using(crate::proofs::SeenLoops::seen_steps))]
 fn read_book_count(
     alloc: Global,

@@ -39,7 +39,7 @@ const MAX_PORTS: u64 = 16;
 const MAX_TIME: u64 = 86_400;
 
 /// An account of an era.
-#[derive(PartialEq, Eq, Drop)]
+#[derive(Drop)]
 pub struct EraAccount {
     /// Its User-Name: 1 to 64 visible characters of ASCII, an octet each.
     pub name: Octets,
@@ -55,7 +55,7 @@ pub struct EraClient {
 }
 
 /// What holds while an era lasts. Accounts and clients have the numbers of their places here.
-#[derive(PartialEq, Eq, Drop)]
+#[derive(Drop)]
 pub struct Era {
     /// The boot number, with which each Class attribute of the era begins.
     pub boot: u64,
@@ -198,7 +198,7 @@ fn read_account(alloc: Global, reader: &mut Reader) -> Result<EraAccount, ReadFa
     Ok(EraAccount { name, rules })
 }
 
-/// Whether there is at least one, and at most so many.
+/// Whether `count` is at least 1, and at most `most`.
 fn is_count(count: u64, most: u64) -> bool
     ensures { IsTrue result ↔ ((1 ≤ count) × (count ≤ most)) }
 {
@@ -251,7 +251,7 @@ fn read_client(reader: &mut Reader) -> Result<EraClient, Fault>
     Ok(EraClient { address })
 }
 
-/// Spells accounts behind their number.
+/// Spells accounts after their number.
 #[tactic(auto, unfolding(crate::specs::Eras::accounts_octets))]
 fn push_accounts(out: &mut Vec<u8>, accounts: &[EraAccount]) -> Result<(), AllocError>
     requires { All account_field.Fits accounts.now }
@@ -264,7 +264,7 @@ fn push_accounts(out: &mut Vec<u8>, accounts: &[EraAccount]) -> Result<(), Alloc
     Ok(())
 }
 
-/// Spells clients behind their number.
+/// Spells clients after their number.
 #[tactic(auto, unfolding(crate::specs::Eras::clients_octets))]
 fn push_clients(out: &mut Vec<u8>, clients: &[EraClient]) -> Result<(), AllocError>
     ensures { OnOk result (out.new.items ≡ out.old.items ++ clients_octets clients.now) }
@@ -276,7 +276,7 @@ fn push_clients(out: &mut Vec<u8>, clients: &[EraClient]) -> Result<(), AllocErr
     Ok(())
 }
 
-/// Reads so many accounts.
+/// Reads `count` accounts.
 #[tactic(auto, using(rld_fields::proofs::Callers::front_steps))]
 fn read_account_count(
     alloc: Global,
@@ -294,7 +294,7 @@ fn read_account_count(
     Ok(accounts)
 }
 
-/// Reads accounts behind their number.
+/// Reads accounts after their number.
 #[tactic(auto, unfolding(crate::specs::Eras::accounts_at))]
 fn read_accounts(alloc: Global, reader: &mut Reader) -> Result<Vec<EraAccount>, ReadFault>
     ensures { ReadsInto (λ accounts. accounts.items) result reader.new (accounts_at reader.old) }
@@ -303,7 +303,7 @@ fn read_accounts(alloc: Global, reader: &mut Reader) -> Result<Vec<EraAccount>, 
     read_account_count(alloc, reader, count)
 }
 
-/// Reads so many clients.
+/// Reads `count` clients.
 #[tactic(auto, using(rld_fields::proofs::Callers::front_steps))]
 fn read_client_count(
     alloc: Global,
@@ -321,7 +321,7 @@ fn read_client_count(
     Ok(clients)
 }
 
-/// Reads clients behind their number.
+/// Reads clients after their number.
 #[tactic(auto, unfolding(crate::specs::Eras::clients_at))]
 fn read_clients(alloc: Global, reader: &mut Reader) -> Result<Vec<EraClient>, ReadFault>
     ensures { ReadsInto (λ clients. clients.items) result reader.new (clients_at reader.old) }
@@ -359,9 +359,9 @@ impl Era {
         push_clients(out, self.clients.as_slice())
     }
 
-    /// Spells the table behind the octets that are there. `Unfit` comes exactly where it has no
+    /// Spells the table after the octets that are there. `Unfit` comes exactly where it has no
     /// spelling, and then nothing is written. Where memory is refused, nothing is said of what
-    /// stands behind the earlier octets.
+    /// stands after the earlier octets.
     pub fn push(&self, out: &mut Vec<u8>) -> Result<(), SpellFault>
         ensures spelled { OnOk result (out.new.items ≡ out.old.items ++ era_octets (era_seen self.now)) }
         ensures fits { OnOk result (era_field.Fits (era_seen self.now)) }

@@ -28,9 +28,9 @@ impl Header {
     ghost use Rattle.rld_spelling.specs.declared.header.Header.{Header as OneHeader};
     ghost use Rattle.rld_spelling.specs.Headers.{header_at, header_field, header_octets};
 
-    /// Spells the header, behind the versions of the format and of the session rule, and behind the
+    /// Spells the header, after the versions of the format and of the session rule, and after the
     /// octets that are there. It fails only where memory is refused, and then nothing is said of what
-    /// stands behind the earlier octets.
+    /// stands after the earlier octets.
     #[tactic(auto, unfolding(crate::specs::Headers::header_octets))]
     pub fn push(&self, out: &mut Vec<u8>) -> Result<(), AllocError>
         ensures { OnOk result (out.new.items ≡ out.old.items ++ header_octets self.now) }
@@ -83,7 +83,7 @@ impl Header {
     }
 
     /// The header that all of the octets spell, or the first fault: `OtherFormat` or `OtherRule` come
-    /// before what is wrong behind the versions. It takes no memory.
+    /// before what is wrong after the versions. It takes no memory.
     pub fn read(octets: &[u8]) -> Result<Header, Fault>
         // What is read is spelled so.
         ensures found { IfOk result (λ header.

@@ -39,7 +39,7 @@ const STRAY: u8 = 6;
 /// How many accounts and clients there are. An account and a client are named by numbers below
 /// these, in the order of the configuration. What is spelled and read of moves depends on nothing
 /// else.
-#[derive(Clone, Copy, PartialEq, Eq)]
+#[derive(Clone, Copy)]
 pub struct Counts {
     /// The accounts.
     pub accounts: u32,
@@ -221,9 +221,9 @@ impl Counts {
         }
     }
 
-    /// Spells a move behind the octets that are there. `Unfit` comes exactly where the move has no
+    /// Spells a move after the octets that are there. `Unfit` comes exactly where the move has no
     /// spelling, and then nothing is written. Where memory is refused, nothing is said of what stands
-    /// behind the earlier octets.
+    /// after the earlier octets.
     pub fn push_move(self, out: &mut Vec<u8>, moved: &Move) -> Result<(), SpellFault>
         ensures spelled { OnOk result (out.new.items ≡ out.old.items ++ move_octets moved.now) }
         ensures fits { OnOk result (MoveFits self moved.now) }
@@ -246,7 +246,7 @@ impl Counts {
         Ok(reader.below(Cause::NoAccount, u64::from(self.accounts))? as u32)
     }
 
-    /// Reads an ask behind its tag.
+    /// Reads an ask after its tag.
     #[tactic(auto, unfolding(crate::specs::Moves::ask_at))]
     fn read_ask(self, alloc: Global, reader: &mut Reader) -> Result<Move, ReadFault>
         ensures { ReadsIn result reader.new (ask_at self reader.old) }
@@ -262,7 +262,7 @@ impl Counts {
         })
     }
 
-    /// Reads an alive behind its tag.
+    /// Reads an alive after its tag.
     #[tactic(auto, unfolding(crate::specs::Moves::alive_at))]
     fn read_alive(self, alloc: Global, reader: &mut Reader) -> Result<Move, ReadFault>
         ensures { ReadsIn result reader.new (alive_at self reader.old) }
@@ -285,7 +285,7 @@ impl Counts {
         })
     }
 
-    /// Reads a stop behind its tag.
+    /// Reads a stop after its tag.
     #[tactic(auto, unfolding(crate::specs::Moves::stop_at))]
     fn read_stop(self, alloc: Global, reader: &mut Reader) -> Result<Move, ReadFault>
         ensures { ReadsIn result reader.new (stop_at self reader.old) }
@@ -301,7 +301,7 @@ impl Counts {
         })
     }
 
-    /// Reads a sweep behind its tag.
+    /// Reads a sweep after its tag.
     #[tactic(auto, unfolding(crate::specs::Moves::sweep_at))]
     fn read_sweep(self, alloc: Global, reader: &mut Reader) -> Result<Move, ReadFault>
         ensures { ReadsIn result reader.new (sweep_at self reader.old) }
@@ -311,7 +311,7 @@ impl Counts {
         Ok(Move::Sweep { moment, nas })
     }
 
-    /// Reads a stray packet behind its tag.
+    /// Reads a stray packet after its tag.
     #[tactic(auto, unfolding(crate::specs::Moves::stray_at))]
     fn read_stray(self, alloc: Global, reader: &mut Reader) -> Result<Move, ReadFault>
         ensures { ReadsIn result reader.new (stray_at self reader.old) }
@@ -330,7 +330,7 @@ impl Counts {
         Ok(Move::Stray { moment, note })
     }
 
-    /// Reads a tick behind its tag.
+    /// Reads a tick after its tag.
     #[tactic(auto, unfolding(crate::specs::Moves::tick_at))]
     fn read_tick(reader: &mut Reader) -> Result<Move, ReadFault>
         ensures { ReadsIn result reader.new (tick_at reader.old) }
@@ -356,7 +356,7 @@ impl Counts {
         }
     }
 
-    /// Reads so many moves.
+    /// Reads `count` moves.
     #[tactic(auto, using(rld_fields::proofs::Callers::front_steps))]
     fn read_count(
         self,
@@ -419,7 +419,7 @@ impl Counts {
         true
     }
 
-    /// Spells moves that have a spelling, behind their number.
+    /// Spells moves that have a spelling, after their number.
     fn push_each(self, out: &mut Vec<u8>, moves: &[Move]) -> Result<(), AllocError>
         requires { All (MoveFits self) moves.now }
         ensures { OnOk result (out.new.items ≡ out.old.items ++ (moves_field self).spell moves.now) }
@@ -431,9 +431,9 @@ impl Counts {
         Ok(())
     }
 
-    /// Spells the moves of a batch behind the octets that are there. `Unfit` comes exactly where one of
-    /// them has no spelling, and then nothing is written. Where memory is refused, nothing is said of
-    /// what stands behind the earlier octets.
+    /// Spells the moves of a batch after the octets that are there. `Unfit` comes exactly where one
+    /// of them has no spelling, and then nothing is written. Where memory is refused, nothing is
+    /// said of what stands after the earlier octets.
     pub fn push_moves(self, out: &mut Vec<u8>, moves: &[Move]) -> Result<(), SpellFault>
         ensures spelled { OnOk result (out.new.items ≡
             out.old.items ++ (moves_field self).spell moves.now) }

@@ -87,7 +87,8 @@ fn name_fits(name: &NasName) -> bool
     }
 }
 
-/// Whether an access server has a spelling: it is at one of so many clients, and its name has one.
+/// Whether an access server has a spelling: it is at one of `clients` clients, and its name has
+/// one.
 pub(crate) fn nas_fits(nas: &Nas, clients: u32) -> bool
     ensures { IsTrue result ↔ (nas_field clients).Fits nas.now }
 {
@@ -140,7 +141,7 @@ fn read_name(alloc: Global, reader: &mut Reader) -> Result<NasName, ReadFault>
     }
 }
 
-/// Reads an access server of one of so many clients.
+/// Reads an access server of one of `clients` clients.
 #[tactic(auto, unfolding(crate::specs::Servers::nas_at))]
 pub(crate) fn read_nas(alloc: Global, reader: &mut Reader, clients: u32) -> Result<Nas, ReadFault>
     ensures { ReadsIn result reader.new (nas_at clients reader.old) }

@@ -25,7 +25,7 @@ abbrev pub IsFirst : (octets : List ℕ) → First → Type 0
 IsFirst octets Unbegun = (header snapshot : List ℕ) → HasTwo octets header snapshot → ⊥
 IsFirst octets (Begun header) = IsBegun octets header
 
--- A frame is spoilt here: a whole one stands behind what has the shape of frames, or its digest is
--- that of a front of what stands behind its head, and its length is another.
+-- A frame is spoilt here: a whole one follows what has the shape of frames, or its digest is that
+-- of a front of what follows its head, and its length is another.
 abbrev pub IsSpoilt : (octets : List ℕ) → (at : ℕ) → Type 0
 IsSpoilt octets at = IsDamagedAt octets at ⊎ (EndsAt octets at × HasSpoiltLength (drop at octets))

@@ -7,7 +7,7 @@ pub record HasFront (sum octets : List ℕ) : Type 0 where
   pub len : ℕ
   pub is : sum ≡ md5 (take len octets)
 
--- Behind the 4 octets of a length stands the digest of a front of what stands behind these 20: of a
+-- After the 4 octets of a length stands the digest of a front of what follows these 20: of a
 -- payload that is there whole. What a write leaves that was cut short has no such front, whoever
 -- chose the names in it, unless by a collision of MD5.
 pub record HasSpoiltLength (octets : List ℕ) : Type 0 where

@@ -1,6 +1,7 @@
 pub mod Behind
 pub mod Counted
 pub mod Firsts
+pub mod Founds
 pub mod Gaps
 pub mod Greeting
 pub mod Lengths

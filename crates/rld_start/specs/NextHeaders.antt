@@ -17,7 +17,8 @@ header_cause header generation table =
     (if bytes_eq header.digest (md5 table) then None else Some OtherTable)
     else Some OtherGeneration
 
--- the header of the generation with a number, after so many moves of the one before it
+-- the header of the generation with the number `generation`, after `moves` moves of the one before
+-- it
 abbrev pub header_after : Header → (generation moves : ℕ) → Header
 header_after header generation moves = record {
   era = header.era;

@@ -7,7 +7,7 @@ ghost use Rattle.rld_start.specs.Behind.{behind};
 use rld_books::ServerBooks;
 use rsl_accounts::Config;
 
-/// The fewest seconds that are told.
+/// The fewest seconds that are reported.
 const TOLD_SECS: u64 = 60;
 
 /// By how many seconds the system's clock is behind another, where these are 60 or more.

@@ -1,11 +1,13 @@
 //! How an era follows one with another account file: with what is admitted of its books.
 
-ghost use Rattle.std.specs.Prelude.{◌≡◌, ◌+◌, ◌↔◌, ℕ, map, IfOk, IsTrue, Some};
+ghost use Rattle.std.specs.Prelude.{◌≡◌, ◌+◌, ◌<◌, ◌^◌, ◌↔◌, ℕ, map, IfOk, IsTrue, Some};
 ghost use Rattle.std.specs.Option.{option_map};
 ghost use Rattle.rld_admit.specs.Admitted.{AreAdmitted};
-ghost use Rattle.rld_books.specs.Saved.{IsServerOf};
+ghost use Rattle.rld_books.specs.Saved.{IsServerOf, rows_in};
 ghost use Rattle.rld_spelling.specs.Eras.{era_octets};
 ghost use Rattle.rld_spelling.specs.Tables.{client_row, table_of};
+ghost use Rattle.rld_start.specs.Counted.{sessions_in as counted};
+ghost use Rattle.rld_start.specs.NextHeaders.{generation_named};
 ghost use Rattle.rld_start.specs.Numbers.{era_of, greatest_by};
 ghost use Rattle.rld_start.specs.declared.count.Admitted.{Admitted as WasAdmitted};
 
@@ -14,15 +16,15 @@ use crate::count::{Admitted, Found, sessions_in};
 use crate::fault::{StartFault, file_fault};
 use crate::header::generation_named;
 use crate::new_era::{NewEra, begin_era};
-use crate::reopening::{EraTable, reopen};
-use crate::starting::{Begun, Started};
+use crate::newest::Begun;
+use crate::reopening::{EraTable, Former, reopen};
+use crate::starting::Started;
 use crate::table::config_in;
 use crate::wrong::{Cause, Wrong};
-use rld_admit::admit;
-use rld_books::{ServerBooks, ServerFault};
-use rld_era::{era_file, is_era_file, table_of};
-use rld_folder::{FileName, Folder, Generation};
-use rld_pace::Pacing;
+use rld_admit::{admit, era_file, is_era_file, table_of};
+use rld_books::{BlankBooks, ServerBooks, ServerFault};
+use rld_folder::{FileName, Folder, Generation, Synced};
+use rld_log::Pacing;
 use rld_spelling::{Era, EraClient, Header};
 use rld_store::Opened;
 use rsl_accounts::Config;
@@ -51,53 +53,109 @@ pub(crate) fn change<'a, R: Files<File = File>>(
     ensures from { IfOk result (λ started.
         option_map (λ (admitted : WasAdmitted). admitted.from) started.found.admitted ≡ Some begun.generation) }
 {
-    let from = begun.generation;
-    let old = config_in(alloc, from.era, table.octets.as_slice())?;
-    let opened = reopen(alloc, &old, table, begun, pacing)?;
+    let old = config_in(alloc, begun.generation.era, table.octets.as_slice())?;
+    let former = reopen(alloc, &old, table, begun, pacing)?;
+    change_from(
+        files, alloc, &old, config, folder, names, former, now, pacing,
+    )
+}
+
+/// Begins an era after a generation that was opened by the accounts of its own one, with what is
+/// admitted of the books that its log gave.
+fn change_from<'a, R: Files<File = File>>(
+    files: &R,
+    alloc: Global,
+    old: &Config,
+    config: &Config,
+    folder: Folder,
+    names: &[FileName],
+    former: Former<'a>,
+    now: u64,
+    pacing: Pacing<'a>,
+) -> Result<Started<'a>, StartFault>
+    ensures server { IfOk result (λ started. IsServerOf config.now started.store.books) }
+    ensures admitted { IfOk result (λ started. (boot next : ℕ) →
+        AreAdmitted (table_of boot old.now) former.entry.opened.store.books
+        (table_of next config.now) started.store.books) }
+    ensures boot { IfOk result (λ started. started.boot ≡ former.entry.boot) }
+    ensures era { IfOk result (λ started. started.header.era ≡ greatest_by era_of names.now + 1) }
+    ensures found { IfOk result (λ started. started.found.era ≡ started.header.era) }
+    ensures from { IfOk result (λ started. option_map (λ (admitted : WasAdmitted). admitted.from)
+        started.found.admitted ≡ Some former.entry.generation) }
+{
+    let Former {
+        generation,
+        boot,
+        opened,
+    } = former;
     let Opened { store, torn, .. } = opened;
-    let held = sessions_in(store.rows(alloc)?.as_slice());
-    let books = admitted_books(alloc, &old, from, store.books(), config)?;
-    let octets = era_file(alloc, config, table.boot)?;
-    let octets = octets.as_slice();
-    let NewEra { store, header } = begin_era(
-        files, alloc, config, &folder, names, octets, books, pacing,
-    )?;
-    sync_begun(files, alloc, &folder, &header)?;
-    let found = Found {
-        era: header.era,
-        generation: 0,
-        moves: 0,
+    let admitted = Admitted {
+        from: generation,
         sessions: sessions_in(store.rows(alloc)?.as_slice()),
-        torn,
-        behind: behind_books(config, store.books(), now),
-        admitted: Some(Admitted {
-            from,
-            sessions: held,
-        }),
     };
+    let blanks = BlankBooks::none(alloc);
+    let books = admitted_books(alloc, old, generation, store.books(), config, blanks)?;
+    let octets = era_file(alloc, config, boot)?;
+    let octets = octets.as_slice();
+    let begun = begin_era(files, alloc, config, &folder, names, octets, books, pacing)?;
+    let synced = sync_begun(files, alloc, &folder, &begun.header)?;
+    let found = found_changed(alloc, config, &begun, &synced, admitted, torn, now)?;
+    let NewEra { store, header } = begun;
     Ok(Started {
         folder,
         store,
-        boot: table.boot,
+        boot,
         found,
         header,
     })
 }
 
-/// What is admitted of the books of a generation. What goes on can be put back, so `Misfit` comes for no
-/// books that a log gave (`rld_admit::laws::carried_books_fit`).
+/// What a start finds where an era has begun that has taken over what this says. Its log has to be on the
+/// disk.
+fn found_changed(
+    alloc: Global,
+    config: &Config,
+    begun: &NewEra<'_>,
+    synced: &Synced,
+    admitted: Admitted,
+    torn: usize,
+    now: u64,
+) -> Result<Found, StartFault>
+    requires { synced.now.generation ≡ generation_named begun.now.header }
+    ensures era { IfOk result (λ found. found.era ≡ begun.now.header.era) }
+    ensures admitted { IfOk result (λ found. found.admitted ≡ Some admitted) }
+    ensures sessions { IfOk result (λ found.
+        counted (rows_in begun.now.store.books) < 2 ^ 64 →
+        found.sessions ≡ counted (rows_in begun.now.store.books)) }
+{
+    let _log = synced;
+    Ok(Found {
+        era: begun.header.era,
+        generation: 0,
+        moves: 0,
+        sessions: sessions_in(begun.store.rows(alloc)?.as_slice()),
+        torn,
+        behind: behind_books(config, begun.store.books(), now),
+        admitted: Some(admitted),
+    })
+}
+
+/// What is admitted of the books of a generation, in blank ones where these are there. `BadLog` with
+/// the cause `Misfit` comes for no books that a log gave, since what goes on can be put back
+/// (`rld_admit::laws::carried_books_fit`). `NoMemory` comes where memory is refused.
 pub fn admitted_books(
     alloc: Global,
     old: &Config,
     generation: Generation,
     books: &ServerBooks,
     new: &Config,
+    blanks: BlankBooks,
 ) -> Result<ServerBooks, StartFault>
     ensures server { IfOk result (λ made. IsServerOf new.now made) }
     ensures admitted { IfOk result (λ made. (boot next : ℕ) →
         AreAdmitted (table_of boot old.now) books.now (table_of next new.now) made) }
 {
-    match admit(alloc, old, books, new) {
+    match admit(alloc, old, books, new, blanks) {
         Ok(made) => Ok(made),
         Err(ServerFault::NoMemory) => Err(StartFault::NoMemory),
         Err(fault) => {
@@ -116,10 +174,12 @@ fn sync_begun<R: Files<File = File>>(
     alloc: Global,
     folder: &Folder,
     header: &Header,
-) -> Result<(), StartFault> {
+) -> Result<Synced, StartFault>
+    ensures { IfOk result (λ synced. synced.generation ≡ generation_named header.now) }
+{
     let generation = generation_named(header);
     match folder.sync_log(files, alloc, generation) {
-        Ok(()) => Ok(()),
+        Ok(synced) => Ok(synced),
         Err(fault) => Err(file_fault(FileName::Log(generation), fault)),
     }
 }

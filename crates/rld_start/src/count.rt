@@ -5,16 +5,16 @@ use rld_folder::Generation;
 use rsl_shard::Row;
 
 /// What a new era has taken over of one with another account file.
-#[derive(Clone, Copy, PartialEq, Eq)]
+#[derive(Clone, Copy)]
 pub struct Admitted {
     /// The generation whose books it has taken over.
     pub from: Generation,
-    /// How many sessions held a link there.
+    /// How many sessions held a link in that generation.
     pub sessions: u64,
 }
 
 /// What a start found in the folder.
-#[derive(Clone, Copy, PartialEq, Eq)]
+#[derive(Clone, Copy)]
 pub struct Found {
     /// The number of the era.
     pub era: u64,

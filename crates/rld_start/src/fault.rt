@@ -12,11 +12,12 @@ use std::alloc::AllocError;
 use std::fmt;
 
 /// Why a server does not start. It prints as the line for standard error.
-#[derive(Clone, Copy, Debug, PartialEq, Eq)]
+#[derive(Clone, Copy, Debug)]
 pub enum StartFault {
     /// Memory was refused.
     NoMemory,
-    /// The folder cannot be used, or its files are not listed. That another process has it is `busy`.
+    /// The folder cannot be used, or its files cannot be listed. It prints as `busy` where another
+    /// process has the folder.
     Folder(FolderFault),
     /// A file of the folder cannot be opened or made, read, written or synced.
     File(FileName, FolderFault),

@@ -11,7 +11,7 @@ use rld_log::{HEAD_LEN, first_frame, whole_len};
 use rld_spelling::Header;
 
 /// What stands at the front of a log.
-#[derive(Clone, Copy, PartialEq, Eq)]
+#[derive(Clone, Copy)]
 pub enum First {
     /// No whole snapshot: the generation was not begun.
     Unbegun,
@@ -62,9 +62,10 @@ fn header_in(payload: &[u8]) -> Result<Header, Wrong>
 impl First {
     /// What stands at the front of the octets of a log.
     ///
-    /// It is refused where a frame was spoilt before a whole one, and where one has a spoilt length
-    /// and its whole payload behind it. It is refused too where its generation was begun and its
-    /// header cannot be read. Else what stands behind the whole frames is a torn end.
+    /// The fault has the cause `Damaged` where a frame was spoilt before a whole one, and where one
+    /// has a spoilt length and its whole payload after it. It has the cause `Malformed` where the
+    /// generation was begun and its header cannot be read. Else what follows the whole frames is a
+    /// torn end.
     pub fn of(octets: &[u8]) -> Result<First, Wrong>
         ensures first { IfOk result (IsFirst octets.now) }
         ensures spoilt { IfErr result (λ wrong. wrong.cause ≡ damaged →

@@ -5,9 +5,10 @@ ghost use Rattle.std.specs.Prelude.{◌≡◌};
 use crate::fault::StartFault;
 use crate::new_era::{NextEra, make_era};
 use crate::number::next_generation;
+use rld_admit::era_file;
+use rld_books::BlankBooks;
 use rld_config::Archive;
-use rld_era::era_file;
-use rld_folder::{Folder, FolderFault, Generation, logless_eras, older_logs};
+use rld_folder::{Folder, FolderFault, Generation, Removed, Synced, logless_eras, older_logs};
 use rld_log::FileLog;
 use rsl_accounts::Config;
 use std::alloc::Global;
@@ -22,16 +23,10 @@ pub struct NextLog {
     pub log: FileLog,
 }
 
-/// That the log of a generation is on the disk, as it stood when this was made. Only `Generations::sync`
-/// makes one.
-#[derive(Drop)]
-pub struct Synced {
-    generation: Generation,
-}
-
 /// The logs of a server that runs: that of its next generation, and those that no start needs any more.
 pub trait Generations {
-    ghost use Rattle.std.specs.Prelude.{◌≡◌, IfOk};
+    ghost use Rattle.std.specs.Prelude.{◌≡◌, IfOk, map};
+    ghost use Rattle.rld_books.specs.Blank.{blank_book};
     ghost use Rattle.md5.specs.Md5.{md5};
     ghost use Rattle.rld_spelling.specs.Eras.{era_octets};
     ghost use Rattle.rld_spelling.specs.Tables.{table_of};
@@ -46,7 +41,8 @@ pub trait Generations {
         ensures { IfOk result (λ next. next.generation.era ≡ era) };
 
     /// Makes the files of an era that follows, with the table of this configuration and boot number: the
-    /// table, and the empty log of its first generation. Both names and the table are synced.
+    /// table, and the empty log of its first generation. Both names and the table are synced. It has a
+    /// blank book of each account, so that nobody has to wait for these where the era begins.
     ///
     /// `NoNumber` where no number is left. The other faults are the folder's, as of `next_log`, and
     /// `NoMemory` where memory is refused. In each case, and until something stands in the log, a start
@@ -55,7 +51,8 @@ pub trait Generations {
         ensures first { IfOk result (λ next.
             (next.header.generation ≡ 1) × (next.header.lines ≡ 0)) }
         ensures table { IfOk result (λ next.
-            next.header.digest ≡ md5 (era_octets (table_of boot config.now))) };
+            next.header.digest ≡ md5 (era_octets (table_of boot config.now))) }
+        ensures blanks { IfOk result (λ next. next.blanks ≡ map blank_book config.now.accounts) };
 
     /// Syncs the log of a generation to the disk, whatever the pacing. `Unopened` where it is not there
     /// or cannot be opened, and `Unsynced` where the system cannot say that the disk has it.
@@ -64,10 +61,11 @@ pub trait Generations {
 
     /// Removes the log of a generation that was not begun, or whose begin has failed: its snapshot may
     /// stand there whole, and then a start would go on from it. Unless this is done nothing more may be
-    /// recorded in the generation before it.
+    /// recorded in the generation before it, so what goes on there asks for what this gives.
     ///
     /// `Unremoved` where it cannot be removed. After `Unsynced` a loss of power may bring it back.
-    fn remove(&self, alloc: Global, generation: Generation) -> Result<(), FolderFault>;
+    fn remove(&self, alloc: Global, generation: Generation) -> Result<Removed, FolderFault>
+        ensures { IfOk result (λ removed. removed.generation ≡ generation) };
 
     /// Puts away the logs before the newest generation, as the archive is kept, once the log of that one
     /// is on the disk: they go to the folder `archive`, or are removed where nothing is kept. Logs that
@@ -89,7 +87,7 @@ pub struct FolderGenerations<'a, R> {
 }
 
 impl<'a, R: Files<File = File>> FolderGenerations<'a, R> {
-    /// Those of a folder whose archive is kept so long.
+    /// The logs of `folder`, whose archive is kept as `archive` says.
     pub fn new(files: &'a R, folder: Folder, archive: Archive) -> FolderGenerations<'a, R>
         ensures folder { result.folder ≡ folder }
         ensures archive { result.archive ≡ archive }
@@ -108,13 +106,13 @@ impl<'a, R: Files<File = File>> FolderGenerations<'a, R> {
         if older.is_empty() {
             return Ok(());
         }
-        self.folder.sync_log(self.files, alloc, newest)?;
+        let older = older.as_slice();
+        let synced = self.folder.sync_log(self.files, alloc, newest)?;
         match self.archive {
             Archive::Keep | Archive::Days(_) => {
-                self.folder
-                    .archive_logs(self.files, alloc, older.as_slice())
+                self.folder.archive_logs(self.files, alloc, older, &synced)
             }
-            Archive::Nothing => self.folder.remove_logs(self.files, alloc, older.as_slice()),
+            Archive::Nothing => self.folder.remove_logs(self.files, alloc, older, &synced),
         }
     }
 
@@ -167,21 +165,22 @@ impl<R: Files<File = File>> Generations for FolderGenerations<'_, R> {
     fn next_era(&self, alloc: Global, config: &Config, boot: u64) -> Result<NextEra, StartFault> {
         let table = era_file(alloc, config, boot)?;
         let names = self.folder.files(&(self.files, alloc))?;
+        let blanks = BlankBooks::new(alloc, config)?;
         make_era(
             self.files,
             alloc,
             &self.folder,
             names.as_slice(),
             table.as_slice(),
+            blanks,
         )
     }
 
     fn sync(&self, alloc: Global, generation: Generation) -> Result<Synced, FolderFault> {
-        self.folder.sync_log(self.files, alloc, generation)?;
-        Ok(Synced { generation })
+        self.folder.sync_log(self.files, alloc, generation)
     }
 
-    fn remove(&self, alloc: Global, generation: Generation) -> Result<(), FolderFault> {
+    fn remove(&self, alloc: Global, generation: Generation) -> Result<Removed, FolderFault> {
         self.folder.remove_log(self.files, alloc, generation)
     }
 

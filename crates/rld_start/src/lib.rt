@@ -4,9 +4,9 @@
 //! has, or it says what keeps it from that. Where the account file is another one, a new era begins with
 //! what is admitted of the books. Where a clock that was ahead has led the books past the
 //! present, a new era begins with the books cut to it. `specs/Numbers.antt` says which numbers follow,
-//! `specs/Firsts.antt` when a generation was begun, and `specs/Status.antt` how a server ends that
-//! does not start. What the files of the system give stands in no clause; `starting.rt` is written to be
-//! read.
+//! `specs/Firsts.antt` when a generation was begun, `specs/Founds.antt` which one counts, and
+//! `specs/Status.antt` how a server ends that does not start. What the files of the system give stands in
+//! no clause; `newest.rt` and `starting.rt` are written to be read.
 #![tactic(auto)]
 
 mod behind;
@@ -19,6 +19,7 @@ mod gap;
 mod generations;
 mod header;
 mod new_era;
+mod newest;
 mod number;
 mod place;
 mod rebasing;
@@ -34,7 +35,7 @@ pub use changing::{admitted_books, has_same_clients, is_same_era};
 pub use count::{Admitted, Found, sessions_in};
 pub use fault::StartFault;
 pub use first::First;
-pub use generations::{FolderGenerations, Generations, NextLog, Synced};
+pub use generations::{FolderGenerations, Generations, NextLog};
 pub use header::{check_header, generation_named, next_header};
 pub use new_era::NextEra;
 pub use number::{next_era, next_generation};

@@ -10,10 +10,9 @@ use crate::header::generation_named;
 use crate::number::next_era;
 use crate::refused::fault_of;
 use md5::{Digest, Md5};
-use rld_books::ServerBooks;
+use rld_books::{BlankBooks, ServerBooks};
 use rld_folder::{FileName, Folder, Generation};
-use rld_log::FileLog;
-use rld_pace::{PacedLog, Pacing};
+use rld_log::{FileLog, PacedLog, Pacing};
 use rld_spelling::Header;
 use rld_store::Store;
 use rsl_accounts::Config;
@@ -30,6 +29,8 @@ pub struct NextEra {
     pub header: Header,
     /// Its log, which is empty.
     pub log: FileLog,
+    /// Blank books of its accounts, if they were made.
+    pub blanks: BlankBooks,
 }
 
 /// An era that was begun: its table and its first generation are on the disk.
@@ -50,11 +51,13 @@ pub(crate) fn make_era<R: Files<File = File>>(
     folder: &Folder,
     names: &[FileName],
     table: &[u8],
+    blanks: BlankBooks,
 ) -> Result<NextEra, StartFault>
     ensures era { IfOk result (λ next. next.header.era ≡ greatest_by era_of names.now + 1) }
     ensures first { IfOk result (λ next.
         (next.header.generation ≡ 1) × (next.header.lines ≡ 0)) }
     ensures table { IfOk result (λ next. next.header.digest ≡ md5 table.now) }
+    ensures blanks { IfOk result (λ next. next.blanks ≡ blanks) }
 {
     let Some(era) = next_era(names) else {
         return Err(StartFault::NoNumber);
@@ -68,7 +71,11 @@ pub(crate) fn make_era<R: Files<File = File>>(
         digest: Md5::digest(table),
         lines: 0,
     };
-    Ok(NextEra { header, log })
+    Ok(NextEra {
+        header,
+        log,
+        blanks,
+    })
 }
 
 /// Begins an era with the table of these octets and with these books, under a number that no file of
@@ -90,7 +97,8 @@ pub(crate) fn begin_era<'a, R: Files<File = File>>(
     ensures table { IfOk result (λ begun. begun.header.digest ≡ md5 table.now) }
     ensures books { IfOk result (λ begun. begun.store.books ≡ books) }
 {
-    let NextEra { header, log } = make_era(files, alloc, folder, names, table)?;
+    let blanks = BlankBooks::none(alloc);
+    let NextEra { header, log, .. } = make_era(files, alloc, folder, names, table, blanks)?;
     match Store::begin_with(alloc, config, header, books, PacedLog::new(log, pacing)) {
         Ok(store) => Ok(NewEra { store, header }),
         Err(refused) => Err(fault_of(alloc, generation_named(&header), refused)),

@@ -10,7 +10,7 @@ use rld_log::{HEAD_LEN, first_frame};
 /// How many octets of a frame's head are its length.
 const LENGTH_LEN: usize = 4;
 
-/// What stands behind the frame at the front, if there is one; else all.
+/// The octets after the frame at the front, if there is one; else all of them.
 fn behind_frame(octets: &[u8]) -> &[u8]
     ensures { length result.now ≤ length octets.now }
 {
@@ -20,8 +20,8 @@ fn behind_frame(octets: &[u8]) -> &[u8]
     }
 }
 
-/// How many octets stand before the payload of a frame of this number, in a file that has so many
-/// whole frames; else how many the whole frames and a head have.
+/// How many octets stand before the payload of the frame with this number. In a file that has fewer whole
+/// frames, it is how many octets those and a head have.
 pub(crate) fn payload_offset(octets: &[u8], frame: usize) -> usize {
     let mut left = octets;
     for _ in 0..frame {
@@ -53,8 +53,8 @@ fn is_digest_of_front(sum: &[u8], octets: &[u8]) -> bool
     is_digest_of(&hasher, sum)
 }
 
-/// Whether a frame stands at the front whose length is spoilt: its digest is that of a front of what
-/// stands behind its head. What a crash leaves of a frame is none, whatever names stand in it.
+/// Whether a frame stands at the front whose length is spoilt: its digest is that of a front of
+/// what follows its head. What a crash leaves of a frame is none, whatever names stand in it.
 pub(crate) fn has_spoilt_length(octets: &[u8]) -> bool
     ensures { IsTrue result ↔ HasSpoiltLength octets.now }
 {

@@ -1,25 +1,26 @@
 //! How an era follows one whose clock is ahead: with its books, cut to the present.
 
 ghost use Rattle.std.specs.Prelude.{◌≡◌, ◌+◌, ◌<◌, ◌^◌, IfOk};
+ghost use Rattle.md5.specs.Md5.{md5};
 ghost use Rattle.rld_books.specs.Cut.{cut_server, late_in_server};
 ghost use Rattle.rld_books.specs.Saved.{IsServerOf};
 ghost use Rattle.rld_start.specs.Numbers.{era_of, greatest_by};
 
 use crate::fault::StartFault;
 use crate::gap::check_archive;
-use crate::new_era::begin_era;
-use crate::reopening::{check_accounts, read_table, reopen};
-use crate::starting::{Begun, generation_in, newest_begun};
+use crate::new_era::{NewEra, begin_era};
+use crate::newest::{Begun, Newest, generation_in, newest_begun};
+use crate::reopening::{EraTable, Former, check_accounts, read_table, reopen};
 use crate::wrong::{Cause, Wrong};
 use rld_books::{CutBooks, ServerBooks, ServerFault};
 use rld_folder::{FileName, Folder, Generation};
-use rld_pace::{Pace, Pacing, Ticks};
+use rld_log::{Pace, Pacing, Ticks};
 use rsl_accounts::Config;
 use std::alloc::Global;
 use std::fs::{File, Files};
 
 /// What a rebase has done.
-#[derive(Clone, Copy, PartialEq, Eq)]
+#[derive(Clone, Copy)]
 pub struct Rebased {
     /// The generation whose books were cut.
     pub from: Generation,
@@ -47,7 +48,7 @@ pub fn rebase<R: Files<File = File> + Alloc<A = Global> + Clone + Drop>(
 ) -> Result<Rebased, StartFault> {
     let folder = Folder::open(rt, alloc, path)?;
     let files = folder.files(rt)?;
-    let begun = newest_begun(rt, alloc, &folder, files.as_slice())?;
+    let Newest { begun, .. } = newest_begun(rt, alloc, &folder, files.as_slice())?;
     check_archive(folder.archived(rt)?.as_slice(), generation_in(&begun))?;
     match begun {
         Some(begun) => rebase_begun(rt, alloc, config, &folder, files.as_slice(), begun, now),
@@ -68,33 +69,60 @@ fn rebase_begun<R: Files<File = File>>(
     ensures from { IfOk result (λ rebased. rebased.from ≡ begun.generation) }
     ensures era { IfOk result (λ rebased. rebased.era ≡ greatest_by era_of names.now + 1) }
 {
-    let from = begun.generation;
     let ticks = Ticks::new();
     let pacing = Pacing {
         pace: Pace::Always,
         ticks: &ticks,
     };
+    let from = begun.generation;
     let table = read_table(files, alloc, folder, &begun)?;
     check_accounts(alloc, config, from.era, &table)?;
-    let opened = reopen(alloc, config, &table, begun, pacing)?;
-    let books = opened.store.books();
-    let cut = cut_books(alloc, config, from, books, now)?;
-    let CutBooks { books, moments } = cut;
-    let begun = begin_era(
-        files,
-        alloc,
-        config,
-        folder,
-        names,
-        table.octets.as_slice(),
-        books,
-        pacing,
+    let former = reopen(alloc, config, &table, begun, pacing)?;
+    let cut = cut_from(
+        files, alloc, config, folder, names, &table, &former, now, pacing,
     )?;
     Ok(Rebased {
         from,
-        era: begun.header.era,
-        moments,
+        era: cut.begun.header.era,
+        moments: cut.moments,
     })
+}
+
+/// An era that was begun with books that were cut.
+#[derive(Drop)]
+struct CutEra<'a> {
+    /// The era.
+    begun: NewEra<'a>,
+    /// How many moments were cut: at most 2^64 - 1.
+    moments: u64,
+}
+
+/// Begins an era with the table of a generation that was opened, and with the books that its log gave,
+/// cut to a moment.
+fn cut_from<'a, R: Files<File = File>>(
+    files: &R,
+    alloc: Global,
+    config: &Config,
+    folder: &Folder,
+    names: &[FileName],
+    table: &EraTable,
+    former: &Former<'_>,
+    now: u64,
+    pacing: Pacing<'a>,
+) -> Result<CutEra<'a>, StartFault>
+    ensures server { IfOk result (λ cut. IsServerOf config.now cut.begun.store.books) }
+    ensures books { IfOk result (λ cut. IsServerOf config.now former.now.opened.store.books →
+        cut.begun.store.books ≡ cut_server now former.now.opened.store.books) }
+    ensures moments { IfOk result (λ cut. late_in_server now former.now.opened.store.books < 2 ^ 64 →
+        cut.moments ≡ late_in_server now former.now.opened.store.books) }
+    ensures table { IfOk result (λ cut. cut.begun.header.digest ≡ md5 table.now.octets.items) }
+    ensures era { IfOk result (λ cut. cut.begun.header.era ≡ greatest_by era_of names.now + 1) }
+{
+    let books = former.opened.store.books();
+    let CutBooks { books, moments } = cut_books(alloc, config, former.generation, books, now)?;
+    let table = table.octets.as_slice();
+    let begun = begin_era(files, alloc, config, folder, names, table, books, pacing)?;
+    Ok(CutEra { begun, moments })
 }
 
 /// The books of a generation, cut to a moment. They are put back as they fit, so `Misfit` comes for

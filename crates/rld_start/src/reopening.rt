@@ -1,19 +1,22 @@
 //! A generation that was begun, opened again.
 
-ghost use Rattle.std.specs.Prelude.{◌≡◌, ℕ, OnOk};
+ghost use Rattle.std.specs.Prelude.{◌≡◌, ℕ, List, [], IfOk, IsTrue, OnOk};
 ghost use Rattle.rld_spelling.specs.Eras.{era_octets};
 ghost use Rattle.rld_spelling.specs.Tables.{table_of};
+ghost use Rattle.rld_store.specs.Generations.{HasHistory};
+ghost use Rattle.rld_store.specs.Standing.{StandsFor};
+ghost use Rattle.rsl_shard.specs.Restep.{BooksSeen};
+ghost use Rattle.rsl_shard.specs.declared.moved.Move.{Move as OneMove};
 
 use crate::fault::StartFault;
 use crate::files::read_era;
 use crate::header::check_header;
+use crate::newest::Begun;
 use crate::refused::fault_of;
-use crate::starting::Begun;
 use crate::table::boot_of;
-use rld_era::is_era_file;
-use rld_folder::{FileName, Folder};
-use rld_log::FileLog;
-use rld_pace::{PacedLog, Pacing};
+use rld_admit::is_era_file;
+use rld_folder::{FileName, Folder, Generation};
+use rld_log::{FileLog, Log, PacedLog, Pacing};
 use rld_store::{Opened, Store};
 use rsl_accounts::Config;
 use std::alloc::Global;
@@ -26,6 +29,17 @@ pub(crate) struct EraTable {
     pub(crate) octets: Vec<u8>,
     /// The boot number of the era.
     pub(crate) boot: u64,
+}
+
+/// A generation that was opened, to go on from.
+#[derive(Drop)]
+pub(crate) struct Former<'a> {
+    /// Which one.
+    pub(crate) generation: Generation,
+    /// The boot number of its era.
+    pub(crate) boot: u64,
+    /// Its books and its log, and what was found there.
+    pub(crate) opened: Opened<PacedLog<'a, FileLog>>,
 }
 
 /// The table of the era of a generation that was begun, which is the one that its header names.
@@ -66,15 +80,39 @@ pub(crate) fn reopen<'a>(
     table: &EraTable,
     begun: Begun,
     pacing: Pacing<'a>,
-) -> Result<Opened<PacedLog<'a, FileLog>>, StartFault>
+) -> Result<Former<'a>, StartFault>
     requires { (boot : ℕ) × (table.now.octets.items ≡ era_octets (table_of boot config.now)) }
+    ensures generation { IfOk result (λ former. former.generation ≡ begun.generation) }
+    ensures boot { IfOk result (λ former. former.boot ≡ table.now.boot) }
 {
     let Begun {
         generation,
         log,
         ..
     } = begun;
-    match Store::open(alloc, config, PacedLog::new(log, pacing)) {
+    let opened = open_store(alloc, config, generation, PacedLog::new(log, pacing))?;
+    Ok(Former {
+        generation,
+        boot: table.boot,
+        opened,
+    })
+}
+
+/// Opens the log of a generation as a store.
+fn open_store<L: Log + Drop>(
+    alloc: Global,
+    config: &Config,
+    generation: Generation,
+    log: L,
+) -> Result<Opened<L>, StartFault>
+    ensures stands { IfOk result (λ opened. IsTrue (L.tells opened.store.log) →
+        (opening : List BooksSeen) (history : List OneMove) →
+        HasHistory config.now opening history (L.seen log) →
+        StandsFor config.now opening opened.store.counts L.tears opened.store.end
+        (L.seen opened.store.log) (L.may_leave opened.store.log)
+        opened.store.whole opened.store.books history []) }
+{
+    match Store::open(alloc, config, log) {
         Ok(opened) => Ok(opened),
         Err(refused) => Err(fault_of(alloc, generation, refused)),
     }

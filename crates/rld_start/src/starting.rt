@@ -1,29 +1,30 @@
 //! How a server starts from its folder.
 
-ghost use Rattle.std.specs.Prelude.{◌≡◌, ◌+◌, ◌↔◌, All, IfOk, IsTrue};
+ghost use Rattle.std.specs.Prelude.{◌≡◌, ◌+◌, All, IfNone, IfOk, None, OnOk, Some};
+ghost use Rattle.rld_books.specs.Server.{new_server};
 ghost use Rattle.rld_spelling.specs.Eras.{era_octets};
 ghost use Rattle.rld_spelling.specs.Tables.{table_of};
+ghost use Rattle.rld_start.specs.Founds.{IsFrom, generation_in};
+ghost use Rattle.rld_start.specs.Gaps.{IsEarlier};
 ghost use Rattle.rld_start.specs.NextHeaders.{header_after};
-ghost use Rattle.rld_start.specs.Numbers.{IsFirstOrNone, era_of, generation_of, greatest_by};
+ghost use Rattle.rld_start.specs.Numbers.{era_of, generation_of, greatest_by};
 
 use crate::behind::behind_books;
 use crate::changing::change;
 use crate::count::{Found, sessions_in};
-use crate::fault::{StartFault, log_fault};
-use crate::files::{create_log, open_log};
-use crate::first::First;
+use crate::fault::StartFault;
+use crate::files::create_log;
 use crate::gap::check_archive;
 use crate::header::next_header;
-use crate::new_era::{FIRST, NewEra, begin_era};
+use crate::new_era::{NewEra, begin_era};
+use crate::newest::{Begun, Newest, generation_in, newest_begun};
 use crate::number::next_generation;
 use crate::refused::fault_of;
-use crate::reopening::{EraTable, read_table, reopen};
-use crate::wrong::{Cause, Wrong};
+use crate::reopening::{EraTable, Former, read_table, reopen};
+use rld_admit::{era_file, is_era_file};
 use rld_books::ServerBooks;
-use rld_era::{era_file, is_era_file};
-use rld_folder::{FileName, Folder, Generation, newest_generation};
-use rld_log::{FileLog, Log};
-use rld_pace::{PacedLog, Pacing};
+use rld_folder::{FileName, Folder, Generation};
+use rld_log::{FileLog, PacedLog, Pacing};
 use rld_spelling::Header;
 use rld_store::{Opened, Store};
 use rsl_accounts::Config;
@@ -45,22 +46,6 @@ pub struct Started<'a> {
     pub header: Header,
 }
 
-/// A generation that was begun, and its log.
-#[derive(Drop)]
-pub(crate) struct Begun {
-    pub(crate) generation: Generation,
-    pub(crate) header: Header,
-    pub(crate) log: FileLog,
-}
-
-/// The generation that counts, if there is one.
-pub(crate) fn generation_in(begun: &Option<Begun>) -> Option<Generation> {
-    match begun {
-        Some(begun) => Some(begun.generation),
-        None => None,
-    }
-}
-
 /// Starts a server from its folder: opens and locks it, and goes on from the newest generation that
 /// was begun. Where the era of that one has the configuration's table, it goes on in a new generation
 /// of it; else in a new era, which begins with what is admitted of the books (`rld_admit::admit`) under
@@ -68,15 +53,15 @@ pub(crate) fn generation_in(begun: &Option<Begun>) -> Option<Generation> {
 /// in seconds since 1970. Its logs are synced to the disk as the pacing says. Where the books' greatest
 /// clock is 60 seconds or more after `now`, what was found says so.
 ///
-/// The faults come in this order. Those of the folder: `busy` where another process has it. `BadLog`
-/// where a log that is looked at, from the newest to the one that counts, has a spoilt frame before a
-/// whole one, or where none counts and one is not the first of its era; and where a log of the archive
-/// is not before the one that counts, or is there and none counts. Of the one that counts: `BadLog`
-/// where the era's table has no spelling, and where the header or anything behind it is of another
-/// generation or another table, or has no spelling. Until then nothing has changed in the folder but
-/// an empty `lock` and a torn end, which is cut off. Then come `NoNumber` and what keeps a file from
-/// being made, written or synced; a later start passes over what that leaves, or goes on in a new era
-/// that is whole. `NoMemory` comes where memory is refused.
+/// The faults come in this order. Those of the folder: `busy` where another process has it.
+/// `BadLog` where a log that is looked at, from the newest to the one that counts, has a spoilt
+/// frame before a whole one, or where none counts and one is not the first of its era; and where a
+/// log of the archive is not before the one that counts, or is there and none counts. Of the one
+/// that counts: `BadLog` where the era's table has no spelling, and where the header or anything
+/// after it is of another generation or another table, or has no spelling. Until then nothing has
+/// changed in the folder but an empty `lock` and a torn end, which is cut off. Then come `NoNumber`
+/// and what keeps a file from being made, written or synced; a later start passes over what that
+/// leaves, or goes on in a new era that is whole. `NoMemory` comes where memory is refused.
 pub fn start<'a, R: Files<File = File> + Alloc<A = Global> + Clone + Drop>(
     rt: &R,
     alloc: Global,
@@ -87,97 +72,43 @@ pub fn start<'a, R: Files<File = File> + Alloc<A = Global> + Clone + Drop>(
 ) -> Result<Started<'a>, StartFault> {
     let folder = Folder::open(rt, alloc, path)?;
     let files = folder.files(rt)?;
-    let begun = newest_begun(rt, alloc, &folder, files.as_slice())?;
-    check_archive(folder.archived(rt)?.as_slice(), generation_in(&begun))?;
-    match begun {
-        Some(begun) => follow(
-            rt,
-            alloc,
-            config,
-            folder,
-            files.as_slice(),
-            begun,
-            now,
-            pacing,
-        ),
-        None => begin(rt, alloc, config, folder, files.as_slice(), now, pacing),
-    }
+    let files = files.as_slice();
+    let Newest { begun, .. } = newest_begun(rt, alloc, &folder, files)?;
+    let archived = folder.archived(rt)?;
+    take_up(
+        rt,
+        alloc,
+        config,
+        folder,
+        files,
+        archived.as_slice(),
+        begun,
+        now,
+        pacing,
+    )
 }
 
-/// The newest generation that was begun, if there is one.
-pub(crate) fn newest_begun<R: Files<File = File>>(
+/// Starts a server in a folder with these files: from the generation that counts, if there is one, and
+/// else in a new era. `Gap` comes where a log of the archive is not before that generation.
+fn take_up<'a, R: Files<File = File>>(
     files: &R,
     alloc: Global,
-    folder: &Folder,
+    config: &Config,
+    folder: Folder,
     names: &[FileName],
-) -> Result<Option<Begun>, StartFault> {
-    let mut later = None;
-    for _ in 0..names.len() {
-        let Some(generation) = newest_generation(names, later) else {
-            break;
-        };
-        let mut log = open_log(files, alloc, folder, generation)?;
-        match first_in(alloc, generation, &mut log)? {
-            First::Begun(header) => {
-                return Ok(Some(Begun {
-                    generation,
-                    header,
-                    log,
-                }));
-            }
-            First::Unbegun => later = Some(generation),
-        }
-    }
-    none_begun(names)
-}
-
-/// What stands at the front of a log.
-fn first_in(alloc: Global, generation: Generation, log: &mut FileLog) -> Result<First, StartFault> {
-    let file = FileName::Log(generation);
-    let octets = match log.read(alloc) {
-        Ok(octets) => octets,
-        Err(fault) => return Err(log_fault(file, fault)),
-    };
-    match First::of(octets.as_slice()) {
-        Ok(first) => Ok(first),
-        Err(wrong) => Err(StartFault::bad(file, wrong)),
-    }
-}
-
-/// Whether a file is no log, or that of the first generation of an era.
-fn is_first(name: FileName) -> bool
-    ensures { IsTrue result ↔ IsFirstOrNone name }
+    archived: &[FileName],
+    begun: Option<Begun>,
+    now: u64,
+    pacing: Pacing<'a>,
+) -> Result<Started<'a>, StartFault>
+    ensures earlier { OnOk result (All (IsEarlier (generation_in begun)) archived.now) }
+    ensures from { IfOk result (λ started. IsFrom (generation_in begun) started.found) }
+    ensures new { IfOk result (λ started. IfNone begun (started.store.books ≡ new_server config.now)) }
 {
-    match name {
-        FileName::Log(generation) => generation.number <= FIRST,
-        FileName::Lock | FileName::Era(_) => true,
-    }
-}
-
-/// Whether each log is that of the first generation of its era.
-fn are_first(names: &[FileName]) -> bool
-    ensures { IsTrue result ↔ All IsFirstOrNone names.now }
-{
-    for name in names {
-        if !is_first(*name) {
-            return false;
-        }
-    }
-    true
-}
-
-/// That no generation was begun, where it may be so: each log is that of the first generation of its
-/// era. `Alone` of the newest log where it may not.
-fn none_begun(names: &[FileName]) -> Result<Option<Begun>, StartFault> {
-    match newest_generation(names, None) {
-        Some(newest) if !are_first(names) => {
-            let wrong = Wrong {
-                offset: 0,
-                cause: Cause::Alone,
-            };
-            Err(StartFault::bad(FileName::Log(newest), wrong))
-        }
-        _ => Ok(None),
+    check_archive(archived, generation_in(&begun))?;
+    match begun {
+        Some(begun) => follow(files, alloc, config, folder, names, begun, now, pacing),
+        None => begin(files, alloc, config, folder, names, now, pacing),
     }
 }
 
@@ -195,6 +126,8 @@ fn begin<'a, R: Files<File = File>>(
     ensures era { IfOk result (λ started. started.header.era ≡ greatest_by era_of names.now + 1) }
     ensures first { IfOk result (λ started.
         (started.header.generation ≡ 1) × (started.header.lines ≡ 0)) }
+    ensures books { IfOk result (λ started. started.store.books ≡ new_server config.now) }
+    ensures found { IfOk result (λ started. IsFrom None started.found) }
 {
     let table = era_file(alloc, config, boot)?;
     let books = ServerBooks::new(alloc, config)?;
@@ -238,7 +171,9 @@ fn follow<'a, R: Files<File = File>>(
     begun: Begun,
     now: u64,
     pacing: Pacing<'a>,
-) -> Result<Started<'a>, StartFault> {
+) -> Result<Started<'a>, StartFault>
+    ensures { IfOk result (λ started. IsFrom (Some begun.generation) started.found) }
+{
     let table = read_table(files, alloc, &folder, &begun)?;
     if is_era_file(alloc, config, table.boot, table.octets.as_slice())? {
         go_on(
@@ -265,19 +200,49 @@ fn go_on<'a, R: Files<File = File>>(
 ) -> Result<Started<'a>, StartFault>
     requires { table.now.octets.items ≡ era_octets (table_of table.now.boot config.now) }
     ensures boot { IfOk result (λ started. started.boot ≡ table.now.boot) }
+    ensures found { IfOk result (λ started. IsFrom (Some begun.generation) started.found) }
     ensures era { IfOk result (λ started. started.found.era ≡ begun.generation.era) }
     ensures generation { IfOk result (λ started. started.found.generation ≡ begun.generation.number) }
     ensures moves { IfOk result (λ started. started.found.moves ≡ started.header.lines) }
-    ensures next { IfOk result (λ started. started.header.generation
-        ≡ greatest_by (generation_of started.header.era) names.now + 1) }
 {
-    let generation = begun.generation;
+    let former = reopen(alloc, config, table, begun, pacing)?;
+    go_on_from(files, alloc, config, folder, names, former, now, pacing)
+}
+
+/// Goes on from a generation that was opened, in a new one of its era, with the books that its log gave.
+fn go_on_from<'a, R: Files<File = File>>(
+    files: &R,
+    alloc: Global,
+    config: &Config,
+    folder: Folder,
+    names: &[FileName],
+    former: Former<'a>,
+    now: u64,
+    pacing: Pacing<'a>,
+) -> Result<Started<'a>, StartFault>
+    ensures books { IfOk result (λ started.
+        started.store.books ≡ former.entry.opened.store.books) }
+    ensures boot { IfOk result (λ started. started.boot ≡ former.entry.boot) }
+    ensures found { IfOk result (λ started. IsFrom (Some former.entry.generation) started.found) }
+    ensures era { IfOk result (λ started. started.found.era ≡ former.entry.generation.era) }
+    ensures generation { IfOk result (λ started.
+        started.found.generation ≡ former.entry.generation.number) }
+    ensures moves { IfOk result (λ started. started.found.moves ≡ started.header.lines) }
+    ensures header { IfOk result (λ started. started.header ≡ header_after former.entry.opened.header
+        (greatest_by (generation_of former.entry.opened.header.era) names.now + 1)
+        former.entry.opened.moves) }
+{
+    let Former {
+        generation,
+        boot,
+        opened,
+    } = former;
     let Opened {
         mut store,
         header,
         moves,
         torn,
-    } = reopen(alloc, config, table, begun, pacing)?;
+    } = opened;
     let header = following(&header, names, moves as u64)?;
     let found = Found {
         era: generation.era,
@@ -292,13 +257,13 @@ fn go_on<'a, R: Files<File = File>>(
     Ok(Started {
         folder,
         store,
-        boot: table.boot,
+        boot,
         found,
         header,
     })
 }
 
-/// The header of the generation that follows, after so many moves.
+/// The header of the generation that follows one which had `moves` moves.
 fn following(header: &Header, names: &[FileName], moves: u64) -> Result<Header, StartFault>
     ensures { IfOk result (λ next. next ≡ header_after header.now
         (greatest_by (generation_of header.now.era) names.now + 1) moves) }
@@ -320,7 +285,9 @@ fn renew<'a, R: Files<File = File>>(
     store: &mut Store<PacedLog<'a, FileLog>>,
     header: Header,
     pacing: Pacing<'a>,
-) -> Result<(), StartFault> {
+) -> Result<(), StartFault>
+    ensures { store.new.books ≡ store.old.books }
+{
     let generation = Generation {
         era: header.era,
         number: header.generation,

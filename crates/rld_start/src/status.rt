@@ -2,7 +2,7 @@ ghost use Rattle.std.specs.Prelude.{◌≡◌};
 ghost use Rattle.rld_start.specs.Status.{number_of};
 
 /// How a server ends, as whoever started it can see.
-#[derive(Clone, Copy, PartialEq, Eq)]
+#[derive(Clone, Copy)]
 pub enum EndStatus {
     /// All was done.
     Done,

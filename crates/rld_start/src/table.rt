@@ -7,14 +7,14 @@ ghost use Rattle.rld_spelling.specs.Tables.{table_of};
 
 use crate::fault::StartFault;
 use crate::wrong::{Cause, Wrong};
-use rld_era::{TableFault, config_of};
+use rld_admit::{TableFault, config_of};
 use rld_fields::{Fault, ReadFault};
 use rld_folder::FileName;
 use rld_spelling::Era;
 use rsl_accounts::Config;
 use std::alloc::Global;
 
-/// The fault of an era's file of so many octets, which spell no table.
+/// The fault of an era's file, `len` octets long, that spells no table.
 fn malformed(era: u64, len: usize, fault: Fault) -> StartFault {
     let wrong = Wrong {
         offset: fault.offset(len),

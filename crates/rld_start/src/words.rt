@@ -10,11 +10,11 @@ use std::alloc::{AllocError, Global};
 impl Found {
     ghost use Rattle.rld_start.specs.Greeting.{greeting};
 
-    /// What is said of the folder that a server starts from: its era, the generation that it goes on
-    /// from or that the era is new, the sessions that have a place, and the octets of a torn end, if
-    /// there was one. On a line of its own stands how many sessions of an era with another account file
-    /// go on, and on another by how much the system's clock is behind, where these are told.
-    /// It fails only where memory is refused.
+    /// What is said of the folder that a server starts from: its era, the generation that it goes
+    /// on from or that the era is new, the sessions that have a place, and the octets of a torn
+    /// end, if there was one. On a line of its own stands how many sessions of an era with another
+    /// account file go on, and on another by how much the system's clock is behind, where either
+    /// was found. There is no line feed at the end. It fails only where memory is refused.
     pub fn greeting(&self, alloc: Global) -> Result<String, AllocError>
         ensures { IfOk result (λ text. string_bytes text ≡ greeting self.now) }
     {
@@ -33,8 +33,9 @@ impl Found {
 impl Rebased {
     ghost use Rattle.rld_start.specs.Rebased.{rebased};
 
-    /// What is said of a rebase, in one line: the generation whose books were cut, how many moments
-    /// were, and the era that begins with them. It fails only where memory is refused.
+    /// What is said of a rebase, in one line with its line feed: the generation whose books were
+    /// cut, how many moments were, and the era that begins with them. It fails only where memory is
+    /// refused.
     pub fn line(&self, alloc: Global) -> Result<String, AllocError>
         ensures { IfOk result (λ text. string_bytes text ≡ rebased self.now) }
     {
@@ -92,7 +93,7 @@ fn write_admitted(
     }
 }
 
-/// Writes by how many seconds the system's clock is behind, if it is told.
+/// Writes by how many seconds the system's clock is behind, if it is.
 fn write_behind(text: &mut String, behind: Option<u64>) -> Result<(), AllocError>
     ensures { OnOk result (string_bytes text.new ≡ string_bytes text.old ++ behind_text behind) }
 {

@@ -9,7 +9,7 @@ use std::fmt;
 use thiserror::Error;
 
 /// What is wrong with a file of the folder.
-#[derive(Clone, Copy, Debug, PartialEq, Eq, Error)]
+#[derive(Clone, Copy, Debug, Error)]
 pub enum Cause {
     /// A frame was spoilt before a whole one.
     #[error("damaged")]
@@ -42,7 +42,7 @@ pub enum Cause {
 }
 
 /// What is wrong with a file, and where.
-#[derive(Clone, Copy, Debug, PartialEq, Eq, Error)]
+#[derive(Clone, Copy, Debug, Error)]
 #[error("at {offset}: {cause}")]
 pub struct Wrong {
     /// Where it stands, in octets from the front of the file.
@@ -63,7 +63,7 @@ impl From<Damage> for Wrong {
 }
 
 /// A file of the folder that is damaged. It prints as `bad log: log-1-2 at 40: damaged`.
-#[derive(Clone, Copy, Debug, PartialEq, Eq)]
+#[derive(Clone, Copy, Debug)]
 pub struct BadLog {
     /// The file.
     pub file: FileName,

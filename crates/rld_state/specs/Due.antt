@@ -3,7 +3,7 @@ use Rattle.std.specs.Prelude.{◌≡◌, ◌⊎◌, ℕ, ◌-◌, ◌≤◌}
 use Rattle.rld_look.specs.Totals.{plus}
 use Rattle.rld_state.specs.declared.timer.RollTimer.{RollTimer}
 
--- a generation has had so many moves, or has lasted for so many seconds
+-- a generation that has had `moves` moves and has lasted for `seconds` seconds is full
 abbrev pub IsFull : (moves seconds : ℕ) → Type 0
 IsFull moves seconds = (1000000 ≤ moves) ⊎ (600 ≤ seconds)
 

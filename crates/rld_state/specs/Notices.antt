@@ -1,5 +1,5 @@
--- What is to be told of a begin of a generation, and of old logs that are put away: once when it goes wrong, and once when
--- that is over.
+-- What is to be reported of a begin of a generation, and of old logs that are put away: once when
+-- it goes wrong, and once when that is over.
 use Rattle.std.specs.Prelude.{Bool, true, false, Option, Some, None, Result, Ok, Err}
 use Rattle.rld_folder.specs.declared.fault.FolderFault.{FolderFault}
 use Rattle.rld_state.specs.declared.rolled.Notice.{Notice}

@@ -1,6 +1,6 @@
 -- The places of one account, by the rows of all.
 use Rattle.std.specs.Prelude.{ℕ, ◌==◌, List, [], ◌∷◌, Option, Some, None, if◌then◌else◌}
-use Rattle.rld_refusals.specs.declared.line.Places.{Places}
+use Rattle.rld_look.specs.declared.line.Places.{Places}
 use Rattle.rsl_shard.specs.declared.row.Row.{Row}
 
 -- the first row that is the account's has them

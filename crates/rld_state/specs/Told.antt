@@ -1,6 +1,6 @@
--- How grave it is what an operator is told but for refusals.
-use Rattle.rld_refusals.specs.declared.priority.Priority.{Priority}
-use Rattle.rld_refusals.specs.declared.priority.Priority.TheVariants as priorities
+-- How grave a line is that an operator reads on standard error, but for refusals.
+use Rattle.rld_look.specs.declared.priority.Priority.{Priority}
+use Rattle.rld_look.specs.declared.priority.Priority.TheVariants as priorities
 use Rattle.rld_state.specs.declared.rolled.Notice.TheVariants.{NotBegun, Begun, NotPutAway, PutAway}
 use Rattle.rld_state.specs.declared.told.Told.{Told}
 use Rattle.rld_state.specs.declared.told.Told.TheVariants.{Recording, Generations, Accounts}

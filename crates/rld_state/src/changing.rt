@@ -1,24 +1,23 @@
 //! How the accounts of a running server change: within its era, or with a new one.
 
-ghost use Rattle.std.specs.Prelude.{◌≡◌, ◌||◌, [], ℕ, IfOk, IsErrOf, IsTrue, OnErr, OnOk};
+ghost use Rattle.std.specs.Prelude.{◌≡◌, ◌||◌, [], ℕ, IfErr, IfOk, IsErrOf, IsTrue, OnErr, OnOk};
 ghost use Rattle.std.specs.Arc.{arc_value};
 ghost use Rattle.rld_admit.specs.Admitted.{AreAdmitted};
 ghost use Rattle.rld_books.specs.Saved.{IsServerOf};
-ghost use Rattle.rld_state.specs.Keeping.{is_over};
+ghost use Rattle.rld_state.specs.Keeping.{IsGone, is_over};
 ghost use Rattle.rld_spelling.specs.Tables.{table_of};
 ghost use Rattle.rld_start.specs.NextHeaders.{generation_named};
 ghost use Rattle.rld_store.specs.Premises.{Only};
 ghost use Rattle.rld_store.specs.Standing.{StandsFor};
 
-use crate::reloaded::Passage;
-use crate::rolled::RollFault;
+use crate::reloaded::EraChange;
+use crate::rolled::{NotBegun, RollFault};
 use crate::state::ServerState;
-use rld_log::{FileLog, Log};
-use rld_pace::{PacedLog, Pacing};
+use rld_books::BlankBooks;
+use rld_folder::Synced;
+use rld_log::{FileLog, Log, PacedLog, Pacing};
 use rld_spelling::Header;
-use rld_start::{
-    Generations, NextEra, StartFault, Synced, admitted_books, generation_named, sessions_in,
-};
+use rld_start::{Generations, NextEra, StartFault, admitted_books, generation_named, sessions_in};
 use rld_store::Store;
 use rsl_accounts::Config;
 use std::alloc::Global;
@@ -34,7 +33,7 @@ pub(crate) struct Opening<'p> {
     /// What shows that the log is on the disk.
     pub(crate) synced: Synced,
     /// How it follows the present one.
-    pub(crate) passage: Passage,
+    pub(crate) change: EraChange,
 }
 
 /// An era that goes on, and what is left of the former one. That takes some time to drop: let it be done
@@ -42,7 +41,7 @@ pub(crate) struct Opening<'p> {
 #[derive(Drop)]
 pub struct Entered<'p> {
     /// How it follows the former one.
-    pub passage: Passage,
+    pub change: EraChange,
     /// The store of the former one.
     pub former: Store<PacedLog<'p, FileLog>>,
 }
@@ -61,7 +60,8 @@ impl<'p> ServerState<Store<PacedLog<'p, FileLog>>> {
         config: Arc<Config>,
         next: NextEra,
         pacing: Pacing<'p>,
-    ) -> Result<Entered<'p>, RollFault>
+    ) -> Result<Entered<'p>, NotBegun>
+        ensures gone { IfErr result (IsGone (generation_named next.header)) }
         ensures config { OnOk result (self.new.config ≡ config) }
         ensures header { OnOk result (self.new.header ≡ next.header) }
         ensures moves { OnOk result (self.new.moves ≡ 0) }
@@ -69,8 +69,8 @@ impl<'p> ServerState<Store<PacedLog<'p, FileLog>>> {
         ensures admitted { OnOk result ((boot after : ℕ) →
             AreAdmitted (table_of boot (arc_value self.old.config)) self.old.recorder.books
             (table_of after (arc_value config)) self.new.recorder.books) }
-        ensures eras { IfOk result (λ entered. (entered.passage.former ≡ self.old.header.era)
-            × (entered.passage.era ≡ next.header.era)) }
+        ensures eras { IfOk result (λ entered. (entered.change.former ≡ self.old.header.era)
+            × (entered.change.era ≡ next.header.era)) }
         ensures ended { self.new.has_ended ≡ (self.old.has_ended || is_over result) }
         ensures failed { self.new.has_failed ≡ self.old.has_failed }
 
@@ -81,21 +81,18 @@ impl<'p> ServerState<Store<PacedLog<'p, FileLog>>> {
         ensures same_moves { OnErr result (self.new.moves ≡ self.old.moves) }
     {
         if self.has_ended() {
-            return Err(RollFault::Ended);
+            return Err(NotBegun::Ended);
         }
         let generation = generation_named(&next.header);
         match self.opening(alloc, generations, &*config, next, pacing) {
             Ok(opening) => {
-                let passage = opening.passage;
+                let change = opening.change;
                 let former = self.enter(opening, config);
-                Ok(Entered { passage, former })
+                Ok(Entered { change, former })
             }
             Err(fault) => {
-                if generations.remove(alloc, generation).is_err() {
-                    self.end();
-                    return Err(RollFault::Ended);
-                }
-                Err(fault)
+                let removed = generations.remove(alloc, generation);
+                Err(self.pass_over(generation, fault, removed))
             }
         }
     }
@@ -117,21 +114,26 @@ impl<'p> ServerState<Store<PacedLog<'p, FileLog>>> {
             (table_of after config.now) opening.store.books) }
         ensures synced { IfOk result (λ opening.
             opening.synced.generation ≡ generation_named opening.header) }
-        ensures eras { IfOk result (λ opening. (opening.passage.former ≡ self.now.header.era)
-            × (opening.passage.era ≡ next.header.era)) }
+        ensures eras { IfOk result (λ opening. (opening.change.former ≡ self.now.header.era)
+            × (opening.change.era ≡ next.header.era)) }
         ensures going_on { IsErrOf result RollFault.Ended → ⊥ }
     {
         let held = sessions_in(self.recorder().rows(alloc)?.as_slice());
         let former = self.header();
-        let NextEra { header, log } = next;
-        let store = self.admit(alloc, config, header, PacedLog::new(log, pacing))?;
+        let NextEra {
+            header,
+            log,
+            blanks,
+        } = next;
+        let log = PacedLog::new(log, pacing);
+        let store = self.admit(alloc, config, header, blanks, log)?;
         let sessions = sessions_in(store.rows(alloc)?.as_slice());
         let synced = generations.sync(alloc, generation_named(&header))?;
         Ok(Opening {
             store,
             header,
             synced,
-            passage: Passage {
+            change: EraChange {
                 former: former.era,
                 held,
                 era: header.era,
@@ -143,12 +145,13 @@ impl<'p> ServerState<Store<PacedLog<'p, FileLog>>> {
 
 impl<L: Log + Drop> ServerState<Store<L>> {
     /// What is admitted of the books to other accounts, as a store that begins the generation of this
-    /// header in an empty log. What stands in the log where it fails is to be removed.
+    /// header in an empty log, in the blank books that were made for them. What stands in the log where it fails is to be removed.
     fn admit(
         &self,
         alloc: Global,
         config: &Config,
         header: Header,
+        blanks: BlankBooks,
         log: L,
     ) -> Result<Store<L>, RollFault>
         ensures server { IfOk result (λ store. IsServerOf config.now store.books) }
@@ -157,7 +160,7 @@ impl<L: Log + Drop> ServerState<Store<L>> {
             (table_of after config.now) store.books) }
         ensures going_on { IsErrOf result RollFault.Ended → ⊥ }
 
-        // The store stands for a history of no moves behind these books.
+        // The store stands for a history of no moves after these books.
         ensures stands { IfOk result (λ store. IsTrue (L.tells store.log) →
             Only (L.seen log) (L.may_leave log) →
             StandsFor config.now store.books store.counts L.tears store.end (L.seen store.log)
@@ -169,6 +172,7 @@ impl<L: Log + Drop> ServerState<Store<L>> {
             generation_named(&self.header()),
             self.recorder().books(),
             config,
+            blanks,
         )?;
         match Store::begin_with(alloc, config, header, books, log) {
             Ok(store) => Ok(store),

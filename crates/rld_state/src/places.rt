@@ -1,10 +1,11 @@
 ghost use Rattle.std.specs.Prelude.{◌≡◌};
 ghost use Rattle.rld_state.specs.Places.{places_in};
 
-use rld_refusals::Places;
+use rld_look::Places;
 use rsl_shard::Row;
 
-/// The places of an account, by the rows of all accounts.
+/// The places of an account, by the rows of all accounts; `None` where no row is that of the
+/// account.
 #[tactic(auto, unfolding(crate::specs::Places::places_in))]
 pub fn places_in(rows: &[Row], account: u32) -> Option<Places>
     ensures { result ≡ places_in account rows.now }

@@ -1,28 +1,28 @@
-use crate::rolled::RollFault;
+use crate::rolled::{NotBegun, RollFault};
 use rsl_wire::NoMemory;
 use std::alloc::{AllocError, AllocFailed};
 use std::fmt;
 use thiserror::Error;
 
 /// What came of accounts that were read anew. It prints as the line of an answer, without its line feed.
-#[derive(Clone, Copy, PartialEq, Eq)]
+#[derive(Clone, Copy)]
 pub enum Reloaded {
     /// The era of this number goes on: names, rules, addresses and shards are as before.
     GoesOn(u64),
     /// A new era has begun.
-    Begun(Passage),
+    Begun(EraChange),
 }
 
 /// How an era has followed another while the server runs.
-#[derive(Clone, Copy, PartialEq, Eq)]
-pub struct Passage {
+#[derive(Clone, Copy)]
+pub struct EraChange {
     /// The number of the era that has ended.
     pub former: u64,
-    /// How many sessions held a link there.
+    /// How many sessions held a link in the era that has ended.
     pub held: u64,
-    /// The number of the one that has begun.
+    /// The number of the era that has begun.
     pub era: u64,
-    /// How many of them go on.
+    /// How many of those sessions go on.
     pub sessions: u64,
 }
 
@@ -30,21 +30,21 @@ impl fmt::Display for Reloaded {
     fn fmt<W: fmt::Write>(&self, f: &mut fmt::Formatter<W>) -> fmt::Result {
         match self {
             Reloaded::GoesOn(era) => write!(f, "era {era} goes on"),
-            Reloaded::Begun(passage) => write!(
+            Reloaded::Begun(change) => write!(
                 f,
                 "era {}: {} of {} sessions of era {} go on",
-                passage.era, passage.sessions, passage.held, passage.former
+                change.era, change.sessions, change.held, change.former
             ),
         }
     }
 }
 
 /// Why the accounts stay as they are, though others were read.
-#[derive(Clone, Copy, Debug, PartialEq, Eq, Error)]
+#[derive(Clone, Copy, Debug, Error)]
 pub enum ReloadFault {
-    /// A receiver does not end its turn.
-    #[error("a receiver is still busy")]
-    Busy,
+    /// The accounts have changed while others were made ready.
+    #[error("the accounts have changed meanwhile")]
+    Changed,
     /// The new era could not begin.
     #[error("no new era yet: {0}")]
     NotBegun(RollFault),
@@ -56,6 +56,12 @@ pub enum ReloadFault {
 impl From<RollFault> for ReloadFault {
     fn from(fault: RollFault) -> ReloadFault {
         ReloadFault::NotBegun(fault)
+    }
+}
+
+impl From<NotBegun> for ReloadFault {
+    fn from(refused: NotBegun) -> ReloadFault {
+        ReloadFault::NotBegun(RollFault::from(refused))
     }
 }
 

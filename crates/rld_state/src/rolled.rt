@@ -1,17 +1,18 @@
 ghost use Rattle.std.specs.Prelude.{◌≡◌, is_err};
+ghost use Rattle.rld_state.specs.Keeping.{fault_of};
 ghost use Rattle.rld_state.specs.Notices.{archive_notice, roll_notice};
 ghost use Rattle.rld_state.specs.declared.rolled.RollFault.TheVariants.{Start as unmade, Store as unbegun};
 ghost use Rattle.rld_start.specs.declared.fault.StartFault.{StartFault as OneStartFault};
 
 use crate::trouble::{News, Trouble};
-use rld_folder::FolderFault;
+use rld_folder::{FolderFault, Removed};
 use rld_start::StartFault;
 use rld_store::StoreFault;
 use rsl_wire::NoMemory;
 use thiserror::Error;
 
 /// Why the next generation has not begun.
-#[derive(Clone, Copy, Debug, PartialEq, Eq, Error)]
+#[derive(Clone, Copy, Debug, Error)]
 pub enum RollFault {
     /// Its log could not be made.
     #[error("{0}")]
@@ -22,10 +23,30 @@ pub enum RollFault {
     /// Another era has begun meanwhile. Its log is gone.
     #[error("another era has begun")]
     Former,
-    /// Nothing more can be recorded: it could be no more before, or the log of the next generation
-    /// could not be removed.
+    /// Nothing more can be recorded: nothing could be recorded before, or the log of the next
+    /// generation could not be removed.
     #[error("nothing more can be recorded")]
     Ended,
+}
+
+/// How a generation or an era did not begin.
+#[derive(Drop)]
+pub enum NotBegun {
+    /// The present one goes on. The log of the other one was removed, as this shows.
+    PassedOver(RollFault, Removed),
+    /// Nothing more is recorded: it could be no more before, or that log could not be removed.
+    Ended,
+}
+
+impl From<NotBegun> for RollFault {
+    ghost from_gives = { λ refused fault. fault ≡ fault_of refused };
+
+    fn from(refused: NotBegun) -> RollFault {
+        match refused {
+            NotBegun::PassedOver(fault, _) => fault,
+            NotBegun::Ended => RollFault::Ended,
+        }
+    }
 }
 
 impl From<StartFault> for RollFault {
@@ -60,24 +81,25 @@ impl From<StoreFault> for RollFault {
     }
 }
 
-/// What an operator is told of generations and of old logs. It prints as a line of standard error.
-#[derive(Clone, Copy, Debug, PartialEq, Eq, Error)]
+/// What the server reports of generations and of old logs. It prints as a line of standard error.
+#[derive(Clone, Copy, Debug, Error)]
 pub enum Notice {
     /// The next generation could not begin; it is tried again each minute.
     #[error("no next generation yet: {0}")]
     NotBegun(RollFault),
-    /// It has begun.
+    /// The next generation has begun.
     #[error("the next generation has begun")]
     Begun,
     /// Old logs stay where they are; they are tried again with the next generation.
     #[error("old logs are not put away: {0}")]
     NotPutAway(FolderFault),
-    /// They are put away again.
+    /// Old logs are put away again.
     #[error("old logs are put away again")]
     PutAway,
 }
 
-/// What is to be told of a begin that came to this.
+/// What is to be reported of a begin of the next generation that came to `rolled`: nothing as long
+/// as it goes as before.
 pub fn notice_of_roll(trouble: &mut Trouble, rolled: Result<(), RollFault>) -> Option<Notice>
     ensures notice { result ≡ roll_notice trouble.old.is_there rolled }
     ensures kept { trouble.new.is_there ≡ is_err rolled }
@@ -89,7 +111,8 @@ pub fn notice_of_roll(trouble: &mut Trouble, rolled: Result<(), RollFault>) -> O
     }
 }
 
-/// What is to be told of old logs that were put away, or not.
+/// What is to be reported of old logs that were put away, or not, as `outcome` says: nothing as
+/// long as it goes as before.
 pub fn notice_of_archive(trouble: &mut Trouble, outcome: Result<(), FolderFault>) -> Option<Notice>
     ensures notice { result ≡ archive_notice trouble.old.is_there outcome }
     ensures kept { trouble.new.is_there ≡ is_err outcome }

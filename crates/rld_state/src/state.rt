@@ -1,7 +1,7 @@
-ghost use Rattle.std.specs.Prelude.{◌≡◌, ℕ, true, length, Err, IfOk, IsErrOf, OnErr, OnOk, List, [], ◌++◌, ◌||◌, ◌↔◌, false, IsTrue, Ok};
+ghost use Rattle.std.specs.Prelude.{◌≡◌, ℕ, true, length, Err, IfErr, IfOk, IsErrOf, OnErr, OnOk, List, [], ◌++◌, ◌||◌, ◌↔◌, false, IsTrue, Ok};
 ghost use Rattle.std.specs.Arc.{arc_value};
 ghost use Rattle.rld_books.specs.Server.{decisions_of, replay};
-ghost use Rattle.rld_state.specs.Keeping.{is_ended, is_failed, is_over, moves_after};
+ghost use Rattle.rld_state.specs.Keeping.{IsGone, ends, is_ended, is_failed, is_over, moves_after};
 ghost use Rattle.rld_spelling.specs.Eras.{era_octets};
 ghost use Rattle.rld_spelling.specs.Tables.{table_of};
 ghost use Rattle.rld_start.specs.NextHeaders.{generation_named, header_after};
@@ -13,10 +13,9 @@ ghost use Rattle.rsl_shard.specs.Restep.{BooksSeen};
 ghost use Rattle.rsl_shard.specs.declared.moved.Move.{Move as OneMove};
 
 use crate::changing::Opening;
-use crate::rolled::RollFault;
-use rld_folder::Generation;
-use rld_log::{FileLog, Log};
-use rld_pace::{PacedLog, Pacing};
+use crate::rolled::{NotBegun, RollFault};
+use rld_folder::{FolderFault, Generation, Removed};
+use rld_log::{FileLog, Log, PacedLog, Pacing};
 use rld_spelling::Header;
 use rld_start::{Generations, NextLog, StartFault, is_same_era, next_header};
 use rld_store::{RecordFault, Recorded, Recorder, Store};
@@ -61,9 +60,9 @@ impl<S: Recorder> ServerState<S> {
         }
     }
 
-    /// Records a batch, which was prepared by the accounts of this era, as the recorder does, and counts
-    /// its moves. `Ended` comes where it has come before, and `Failed` where another era goes on: its
-    /// numbers are those of other accounts. Then the recorder is not asked.
+    /// Records a batch, which was prepared by the accounts of the era `era`, as the recorder does,
+    /// and counts its moves. `Ended` comes where it has come before, and `Failed` where another era
+    /// goes on: its numbers are those of other accounts. Then the recorder is not asked.
     pub fn record(
         &mut self,
         alloc: Global,
@@ -112,7 +111,7 @@ impl<S: Recorder> ServerState<S> {
         outcome
     }
 
-    /// Notes how a call of the recorder ended for a batch of so many moves.
+    /// Notes how a call of the recorder ended for a batch of `count` moves.
     fn note(&mut self, outcome: &Result<Recorded, RecordFault>, count: u64)
         ensures recorder { self.new.recorder ≡ self.old.recorder }
         ensures config { self.new.config ≡ self.old.config }
@@ -164,11 +163,26 @@ impl<S: Recorder> ServerState<S> {
         &*self.config
     }
 
-    /// Notes that nothing more can be recorded.
-    pub(crate) fn end(&mut self)
-        ensures { self.new ≡ record self.old { has_ended = true } }
+    /// Passes over a generation that did not begin: the present one goes on once the log of that one was
+    /// removed. Where it was not, nothing more is recorded.
+    pub(crate) fn pass_over(
+        &mut self,
+        failed: Generation,
+        fault: RollFault,
+        removed: Result<Removed, FolderFault>,
+    ) -> NotBegun
+        requires { IfOk removed (λ removed. removed.generation ≡ failed) }
+        ensures gone { IsGone failed result }
+        ensures ended { self.new.has_ended ≡ (self.old.has_ended || ends result) }
+        ensures same { self.new ≡ record self.old { has_ended = self.new.has_ended } }
     {
-        self.has_ended = true;
+        match removed {
+            Ok(removed) => NotBegun::PassedOver(fault, removed),
+            Err(_) => {
+                self.has_ended = true;
+                NotBegun::Ended
+            }
+        }
     }
 
     /// Goes on by other accounts in the present era, if it has their table with this boot number, and
@@ -195,7 +209,7 @@ impl<S: Recorder> ServerState<S> {
         &self.recorder
     }
 
-    /// Whether a batch was not recorded since this was asked last.
+    /// Whether a batch was not recorded since this call was made last.
     pub fn take_failed(&mut self) -> bool
         ensures found { result ≡ self.old.has_failed }
         ensures same { self.new ≡ record self.old { has_failed = false } }
@@ -256,7 +270,8 @@ impl<'p> ServerState<Store<PacedLog<'p, FileLog>>> {
         generations: &G,
         next: NextLog,
         pacing: Pacing<'p>,
-    ) -> Result<(), RollFault>
+    ) -> Result<(), NotBegun>
+        ensures gone { IfErr result (IsGone next.generation) }
         ensures header { OnOk result (self.new.header
             ≡ header_after self.old.header next.generation.number self.old.moves) }
         ensures era { OnOk result (next.generation.era ≡ self.old.header.era) }
@@ -272,17 +287,14 @@ impl<'p> ServerState<Store<PacedLog<'p, FileLog>>> {
         ensures same_moves { OnErr result (self.new.moves ≡ self.old.moves) }
     {
         if self.has_ended() {
-            return Err(RollFault::Ended);
+            return Err(NotBegun::Ended);
         }
         let NextLog { generation, log } = next;
         match self.begin_in(alloc, generation, PacedLog::new(log, pacing)) {
             Ok(()) => Ok(()),
             Err(fault) => {
-                if generations.remove(alloc, generation).is_err() {
-                    self.has_ended = true;
-                    return Err(RollFault::Ended);
-                }
-                Err(fault)
+                let removed = generations.remove(alloc, generation);
+                Err(self.pass_over(generation, fault, removed))
             }
         }
     }

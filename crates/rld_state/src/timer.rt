@@ -11,7 +11,7 @@ const MOST_SECS: u64 = 600;
 const PAUSE_SECS: u64 = 60;
 
 /// How long the generation of a running server has lasted, and how long the next one has still to wait.
-#[derive(Clone, Copy, PartialEq, Eq)]
+#[derive(Clone, Copy)]
 pub struct RollTimer {
     seconds: u64,
     pause: u64,
@@ -36,7 +36,7 @@ impl RollTimer {
         self.pause = self.pause.saturating_sub(1);
     }
 
-    /// Whether the next generation shall begin, after so many moves of this one.
+    /// Whether the next generation shall begin, where this one has `moves` moves.
     pub fn is_due(&self, moves: u64) -> bool
         ensures { IsTrue result ↔ IsDue self.now moves }
     {

@@ -4,11 +4,11 @@ ghost use Rattle.rld_state.specs.Told.{priority_of};
 use crate::reloaded::Reloaded;
 use crate::rolled::Notice;
 use crate::trouble::News;
-use rld_refusals::{Priority, Sink};
+use rld_look::{Priority, Sink};
 use std::fmt;
 
-/// What an operator is told but for refusals.
-#[derive(Clone, Copy, PartialEq, Eq)]
+/// What the server reports to its operator, but for refusals.
+#[derive(Clone, Copy)]
 pub enum Told {
     /// How batches are recorded.
     Recording(News),
@@ -19,7 +19,7 @@ pub enum Told {
 }
 
 impl Told {
-    /// How grave it is.
+    /// How grave the report is.
     pub fn priority(self) -> Priority
         ensures { result ≡ priority_of self }
     {
@@ -33,12 +33,12 @@ impl Told {
     }
 }
 
-/// A line of what an operator is told.
+/// A report as a line of standard error, with its mark and its line feed.
 #[derive(Clone, Copy)]
 pub struct ToldLine {
     /// Who reads it.
     pub sink: Sink,
-    /// What he is told.
+    /// What the line says.
     pub told: Told,
 }
 

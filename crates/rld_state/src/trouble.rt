@@ -3,12 +3,12 @@ ghost use Rattle.rld_state.specs.Troubled.{news_of};
 
 use std::fmt;
 
-/// What an operator is told of how batches are recorded. It prints as a line of standard error.
-#[derive(Clone, Copy, PartialEq, Eq)]
+/// What the server reports of how batches are recorded. It prints as a line of standard error.
+#[derive(Clone, Copy)]
 pub enum News {
     /// Batches are not recorded from now on.
     Began,
-    /// They are recorded again.
+    /// Batches are recorded again.
     Over,
 }
 
@@ -23,8 +23,8 @@ impl fmt::Display for News {
     }
 }
 
-/// Whether batches are not recorded, as it was told last.
-#[derive(Clone, Copy, PartialEq, Eq)]
+/// Whether something goes wrong, as it was reported last.
+#[derive(Clone, Copy)]
 pub struct Trouble {
     is_there: bool,
 }
@@ -39,8 +39,8 @@ impl Trouble {
         Trouble { is_there: false }
     }
 
-    /// What is to be told after a second in which a batch was not recorded, or each was: nothing as
-    /// long as it is as before.
+    /// What is to be reported where something has failed, or has not: nothing as long as that is as
+    /// before.
     pub fn news(&mut self, has_failed: bool) -> Option<News>
         ensures news { result ≡ news_of self.old.is_there has_failed }
         ensures kept { self.new.is_there ≡ has_failed }

@@ -2,7 +2,7 @@
 ghost use Rattle.std.specs.Prelude.{◌≡◌, ◌<◌, ◌≤◌, List, ℕ, length};
 ghost use Rattle.rsl_auth.specs.Hmac.{IsKeyOf};
 ghost use Rattle.rsl_event.specs.Request.{proxy_len, text_of};
-ghost use Rattle.rsl_event.specs.Signature.{before_signature, has_right_signature};
+ghost use Rattle.rsl_event.specs.Signature.{has_right_signature};
 ghost use Rattle.rsl_wire.specs.Attributes.{AreAttributes, list_octets};
 ghost use Rattle.rsl_wire.specs.Seen.{fields_of};
 ghost use Rattle.rld_status.specs.Status.{is_answered};
@@ -10,6 +10,7 @@ ghost use Rattle.rld_status.specs.Status.{is_answered};
 use rsl_accounts::Config;
 use rsl_auth::{HmacKey, SIGNATURE_LEN};
 use rsl_event::codes::{MAX_PROXY_STATE_LEN, MESSAGE_AUTHENTICATOR, PROXY_STATE};
+use rsl_event::octets_before_signature;
 use rsl_wire::{ATTR_HEADER_LEN, Attrs, HEADER_LEN, Packet};
 
 /// The Code of a Status-Server packet (RFC 2865 section 4, RFC 5997 section 3).
@@ -56,23 +57,6 @@ fn signature<'a>(attributes: &Attrs<'a>) -> &'a [u8]
     ensures { result.now ≡ text_of MESSAGE_AUTHENTICATOR attributes.now }
 {
     attributes.first(MESSAGE_AUTHENTICATOR).unwrap_or(&[])
-}
-
-/// How many octets the attributes before the first Message-Authenticator have.
-#[tactic(auto, using(rsl_event::proofs::SignatureLaws::octets_before_step))]
-fn octets_before_signature(attributes: &Attrs<'_>) -> usize
-    requires { length (list_octets attributes.now) ≤ 4096 }
-    ensures count { result ≡ length (list_octets (before_signature attributes.now)) }
-    ensures short { result ≤ 4096 }
-{
-    let mut len = 0usize;
-    for (kind, value) in attributes.iter() {
-        if kind == MESSAGE_AUTHENTICATOR {
-            return len;
-        }
-        len += ATTR_HEADER_LEN + value.len();
-    }
-    len
 }
 
 /// How many octets the Proxy-States have, with their headers.

@@ -14,7 +14,7 @@ use Rattle.rld_store.specs.declared.fault.RecordFault.{RecordFault}
 use Rattle.rld_store.specs.declared.fault.RecordFault.TheVariants.{Failed, Ended}
 
 -- A store has recorded a history, in an era that opened with these books: it stands for it, and
--- perhaps for a batch behind it that was not answered. Where a batch is not recorded the history
+-- perhaps for a batch after it that was not answered. Where a batch is not recorded the history
 -- stays, and which batch that is may change.
 pub record HasRecorded (config : Configuration) (opening : List BooksSeen) (counts : Counts)
     (tears : List ℕ → List ℕ → Type 0) (end : End) (seen : List ℕ)

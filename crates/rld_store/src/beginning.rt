@@ -63,7 +63,7 @@ fn snapshot_of(alloc: Global, books: &[SavedBook], clients: u32) -> Result<Vec<u
 struct Front {
     /// The payload of the header.
     header: Vec<u8>,
-    /// That of the snapshot.
+    /// The payload of the snapshot.
     snapshot: Vec<u8>,
     /// The length of the frames of both.
     whole: usize,

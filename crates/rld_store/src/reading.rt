@@ -164,8 +164,7 @@ fn parts_of<'a>(payloads: &'a [&'a [u8]]) -> Option<(&'a [u8], &'a [u8], &'a [&'
     Some((header, snapshot, batches))
 }
 
-/// Reads the payloads of a generation. That it has no whole snapshot is told before what else is
-/// wrong.
+/// Reads the payloads of a generation. That it has no whole snapshot comes before any other fault.
 pub(crate) fn read_generation(
     alloc: Global,
     config: &Config,

@@ -32,8 +32,8 @@ use rsl_wire::NoMemory;
 use std::alloc::Global;
 use std::mem;
 
-/// What stands behind the whole frames of a log.
-#[derive(Clone, Copy, PartialEq, Eq)]
+/// What stands after the whole frames of a log.
+#[derive(Clone, Copy)]
 pub enum End {
     /// Nothing: what a read gives is on the disk.
     Settled,
@@ -117,13 +117,13 @@ impl<L: Log> Store<L> {
         ensures refused { IfErr result (λ refused. IsTrue (L.tells refused.log) → IsTrue (L.tells log)) }
         ensures books { IfOk result (λ store. store.books ≡ books) }
 
-        // The store stands for a history of no moves behind these books.
+        // The store stands for a history of no moves after these books.
         ensures stands { IfOk result (λ store. IsTrue (L.tells store.log) →
             Only (L.seen log) (L.may_leave log) → IsServerOf config.now books →
             StandsFor config.now books store.counts L.tears store.end (L.seen store.log) (L.may_leave store.log)
             store.whole store.books [] []) }
 
-        // Where it fails, a crash leaves no generation, or one that stands for no moves behind them.
+        // Where it fails, a crash leaves no generation, or one that stands for no moves after them.
         ensures crash { IfErr result (λ refused. IsTrue (L.tells refused.log) →
             Only (L.seen log) (L.may_leave log) → L.seen log ≡ [] → IsServerOf config.now books →
             (ending : OneEnding) → Premise L.tears ending →

@@ -1,98 +1,105 @@
 -- How a batch grows by datagrams.
-use Rattle.std.proofs.Common.{◌≡◌, ℕ, List, [], ◌∷◌, ◌++◌, length, take, length-append, append-nil, append_assoc, refl, sym, ap, subst, ◌∙◌, arith}
-use Rattle.std.specs.Prelude.{Option, Some, None, Ok, Err}
+use Rattle.std.specs.declared.net.socket_addr.SocketAddr.{SocketAddr}
+use Rattle.std.proofs.Common.{◌≡◌, ℕ, ◌<◌, List, [], ◌∷◌, ◌++◌, length, take, length-append, append-nil, append_assoc, refl, sym, ap, subst, ◌∙◌, arith}
+use Rattle.std.specs.Prelude.{Option, Some, None, Result, Ok, Err}
 use Rattle.std.specs.List.{AllByRecursion}
 use Rattle.rsl_accounts.specs.Configuration.{Configuration, client_number}
-use Rattle.rsl_event.specs.Meaning.{meaning}
+use Rattle.rsl_event.specs.Copied.{TakesMemory}
+use Rattle.rsl_event.specs.Detail.{detail_of}
+use Rattle.rsl_event.specs.Meaning.{Fails, meaning}
 use Rattle.rsl_event.specs.MeaningKind.{kind_of}
-use Rattle.rsl_event.specs.Prepared.{HasAccount, HasAsker, HasRoomFor, HasRoomForReply, IsPrepared}
+use Rattle.rsl_event.specs.Prepared.{CanReply, HasAccount, HasAsker, HasRoomFor, HasRoomForReply, IsPrepared}
+use Rattle.rsl_event.specs.declared.detail.Detail.{Detail}
+use Rattle.rsl_event.specs.declared.meaning_kind.MeaningKind.{MeaningKind}
 use Rattle.rsl_event.specs.declared.event.Act.TheVariants as acts
 use Rattle.rsl_event.specs.declared.event.Decision.{Decision}
-use Rattle.rsl_event.specs.declared.event.Source.{Source}
+use Rattle.rsl_event.specs.declared.meaning.Dropped.{Dropped as Drop}
+use Rattle.rsl_event.specs.declared.meaning.Dropped.TheVariants as drops
 use Rattle.rsl_event.specs.declared.meaning.Meaning.{Meaning}
 use Rattle.rsl_event.specs.declared.meaning.Meaning.TheVariants as Mean
 use Rattle.rsl_event.specs.declared.meaning.Port.{Port}
-use Rattle.rsl_event.specs.declared.meaning.Prepared.{Prepared}
-use Rattle.rsl_port.specs.Told.{Received, datagram_of, taken_by}
-use Rattle.rsl_port.specs.declared.datagram_port.Datagram.{Datagram}
-use Rattle.rsl_port.specs.declared.datagram_port.PortFault.{PortFault}
+use Rattle.rsl_event.specs.declared.preparation.Detailed.{Detailed}
+use Rattle.rld_turn.specs.Received.{Received, taken_by}
+use Rattle.rld_turn.specs.declared.peer_port.PeerDatagram.{PeerDatagram}
 use Rattle.rsl_shard.specs.declared.moved.Move.{Move}
 use Rattle.rld_turn.specs.Ended.{CanEnd, HasPlace}
 use Rattle.rsl_wire.specs.Packet.{packet_of}
 use Rattle.rsl_wire.specs.Seen.{fields_of}
-use Rattle.rld_turn.specs.Entered.{AreEntered, HasAdded, HasGathered, IsEntered, IsLast, IsWaiting, waiting_of}
+use Rattle.rld_turn.specs.Entered.{AreEntered, HasAdded, HasGathered, IsEntered, IsLast, IsMadeOf, IsRequest}
 use Rattle.rld_turn.specs.Moves.{move_of}
 use Rattle.rld_turn.specs.Recorded.{HasCount}
-use Rattle.rld_turn.specs.Turned.{ServiceSeen}
-use Rattle.rld_turn.specs.declared.entry.Entry.{Entry}
-use Rattle.rld_turn.specs.declared.entry.Entry.TheVariants.{Dropped, Refused, Bare, Moved}
-use Rattle.rld_turn.specs.declared.entry.Waiting.{Waiting}
+use Rattle.rld_turn.specs.Present.{ServiceSeen, origin_of, peer_datagram}
+use Rattle.rld_turn.specs.declared.origin.Origin.{Origin}
+use Rattle.rld_turn.specs.declared.request.Entry.{Entry}
+use Rattle.rld_turn.specs.declared.request.Entry.TheVariants.{Dropped, Refused, Bare, Moved}
+use Rattle.rld_turn.specs.declared.request.Request.{Request}
 
 -- one datagram
-pub one_entered : (service : ServiceSeen) (port : Port) (moment : ℕ) (one : Datagram) (entry : Entry)
+pub one_entered : (service : ServiceSeen) (port : Port) (moment : ℕ) (one : PeerDatagram) (entry : Entry)
     (old new : List Move) → IsEntered service port moment one entry old new
     → AreEntered service port moment (one ∷ []) (entry ∷ []) old new
 one_entered service port moment one entry old new entered = (one, [], new, refl, entered, (refl, refl))
 
 -- datagrams after datagrams
-pub then_entered : (service : ServiceSeen) (port : Port) (moment : ℕ) (taken more : List Datagram)
+pub then_entered : (service : ServiceSeen) (port : Port) (moment : ℕ) (taken more : List PeerDatagram)
     (entries others : List Entry) (old mid new : List Move)
     → AreEntered service port moment taken entries old mid
     → AreEntered service port moment more others mid new
     → AreEntered service port moment (taken ++ more) (entries ++ others) old new
 then_entered service port moment taken more [] others old mid new (none, same) after =
-    subst (λ (t : List Datagram). AreEntered service port moment t others old new)
-    (sym (ap (λ (t : List Datagram). t ++ more) none))
+    subst (λ (t : List PeerDatagram). AreEntered service port moment t others old new)
+    (sym (ap (λ (t : List PeerDatagram). t ++ more) none))
     (subst (λ (b : List Move). AreEntered service port moment more others b new) same after)
 then_entered service port moment taken more (entry ∷ entries) others old mid new (one, rest, next, is, entered, before) after =
-    (one, rest ++ more, next, ap (λ (t : List Datagram). t ++ more) is, entered, then_entered service port moment rest more entries others next mid new before after)
+    (one, rest ++ more, next, ap (λ (t : List PeerDatagram). t ++ more) is, entered, then_entered service port moment rest more entries others next mid new before after)
 
--- what was gathered, and what was gathered after it
-pub gathered_then : (service : ServiceSeen) (port : Port) (moment : ℕ) (Told Tells : Type 0)
-    (taken_old taken_mid taken_new : List Datagram) (queue_old queue_mid queue_new : List Entry)
-    (old mid new : List Move) → (Tells → Told)
-    → HasGathered service port moment Told taken_old taken_mid queue_old queue_mid old mid
-    → HasGathered service port moment Tells taken_mid taken_new queue_mid queue_new mid new
-    → HasGathered service port moment Tells taken_old taken_new queue_old queue_new old new
-gathered_then service port moment Told Tells taken_old taken_mid taken_new queue_old queue_mid queue_new old mid new tells before after = record {
-  taken = before.taken ++ after.taken;
-  entries = before.entries ++ after.entries;
-  entered = then_entered service port moment before.taken after.taken before.entries after.entries old mid new before.entered after.entered;
-  queued = after.queued ∙ ap (λ (q : List Entry). q ++ after.entries) before.queued ∙ append_assoc queue_old before.entries after.entries;
-  told = λ t. after.told t ∙ ap (λ (q : List Datagram). q ++ after.taken) (before.told (tells t)) ∙ append_assoc taken_old before.taken after.taken;
-}
-
--- nothing was gathered
+-- nothing was gathered yet
 pub none_gathered : (service : ServiceSeen) (port : Port) (moment : ℕ) (Tells : Type 0)
-    (taken_old taken_new : List Datagram) (queue : List Entry) (batch : List Move)
-    → (Tells → taken_new ≡ taken_old)
-    → HasGathered service port moment Tells taken_old taken_new queue queue batch batch
-none_gathered service port moment Tells taken_old taken_new queue batch same = record {
-  taken = [];
-  entries = [];
-  entered = (refl, refl);
-  queued = sym (append-nil queue);
-  told = λ t. same t ∙ sym (append-nil taken_old);
-}
+    (taken : List PeerDatagram) (queue : List Entry) (batch : List Move) → queue ≡ [] → batch ≡ []
+    → HasGathered service port moment Tells taken taken queue batch
+none_gathered service port moment Tells taken queue batch no_entry no_move =
+    subst (λ (q : List Entry). HasGathered service port moment Tells taken taken q batch) (sym no_entry) (record {
+      taken = [];
+      entered = (refl, no_move);
+      told = λ t. sym (append-nil taken);
+    })
 
--- one datagram was
-pub one_gathered : (service : ServiceSeen) (port : Port) (moment : ℕ) (Tells : Type 0)
-    (one : Datagram) (entry : Entry) (taken_old taken_new : List Datagram) (queue_old queue_new : List Entry)
-    (old new : List Move) → IsEntered service port moment one entry old new
-    → queue_new ≡ queue_old ++ entry ∷ [] → (Tells → taken_new ≡ taken_old ++ one ∷ [])
-    → HasGathered service port moment Tells taken_old taken_new queue_old queue_new old new
-one_gathered service port moment Tells one entry taken_old taken_new queue_old queue_new old new entered queued told = record {
-  taken = one ∷ [];
-  entries = entry ∷ [];
-  entered = one_entered service port moment one entry old new entered;
-  queued = queued;
-  told = told;
+-- one datagram more was
+pub gathered_more : (service : ServiceSeen) (port : Port) (moment : ℕ) (Told Tells : Type 0)
+    (len : ℕ) (peer : SocketAddr) (received : Received) (buffer : List ℕ) (entry : Entry)
+    (taken_old taken_mid taken_new : List PeerDatagram) (queue_mid queue_new : List Entry)
+    (mid new : List Move) → received ≡ Ok (Some (len, peer)) → (Tells → Told)
+    → HasGathered service port moment Told taken_old taken_mid queue_mid mid
+    → IsEntered service port moment (peer_datagram peer (take len buffer)) entry mid new
+    → queue_new ≡ queue_mid ++ entry ∷ []
+    → (Tells → taken_new ≡ taken_mid ++ taken_by received buffer)
+    → HasGathered service port moment Tells taken_old taken_new queue_new new
+gathered_more service port moment Told Tells len peer received buffer entry taken_old taken_mid taken_new queue_mid queue_new mid new is tells so_far entered queued taken =
+    let one : PeerDatagram = peer_datagram peer (take len buffer) in
+    subst (λ (q : List Entry). HasGathered service port moment Tells taken_old taken_new q new) (sym queued) (record {
+      taken = so_far.taken ++ one ∷ [];
+      entered = then_entered service port moment so_far.taken (one ∷ []) queue_mid (entry ∷ []) [] mid new so_far.entered (one_entered service port moment one entry mid new entered);
+      told = λ t. taken t ∙ ap (λ (r : Received). taken_mid ++ taken_by r buffer) is
+          ∙ ap (λ (q : List PeerDatagram). q ++ one ∷ []) (so_far.told (tells t)) ∙ append_assoc taken_old so_far.taken (one ∷ []);
+    })
+
+-- none more was
+pub gathered_all : (service : ServiceSeen) (port : Port) (moment : ℕ) (Told Tells : Type 0)
+    (received : Received) (buffer : List ℕ) (taken_old taken_mid taken_new : List PeerDatagram) (queue : List Entry) (batch : List Move)
+    → taken_by received buffer ≡ [] → (Tells → Told)
+    → HasGathered service port moment Told taken_old taken_mid queue batch
+    → (Tells → taken_new ≡ taken_mid ++ taken_by received buffer)
+    → HasGathered service port moment Tells taken_old taken_new queue batch
+gathered_all service port moment Told Tells received buffer taken_old taken_mid taken_new queue batch none tells so_far taken = record {
+  taken = so_far.taken;
+  entered = so_far.entered;
+  told = λ t. taken t ∙ ap (λ (q : List PeerDatagram). taken_mid ++ q) none ∙ append-nil taken_mid ∙ so_far.told (tells t);
 }
 
 -- ---- what is kept of a batch
 
 -- the batch goes on with what it had
-pub goes_on : (service : ServiceSeen) (port : Port) (moment : ℕ) (taken : List Datagram)
+pub goes_on : (service : ServiceSeen) (port : Port) (moment : ℕ) (taken : List PeerDatagram)
     (entries : List Entry) (old new : List Move) → AreEntered service port moment taken entries old new
     → (more : List Move) × (new ≡ old ++ more)
 goes_on service port moment taken [] old new (none, same) = ([], same ∙ sym (append-nil old))
@@ -104,13 +111,13 @@ goes_on service port moment taken (entry ∷ entries) old new (one, rest, mid, i
         → new ≡ mid ++ more → (more : List Move) × (new ≡ old ++ more)
     by (Dropped source cause) entered more so = (more, so ∙ ap (λ (b : List Move). b ++ more) entered.2)
     by (Refused source) entered more so = (more, so ∙ ap (λ (b : List Move). b ++ more) entered.2)
-    by (Bare waiting) entered more so = (more, so ∙ ap (λ (b : List Move). b ++ more) entered.1)
-    by (Moved waiting place) (moved, waits, last) more so =
+    by (Bare request) entered more so = (more, so ∙ ap (λ (b : List Move). b ++ more) entered.1)
+    by (Moved request place) (moved, waits, last) more so =
         (moved ∷ more, so ∙ ap (λ (b : List Move). b ++ more) last.last ∙ append_assoc old (moved ∷ []) more)
 
 -- where each move of the whole batch has a decision, each entry can be answered
 pub can_end : (service : ServiceSeen) (port : Port) (moment : ℕ) (decisions : Option (List Decision))
-    (taken : List Datagram) (entries : List Entry) (old new : List Move)
+    (taken : List PeerDatagram) (entries : List Entry) (old new : List Move)
     → AreEntered service port moment taken entries old new → HasCount decisions new
     → AllByRecursion (CanEnd service.config decisions) entries
 can_end service port moment decisions taken [] old new entered count = tt
@@ -156,112 +163,108 @@ room attributes (Mean.Own number acts.Tick) has = has
 room attributes (Mean.Restart nas) has = has
 room attributes (Mean.Stray note) has = has
 
--- what waits of a datagram that was understood
-waits : (service : ServiceSeen) (port : Port) (moment : ℕ) (source : Source) (datagram : List ℕ)
-    (prepared : Prepared) (waiting : Waiting) (moved : Option Move)
-    → meaning service.config service.boot port source datagram ≡ Ok prepared.meaning
-    → packet_of datagram ≡ Ok (fields_of prepared.packet)
-    → client_number service.config source.address ≡ Some prepared.client
-    → IsPrepared service.config prepared
-    → waiting ≡ waiting_of source datagram prepared.client prepared.meaning prepared.packet.id
-    → move_of service.config moment prepared.meaning ≡ moved
-    → IsWaiting service port moment (datagram_of source datagram) moved waiting
-waits service port moment source datagram prepared waiting moved meant packet known is held move =
-    subst (λ (w : Waiting). IsWaiting service port moment (datagram_of source datagram) moved w) (sym held) (record {
-      meant = prepared.meaning;
-      is = refl;
-      known = known;
-      understood = meant;
-      kind = refl;
+-- what was made of a datagram that was understood is a request
+is_request : (service : ServiceSeen) (port : Port) (moment : ℕ) (origin : Origin) (peer : SocketAddr) (datagram : List ℕ)
+    (detailed : Detailed) (request : Request) (moved : Option Move) → origin ≡ origin_of service peer
+    → meaning service.config service.boot port origin.source datagram ≡ Ok detailed.prepared.meaning
+    → packet_of datagram ≡ Ok (fields_of detailed.prepared.packet)
+    → client_number service.config origin.source.address ≡ Some detailed.prepared.client
+    → detail_of service.config port origin.source datagram ≡ Some detailed.detail
+    → IsPrepared service.config detailed.prepared
+    → IsMadeOf origin datagram detailed request
+    → move_of service.config moment detailed.prepared.meaning ≡ moved
+    → IsRequest service port moment (peer_datagram peer datagram) moved request
+is_request service port moment origin peer datagram detailed request moved from meant packet known detail is held move =
+    let same : request.origin ≡ origin_of service peer = held.origin_is ∙ from in
+    let source = ap (λ (o : Origin). o.source) from in
+    record {
+      meant = detailed.prepared.meaning;
+      is = ap (λ (p : SocketAddr). peer_datagram p datagram) (sym (ap (λ (o : Origin). o.peer) same))
+          ∙ ap (λ (o : List ℕ). peer_datagram request.origin.peer o) (sym held.octets_are);
+      origin = same;
+      understood = ap (λ s. meaning service.config service.boot port s datagram) (sym source) ∙ meant;
+      kind = held.kind;
+      detail = ap (λ s. detail_of service.config port s datagram) (sym source) ∙ detail
+          ∙ ap (λ (d : Detail). Some d) (sym held.detail);
       move = move;
       answer = record {
-        fields = fields_of prepared.packet;
-        known = known;
-        packet = packet;
-        reply = record {
-          known = is.client;
-          asker = asker service.config prepared.meaning is.account;
-          room = room prepared.packet.attrs.now prepared.meaning is.room;
-        };
-        draft = refl;
+        fields = fields_of detailed.prepared.packet;
+        known = ap (λ (o : Origin). client_number service.config o.source.address) held.origin_is ∙ known ∙ ap (λ (c : ℕ). Some c) (sym held.client);
+        packet = ap packet_of held.octets_are ∙ packet;
+        reply = can_reply service.config request.client detailed.prepared.client detailed.prepared.packet.attrs.now request.kind detailed.prepared.meaning
+            held.client held.kind is.client is.account is.room;
+        draft = held.draft;
       };
-    })
+    }
+  where
+    can_reply : (config : Configuration) (client one : ℕ) (attributes : List ℕ) (kind : MeaningKind) (meant : Meaning)
+        → client ≡ one → kind ≡ kind_of meant → one < length config.clients → HasAccount config meant → HasRoomForReply attributes meant
+        → CanReply config client attributes kind
+    can_reply config client one attributes kind meant i j known account has =
+        subst (λ (c : ℕ). CanReply config c attributes kind) (sym i)
+        (subst (λ (k : MeaningKind). CanReply config one attributes k) (sym j) (record {
+          known = known;
+          asker = asker config meant account;
+          room = room attributes meant has;
+        }))
 
 -- what was added of a datagram that was understood is entered
-pub added : (service : ServiceSeen) (port : Port) (moment : ℕ) (source : Source) (datagram : List ℕ)
-    (prepared : Prepared) (waiting : Waiting) (entry : Entry) (old new : List Move)
-    → meaning service.config service.boot port source datagram ≡ Ok prepared.meaning
-    → packet_of datagram ≡ Ok (fields_of prepared.packet)
-    → client_number service.config source.address ≡ Some prepared.client
-    → IsPrepared service.config prepared
-    → waiting ≡ waiting_of source datagram prepared.client prepared.meaning prepared.packet.id
-    → HasAdded service.config moment prepared.meaning waiting entry old new
-    → IsEntered service port moment (datagram_of source datagram) entry old new
-added service port moment source datagram prepared waiting (Dropped from cause) old new meant packet known is held added_so = absurd added_so
-added service port moment source datagram prepared waiting (Refused from) old new meant packet known is held (same, left) = (
-  same ∙ ap (λ (w : Waiting). w.source) held,
-  record { meant = prepared.meaning; understood = meant },
+pub added : (service : ServiceSeen) (port : Port) (moment : ℕ) (origin : Origin) (peer : SocketAddr) (datagram : List ℕ)
+    (detailed : Detailed) (request : Request) (entry : Entry) (old new : List Move) → origin ≡ origin_of service peer
+    → meaning service.config service.boot port origin.source datagram ≡ Ok detailed.prepared.meaning
+    → packet_of datagram ≡ Ok (fields_of detailed.prepared.packet)
+    → client_number service.config origin.source.address ≡ Some detailed.prepared.client
+    → detail_of service.config port origin.source datagram ≡ Some detailed.detail
+    → IsPrepared service.config detailed.prepared
+    → IsMadeOf origin datagram detailed request
+    → HasAdded service.config moment detailed.prepared.meaning request entry old new
+    → IsEntered service port moment (peer_datagram peer datagram) entry old new
+added service port moment origin peer datagram detailed request (Dropped from cause) old new so meant packet known detail is held added_so = absurd added_so
+added service port moment origin peer datagram detailed request (Refused from) old new so meant packet known detail is held (same, left) = (
+  same ∙ held.origin_is ∙ so,
+  record {
+    meant = detailed.prepared.meaning;
+    understood = ap (λ (o : Origin). meaning service.config service.boot port o.source datagram) (sym so) ∙ meant;
+  },
   left,
 )
-added service port moment source datagram prepared waiting (Bare other) old new meant packet known is held (same, none, left) =
-    (waits service port moment source datagram prepared other None meant packet known is (same ∙ held) none, left)
-added service port moment source datagram prepared waiting (Moved other place) old new meant packet known is held (moved, same, some, last) =
-    (moved, waits service port moment source datagram prepared other (Some moved) meant packet known is (same ∙ held) some, last)
+added service port moment origin peer datagram detailed request (Bare other) old new so meant packet known detail is held (same, none, left) = (
+  is_request service port moment origin peer datagram detailed other None so meant packet known detail is
+      (subst (λ (r : Request). IsMadeOf origin datagram detailed r) (sym same) held) none,
+  left,
+)
+added service port moment origin peer datagram detailed request (Moved other place) old new so meant packet known detail is held (moved, same, some, last) = (
+  moved,
+  is_request service port moment origin peer datagram detailed other (Some moved) so meant packet known detail is
+      (subst (λ (r : Request). IsMadeOf origin datagram detailed r) (sym same) held) some,
+  last,
+)
 
--- one datagram more was gathered
-pub gathered_more : (service : ServiceSeen) (port : Port) (moment : ℕ) (Told Tells : Type 0)
-    (len : ℕ) (source : Source) (received : Received) (buffer slice : List ℕ) (entry : Entry)
-    (taken_old taken_mid taken_new : List Datagram) (queue_old queue_mid queue_new : List Entry)
-    (old mid new : List Move) → received ≡ Ok (Some (len, source)) → slice ≡ take len buffer
-    → (Tells → Told)
-    → HasGathered service port moment Told taken_old taken_mid queue_old queue_mid old mid
-    → IsEntered service port moment (datagram_of source slice) entry mid new
-    → queue_new ≡ queue_mid ++ entry ∷ []
-    → (Tells → taken_new ≡ taken_mid ++ taken_by received buffer)
-    → HasGathered service port moment Tells taken_old taken_new queue_old queue_new old new
-gathered_more service port moment Told Tells len source received buffer slice entry taken_old taken_mid taken_new queue_old queue_mid queue_new old mid new is cut tells so_far entered queued taken =
-    gathered_then service port moment Told Tells taken_old taken_mid taken_new queue_old queue_mid queue_new old mid new tells so_far
-    (one_gathered service port moment Tells (datagram_of source slice) entry taken_mid taken_new queue_mid queue_new mid new entered queued
-    (λ t. taken t ∙ ap (λ (r : Received). taken_mid ++ taken_by r buffer) is
-    ∙ ap (λ (s : List ℕ). taken_mid ++ datagram_of source s ∷ []) (sym cut)))
+-- a datagram that was understood and refused memory is entered
+pub refused : (service : ServiceSeen) (port : Port) (moment : ℕ) (origin : Origin) (peer : SocketAddr) (datagram : List ℕ)
+    (meant : Meaning) (old new : List Move) → origin ≡ origin_of service peer
+    → meaning service.config service.boot port origin.source datagram ≡ Ok meant → new ≡ old
+    → IsEntered service port moment (peer_datagram peer datagram) (Refused origin) old new
+refused service port moment origin peer datagram meant old new so is same = (
+  so,
+  record {
+    meant = meant;
+    understood = ap (λ (o : Origin). meaning service.config service.boot port o.source datagram) (sym so) ∙ is;
+  },
+  same,
+)
 
--- the first datagram of a batch, and what was gathered behind it
-pub batch_entered : (service : ServiceSeen) (port : Port) (moment : ℕ) (Tells : Type 0)
-    (one : Datagram) (entry : Entry) (taken_old taken_new : List Datagram)
-    (empty queue_mid queue_new : List Entry) (none mid new : List Move) → empty ≡ [] → none ≡ []
-    → IsEntered service port moment one entry none mid → queue_mid ≡ empty ++ entry ∷ []
-    → (gathered : HasGathered service port moment Tells taken_old taken_new queue_mid queue_new mid new)
-    → AreEntered service port moment (one ∷ gathered.taken) queue_new [] new
-batch_entered service port moment Tells one entry taken_old taken_new empty queue_mid queue_new none mid new is bare entered queued gathered =
-    let whole : queue_new ≡ entry ∷ gathered.entries =
-    gathered.queued ∙ ap (λ (q : List Entry). q ++ gathered.entries) (queued ∙ ap (λ (q : List Entry). q ++ entry ∷ []) is) in
-    subst (λ (q : List Entry). AreEntered service port moment (one ∷ gathered.taken) q [] new) (sym whole) (
-      one,
-      gathered.taken,
-      mid,
-      refl,
-      subst (λ (b : List Move). IsEntered service port moment one entry b mid) bare entered,
-      gathered.entered,
-    )
+-- a meaning that takes memory is one
+takes : (defined : Result Meaning Drop) → TakesMemory defined → (meant : Meaning) × (defined ≡ Ok meant)
+takes (Ok meant) can = (meant, refl)
+takes (Err cause) can = absurd can
 
--- what a call took, by what it gave
-pub one_taken : (len : ℕ) (source : Source) (received : Received) (buffer : List ℕ)
-    (taken_old taken_new : List Datagram) → received ≡ Ok (Some (len, source))
-    → taken_new ≡ taken_old ++ taken_by received buffer
-    → taken_new ≡ taken_old ++ datagram_of source (take len buffer) ∷ []
-one_taken len source received buffer taken_old taken_new is taken =
-    taken ∙ ap (λ (r : Received). taken_old ++ taken_by r buffer) is
-
--- a call that gave none took none
-pub none_came : (received : Received) (buffer : List ℕ) (taken_old taken_new : List Datagram)
-    → received ≡ Ok None → taken_new ≡ taken_old ++ taken_by received buffer
-    → taken_new ≡ taken_old ++ []
-none_came received buffer taken_old taken_new is taken =
-    taken ∙ ap (λ (r : Received). taken_old ++ taken_by r buffer) is
-
--- nor did one that failed
-pub none_failed : (received : Received) (buffer : List ℕ) (fault : PortFault)
-    (taken_old taken_new : List Datagram) → received ≡ Err fault
-    → taken_new ≡ taken_old ++ taken_by received buffer → taken_new ≡ taken_old ++ []
-none_failed received buffer fault taken_old taken_new is taken =
-    taken ∙ ap (λ (r : Received). taken_old ++ taken_by r buffer) is
+-- so is one that was refused memory as it was prepared
+pub unprepared : (service : ServiceSeen) (port : Port) (moment : ℕ) (origin : Origin) (peer : SocketAddr) (datagram : List ℕ)
+    (cause : Drop) (old new : List Move) → origin ≡ origin_of service peer → cause ≡ drops.NoMemory
+    → Fails cause (meaning service.config service.boot port origin.source datagram) → new ≡ old
+    → IsEntered service port moment (peer_datagram peer datagram) (Refused origin) old new
+unprepared service port moment origin peer datagram cause old new so is fails same =
+    let defined = meaning service.config service.boot port origin.source datagram in
+    let found = takes defined (subst (λ (d : Drop). Fails d defined) is fails) in
+    refused service port moment origin peer datagram found.0 old new so found.1 same

@@ -1,14 +1,15 @@
 -- How what was answered of a batch grows by a datagram.
 use Rattle.std.proofs.Common.{◌≡◌, ℕ, ◌+◌, Bool, true, false, List, [], ◌∷◌, ◌++◌, length, append-nil, append_assoc, refl, sym, ap, subst, ◌∙◌, arith}
 use Rattle.std.specs.Prelude.{Option, Some, None}
-use Rattle.rsl_accounts.specs.Configuration.{Configuration}
+use Rattle.rsl_accounts.specs.Configuration.{Configuration, client_number}
 use Rattle.rsl_event.specs.Answer.{answer_to, said_to}
+use Rattle.rsl_event.specs.Detail.{detail_of}
 use Rattle.rsl_event.specs.MeaningKind.{kind_of}
 use Rattle.rsl_event.specs.declared.event.Decision.{Decision}
 use Rattle.rsl_event.specs.declared.event.Decision.TheVariants.{Done}
 use Rattle.rsl_event.specs.declared.meaning.Port.{Port}
 use Rattle.rsl_event.specs.declared.words.Said.{Said}
-use Rattle.rsl_port.specs.declared.datagram_port.Datagram.{Datagram}
+use Rattle.rld_turn.specs.declared.peer_port.PeerDatagram.{PeerDatagram}
 use Rattle.rsl_shard.specs.Restep.{BooksSeen}
 use Rattle.rsl_shard.specs.declared.moved.Move.{Move}
 use Rattle.rld_books.specs.Server.{decision_in, decisions_of, replay}
@@ -16,32 +17,33 @@ use Rattle.rld_turn.proofs.Deciding.{decided_at}
 use Rattle.rld_turn.proofs.Entering.{goes_on}
 use Rattle.rld_turn.proofs.Telling.{more_told, no_numbers, none_told, one_told, same_told}
 use Rattle.rld_turn.specs.Answered.{Batch, HasAnswered}
-use Rattle.rsl_port.specs.declared.datagram_port.Numbers.{Numbers}
-use Rattle.rld_turn.specs.Counted.{IsSending, counted_end, ends_of, no_ends, sends_of}
-use Rattle.rld_turn.specs.Ended.{IsEndOf, answer_if, decision_at, failed_sends_in, reply_of, sends_in, sent_by, told_by}
-use Rattle.rld_turn.specs.Entered.{AreEntered, IsEntered, IsWaiting}
+use Rattle.rld_turn.specs.Counted.{counted_end, ends_of, no_ends}
+use Rattle.rld_turn.specs.Ended.{IsEndOf, answer_if, decision_at, reply_of, sent_by, told_by, told_by_request}
+use Rattle.rld_turn.specs.Entered.{AreEntered, IsEntered, IsRequest}
 use Rattle.rld_turn.specs.Moves.{decided}
 use Rattle.rld_turn.specs.Recorded.{HasDecided, is_recorded}
 use Rattle.rsl_wire.specs.Packet.{packet_of}
 use Rattle.rld_turn.specs.Told.{AreNumbersOf, HasTold, IsSentAs, Told, told_of}
-use Rattle.rld_turn.specs.Turned.{IsAnsweredBy, ServiceSeen, Turned, NoneYet, ThenDropped, ThenRefused, ThenUnrecorded, ThenBare, ThenAnswered}
+use Rattle.rld_turn.specs.Present.{ServiceSeen, origin_of, source_of}
+use Rattle.rld_turn.specs.Turned.{IsAnsweredBy, Turned, bare_told, request_told, NoneYet, ThenDropped, ThenRefused, ThenUnrecorded, ThenBare, ThenAnswered}
 use Rattle.rld_turn.specs.declared.ends.End.{End}
 use Rattle.rld_turn.specs.declared.ends.End.TheVariants as ends
 use Rattle.rld_turn.specs.declared.ends.Ends.{Ends}
-use Rattle.rld_turn.specs.declared.entry.Entry.{Entry}
-use Rattle.rld_turn.specs.declared.entry.Entry.TheVariants.{Dropped, Refused, Bare, Moved}
-use Rattle.rld_turn.specs.declared.entry.Waiting.{Waiting}
+use Rattle.rld_turn.specs.declared.origin.Origin.{Origin}
+use Rattle.rld_turn.specs.declared.request.Entry.{Entry}
+use Rattle.rld_turn.specs.declared.request.Entry.TheVariants.{Dropped, Refused, Bare, Moved}
+use Rattle.rld_turn.specs.declared.request.Request.{Request}
 
 -- what was answered of a batch, and the entries that are left of it
 pub record AreAnswered (service : ServiceSeen) (port : Port) (moment : ℕ)
-    (decisions : Option (List Decision)) (begun : List BooksSeen) (taken : List Datagram)
-    (moves : List Move) (left : List Entry) (ends : Ends) (old new : List Datagram)
+    (decisions : Option (List Decision)) (begun : List BooksSeen) (taken : List PeerDatagram)
+    (moves : List Move) (left : List Entry) (ends : Ends) (old new : List PeerDatagram)
     (old_told new_told : Option (List Told)) : Type 0 where
   pub told : List Told
-  pub done : List Datagram
-  pub rest : List Datagram
+  pub done : List PeerDatagram
+  pub rest : List PeerDatagram
   pub batch : List Move
-  pub sent : List Datagram
+  pub sent : List PeerDatagram
   pub all : taken ≡ done ++ rest
   pub entered : AreEntered service port moment rest left batch moves
   pub more_sent : new ≡ old ++ sent
@@ -50,23 +52,23 @@ pub record AreAnswered (service : ServiceSeen) (port : Port) (moment : ℕ)
   pub numbers : AreNumbersOf told ends.dropped ends.refused ends.unrecorded ends.answered ends.unsent
 
 -- the answer to what waits, with the decision of these books
-answered : (service : ServiceSeen) (port : Port) (moment : ℕ) (books : List BooksSeen) (one : Datagram)
-    (moved : Option Move) (waiting : Waiting) (decision : Decision) (end : End)
-    → IsWaiting service port moment one moved waiting → decision ≡ decided books moved
-    → IsSentAs (said_to waiting.kind decision) end
-    → IsAnsweredBy service port moment books one moved (reply_of service waiting decision) end
-answered service port moment books one moved waiting decision end waits is ended = record {
+answered : (service : ServiceSeen) (port : Port) (moment : ℕ) (books : List BooksSeen) (one : PeerDatagram)
+    (moved : Option Move) (request : Request) (decision : Decision) (end : End)
+    → IsRequest service port moment one moved request → decision ≡ decided books moved
+    → IsSentAs (said_to request.kind decision) end
+    → IsAnsweredBy service port moment books one moved (reply_of service request decision) end
+answered service port moment books one moved request decision end waits is ended = record {
   fields = waits.answer.fields;
-  client = waiting.client;
+  client = request.client;
   meant = waits.meant;
-  packet = ap (λ (d : Datagram). packet_of d.octets) waits.is ∙ waits.answer.packet;
-  known = waits.known;
+  packet = ap (λ (d : PeerDatagram). packet_of d.octets) waits.is ∙ waits.answer.packet;
+  known = subst (λ (o : Origin). client_number service.config o.source.address ≡ Some request.client) waits.origin waits.answer.known;
   understood = waits.understood;
   move = waits.move;
-  source = sym (ap (λ (d : Datagram). d.source) waits.is);
-  octets = ap (λ found. answer_if service found waiting.client waiting.kind decision) waits.answer.packet
-      ∙ ap (λ kind. answer_to service.config service.boot waiting.client waits.answer.fields kind decision) waits.kind
-      ∙ ap (λ d. answer_to service.config service.boot waiting.client waits.answer.fields (kind_of waits.meant) d) is;
+  peer = sym (ap (λ (d : PeerDatagram). d.peer) waits.is);
+  octets = ap (λ found. answer_if service found request.client request.kind decision) waits.answer.packet
+      ∙ ap (λ kind. answer_to service.config service.boot request.client waits.answer.fields kind decision) waits.kind
+      ∙ ap (λ d. answer_to service.config service.boot request.client waits.answer.fields (kind_of waits.meant) d) is;
   ended =
       subst (λ (word : Said). IsSentAs word end)
       (ap (λ kind. said_to kind decision) waits.kind ∙ ap (λ d. said_to (kind_of waits.meant) d) is) ended;
@@ -74,28 +76,29 @@ answered service port moment books one moved waiting decision end waits is ended
 
 -- by equal lists
 lists : (service : ServiceSeen) (port : Port) (moment : ℕ) (recorded : Bool) (begun : List BooksSeen)
-    (told heard : List Told) (taken : List Datagram) (batch others : List Move) (sent more : List Datagram)
+    (told heard : List Told) (taken : List PeerDatagram) (batch others : List Move) (sent more : List PeerDatagram)
     → heard ≡ told → others ≡ batch → more ≡ sent
     → Turned service port moment recorded begun told taken batch sent
     → Turned service port moment recorded begun heard taken others more
 lists service port moment recorded begun told heard taken batch others sent more i j k turned =
     subst (λ (l : List Told). Turned service port moment recorded begun l taken others more) (sym i)
     (subst (λ (l : List Move). Turned service port moment recorded begun told taken l more) (sym j)
-    (subst (λ (l : List Datagram). Turned service port moment recorded begun told taken batch l) (sym k) turned))
+    (subst (λ (l : List PeerDatagram). Turned service port moment recorded begun told taken batch l) (sym k) turned))
 
--- what is told of what waits is told of its datagram
-waiting_told : (service : ServiceSeen) (port : Port) (moment : ℕ) (told : List Told) (one : Datagram)
-    (moved : Option Move) (waiting : Waiting) (end other : End)
-    → IsWaiting service port moment one moved waiting → end ≡ other
-    → told ++ told_of service.config waiting.source waiting.octets end ∷ []
-    ≡ told ++ told_of service.config one.source one.octets other ∷ []
-waiting_told service port moment told one moved waiting end other waits is =
-    same_told service.config told waiting.source one.source waiting.octets one.octets end other
-    (sym (ap (λ (d : Datagram). d.source) waits.is)) (sym (ap (λ (d : Datagram). d.octets) waits.is)) is
+-- what is told of a request is told of its datagram
+told_of_request : (service : ServiceSeen) (port : Port) (moment : ℕ) (told : List Told) (one : PeerDatagram)
+    (moved : Option Move) (request : Request) (end other : End)
+    → IsRequest service port moment one moved request → end ≡ other
+    → told ++ told_by_request service.config request end ∷ []
+    ≡ told ++ request_told service port one other ∷ []
+told_of_request service port moment told one moved request end other waits is =
+    same_told service.config told request.origin (origin_of service one.peer) request.octets.items one.octets
+    (Some request.detail) (detail_of service.config port (source_of service one.peer) one.octets) end other
+    waits.origin (sym (ap (λ (d : PeerDatagram). d.octets) waits.is)) (sym waits.detail) is
 
 -- the decision on the move of an entry is that of the books at that point
 decided_by : (service : ServiceSeen) (port : Port) (moment : ℕ) (begun : List BooksSeen)
-    (batch next moves : List Move) (rest : List Datagram) (others : List Entry)
+    (batch next moves : List Move) (rest : List PeerDatagram) (others : List Entry)
     (found : List Decision) (place : ℕ) (moved : Move) → found ≡ decisions_of begun moves
     → place ≡ length batch → next ≡ batch ++ moved ∷ []
     → AreEntered service port moment rest others next moves
@@ -110,40 +113,40 @@ decided_by service port moment begun batch next moves rest others found place mo
 
 -- a datagram more ended
 turned_more : (service : ServiceSeen) (port : Port) (moment : ℕ) (decisions : Option (List Decision))
-    (begun : List BooksSeen) (told : List Told) (done rest : List Datagram) (batch next moves : List Move)
-    (sent : List Datagram) (one : Datagram) (entry : Entry) (others : List Entry) (end : End)
+    (begun : List BooksSeen) (told : List Told) (done rest : List PeerDatagram) (batch next moves : List Move)
+    (sent : List PeerDatagram) (one : PeerDatagram) (entry : Entry) (others : List Entry) (end : End)
     → HasDecided begun moves decisions → IsEndOf decisions entry end
     → IsEntered service port moment one entry batch next
     → AreEntered service port moment rest others next moves
     → Turned service port moment (is_recorded decisions) begun told done batch sent
     → Turned service port moment (is_recorded decisions) begun (told ++ told_by service.config entry end ∷ []) (done ++ one ∷ []) next (sent ++ sent_by service decisions entry)
-turned_more service port moment decisions begun told done rest batch next moves sent one (Dropped source cause) others end decides ended (from, named, left_so) left turned =
-    lists service port moment (is_recorded decisions) begun (told ++ told_of service.config one.source [] (ends.Dropped cause) ∷ []) (told ++ told_of service.config source [] end ∷ []) (done ++ one ∷ []) batch next sent (sent ++ [])
-    (same_told service.config told source one.source [] [] end (ends.Dropped cause) from refl ended) left_so (append-nil sent)
+turned_more service port moment decisions begun told done rest batch next moves sent one (Dropped origin cause) others end decides ended (from, named, left_so) left turned =
+    lists service port moment (is_recorded decisions) begun (told ++ bare_told service one (ends.Dropped cause) ∷ []) (told ++ told_of service.config origin [] None end ∷ []) (done ++ one ∷ []) batch next sent (sent ++ [])
+    (same_told service.config told origin (origin_of service one.peer) [] [] None None end (ends.Dropped cause) from refl refl ended) left_so (append-nil sent)
     (ThenDropped turned one cause named)
-turned_more service port moment decisions begun told done rest batch next moves sent one (Refused source) others end decides ended (from, refused, left_so) left turned =
-    lists service port moment (is_recorded decisions) begun (told ++ told_of service.config one.source [] ends.Refused ∷ []) (told ++ told_of service.config source [] end ∷ []) (done ++ one ∷ []) batch next sent (sent ++ [])
-    (same_told service.config told source one.source [] [] end ends.Refused from refl ended) left_so (append-nil sent)
+turned_more service port moment decisions begun told done rest batch next moves sent one (Refused origin) others end decides ended (from, refused, left_so) left turned =
+    lists service port moment (is_recorded decisions) begun (told ++ bare_told service one ends.Refused ∷ []) (told ++ told_of service.config origin [] None end ∷ []) (done ++ one ∷ []) batch next sent (sent ++ [])
+    (same_told service.config told origin (origin_of service one.peer) [] [] None None end ends.Refused from refl refl ended) left_so (append-nil sent)
     (ThenRefused turned one refused)
-turned_more service port moment decisions begun told done rest batch next moves sent one (Bare waiting) others end decides ended (waits, left_so) left turned =
-    let reply : Datagram = reply_of service waiting Done in
-    lists service port moment (is_recorded decisions) begun (told ++ told_of service.config one.source one.octets end ∷ []) (told ++ told_of service.config waiting.source waiting.octets end ∷ []) (done ++ one ∷ []) batch next (sent ++ reply ∷ []) (sent ++ reply ∷ [])
-    (waiting_told service port moment told one None waiting end end waits refl) left_so refl
-    (ThenBare turned one reply end (answered service port moment (replay begun batch) one None waiting Done end waits refl ended))
-turned_more service port moment None begun told done rest batch next moves sent one (Moved waiting place) others end decides ended (moved, waits, last) left turned =
-    lists service port moment false begun (told ++ told_of service.config one.source one.octets ends.Unrecorded ∷ []) (told ++ told_of service.config waiting.source waiting.octets end ∷ []) (done ++ one ∷ []) (batch ++ moved ∷ []) next sent (sent ++ [])
-    (waiting_told service port moment told one (Some moved) waiting end ends.Unrecorded waits ended) last.last (append-nil sent)
+turned_more service port moment decisions begun told done rest batch next moves sent one (Bare request) others end decides ended (waits, left_so) left turned =
+    let reply : PeerDatagram = reply_of service request Done in
+    lists service port moment (is_recorded decisions) begun (told ++ request_told service port one end ∷ []) (told ++ told_by_request service.config request end ∷ []) (done ++ one ∷ []) batch next (sent ++ reply ∷ []) (sent ++ reply ∷ [])
+    (told_of_request service port moment told one None request end end waits refl) left_so refl
+    (ThenBare turned one reply end (answered service port moment (replay begun batch) one None request Done end waits refl ended))
+turned_more service port moment None begun told done rest batch next moves sent one (Moved request place) others end decides ended (moved, waits, last) left turned =
+    lists service port moment false begun (told ++ request_told service port one ends.Unrecorded ∷ []) (told ++ told_by_request service.config request end ∷ []) (done ++ one ∷ []) (batch ++ moved ∷ []) next sent (sent ++ [])
+    (told_of_request service port moment told one (Some moved) request end ends.Unrecorded waits ended) last.last (append-nil sent)
     (ThenUnrecorded turned one moved refl (record {
       meant = waits.meant;
       understood = waits.understood;
       move = waits.move;
     }))
-turned_more service port moment (Some found) begun told done rest batch next moves sent one (Moved waiting place) others end decides ended (moved, waits, last) left turned =
-    let reply : Datagram = reply_of service waiting (decision_at found place) in
-    lists service port moment true begun (told ++ told_of service.config one.source one.octets end ∷ []) (told ++ told_of service.config waiting.source waiting.octets end ∷ []) (done ++ one ∷ []) (batch ++ moved ∷ []) next (sent ++ reply ∷ []) (sent ++ reply ∷ [])
-    (waiting_told service port moment told one (Some moved) waiting end end waits refl) last.last refl
+turned_more service port moment (Some found) begun told done rest batch next moves sent one (Moved request place) others end decides ended (moved, waits, last) left turned =
+    let reply : PeerDatagram = reply_of service request (decision_at found place) in
+    lists service port moment true begun (told ++ request_told service port one end ∷ []) (told ++ told_by_request service.config request end ∷ []) (done ++ one ∷ []) (batch ++ moved ∷ []) next (sent ++ reply ∷ []) (sent ++ reply ∷ [])
+    (told_of_request service port moment told one (Some moved) request end end waits refl) last.last refl
     (ThenAnswered turned one reply end moved refl
-    (answered service port moment (replay begun batch) one (Some moved) waiting (decision_at found place) end waits
+    (answered service port moment (replay begun batch) one (Some moved) request (decision_at found place) end waits
     (decided_by service port moment begun batch next moves rest others found place moved decides last.at last.last left) ended))
 
 -- what is told of an entry is counted
@@ -152,14 +155,14 @@ entry_told : (config : Configuration) (entry : Entry) (end : End) (told : List T
     → AreNumbersOf (told ++ told_by config entry end ∷ [])
     (counted_end end e).dropped (counted_end end e).refused (counted_end end e).unrecorded
     (counted_end end e).answered (counted_end end e).unsent
-entry_told config (Dropped source cause) end told e so = one_told config source [] end told e so
-entry_told config (Refused source) end told e so = one_told config source [] end told e so
-entry_told config (Bare waiting) end told e so = one_told config waiting.source waiting.octets end told e so
-entry_told config (Moved waiting place) end told e so = one_told config waiting.source waiting.octets end told e so
+entry_told config (Dropped origin cause) end told e so = one_told (told_of config origin [] None end) told e so
+entry_told config (Refused origin) end told e so = one_told (told_of config origin [] None end) told e so
+entry_told config (Bare request) end told e so = one_told (told_by_request config request end) told e so
+entry_told config (Moved request place) end told e so = one_told (told_by_request config request end) told e so
 
 -- nothing more is left
 pub all_answered : (service : ServiceSeen) (port : Port) (decisions : Option (List Decision))
-    (entries : List Entry) (batch : Batch service port decisions entries) (left : List Entry) (e : Ends) (old new : List Datagram)
+    (entries : List Entry) (batch : Batch service port decisions entries) (left : List Entry) (e : Ends) (old new : List PeerDatagram)
     (old_told new_told : Option (List Told)) → left ≡ []
     → AreAnswered service port batch.moment decisions batch.begun batch.taken batch.moves left e old new old_told new_told
     → HasAnswered service port decisions entries batch e old new old_told new_told
@@ -171,8 +174,8 @@ all_answered service port decisions entries batch left e old new old_told new_to
       more_sent = so.more_sent;
       more_told = so.more_told;
       turned =
-          subst (λ (t : List Datagram). Turned service port batch.moment (is_recorded decisions) batch.begun so.told t batch.moves so.sent)
-          (sym (so.all ∙ ap (λ (t : List Datagram). so.done ++ t) last.0 ∙ append-nil so.done))
+          subst (λ (t : List PeerDatagram). Turned service port batch.moment (is_recorded decisions) batch.begun so.told t batch.moves so.sent)
+          (sym (so.all ∙ ap (λ (t : List PeerDatagram). so.done ++ t) last.0 ∙ append-nil so.done))
           (subst (λ (b : List Move). Turned service port batch.moment (is_recorded decisions) batch.begun so.told so.done b so.sent)
           (sym last.1) so.turned);
       numbers = so.numbers;
@@ -180,7 +183,7 @@ all_answered service port decisions entries batch left e old new old_told new_to
 
 -- none is answered yet
 pub none_answered : (service : ServiceSeen) (port : Port) (decisions : Option (List Decision))
-    (entries : List Entry) (batch : Batch service port decisions entries) (e : Ends) (old : List Datagram)
+    (entries : List Entry) (batch : Batch service port decisions entries) (e : Ends) (old : List PeerDatagram)
     (old_told : Option (List Told)) → e ≡ no_ends
     → AreAnswered service port batch.moment decisions batch.begun batch.taken batch.moves entries e old old old_told old_told
 none_answered service port decisions entries batch e old old_told none =
@@ -200,8 +203,8 @@ none_answered service port decisions entries batch e old old_told none =
 
 -- one more is answered
 pub one_answered : (service : ServiceSeen) (port : Port) (moment : ℕ) (decisions : Option (List Decision))
-    (begun : List BooksSeen) (taken : List Datagram) (moves : List Move) (entry : Entry) (left others : List Entry)
-    (end : End) (e after : Ends) (old mid new : List Datagram) (old_told mid_told new_told : Option (List Told))
+    (begun : List BooksSeen) (taken : List PeerDatagram) (moves : List Move) (entry : Entry) (left others : List Entry)
+    (end : End) (e after : Ends) (old mid new : List PeerDatagram) (old_told mid_told new_told : Option (List Told))
     → left ≡ entry ∷ others → HasDecided begun moves decisions → IsEndOf decisions entry end
     → after ≡ counted_end end e → new ≡ mid ++ sent_by service decisions entry
     → HasTold (told_by service.config entry end ∷ []) mid_told new_told
@@ -215,16 +218,16 @@ one_answered service port moment decisions begun taken moves entry left others e
       rest = f.1;
       batch = f.2;
       sent = so.sent ++ sent_by service decisions entry;
-      all = so.all ∙ ap (λ (t : List Datagram). so.done ++ t) f.3 ∙ sym (append_assoc so.done (f.0 ∷ []) f.1);
+      all = so.all ∙ ap (λ (t : List PeerDatagram). so.done ++ t) f.3 ∙ sym (append_assoc so.done (f.0 ∷ []) f.1);
       entered = f.5;
-      more_sent = sends ∙ ap (λ (s : List Datagram). s ++ sent_by service decisions entry) so.more_sent
+      more_sent = sends ∙ ap (λ (s : List PeerDatagram). s ++ sent_by service decisions entry) so.more_sent
           ∙ append_assoc old so.sent (sent_by service decisions entry);
       more_told = more_told so.told (told_by service.config entry end ∷ []) old_told mid_told new_told so.more_told tells;
       turned = turned_more service port moment decisions begun so.told so.done f.1 so.batch f.2 moves so.sent f.0 entry others end decides ended f.4 f.5 so.turned;
       numbers = entry_told service.config entry end so.told e so.numbers;
     })
 
--- ---- the counts and the calls of it
+-- ---- the counts of it
 
 -- each end is counted
 pub one_end : (end : End) (e : Ends) → ends_of (counted_end end e) ≡ ends_of e + 1
@@ -233,38 +236,3 @@ one_end ends.Refused e = omega arith
 one_end ends.Unrecorded e = omega arith
 one_end (ends.Answered said) e = omega arith
 one_end (ends.Unsent said) e = omega arith
-
--- and its calls
-one_call : (end : End) (e : Ends)
-    → (sends_of (counted_end end e) ≡ sends_of e + sends_in end)
-    × ((counted_end end e).unsent ≡ e.unsent + failed_sends_in end)
-one_call (ends.Dropped cause) e = (omega arith, omega arith)
-one_call ends.Refused e = (omega arith, omega arith)
-one_call ends.Unrecorded e = (omega arith, omega arith)
-one_call (ends.Answered said) e = (omega arith, omega arith)
-one_call (ends.Unsent said) e = (omega arith, omega arith)
-
-pub sending_more : (end : End) (e after : Ends) (old mid new : Numbers) → after ≡ counted_end end e
-    → IsSending (sends_of e) e.unsent old mid → IsSending (sends_in end) (failed_sends_in end) mid new
-    → IsSending (sends_of after) after.unsent old new
-sending_more end e after old mid new is before then =
-    let n = one_call end e in
-    subst (λ (a : Ends). IsSending (sends_of a) a.unsent old new) (sym is) (record {
-      same_receives = then.same_receives ∙ before.same_receives;
-      same_failed = then.same_failed ∙ before.same_failed;
-      sends_now = omega (arith, n.0, before.sends_now, then.sends_now);
-      sends_failed = omega (arith, n.1, before.sends_failed, then.sends_failed);
-      astray_most = omega (arith, n.0, before.astray_most, then.astray_most);
-    })
-
--- before the first there is no call
-pub none_sending : (e : Ends) (numbers : Numbers) → e ≡ no_ends
-    → IsSending (sends_of e) e.unsent numbers numbers
-none_sending e numbers is =
-    subst (λ (a : Ends). IsSending (sends_of a) a.unsent numbers numbers) (sym is) (record {
-      same_receives = refl;
-      same_failed = refl;
-      sends_now = omega arith;
-      sends_failed = omega arith;
-      astray_most = omega arith;
-    })

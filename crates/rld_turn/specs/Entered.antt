@@ -1,50 +1,53 @@
 -- What a batch holds of the datagrams that were taken.
 use Rattle.std.specs.Prelude.{◌≡◌, ℕ, List, [], ◌∷◌, ◌++◌, length, Option, Some, None, Ok, Err}
 use Rattle.rsl_accounts.specs.Configuration.{Configuration, client_number}
-use Rattle.rsl_event.specs.Meaning.{meaning}
+use Rattle.rsl_event.specs.Detail.{detail_of}
 use Rattle.rsl_event.specs.MeaningKind.{kind_of}
 use Rattle.rsl_event.specs.Prepared.{CanReply}
-use Rattle.rsl_event.specs.declared.event.Source.{Source}
 use Rattle.rsl_event.specs.declared.meaning.Meaning.{Meaning}
 use Rattle.rsl_event.specs.declared.meaning.Port.{Port}
-use Rattle.rsl_port.specs.Told.{datagram_of}
-use Rattle.rsl_port.specs.declared.datagram_port.Datagram.{Datagram}
+use Rattle.rsl_event.specs.declared.preparation.Detailed.{Detailed}
 use Rattle.rsl_shard.specs.declared.moved.Move.{Move}
 use Rattle.rsl_wire.specs.Packet.{Fields, packet_of}
 use Rattle.rld_turn.specs.Moves.{move_of}
-use Rattle.rld_turn.specs.Turned.{IsRefused, ServiceSeen}
-use Rattle.rld_turn.specs.declared.entry.Entry.{Entry}
-use Rattle.rld_turn.specs.declared.entry.Entry.TheVariants.{Dropped, Refused, Bare, Moved}
-use Rattle.rld_turn.specs.declared.entry.Waiting.{Waiting}
+use Rattle.rld_turn.specs.Present.{ServiceSeen, meaning_of, origin_of, peer_datagram, source_of}
+use Rattle.rld_turn.specs.Turned.{IsRefused}
+use Rattle.rld_turn.specs.declared.origin.Origin.{Origin}
+use Rattle.rld_turn.specs.declared.peer_port.PeerDatagram.{PeerDatagram}
+use Rattle.rld_turn.specs.declared.request.Entry.{Entry}
+use Rattle.rld_turn.specs.declared.request.Entry.TheVariants.{Dropped, Refused, Bare, Moved}
+use Rattle.rld_turn.specs.declared.request.Request.{Request}
 
--- what waits of a datagram of a client with this meaning and Identifier
-abbrev pub waiting_of : Source → (octets : List ℕ) → (client : ℕ) → Meaning → (id : ℕ) → Waiting
-waiting_of source octets client meant id = record {
-  source = source;
-  octets = octets;
-  client = client;
-  kind = kind_of meant;
-  draft = record { id = id; attributes = [] };
-}
+-- a request is what was prepared of a datagram of this origin
+pub record IsMadeOf (origin : Origin) (octets : List ℕ) (detailed : Detailed) (request : Request)
+    : Type 0 where
+  pub origin_is : request.origin ≡ origin
+  pub octets_are : request.octets.items ≡ octets
+  pub client : request.client ≡ detailed.prepared.client
+  pub kind : request.kind ≡ kind_of detailed.prepared.meaning
+  pub detail : request.detail ≡ detailed.detail
+  pub draft : request.draft ≡ record { id = detailed.prepared.packet.id; attributes = [] }
 
--- an answer can be made to what waits: to its client's packet, with the kind of its meaning
-pub record CanAnswer (config : Configuration) (waiting : Waiting) : Type 0 where
+-- an answer can be made to a request: to its client's packet, with the kind of its meaning
+pub record CanAnswer (config : Configuration) (request : Request) : Type 0 where
   pub fields : Fields
-  pub known : client_number config waiting.source.address ≡ Some waiting.client
-  pub packet : packet_of waiting.octets ≡ Ok fields
-  pub reply : CanReply config waiting.client fields.attributes waiting.kind
-  pub draft : waiting.draft ≡ record { id = fields.id; attributes = [] }
+  pub known : client_number config request.origin.source.address ≡ Some request.client
+  pub packet : packet_of request.octets.items ≡ Ok fields
+  pub reply : CanReply config request.client fields.attributes request.kind
+  pub draft : request.draft ≡ record { id = fields.id; attributes = [] }
 
--- a datagram waits, which has a meaning with this move
-pub record IsWaiting (service : ServiceSeen) (port : Port) (moment : ℕ) (taken : Datagram)
-    (moved : Option Move) (waiting : Waiting) : Type 0 where
+-- a datagram is a request, which has a meaning with this move
+pub record IsRequest (service : ServiceSeen) (port : Port) (moment : ℕ) (taken : PeerDatagram)
+    (moved : Option Move) (request : Request) : Type 0 where
   pub meant : Meaning
-  pub is : taken ≡ datagram_of waiting.source waiting.octets
-  pub known : client_number service.config taken.source.address ≡ Some waiting.client
-  pub understood : meaning service.config service.boot port taken.source taken.octets ≡ Ok meant
-  pub kind : waiting.kind ≡ kind_of meant
+  pub is : taken ≡ peer_datagram request.origin.peer request.octets.items
+  pub origin : request.origin ≡ origin_of service taken.peer
+  pub understood : meaning_of service port taken ≡ Ok meant
+  pub kind : request.kind ≡ kind_of meant
+  pub detail : detail_of service.config port (source_of service taken.peer) taken.octets
+      ≡ Some request.detail
   pub move : move_of service.config moment meant ≡ moved
-  pub answer : CanAnswer service.config waiting
+  pub answer : CanAnswer service.config request
 
 -- its move is the last of a batch, at this place
 pub record IsLast (place : ℕ) (moved : Move) (old new : List Move) : Type 0 where
@@ -52,55 +55,52 @@ pub record IsLast (place : ℕ) (moved : Move) (old new : List Move) : Type 0 wh
   pub last : new ≡ old ++ moved ∷ []
 
 -- a datagram was taken into a batch as this
-abbrev pub IsEntered : ServiceSeen → Port → (moment : ℕ) → (taken : Datagram) → Entry
+abbrev pub IsEntered : ServiceSeen → Port → (moment : ℕ) → (taken : PeerDatagram) → Entry
     → (old new : List Move) → Type 0
-IsEntered service port moment taken (Dropped source cause) old new =
-    (source ≡ taken.source)
-    × (meaning service.config service.boot port taken.source taken.octets ≡ Err cause) × (new ≡ old)
-IsEntered service port moment taken (Refused source) old new =
-    (source ≡ taken.source) × IsRefused service port taken × (new ≡ old)
-IsEntered service port moment taken (Bare waiting) old new =
-    IsWaiting service port moment taken None waiting × (new ≡ old)
-IsEntered service port moment taken (Moved waiting place) old new =
-    (moved : Move) × IsWaiting service port moment taken (Some moved) waiting
+IsEntered service port moment taken (Dropped origin cause) old new =
+    (origin ≡ origin_of service taken.peer) × (meaning_of service port taken ≡ Err cause)
+    × (new ≡ old)
+IsEntered service port moment taken (Refused origin) old new =
+    (origin ≡ origin_of service taken.peer) × IsRefused service port taken × (new ≡ old)
+IsEntered service port moment taken (Bare request) old new =
+    IsRequest service port moment taken None request × (new ≡ old)
+IsEntered service port moment taken (Moved request place) old new =
+    (moved : Move) × IsRequest service port moment taken (Some moved) request
     × IsLast place moved old new
 
 -- a move was put at the end of a batch, at its place, or refused memory
-abbrev pub HasPushed : Move → Waiting → Entry → (old new : List Move) → Type 0
-HasPushed moved waiting (Dropped source cause) old new = ⊥
-HasPushed moved waiting (Refused source) old new = (source ≡ waiting.source) × (new ≡ old)
-HasPushed moved waiting (Bare held) old new = ⊥
-HasPushed moved waiting (Moved held place) old new =
-    (held ≡ waiting) × IsLast place moved old new
+abbrev pub HasPushed : Move → Request → Entry → (old new : List Move) → Type 0
+HasPushed moved request (Dropped origin cause) old new = ⊥
+HasPushed moved request (Refused origin) old new = (origin ≡ request.origin) × (new ≡ old)
+HasPushed moved request (Bare held) old new = ⊥
+HasPushed moved request (Moved held place) old new =
+    (held ≡ request) × IsLast place moved old new
 
 -- the move of a meaning was, if it has one
-abbrev pub HasAdded : Configuration → (moment : ℕ) → Meaning → Waiting → Entry
+abbrev pub HasAdded : Configuration → (moment : ℕ) → Meaning → Request → Entry
     → (old new : List Move) → Type 0
-HasAdded config moment meant waiting (Dropped source cause) old new = ⊥
-HasAdded config moment meant waiting (Refused source) old new =
-    (source ≡ waiting.source) × (new ≡ old)
-HasAdded config moment meant waiting (Bare held) old new =
-    (held ≡ waiting) × (move_of config moment meant ≡ None) × (new ≡ old)
-HasAdded config moment meant waiting (Moved held place) old new =
-    (moved : Move) × (held ≡ waiting) × (move_of config moment meant ≡ Some moved)
+HasAdded config moment meant request (Dropped origin cause) old new = ⊥
+HasAdded config moment meant request (Refused origin) old new =
+    (origin ≡ request.origin) × (new ≡ old)
+HasAdded config moment meant request (Bare held) old new =
+    (held ≡ request) × (move_of config moment meant ≡ None) × (new ≡ old)
+HasAdded config moment meant request (Moved held place) old new =
+    (moved : Move) × (held ≡ request) × (move_of config moment meant ≡ Some moved)
     × IsLast place moved old new
 
 -- datagrams were taken into a batch as these, one after the other
-abbrev pub AreEntered : ServiceSeen → Port → (moment : ℕ) → (taken : List Datagram) → List Entry
+abbrev pub AreEntered : ServiceSeen → Port → (moment : ℕ) → (taken : List PeerDatagram) → List Entry
     → (old new : List Move) → Type 0
 AreEntered service port moment taken [] old new = (taken ≡ []) × (new ≡ old)
 AreEntered service port moment taken (entry ∷ entries) old new =
-    (one : Datagram) × (others : List Datagram) × (mid : List Move)
+    (one : PeerDatagram) × (others : List PeerDatagram) × (mid : List Move)
     × (taken ≡ one ∷ others)
     × IsEntered service port moment one entry old mid
     × AreEntered service port moment others entries mid new
 
--- the batch after datagrams more, which the port has told
+-- the batch with the datagrams that were taken, if the port reports them
 pub record HasGathered (service : ServiceSeen) (port : Port) (moment : ℕ) (Tells : Type 0)
-    (old_taken new_taken : List Datagram) (old_queue new_queue : List Entry)
-    (old_batch new_batch : List Move) : Type 0 where
-  pub taken : List Datagram
-  pub entries : List Entry
-  pub entered : AreEntered service port moment taken entries old_batch new_batch
-  pub queued : new_queue ≡ old_queue ++ entries
+    (old_taken new_taken : List PeerDatagram) (queue : List Entry) (batch : List Move) : Type 0 where
+  pub taken : List PeerDatagram
+  pub entered : AreEntered service port moment taken queue [] batch
   pub told : Tells → new_taken ≡ old_taken ++ taken

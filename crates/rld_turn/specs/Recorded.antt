@@ -49,3 +49,9 @@ ending_by outcomes.Ended endings.Open = endings.Ended
 ending_by outcomes.Nothing endings.Open = endings.Open
 ending_by (outcomes.Recorded decisions) endings.Open = endings.Open
 ending_by outcomes.Failed endings.Open = endings.Open
+
+-- whether a turn ended because a call that takes a datagram failed
+abbrev pub is_down : Ending → Bool
+is_down endings.Down = true
+is_down endings.Open = false
+is_down endings.Ended = false

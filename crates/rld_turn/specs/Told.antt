@@ -1,38 +1,43 @@
--- What a watcher is told of datagrams, where it reports that.
+-- What a watcher learns of datagrams, where it reports that.
 use Rattle.std.specs.Prelude.{◌≡◌, ℕ, ⊤, Bool, true, false, List, ◌++◌, count_by, Option, Some, None}
 use Rattle.rsl_accounts.specs.Configuration.{Configuration, client_number}
-use Rattle.rsl_event.specs.declared.event.Source.{Source}
+use Rattle.rsl_event.specs.declared.detail.Detail.{Detail}
 use Rattle.rsl_event.specs.declared.words.Said.{Said}
 use Rattle.rld_turn.specs.declared.ends.End.{End}
 use Rattle.rld_turn.specs.declared.ends.End.TheVariants.{Dropped, Refused, Unrecorded, Answered, Unsent}
+use Rattle.rld_turn.specs.declared.origin.Origin.{Origin}
 use Rattle.rld_turn.specs.declared.watch.Ended.{Ended}
 
--- where a datagram came from, the client that has this address, its octets, or none, and its end
+-- where a datagram came from, the client that has this address, its octets and its detail, or none of
+-- either, and its end
 pub record Told : Type 0 where
-  pub source : Source
+  pub origin : Origin
   pub client : Option ℕ
   pub octets : List ℕ
+  pub detail : Option Detail
   pub end : End
 
 -- without where the octets lie in memory
 abbrev pub told_as : Ended → Told
 told_as ended = record {
-  source = ended.source;
+  origin = ended.origin;
   client = ended.client;
   octets = ended.octets.now;
+  detail = ended.detail;
   end = ended.end;
 }
 
--- what is told of a datagram that came from a source
-abbrev pub told_of : Configuration → Source → (octets : List ℕ) → End → Told
-told_of config source octets end = record {
-  source = source;
-  client = client_number config source.address;
+-- what a watcher learns of a datagram of this origin
+abbrev pub told_of : Configuration → Origin → (octets : List ℕ) → Option Detail → End → Told
+told_of config origin octets detail end = record {
+  origin = origin;
+  client = client_number config origin.source.address;
   octets = octets;
+  detail = detail;
   end = end;
 }
 
--- a watcher was told this more, if it reports what it is told
+-- a watcher has learned this more, if it reports what it learns
 abbrev pub HasTold : (told : List Told) → (old new : Option (List Told)) → Type 0
 HasTold told old None = ⊤
 HasTold told None (Some after) = ⊥
@@ -65,11 +70,12 @@ abbrev pub is_unsent : End → Bool
 is_unsent (Unsent said) = true
 is_unsent _ = false
 
--- of how many datagrams such an end was told
+-- how many of these datagrams have such an end
 abbrev pub number_of : (End → Bool) → List Told → ℕ
 number_of test told = count_by (λ (one : Told). test one.end) told
 
--- so many were told of as dropped, refused, unrecorded, answered and unsent
+-- `d`, `r`, `u`, `a` and `f` of these datagrams were dropped, refused, unrecorded, answered and
+-- unsent
 pub record AreNumbersOf (told : List Told) (d r u a f : ℕ) : Type 0 where
   pub dropped : d ≡ number_of is_dropped told
   pub refused : r ≡ number_of is_refused told

@@ -3,127 +3,124 @@
 use Rattle.std.specs.Prelude.{◌≡◌, ℕ, Bool, true, false, List, [], ◌∷◌, ◌++◌, Ok, Err, Option, Some, None}
 use Rattle.rsl_accounts.specs.Configuration.{Configuration, client_number}
 use Rattle.rsl_event.specs.Answer.{answer, said}
-use Rattle.rsl_event.specs.Meaning.{meaning}
+use Rattle.rsl_event.specs.Detail.{detail_of}
 use Rattle.rsl_event.specs.declared.meaning.Dropped.{Dropped}
 use Rattle.rsl_event.specs.declared.meaning.Meaning.{Meaning}
 use Rattle.rsl_event.specs.declared.meaning.Port.{Port}
 use Rattle.rsl_port.specs.Shown.{HasShown}
-use Rattle.rsl_port.specs.declared.datagram_port.Datagram.{Datagram}
 use Rattle.rsl_shard.specs.Restep.{BooksSeen}
 use Rattle.rsl_shard.specs.declared.moved.Move.{Move}
 use Rattle.rsl_wire.specs.Packet.{Fields, packet_of}
 use Rattle.rld_books.specs.Server.{replay}
 use Rattle.rld_turn.specs.Moves.{decided, move_of}
+use Rattle.rld_turn.specs.Present.{ServiceSeen, meaning_of, origin_of, source_of}
 use Rattle.rld_turn.specs.Recorded.{made}
 use Rattle.rld_turn.specs.Told.{AreNumbersOf, HasTold, IsSentAs, Told, told_of}
 use Rattle.rld_turn.specs.declared.ends.End.{End}
 use Rattle.rld_turn.specs.declared.ends.End.TheVariants as ends
 use Rattle.rld_turn.specs.declared.ends.Ends.{Ends}
+use Rattle.rld_turn.specs.declared.peer_port.PeerDatagram.{PeerDatagram}
 
--- what the clauses see of a server: its configuration and its boot number
-pub record ServiceSeen : Type 0 where
-  pub config : Configuration
-  pub boot : ℕ
+-- what a watcher learns of a datagram of which nothing but its origin is kept
+abbrev pub bare_told : ServiceSeen → PeerDatagram → End → Told
+bare_told service one end = told_of service.config (origin_of service one.peer) [] None end
 
--- a server of this configuration, with this boot number
-abbrev pub service_of : Configuration → (boot : ℕ) → ServiceSeen
-service_of config boot = record { config = config; boot = boot }
+-- what a watcher learns of a request
+abbrev pub request_told : ServiceSeen → Port → PeerDatagram → End → Told
+request_told service port one end =
+    told_of service.config (origin_of service one.peer) one.octets
+    (detail_of service.config port (source_of service one.peer) one.octets) end
 
 -- a datagram has a meaning, and was refused memory: nothing is recorded of it, and nothing sent
-pub record IsRefused (service : ServiceSeen) (port : Port) (taken : Datagram) : Type 0 where
+pub record IsRefused (service : ServiceSeen) (port : Port) (taken : PeerDatagram) : Type 0 where
   pub meant : Meaning
-  pub understood : meaning service.config service.boot port taken.source taken.octets ≡ Ok meant
+  pub understood : meaning_of service port taken ≡ Ok meant
 
 -- a datagram has a meaning with this move
-pub record IsUnrecorded (service : ServiceSeen) (port : Port) (moment : ℕ) (taken : Datagram)
+pub record IsUnrecorded (service : ServiceSeen) (port : Port) (moment : ℕ) (taken : PeerDatagram)
     (moved : Move) : Type 0 where
   pub meant : Meaning
-  pub understood : meaning service.config service.boot port taken.source taken.octets ≡ Ok meant
+  pub understood : meaning_of service port taken ≡ Ok meant
   pub move : move_of service.config moment meant ≡ Some moved
 
 -- a datagram has a meaning with this move, or with none, and this is the answer to it, with the
 -- decision of these books, to where it came from; so it ended
 pub record IsAnsweredBy (service : ServiceSeen) (port : Port) (moment : ℕ) (books : List BooksSeen)
-    (taken : Datagram) (moved : Option Move) (sent : Datagram) (end : End) : Type 0 where
+    (taken : PeerDatagram) (moved : Option Move) (sent : PeerDatagram) (end : End) : Type 0 where
   pub fields : Fields
   pub client : ℕ
   pub meant : Meaning
   pub packet : packet_of taken.octets ≡ Ok fields
-  pub known : client_number service.config taken.source.address ≡ Some client
-  pub understood : meaning service.config service.boot port taken.source taken.octets ≡ Ok meant
+  pub known : client_number service.config (source_of service taken.peer).address ≡ Some client
+  pub understood : meaning_of service port taken ≡ Ok meant
   pub move : move_of service.config moment meant ≡ moved
-  pub source : sent.source ≡ taken.source
+  pub peer : sent.peer ≡ taken.peer
   pub octets : sent.octets
       ≡ answer service.config service.boot client fields meant (decided books moved)
   pub ended : IsSentAs (said meant (decided books moved)) end
 
 -- The datagrams of a turn ended so, in the order in which they were taken: each was dropped by the
--- cause why it has no meaning, refused, unrecorded or answered, and its end is told. These are the
--- moves of the batch, all at one moment, and these are the sends. The batch is recorded or it is not:
--- one with a move is answered only if it is, by the books that were there when the batch began and
--- the moves before its own.
+-- cause why it has no meaning, refused, unrecorded or answered, and the watcher learns its end.
+-- These are the moves of the batch, all at one moment, and these are the sends. The batch is
+-- recorded or it is not: one with a move is answered only if it is, by the books that were there
+-- when the batch began and the moves before its own.
 pub data Turned (service : ServiceSeen) (port : Port) (moment : ℕ) (recorded : Bool)
     (begun : List BooksSeen)
-    : (told : List Told) → (taken : List Datagram) → (batch : List Move) → (sent : List Datagram)
+    : (told : List Told) → (taken : List PeerDatagram) → (batch : List Move) → (sent : List PeerDatagram)
     → Type 0 where
   NoneYet : Turned service port moment recorded begun [] [] [] []
-  ThenDropped : {told : List Told} {taken : List Datagram} {batch : List Move} {sent : List Datagram}
+  ThenDropped : {told : List Told} {taken : List PeerDatagram} {batch : List Move} {sent : List PeerDatagram}
       → Turned service port moment recorded begun told taken batch sent
-      → (one : Datagram) → (cause : Dropped)
-      → meaning service.config service.boot port one.source one.octets ≡ Err cause
-      → Turned service port moment recorded begun (told ++ told_of service.config one.source [] (ends.Dropped cause) ∷ []) (taken ++ one ∷ []) batch sent
-  ThenRefused : {told : List Told} {taken : List Datagram} {batch : List Move} {sent : List Datagram}
+      → (one : PeerDatagram) → (cause : Dropped)
+      → meaning_of service port one ≡ Err cause
+      → Turned service port moment recorded begun (told ++ bare_told service one (ends.Dropped cause) ∷ []) (taken ++ one ∷ []) batch sent
+  ThenRefused : {told : List Told} {taken : List PeerDatagram} {batch : List Move} {sent : List PeerDatagram}
       → Turned service port moment recorded begun told taken batch sent
-      → (one : Datagram) → IsRefused service port one
-      → Turned service port moment recorded begun (told ++ told_of service.config one.source [] ends.Refused ∷ []) (taken ++ one ∷ []) batch sent
-  ThenUnrecorded : {told : List Told} {taken : List Datagram} {batch : List Move} {sent : List Datagram}
+      → (one : PeerDatagram) → IsRefused service port one
+      → Turned service port moment recorded begun (told ++ bare_told service one ends.Refused ∷ []) (taken ++ one ∷ []) batch sent
+  ThenUnrecorded : {told : List Told} {taken : List PeerDatagram} {batch : List Move} {sent : List PeerDatagram}
       → Turned service port moment recorded begun told taken batch sent
-      → (one : Datagram) → (moved : Move) → recorded ≡ false
+      → (one : PeerDatagram) → (moved : Move) → recorded ≡ false
       → IsUnrecorded service port moment one moved
-      → Turned service port moment recorded begun (told ++ told_of service.config one.source one.octets ends.Unrecorded ∷ []) (taken ++ one ∷ []) (batch ++ moved ∷ []) sent
-  ThenBare : {told : List Told} {taken : List Datagram} {batch : List Move} {sent : List Datagram}
+      → Turned service port moment recorded begun (told ++ request_told service port one ends.Unrecorded ∷ []) (taken ++ one ∷ []) (batch ++ moved ∷ []) sent
+  ThenBare : {told : List Told} {taken : List PeerDatagram} {batch : List Move} {sent : List PeerDatagram}
       → Turned service port moment recorded begun told taken batch sent
-      → (one reply : Datagram) → (end : End)
+      → (one reply : PeerDatagram) → (end : End)
       → IsAnsweredBy service port moment (replay begun batch) one None reply end
-      → Turned service port moment recorded begun (told ++ told_of service.config one.source one.octets end ∷ []) (taken ++ one ∷ []) batch (sent ++ reply ∷ [])
-  ThenAnswered : {told : List Told} {taken : List Datagram} {batch : List Move} {sent : List Datagram}
+      → Turned service port moment recorded begun (told ++ request_told service port one end ∷ []) (taken ++ one ∷ []) batch (sent ++ reply ∷ [])
+  ThenAnswered : {told : List Told} {taken : List PeerDatagram} {batch : List Move} {sent : List PeerDatagram}
       → Turned service port moment recorded begun told taken batch sent
-      → (one reply : Datagram) → (end : End) → (moved : Move) → recorded ≡ true
+      → (one reply : PeerDatagram) → (end : End) → (moved : Move) → recorded ≡ true
       → IsAnsweredBy service port moment (replay begun batch) one (Some moved) reply end
-      → Turned service port moment recorded begun (told ++ told_of service.config one.source one.octets end ∷ []) (taken ++ one ∷ []) (batch ++ moved ∷ []) (sent ++ reply ∷ [])
+      → Turned service port moment recorded begun (told ++ request_told service port one end ∷ []) (taken ++ one ∷ []) (batch ++ moved ∷ []) (sent ++ reply ∷ [])
 
 -- what stands at a time: the datagrams taken, the sends tried, the moments that the clock has shown
--- and what the watcher was told, if they report that, and the books
+-- and what the watcher has learned, if they report that, and the books
 pub record State : Type 0 where
-  pub taken : List Datagram
-  pub sent : List Datagram
+  pub taken : List PeerDatagram
+  pub sent : List PeerDatagram
   pub shown : Option (List ℕ)
   pub told : Option (List Told)
   pub books : List BooksSeen
 
-abbrev pub state_of : (taken sent : List Datagram) → (shown : Option (List ℕ))
+abbrev pub state_of : (taken sent : List PeerDatagram) → (shown : Option (List ℕ))
     → (told : Option (List Told)) → List BooksSeen → State
 state_of taken sent shown told books =
     record { taken = taken; sent = sent; shown = shown; told = told; books = books }
 
--- the clock is read once if there is a datagram
-abbrev pub moments_of : (taken : List Datagram) → (moment : ℕ) → List ℕ
-moments_of [] moment = []
-moments_of (one ∷ taken) moment = moment ∷ []
-
--- A turn: what was taken since ended so, as the watcher was told. The moves of the batch are recorded,
--- all or none, after those that were recorded before.
+-- A turn: the clock is read once, and what was taken since ended so, as the watcher has learned.
+-- The moves of the batch are recorded, all or none, after those that were recorded before.
 pub record HasTurned (service : ServiceSeen) (port : Port) (ends : Ends) (old new : State)
     (stood stands : Configuration → List BooksSeen → List Move → Type 0) : Type 0 where
-  pub taken : List Datagram
+  pub taken : List PeerDatagram
   pub batch : List Move
-  pub sent : List Datagram
+  pub sent : List PeerDatagram
   pub told : List Told
   pub moment : ℕ
   pub recorded : Bool
   pub more_taken : new.taken ≡ old.taken ++ taken
   pub more_sent : new.sent ≡ old.sent ++ sent
-  pub more_shown : HasShown (moments_of taken moment) old.shown new.shown
+  pub more_shown : HasShown (moment ∷ []) old.shown new.shown
   pub more_told : HasTold told old.told new.told
   pub books : new.books ≡ replay old.books (made recorded batch)
   pub history : (config : Configuration) (opening : List BooksSeen) (moves : List Move)

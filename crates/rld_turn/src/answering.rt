@@ -2,273 +2,244 @@ ghost use Rattle.std.specs.Prelude.{◌≡◌, ◌+◌, ◌≤◌, ◌<◌, [], 
 ghost use Rattle.std.specs.List.{AllByRecursion};
 ghost use Rattle.std.specs.VecDeque.{deque_capacity};
 ghost use Rattle.rsl_accounts.specs.Configuration.{client_number};
-ghost use Rattle.rsl_event.specs.Answer.{answer_to, said_to};
-ghost use Rattle.rsl_event.specs.Prepared.{CanReply};
-ghost use Rattle.rsl_port.specs.Told.{CanSend, datagram_of};
-ghost use Rattle.rsl_wire.specs.Packet.{Fields, packet_of};
+ghost use Rattle.rsl_event.specs.Answer.{said_to};
 ghost use Rattle.rld_turn.specs.Answered.{Batch, HasAnswered};
-ghost use Rattle.rld_turn.specs.Counted.{IsSending, ends_of, sends_of};
+ghost use Rattle.rld_turn.specs.Counted.{ends_of};
 ghost use Rattle.rld_turn.specs.Ended.{
   CanEnd,
-  HasPlace,
   IsEndOf,
   answer_if,
   decision_at,
-  failed_sends_in,
   reply_of,
-  sends_in,
   sent_by,
   told_by,
+  told_by_request,
 };
 ghost use Rattle.rld_turn.specs.Entered.{CanAnswer};
+ghost use Rattle.rld_turn.specs.Present.{peer_datagram, service_of};
 ghost use Rattle.rld_turn.specs.Recorded.{decisions_in};
 ghost use Rattle.rld_turn.specs.Told.{HasTold, IsSentAs, told_of};
-ghost use Rattle.rld_turn.specs.Turned.{service_of};
 ghost use Rattle.rld_turn.specs.declared.ends.End.TheVariants as ends;
 
-use crate::batch_port::BatchPort;
 use crate::ends::{End, Ends};
-use crate::entry::{Entry, Waiting};
+use crate::origin::Origin;
 use crate::outcome::Outcome;
-use crate::receiver::Receiver;
+use crate::peer_port::PeerPort;
+use crate::request::{Entry, Request};
+use crate::room::{Room, Rooms};
+use crate::turner::Turner;
 use crate::watch::{Ended, Watch};
 use rld_store::Recorded;
-use rsl_event::{Decision, MeaningKind, Said, Source, reply_to};
+use rsl_event::{Decision, Detail, Said, reply_to};
 use rsl_port::PortFault;
-use rsl_wire::{Draft, Octets, read};
+use rsl_wire::read;
 use std::collections::VecDeque;
+use std::net::SocketAddr;
 
-impl Receiver<'_> {
+impl Turner<'_> {
     /// Answers the datagrams of a batch with this outcome, in the order in which they were taken, and
     /// tells how each ended.
-    pub(crate) fn answer_each<P: BatchPort, W: Watch>(
+    pub(crate) fn answer_each<P: PeerPort, W: Watch>(
         &self,
         datagrams: &mut P,
         watch: &mut W,
         outcome: &Outcome,
         queue: &mut VecDeque<Entry>,
+        rooms: &mut Rooms,
     ) -> Ends
-        requires can { AllByRecursion (CanEnd self.now.config.now (decisions_in outcome.now))
+        requires can { AllByRecursion (CanEnd self.now.present.config.now (decisions_in outcome.now))
             queue.old.items }
         requires few { length queue.old.items ≤ 64 }
-        requires sends { CanSend (length queue.old.items) (P.numbers datagrams.old) }
         ensures all { queue.new.items ≡ [] }
         ensures capacity { deque_capacity queue.new ≡ deque_capacity queue.old }
         ensures count { ends_of result ≡ length queue.old.items }
-        ensures calls { IsSending (sends_of result) result.unsent
-            (P.numbers datagrams.old) (P.numbers datagrams.new) }
         ensures telling { P.tells datagrams.new ≡ true → P.tells datagrams.old ≡ true }
         ensures taken { P.tells datagrams.new ≡ true →
             P.taken datagrams.new ≡ P.taken datagrams.old }
         ensures room { P.tells datagrams.new ≡ true →
             P.room datagrams.new ≡ P.room datagrams.old }
+        ensures down { P.tells datagrams.new ≡ true →
+            P.is_down datagrams.new ≡ P.is_down datagrams.old }
         ensures answered { P.tells datagrams.new ≡ true →
-            (batch : Batch (service_of self.now.config.now self.now.boot) self.now.port
+            (batch : Batch (service_of self.now.present) self.now.port
             (decisions_in outcome.now) queue.old.items) →
-            HasAnswered (service_of self.now.config.now self.now.boot) self.now.port
+            HasAnswered (service_of self.now.present) self.now.port
             (decisions_in outcome.now) queue.old.items batch result
             (P.sent datagrams.old) (P.sent datagrams.new)
             (W.told watch.old) (W.told watch.new) }
     {
         let mut ends = Ends::new();
         while let Some(entry) = queue.pop_front() {
-            ends.count(self.end(entry, outcome, datagrams, watch));
+            ends.count(self.end(entry, outcome, datagrams, watch, rooms));
         }
         ends
     }
 
     /// Ends an entry of a batch with this outcome, and tells how.
-    fn end<P: BatchPort, W: Watch>(
+    fn end<P: PeerPort, W: Watch>(
         &self,
         entry: Entry,
         outcome: &Outcome,
         datagrams: &mut P,
         watch: &mut W,
+        rooms: &mut Rooms,
     ) -> End
-        requires can { CanEnd self.now.config.now (decisions_in outcome.now) entry }
-        requires sends { CanSend 1 (P.numbers datagrams.old) }
+        requires can { CanEnd self.now.present.config.now (decisions_in outcome.now) entry }
         ensures end { IsEndOf (decisions_in outcome.now) entry result }
-        ensures calls { IsSending (sends_in result) (failed_sends_in result)
-            (P.numbers datagrams.old) (P.numbers datagrams.new) }
         ensures telling { P.tells datagrams.new ≡ true → P.tells datagrams.old ≡ true }
         ensures taken { P.tells datagrams.new ≡ true →
             P.taken datagrams.new ≡ P.taken datagrams.old }
         ensures room { P.tells datagrams.new ≡ true →
             P.room datagrams.new ≡ P.room datagrams.old }
+        ensures down { P.tells datagrams.new ≡ true →
+            P.is_down datagrams.new ≡ P.is_down datagrams.old }
         ensures sent { P.tells datagrams.new ≡ true → P.sent datagrams.new ≡ P.sent datagrams.old
-            ++ sent_by (service_of self.now.config.now self.now.boot) (decisions_in outcome.now) entry }
-        ensures told { HasTold (told_by self.now.config.now entry result ∷ [])
+            ++ sent_by (service_of self.now.present) (decisions_in outcome.now) entry }
+        ensures told { HasTold (told_by self.now.present.config.now entry result ∷ [])
             (W.told watch.old) (W.told watch.new) }
     {
         match entry {
-            Entry::Dropped { source, cause } => {
-                self.forget(source, End::Dropped(cause), watch);
+            Entry::Dropped { origin, cause } => {
+                self.tell_bare(origin, End::Dropped(cause), watch);
                 End::Dropped(cause)
             }
-            Entry::Refused(source) => {
-                self.forget(source, End::Refused, watch);
+            Entry::Refused(origin) => {
+                self.tell_bare(origin, End::Refused, watch);
                 End::Refused
             }
-            Entry::Bare(waiting) => self.send(waiting, Decision::Done, datagrams, watch),
-            Entry::Moved { waiting, place } => match outcome {
+            Entry::Bare(request) => self.send(request, Decision::Done, datagrams, watch, rooms),
+            Entry::Moved { request, place } => match outcome {
                 Outcome::Recorded(recorded) => self.send(
-                    waiting,
+                    request,
                     decision_at(recorded, place),
                     datagrams,
                     watch,
+                    rooms,
                 ),
                 Outcome::Nothing | Outcome::Failed | Outcome::Ended => {
-                    self.leave(waiting, watch);
+                    self.tell_request(&request, End::Unrecorded, watch);
                     End::Unrecorded
                 }
             },
         }
     }
 
-    /// Tells that a datagram ended so of which nothing but its source was kept.
-    fn forget<W: Watch>(&self, source: Source, end: End, watch: &mut W)
-        ensures { HasTold (told_of self.now.config.now source [] end ∷ [])
+    /// Tells that a datagram ended so of which nothing but its origin was kept.
+    fn tell_bare<W: Watch>(&self, origin: Origin, end: End, watch: &mut W)
+        ensures { HasTold (told_of self.now.present.config.now origin [] None end ∷ [])
             (W.told watch.old) (W.told watch.new) }
     {
-        self.tell(source, self.config.client(source.address), &[], end, watch);
-    }
-
-    /// Lets what waits go unanswered, and tells that its move is not recorded.
-    fn leave<W: Watch>(&self, waiting: Waiting, watch: &mut W)
-        requires { CanAnswer self.now.config.now waiting }
-        ensures { HasTold
-            (told_of self.now.config.now waiting.source waiting.octets ends.Unrecorded ∷ [])
-            (W.told watch.old) (W.told watch.new) }
-    {
-        let octets = waiting.octets.as_slice();
-        self.tell(
-            waiting.source,
-            Some(waiting.client),
-            octets,
-            End::Unrecorded,
-            watch,
-        );
-    }
-
-    /// Tells how a datagram ended that came from this source, whose address this client has.
-    fn tell<W: Watch>(
-        &self,
-        source: Source,
-        client: Option<u32>,
-        octets: &[u8],
-        end: End,
-        watch: &mut W,
-    )
-        requires { client_number self.now.config.now source.address ≡ client }
-        ensures { HasTold (told_of self.now.config.now source octets.now end ∷ [])
-            (W.told watch.old) (W.told watch.new) }
-    {
-        watch.note(Ended {
-            source,
-            client,
-            octets,
+        let ended = Ended {
+            origin,
+            client: self.present.config.client(origin.source.address),
+            octets: &[],
+            detail: None,
             end,
-        });
+        };
+        self.tell(ended, watch);
     }
 
-    /// Sends the answer to what waits, with this decision, to where it came from, and tells how that
+    /// Tells that a request ended so that is not answered.
+    fn tell_request<W: Watch>(&self, request: &Request, end: End, watch: &mut W)
+        requires { CanAnswer self.now.present.config.now request.now }
+        ensures { HasTold (told_by_request self.now.present.config.now request.now end ∷ [])
+            (W.told watch.old) (W.told watch.new) }
+    {
+        let ended = Ended {
+            origin: request.origin,
+            client: Some(request.client),
+            octets: request.octets.as_slice(),
+            detail: Some(request.detail),
+            end,
+        };
+        self.tell(ended, watch);
+    }
+
+    /// Tells how a datagram ended, of a client that has the address of its source.
+    fn tell<W: Watch>(&self, ended: Ended<'_>, watch: &mut W)
+        requires { client_number self.now.present.config.now ended.origin.source.address
+            ≡ ended.client }
+        ensures { HasTold (told_of self.now.present.config.now ended.entry.origin
+            ended.entry.octets.now ended.entry.detail ended.entry.end ∷ [])
+            (W.told watch.old) (W.told watch.new) }
+    {
+        watch.note(ended);
+    }
+
+    /// Sends the answer to a request, with this decision, to where it came from, and tells how that
     /// ended.
-    fn send<P: BatchPort, W: Watch>(
+    fn send<P: PeerPort, W: Watch>(
         &self,
-        waiting: Waiting,
+        request: Request,
         decision: Decision,
         datagrams: &mut P,
         watch: &mut W,
+        rooms: &mut Rooms,
     ) -> End
-        requires can { CanAnswer self.now.config.now waiting }
-        requires sends { CanSend 1 (P.numbers datagrams.old) }
-        ensures end { IsSentAs (said_to waiting.kind decision) result }
-        ensures calls { IsSending (sends_in result) (failed_sends_in result)
-            (P.numbers datagrams.old) (P.numbers datagrams.new) }
+        requires can { CanAnswer self.now.present.config.now request }
+        ensures end { IsSentAs (said_to request.kind decision) result }
         ensures telling { P.tells datagrams.new ≡ true → P.tells datagrams.old ≡ true }
         ensures taken { P.tells datagrams.new ≡ true →
             P.taken datagrams.new ≡ P.taken datagrams.old }
         ensures room { P.tells datagrams.new ≡ true →
             P.room datagrams.new ≡ P.room datagrams.old }
+        ensures down { P.tells datagrams.new ≡ true →
+            P.is_down datagrams.new ≡ P.is_down datagrams.old }
         ensures sent { P.tells datagrams.new ≡ true → P.sent datagrams.new ≡ P.sent datagrams.old
-            ++ reply_of (service_of self.now.config.now self.now.boot) waiting decision ∷ [] }
-        ensures told { HasTold (told_of self.now.config.now waiting.source waiting.octets result ∷ [])
+            ++ reply_of (service_of self.now.present) request decision ∷ [] }
+        ensures told { HasTold (told_by_request self.now.present.config.now request result ∷ [])
             (W.told watch.old) (W.told watch.new) }
     {
-        let Waiting {
-            source,
+        let Request {
+            origin,
             octets,
             client,
             kind,
+            detail,
             draft,
-        } = waiting;
-        let reply = self.reply(draft, &octets, client, kind, decision);
-        let end = hand_over(datagrams, &reply, source, kind.said(decision));
-        self.tell(source, Some(client), octets.as_slice(), end, watch);
-        end
-    }
-
-    /// The octets of the answer to what waits of a packet of this client, with this decision.
-    fn reply(
-        &self,
-        draft: Draft,
-        octets: &Octets,
-        client: u32,
-        kind: MeaningKind,
-        decision: Decision,
-    ) -> Vec<u8>
-        requires can { (fields : Fields) × (packet_of octets.now ≡ Ok fields)
-            × CanReply self.now.config.now client fields.attributes kind
-            × (draft ≡ record { id = fields.id; attributes = [] }) }
-        ensures { result.items ≡ answer_if (service_of self.now.config.now self.now.boot)
-            (packet_of octets.now) client kind decision }
-    {
-        self.reply_in(draft, octets, client, kind, decision)
-    }
-
-    /// The octets of the answer to a packet of this client, in a draft.
-    fn reply_in(
-        &self,
-        draft: Draft,
-        octets: &Octets,
-        client: u32,
-        kind: MeaningKind,
-        decision: Decision,
-    ) -> Vec<u8>
-        requires can { (fields : Fields) × (packet_of octets.now ≡ Ok fields)
-            × CanReply self.now.config.now client fields.attributes kind
-            × (draft ≡ record { id = fields.id; attributes = [] }) }
-        ensures { (fields : Fields) → packet_of octets.now ≡ Ok fields → result.items ≡
-            answer_to self.now.config.now self.now.boot client fields kind decision }
-    {
-        match read(octets.as_slice()) {
+        } = request;
+        let reply = match read(octets.as_slice()) {
             Ok(packet) => reply_to(
                 &packet,
                 client,
                 kind,
-                self.config,
-                self.boot,
+                self.present.config,
+                self.present.boot,
                 decision,
                 draft,
             ),
             Err(_) => unreachable!(),
-        }
+        };
+        let end = hand_over(
+            datagrams,
+            reply.as_slice(),
+            origin.peer,
+            kind.said(decision),
+        );
+        let ended = Ended {
+            origin,
+            client: Some(client),
+            octets: octets.as_slice(),
+            detail: Some(detail),
+            end,
+        };
+        self.tell(ended, watch);
+        rooms.keep(Room { octets, reply });
+        end
     }
 }
 
 /// Hands an answer to the port, which says this, and gives how that ended.
-fn hand_over<P: BatchPort>(datagrams: &mut P, reply: &[u8], source: Source, said: Said) -> End
-    requires sends { CanSend 1 (P.numbers datagrams.old) }
+fn hand_over<P: PeerPort>(datagrams: &mut P, reply: &[u8], to: SocketAddr, said: Said) -> End
     ensures end { IsSentAs said result }
-    ensures calls { IsSending (sends_in result) (failed_sends_in result)
-        (P.numbers datagrams.old) (P.numbers datagrams.new) }
     ensures telling { P.tells datagrams.new ≡ true → P.tells datagrams.old ≡ true }
     ensures taken { P.tells datagrams.new ≡ true → P.taken datagrams.new ≡ P.taken datagrams.old }
     ensures room { P.tells datagrams.new ≡ true → P.room datagrams.new ≡ P.room datagrams.old }
+    ensures down { P.tells datagrams.new ≡ true → P.is_down datagrams.new ≡ P.is_down datagrams.old }
     ensures sent { P.tells datagrams.new ≡ true → P.sent datagrams.new ≡ P.sent datagrams.old
-        ++ datagram_of source reply.now ∷ [] }
+        ++ peer_datagram to reply.now ∷ [] }
 {
-    match datagrams.send(reply, source) {
+    match datagrams.send(reply, to) {
         Ok(()) => End::Answered(said),
         Err(PortFault) => End::Unsent(said),
     }

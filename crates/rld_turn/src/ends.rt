@@ -4,7 +4,7 @@ ghost use Rattle.rld_turn.specs.Counted.{counted_end, ends_of, no_ends};
 use rsl_event::{Dropped, Said};
 
 /// How a datagram ended.
-#[derive(Clone, Copy, Debug, PartialEq, Eq)]
+#[derive(Clone, Copy, Debug)]
 pub enum End {
     /// It was dropped, by this cause. `NoMemory` is none of these: then it is `Refused`.
     Dropped(Dropped),
@@ -12,25 +12,30 @@ pub enum End {
     Refused,
     /// It has a move, and its batch was not recorded.
     Unrecorded,
-    /// This was answered, and sent.
+    /// This answer was made, and sent.
     Answered(Said),
-    /// This could not be sent. What was recorded of it stands.
+    /// This answer could not be sent. What was recorded of the datagram stands.
     Unsent(Said),
 }
 
 /// How many datagrams of a turn ended so.
-#[derive(Clone, Copy, PartialEq, Eq)]
-pub(crate) struct Ends {
-    pub(crate) dropped: u64,
-    pub(crate) refused: u64,
-    pub(crate) unrecorded: u64,
-    pub(crate) answered: u64,
-    pub(crate) unsent: u64,
+#[derive(Clone, Copy)]
+pub struct Ends {
+    /// How many were dropped, by a cause of their own.
+    pub dropped: u64,
+    /// How many have a meaning, and were refused memory.
+    pub refused: u64,
+    /// How many have a move, in a batch that was not recorded.
+    pub unrecorded: u64,
+    /// How many have an answer that was sent.
+    pub answered: u64,
+    /// How many have an answer that could not be sent. What was recorded of them stands.
+    pub unsent: u64,
 }
 
 /// What comes after a turn.
-#[derive(Clone, Copy, PartialEq, Eq)]
-pub(crate) enum Ending {
+#[derive(Clone, Copy)]
+pub enum Ending {
     /// Another turn.
     Open,
     /// None, since a call that takes a datagram failed.
@@ -40,16 +45,16 @@ pub(crate) enum Ending {
 }
 
 /// What a turn did.
-#[derive(Clone, Copy, PartialEq, Eq)]
-pub(crate) struct Turn {
+#[derive(Clone, Copy)]
+pub struct Turn {
     /// How its datagrams ended.
-    pub(crate) ends: Ends,
+    pub ends: Ends,
     /// What comes after it.
-    pub(crate) ending: Ending,
+    pub ending: Ending,
 }
 
 impl Ends {
-    /// Those of no datagram.
+    /// The ends of no datagram: each number is 0.
     pub(crate) fn new() -> Ends
         ensures { result ≡ no_ends }
     {
@@ -60,6 +65,14 @@ impl Ends {
             answered: 0,
             unsent: 0,
         }
+    }
+
+    /// How many datagrams ended in any of these ways.
+    pub fn sum(self) -> u64
+        requires { ends_of self < 2 ^ 64 }
+        ensures { result ≡ ends_of self }
+    {
+        self.dropped + self.refused + self.unrecorded + self.answered + self.unsent
     }
 
     /// Counts a datagram that ended so.
@@ -73,18 +86,6 @@ impl Ends {
             End::Unrecorded => self.unrecorded += 1,
             End::Answered(_) => self.answered += 1,
             End::Unsent(_) => self.unsent += 1,
-        }
-    }
-}
-
-impl Turn {
-    /// A turn in which nothing was taken.
-    pub(crate) fn quiet(ending: Ending) -> Turn
-        ensures { result ≡ record { ends = no_ends; ending = ending } }
-    {
-        Turn {
-            ends: Ends::new(),
-            ending,
         }
     }
 }

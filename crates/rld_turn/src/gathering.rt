@@ -1,51 +1,53 @@
 ghost use Rattle.std.specs.Prelude.{◌≡◌, ◌+◌, ◌*◌, ◌≤◌, ◌<◌, [], ◌∷◌, ◌++◌, min, length, take, true};
 ghost use Rattle.std.specs.VecDeque.{deque_capacity};
 ghost use Rattle.rsl_event.specs.Prepared.{HasAccount, HasOwnAct};
-ghost use Rattle.rsl_port.specs.Told.{CanReceive, datagram_of};
-ghost use Rattle.rld_turn.specs.Counted.{IsReceived};
 ghost use Rattle.rld_turn.specs.Entered.{HasAdded, HasGathered, HasPushed, IsEntered};
 ghost use Rattle.rld_turn.specs.Moves.{in_log};
-ghost use Rattle.rld_turn.specs.Turned.{service_of};
+ghost use Rattle.rld_turn.specs.Present.{peer_datagram, service_of};
+ghost use Rattle.rld_turn.specs.Recorded.{is_down};
 
-use crate::batch_port::BatchPort;
 use crate::ends::Ending;
-use crate::entry::{Entry, Waiting};
-use crate::receiver::{MAX_BATCH, Receiver};
+use crate::peer_port::PeerPort;
+use crate::receiver::MAX_BATCH;
+use crate::request::{Entry, Request};
+use crate::room::Rooms;
+use crate::turner::Turner;
 use rsl_accounts::Config;
-use rsl_event::{Dropped, Meaning, Source, prepare};
+use rsl_event::{Dropped, Meaning, prepare_in_detail};
 use rsl_port::PortFault;
 use rsl_shard::{Move, Moves};
 use std::collections::VecDeque;
+use std::net::SocketAddr;
 
-impl Receiver<'_> {
-    /// Takes what waits at a port, without waiting for more, into a batch that has one datagram: at
-    /// most 63 datagrams.
-    pub(crate) fn gather<P: BatchPort>(
+impl Turner<'_> {
+    /// Takes what waits at a port, without waiting for more, into a batch: at most 64 datagrams.
+    pub(crate) fn gather<P: PeerPort>(
         &self,
         moment: u64,
         datagrams: &mut P,
         buffer: &mut [u8],
+        rooms: &mut Rooms,
         batch: &mut Vec<Move>,
         queue: &mut VecDeque<Entry>,
     ) -> Ending
-        requires receives { CanReceive 63 (P.numbers datagrams.old) }
-        requires room { length queue.old.items + 63 ≤ deque_capacity queue.old }
+        requires no_moves { batch.old.items ≡ [] }
+        requires no_entries { queue.old.items ≡ [] }
+        requires room { 64 ≤ deque_capacity queue.old }
         ensures capacity { deque_capacity queue.new ≡ deque_capacity queue.old }
-        ensures calls { IsReceived 63 result (length queue.old.items) (length queue.new.items)
-            (P.numbers datagrams.old) (P.numbers datagrams.new) }
+        ensures few { length queue.new.items ≤ 64 }
         ensures telling { P.tells datagrams.new ≡ true → P.tells datagrams.old ≡ true }
-        ensures gathered { HasGathered (service_of self.now.config.now self.now.boot) self.now.port
+        ensures gathered { HasGathered (service_of self.now.present) self.now.port
             moment (P.tells datagrams.new ≡ true)
-            (P.taken datagrams.old) (P.taken datagrams.new)
-            queue.old.items queue.new.items batch.old.items batch.new.items }
+            (P.taken datagrams.old) (P.taken datagrams.new) queue.new.items batch.new.items }
         ensures sent { P.tells datagrams.new ≡ true → P.sent datagrams.new ≡ P.sent datagrams.old }
         ensures room { P.tells datagrams.new ≡ true →
             min (P.room datagrams.old) (length buffer.old) ≤ P.room datagrams.new }
+        ensures down { P.tells datagrams.new ≡ true → P.is_down datagrams.new ≡ is_down result }
     {
-        for _ in 1..MAX_BATCH {
-            match datagrams.receive_now(buffer) {
-                Ok(Some((len, source))) => {
-                    let entry = self.enter(moment, source, buffer, len, batch);
+        for _ in 0..MAX_BATCH {
+            match datagrams.receive(buffer) {
+                Ok(Some((len, peer))) => {
+                    let entry = self.enter(moment, peer, buffer, len, rooms, batch);
                     queue.push_back_reserved(entry);
                 }
                 Ok(None) => return Ending::Open,
@@ -56,42 +58,52 @@ impl Receiver<'_> {
     }
 
     /// What a batch holds of the datagram at the start of a buffer.
-    pub(crate) fn enter(
+    fn enter(
         &self,
         moment: u64,
-        source: Source,
+        peer: SocketAddr,
         buffer: &[u8],
         len: usize,
+        rooms: &mut Rooms,
         batch: &mut Vec<Move>,
     ) -> Entry
         requires { len ≤ length buffer.now }
-        ensures { IsEntered (service_of self.now.config.now self.now.boot) self.now.port moment
-            (datagram_of source (take len buffer.now)) result batch.old.items batch.new.items }
+        ensures { IsEntered (service_of self.now.present) self.now.port moment
+            (peer_datagram peer (take len buffer.now)) result batch.old.items batch.new.items }
     {
-        self.entry(moment, source, &buffer[..len], batch)
+        self.entry(moment, peer, &buffer[..len], rooms, batch)
     }
 
     /// What a batch holds of a datagram, whose move, if it has one, is then the last of the batch.
     /// Room for its answer is taken here.
-    fn entry(&self, moment: u64, source: Source, datagram: &[u8], batch: &mut Vec<Move>) -> Entry
-        ensures { IsEntered (service_of self.now.config.now self.now.boot) self.now.port moment
-            (datagram_of source datagram.now) result batch.old.items batch.new.items }
+    fn entry(
+        &self,
+        moment: u64,
+        peer: SocketAddr,
+        datagram: &[u8],
+        rooms: &mut Rooms,
+        batch: &mut Vec<Move>,
+    ) -> Entry
+        ensures { IsEntered (service_of self.now.present) self.now.port moment
+            (peer_datagram peer datagram.now) result batch.old.items batch.new.items }
     {
-        let prepared = match prepare(
+        let origin = self.present.origin(peer);
+        let config = self.present.config;
+        let detailed = match prepare_in_detail(
             self.alloc,
-            self.config,
-            self.boot,
+            config,
+            self.present.boot,
             self.port,
-            source,
+            origin.source,
             datagram,
         ) {
-            Ok(prepared) => prepared,
-            Err(Dropped::NoMemory) => return Entry::Refused(source),
-            Err(cause) => return Entry::Dropped { source, cause },
+            Ok(detailed) => detailed,
+            Err(Dropped::NoMemory) => return Entry::Refused(origin),
+            Err(cause) => return Entry::Dropped { origin, cause },
         };
-        match Waiting::of(self.alloc, source, datagram, &prepared) {
-            Ok(waiting) => add(self.config, moment, prepared.meaning, waiting, batch),
-            Err(_) => Entry::Refused(source),
+        match Request::of(rooms.take(), origin, datagram, &detailed) {
+            Ok(request) => add(config, moment, detailed.prepared.meaning, request, batch),
+            Err(_) => Entry::Refused(origin),
         }
     }
 }
@@ -101,16 +113,16 @@ fn add(
     config: &Config,
     moment: u64,
     meaning: Meaning,
-    waiting: Waiting,
+    request: Request,
     batch: &mut Vec<Move>,
 ) -> Entry
     requires account { HasAccount config.now meaning }
     requires act { HasOwnAct meaning }
-    ensures { HasAdded config.now moment meaning waiting result batch.old.items batch.new.items }
+    ensures { HasAdded config.now moment meaning request result batch.old.items batch.new.items }
 {
     match logged(Moves::of(config, moment, meaning)) {
-        Some(moved) => push(batch, moved, waiting),
-        None => Entry::Bare(waiting),
+        Some(moved) => push(batch, moved, request),
+        None => Entry::Bare(request),
     }
 }
 
@@ -126,12 +138,12 @@ fn logged(moves: Moves) -> Option<Move>
 }
 
 /// Puts a move at the end of a batch, unless memory for it is refused.
-fn push(batch: &mut Vec<Move>, moved: Move, waiting: Waiting) -> Entry
-    ensures { HasPushed moved waiting result batch.old.items batch.new.items }
+fn push(batch: &mut Vec<Move>, moved: Move, request: Request) -> Entry
+    ensures { HasPushed moved request result batch.old.items batch.new.items }
 {
     let place = batch.len();
     match batch.push(moved) {
-        Ok(()) => Entry::Moved { waiting, place },
-        Err(_) => Entry::Refused(waiting.source),
+        Ok(()) => Entry::Moved { request, place },
+        Err(_) => Entry::Refused(request.origin),
     }
 }

@@ -1,4 +1,4 @@
-//! A law of what turns record: the contract of a function that calls a law of the store.
+//! Laws of turns: the contracts of functions that do nothing, or call a law of the store.
 
 ghost use Rattle.std.specs.Prelude.{◌≡◌, List};
 ghost use Rattle.rsl_accounts.specs.Configuration.{Configuration};
@@ -6,9 +6,26 @@ ghost use Rattle.rsl_shard.specs.Restep.{BooksSeen};
 ghost use Rattle.rsl_shard.specs.declared.moved.Move.{Move as OneMove};
 ghost use Rattle.rld_store.specs.Standing.{LosesNothing};
 ghost use Rattle.rld_store.specs.Stored.{HasRecorded};
+ghost use Rattle.rsl_event.specs.declared.meaning.Port.{Port as OnePort};
+ghost use Rattle.rld_turn.specs.Present.{ServiceSeen};
+ghost use Rattle.rld_turn.specs.Served.{HasServed};
+ghost use Rattle.rld_turn.specs.Turned.{HasTurned, State};
+ghost use Rattle.rld_turn.specs.declared.ends.Ends.{Ends};
 
 use rld_log::Log;
-use rld_store::Store;
+use rld_store::{Recorder, Store};
+
+/// What turns serve one after the other, by what a recorder was before the first, between and after the
+/// last: before the first turn nothing is served, and with each turn what was served goes on by what it
+/// did.
+pub fn turns_serve<R: Recorder>(begun: &R, between: &R, ended: &R)
+    ensures none { (service : ServiceSeen) (port : OnePort) (state : State) →
+        HasServed service port state state (R.stands begun.now) (R.stands begun.now) }
+    ensures more { (service : ServiceSeen) (port : OnePort) (ends : Ends) (old mid new : State) →
+        HasServed service port old mid (R.stands begun.now) (R.stands between.now) →
+        HasTurned service port ends mid new (R.stands between.now) (R.stands ended.now) →
+        HasServed service port old new (R.stands begun.now) (R.stands ended.now) }
+{}
 
 /// A crash loses nothing that turns have recorded in a store: what it leaves of the log has the
 /// history, or that and a batch that was not answered, whole. Of a loss of power it is the premise

@@ -1,36 +1,44 @@
 //! A server's turns: what waits at a port is taken as one batch, recorded, and only then answered.
 //!
-//! The promise: over a port and a recorder that tell, each datagram of a turn is dropped, refused,
-//! unrecorded or answered, in the order in which they were taken; an answer has the decision of the
-//! books at that point of the batch, goes to where its datagram came from, and is sent only once the
-//! batch is recorded; the counts are of that (`specs/Turned.antt`, `specs/Served.antt`). Over any port
-//! the counts agree with the calls that the port counted (`specs/Counted.antt`).
+//! The promise is that of `Receiver::turn`: over a port and a recorder that tell, each datagram of a turn
+//! is dropped, refused, unrecorded or answered, in the order in which they were taken; an answer has the
+//! decision of the books at that point of the batch, goes to the very place that its datagram came from,
+//! and is sent only once the batch is recorded (`specs/Turned.antt`). Turns one after the other serve so
+//! (`specs/Served.antt`, `laws`).
 //!
-//! A watcher is told how each datagram ended, with its cause or with what was answered, and the counts
-//! are the numbers of what it was told (`specs/Told.antt`).
+//! A server sees of a peer the client that it stands for: what comes from an IPv6 address, or from any
+//! address of a prefix, counts as from that client (`specs/Present.antt`).
+//!
+//! A watcher learns how each datagram ended, with its cause or with what was answered, and the
+//! turn's numbers are those of what it has learned (`specs/Told.antt`).
 //!
 //! A store is such a recorder (`rld_store`). An answer with a decision is made of a `Recorded`, which
 //! only `Store::commit` makes.
 #![tactic(auto)]
 
 mod answering;
-mod batch_port;
-mod counts;
 mod ends;
-mod entry;
-mod fault;
 mod gathering;
 pub mod laws;
+mod memory_port;
+mod origin;
 mod outcome;
+mod peer_port;
+mod present;
 mod receiver;
+mod request;
+mod room;
 mod ticking;
+mod turner;
+mod unassigned;
 mod watch;
 
-pub use batch_port::BatchPort;
-pub use counts::Counts;
-pub use ends::End;
-pub use fault::ReceiveFault;
-pub use receiver::{MAX_BATCH, receive};
+pub use ends::{End, Ending, Ends, Turn};
+pub use memory_port::{Arrival, MemoryPeers};
+pub use origin::Origin;
+pub use peer_port::{PeerDatagram, PeerPort};
+pub use present::Present;
+pub use receiver::{MAX_BATCH, Receiver};
 pub use rld_store::{RecordFault, Recorded, Recorder};
 pub use ticking::tick;
 pub use watch::{Ended, Unwatched, Watch};

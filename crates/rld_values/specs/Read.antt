@@ -26,7 +26,7 @@ before None octets = None
 abbrev pub own_octet : ℕ → Option ℕ
 own_octet octet = if is_between 33 126 octet && not (octet == 92) then Some octet else None
 
--- the octets behind a key and `=`
+-- the octets after a key and `=`
 unfoldable pub unescaped : List ℕ → Option (List ℕ)
 unescaped [] = Some []
 unescaped (octet ∷ mark ∷ high ∷ low ∷ rest) =
@@ -49,7 +49,7 @@ if_some (octet ∷ rest) = unescaped (octet ∷ rest)
 abbrev pub octets_of_word : List ℕ → Option (List ℕ)
 octets_of_word word = if bytes_eq word (92 ∷ 101 ∷ []) then Some [] else if_some word
 
--- an octet is read at the front of a text, and these stand behind it
+-- an octet is read at the front of a text, and these stand after it
 pub record HasFront (read : List ℕ → Option (List ℕ)) (text : List ℕ) (octet : ℕ) (behind : List ℕ)
     : Type 0 where
   pub reads : read text ≡ before (Some octet) (read behind)

@@ -36,7 +36,7 @@ is_plain octet = is_letter_or_digit octet || is_mark octet
 abbrev pub escaped_octet : ℕ → List ℕ
 escaped_octet octet = if is_plain octet then octet ∷ [] else 92 ∷ 120 ∷ hex_octet octet
 
--- octets behind a key and `=`, where none may stand
+-- octets after a key and `=`, where none may stand
 abbrev pub escaped : List ℕ → List ℕ
 escaped octets = flat_map escaped_octet octets
 

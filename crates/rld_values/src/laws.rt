@@ -2,7 +2,8 @@
 
 ghost use Rattle.rld_values.specs.Laws.{ReadsBack, ReadsBackBehindKeys, ReadsHexBack};
 
-/// What is written is read as it was: of any octets, as a word, behind a key and as hexadecimal digits.
+/// What is written is read as it was: of any octets, as a word, after a key and as hexadecimal
+/// digits.
 pub fn read_back()
     ensures word { ReadsBack }
     ensures value { ReadsBackBehindKeys }

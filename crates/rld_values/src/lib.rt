@@ -1,5 +1,5 @@
-//! How values stand in a line of text: octets of any kind as a word, or behind a key; numbers; addresses.
-//! It knows no line.
+//! How values stand in a line of text: octets of any kind as a word, or after a key; numbers;
+//! addresses. It knows no line.
 //!
 //! The promise: no value can forge a word or a line, since each octet but letters, digits and a few marks
 //! is escaped (`specs/Values.antt`), and what was written is read as it was (`specs/Read.antt`,

@@ -82,8 +82,8 @@ fn push_escaped_octet(out: &mut Vec<u8>, octet: u8) -> Result<(), AllocError>
     push_hex_octet(out, octet)
 }
 
-/// Writes octets behind a key and `=`: letters, digits and `%+,-./:=@_` as they are, and any other as a
-/// backslash, an `x` and two hexadecimal digits. It fails only where memory is refused.
+/// Writes octets after a key and `=`: letters, digits and `%+,-./:=@_` as they are, and any other
+/// as a backslash, an `x` and two hexadecimal digits. It fails only where memory is refused.
 pub fn push_escaped(out: &mut Vec<u8>, octets: &[u8]) -> Result<(), AllocError>
     ensures { OnOk result (out.new.items ≡ out.old.items ++ escaped octets.now) }
 {
@@ -93,7 +93,7 @@ pub fn push_escaped(out: &mut Vec<u8>, octets: &[u8]) -> Result<(), AllocError>
     Ok(())
 }
 
-/// Writes octets as a word of their own: as behind a key, but no octets as `\e`. It fails only where
+/// Writes octets as a word of their own: as after a key, but no octets as `\e`. It fails only where
 /// memory is refused.
 pub fn push_word(out: &mut Vec<u8>, octets: &[u8]) -> Result<(), AllocError>
     ensures { OnOk result (out.new.items ≡ out.old.items ++ word octets.now) }

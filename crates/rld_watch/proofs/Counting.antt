@@ -1,11 +1,10 @@
 -- Whatever a cell holds are the counts of some datagrams.
-use Rattle.std.proofs.Common.{◌≡◌, ℕ, List, [], ◌∷◌, ◌++◌}
+use Rattle.std.proofs.Common.{◌≡◌, ℕ, ◌==◌, Bool, true, false, List, [], ◌∷◌, ◌++◌, length, eq-eqb, ne_eqb, subst, sym}
 use Rattle.std.proofs.Math.Logic.{∥∥₁_map, ∥∥₁_map₂}
+use Rattle.std.specs.Prelude.{if◌then◌else◌}
 use Rattle.rld_counts.specs.Cell.{CellSeen, HasCounted, without_clients}
-use Rattle.rld_counts.specs.Counts.{counts_of}
-use Rattle.rld_counts.specs.declared.end.End.{End}
 use Rattle.rld_counts.specs.declared.ended.Ended.{Ended}
-use Rattle.rld_watch.specs.Counted.{AreCounts, IsCount}
+use Rattle.rld_watch.specs.Counted.{IsCount, for_clients}
 
 pub none_counted : (cell : CellSeen) → HasCounted [] cell → ∥ IsCount cell ∥₁
 none_counted cell none = ∣ record { all = []; counted = none } ∣₁
@@ -38,17 +37,25 @@ in_all_counted old other new joined before after =
       counted = joined one.all two.all one.counted two.counted;
     })
 
--- the counts of a cell
-pub cell_counts : (cell : CellSeen) → ∥ IsCount cell ∥₁ → ∥ AreCounts cell.counts ∥₁
-cell_counts cell is = ∥∥₁_map is (λ count. record { ends = _; counted = count.counted.counts })
+pub ruleset counting = (none_counted, one_counted, both_counted, renewed_counted, in_all_counted)
 
-pub no_counts : (counts : List ℕ) → counts ≡ counts_of [] → ∥ AreCounts counts ∥₁
-no_counts counts none = ∣ record { ends = []; counted = none } ∣₁
+-- what is added of a cell for as many clients, and of one for another number
+pub added_same : (clients : ℕ) (old other new : CellSeen) → length other.clients ≡ clients
+    → ((all others : List Ended) → HasCounted all old → HasCounted others other → HasCounted (all ++ others) new)
+    → (all others : List Ended) → HasCounted all old → HasCounted others other
+    → HasCounted (all ++ for_clients clients other others) new
+added_same clients old other new same joined all others before had =
+    let test : (length other.clients == clients) ≡ true = eq-eqb (length other.clients) clients same in
+    subst (λ (is : Bool). HasCounted (all ++ (if is then others else without_clients others)) new) (sym test)
+    (joined all others before had)
 
-pub more_counts : (old other new : List ℕ)
-    → ((ends others : List End) → old ≡ counts_of ends → other ≡ counts_of others → new ≡ counts_of (ends ++ others))
-    → ∥ AreCounts old ∥₁ → ∥ AreCounts other ∥₁ → ∥ AreCounts new ∥₁
-more_counts old other new joined before after =
-    ∥∥₁_map₂ before after (λ one two. record { ends = one.ends ++ two.ends; counted = joined one.ends two.ends one.counted two.counted })
+pub added_other : (clients : ℕ) (old other new : CellSeen) → (length other.clients ≡ clients → ⊥)
+    → ((all others : List Ended) → HasCounted all old → HasCounted others other → HasCounted (all ++ without_clients others) new)
+    → (all others : List Ended) → HasCounted all old → HasCounted others other
+    → HasCounted (all ++ for_clients clients other others) new
+added_other clients old other new differ joined all others before had =
+    let test : (length other.clients == clients) ≡ false = ne_eqb (length other.clients) clients differ in
+    subst (λ (is : Bool). HasCounted (all ++ (if is then others else without_clients others)) new) (sym test)
+    (joined all others before had)
 
-pub ruleset counting = (none_counted, one_counted, both_counted, renewed_counted, in_all_counted, cell_counts, no_counts, more_counts)
+pub ruleset adding = (both_counted, in_all_counted, added_same, added_other)

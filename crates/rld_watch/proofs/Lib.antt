@@ -1,3 +1,4 @@
 mod Counting
 mod Meaning
+mod Readings
 mod Truths

@@ -1,8 +1,10 @@
--- How a datagram is counted, by what a receiver tells of it.
-use Rattle.std.specs.Prelude.{ℕ, List, option_and_then, option_map, Option, Some, None, Result, Ok, Err}
-use Rattle.rsl_accounts.specs.Configuration.{Configuration}
-use Rattle.rsl_event.specs.Status.{status_of}
-use Rattle.rsl_event.specs.declared.codes.TheConstants.{ACCT_STATUS_TYPE}
+-- How a datagram is counted, by what a watcher learns of it.
+use Rattle.std.specs.Prelude.{option_map, Option, Some, None}
+use Rattle.rsl_event.specs.Laws.{cause_in}
+use Rattle.rsl_event.specs.declared.detail.Detail.{Detail}
+use Rattle.rsl_event.specs.declared.detail.Detail.TheVariants.{Asks, Rejected, Accounting}
+use Rattle.rsl_event.specs.declared.detail.RejectCause.{RejectCause}
+use Rattle.rsl_event.specs.declared.detail.RejectCause.TheVariants as causes
 use Rattle.rsl_event.specs.declared.meaning.Dropped.{Dropped}
 use Rattle.rsl_event.specs.declared.meaning.Dropped.TheVariants as drops
 use Rattle.rsl_event.specs.declared.meaning.Port.{Port}
@@ -11,9 +13,6 @@ use Rattle.rsl_event.specs.declared.status.Status.{Status}
 use Rattle.rsl_event.specs.declared.status.Status.TheVariants as statuses
 use Rattle.rsl_event.specs.declared.words.Said.{Said}
 use Rattle.rsl_event.specs.declared.words.Said.TheVariants as words
-use Rattle.rsl_wire.specs.Attributes.{Attribute, attribute_list, first_of, number_in}
-use Rattle.rsl_wire.specs.Packet.{Fields, packet_of}
-use Rattle.rsl_wire.specs.declared.packet.WireFault.{WireFault}
 use Rattle.rld_counts.specs.declared.acct_end.AcctEnd.{AcctEnd}
 use Rattle.rld_counts.specs.declared.acct_end.AcctEnd.TheVariants as acct
 use Rattle.rld_counts.specs.declared.auth_end.AuthEnd.{AuthEnd}
@@ -23,9 +22,6 @@ use Rattle.rld_counts.specs.declared.end.End.TheVariants.{Auth, Acct}
 use Rattle.rld_turn.specs.Told.{Told}
 use Rattle.rld_turn.specs.declared.ends.End.{End as TurnEnd}
 use Rattle.rld_turn.specs.declared.ends.End.TheVariants as ends
-use Rattle.rld_why.specs.Cause.{reject_cause}
-use Rattle.rld_why.specs.declared.cause.RejectCause.{RejectCause}
-use Rattle.rld_why.specs.declared.cause.RejectCause.TheVariants as causes
 
 -- ---- the authentication port
 
@@ -92,18 +88,12 @@ status_end (Some statuses.AccountingOn) = acct.AccountingOn
 status_end (Some statuses.AccountingOff) = acct.AccountingOff
 status_end None = acct.OtherStatus
 
--- the status of a request: that of its first Acct-Status-Type (RFC 2866 section 5.1)
-abbrev pub listed_status : Result (List Attribute) ℕ → Option Status
-listed_status (Err at) = None
-listed_status (Ok attributes) =
-    option_and_then status_of (number_in (first_of ACCT_STATUS_TYPE attributes))
-
-abbrev pub packet_status : Result Fields WireFault → Option Status
-packet_status (Err fault) = None
-packet_status (Ok fields) = listed_status (attribute_list fields.attributes)
-
-abbrev pub request_status : (datagram : List ℕ) → Option Status
-request_status datagram = packet_status (packet_of datagram)
+-- the status that a detail gives
+abbrev pub status_in : Option Detail → Option Status
+status_in (Some (Accounting status)) = status
+status_in (Some Asks) = None
+status_in (Some (Rejected cause)) = None
+status_in None = None
 
 -- an answer that was sent to a request of this status
 abbrev pub acct_answer : (status : Option Status) → Said → Option AcctEnd
@@ -119,8 +109,8 @@ acct_end status (ends.Unsent said) = Some acct.Unsent
 
 -- ---- both
 
--- the end of a datagram that came to a port, if a datagram can end there as it was told
-abbrev pub end_at : Configuration → Port → Told → Option End
-end_at config ports.Auth told =
-    option_map Auth (auth_end (reject_cause config told.source told.octets) told.end)
-end_at config ports.Acct told = option_map Acct (acct_end (request_status told.octets) told.end)
+-- the end of a datagram that came to a port, by what a watcher learns of it, if a datagram can end
+-- there so
+abbrev pub end_at : Port → Told → Option End
+end_at ports.Auth told = option_map Auth (auth_end (cause_in told.detail) told.end)
+end_at ports.Acct told = option_map Acct (acct_end (status_in told.detail) told.end)

@@ -1,6 +1,10 @@
 -- What a count says of the datagrams that are counted there, by what they mean.
 use Rattle.std.specs.Prelude.{◌≡◌, ℕ, ⊤, Bool, List, [], ◌∷◌, Option, Some, None, IsSomeAnd, Ok, Err}
-use Rattle.rsl_event.specs.Meaning.{meaning}
+use Rattle.rsl_event.specs.Detail.{detail_of}
+use Rattle.rsl_event.specs.Laws.{cause_in}
+use Rattle.rsl_event.specs.declared.detail.Detail.{Detail}
+use Rattle.rsl_event.specs.declared.detail.RejectCause.{RejectCause}
+use Rattle.rsl_event.specs.declared.detail.RejectCause.TheVariants as causes
 use Rattle.rsl_event.specs.declared.event.Act.TheVariants.{Ask}
 use Rattle.rsl_event.specs.declared.event.Key.{Key}
 use Rattle.rsl_event.specs.declared.meaning.Dropped.{Dropped}
@@ -12,7 +16,6 @@ use Rattle.rsl_event.specs.declared.meaning.Port.TheVariants as ports
 use Rattle.rsl_event.specs.declared.nas.Nas.{Nas}
 use Rattle.rsl_event.specs.declared.status.Status.{Status}
 use Rattle.rsl_event.specs.declared.status.Status.TheVariants as statuses
-use Rattle.rsl_port.specs.declared.datagram_port.Datagram.{Datagram}
 use Rattle.rsl_shard.specs.Restep.{BooksSeen}
 use Rattle.rsl_shard.specs.declared.moved.Move.{Move}
 use Rattle.rld_counts.specs.declared.acct_end.AcctEnd.{AcctEnd}
@@ -22,46 +25,48 @@ use Rattle.rld_counts.specs.declared.auth_end.AuthEnd.TheVariants as auth
 use Rattle.rld_counts.specs.declared.end.End.{End}
 use Rattle.rld_counts.specs.declared.end.End.TheVariants.{Auth, Acct}
 use Rattle.rld_turn.specs.Told.{Told}
-use Rattle.rld_turn.specs.Turned.{ServiceSeen, Turned}
-use Rattle.rld_watch.specs.Ending.{end_at, request_status}
-use Rattle.rld_why.specs.Cause.{reject_cause}
-use Rattle.rld_why.specs.declared.cause.RejectCause.{RejectCause}
-use Rattle.rld_why.specs.declared.cause.RejectCause.TheVariants as causes
+use Rattle.rld_turn.specs.Present.{ServiceSeen, meaning_of, source_of}
+use Rattle.rld_turn.specs.Turned.{Turned}
+use Rattle.rld_turn.specs.declared.peer_port.PeerDatagram.{PeerDatagram}
+use Rattle.rld_watch.specs.Ending.{end_at, status_in}
 
 -- a datagram has no meaning at a port, for this cause
-abbrev pub IsDroppedBy : ServiceSeen → Port → Datagram → Dropped → Type 0
-IsDroppedBy service port one cause =
-    meaning service.config service.boot port one.source one.octets ≡ Err cause
+abbrev pub IsDroppedBy : ServiceSeen → Port → PeerDatagram → Dropped → Type 0
+IsDroppedBy service port one cause = meaning_of service port one ≡ Err cause
 
 -- it means this there
-abbrev pub Means : ServiceSeen → Port → Datagram → Meaning → Type 0
-Means service port one meant =
-    meaning service.config service.boot port one.source one.octets ≡ Ok meant
+abbrev pub Means : ServiceSeen → Port → PeerDatagram → Meaning → Type 0
+Means service port one meant = meaning_of service port one ≡ Ok meant
+
+-- its detail there
+abbrev pub detail_at : ServiceSeen → Port → PeerDatagram → Option Detail
+detail_at service port one =
+    detail_of service.config port (source_of service one.peer) one.octets
 
 -- it means something there
-pub record HasMeaning (service : ServiceSeen) (port : Port) (one : Datagram) : Type 0 where
+pub record HasMeaning (service : ServiceSeen) (port : Port) (one : PeerDatagram) : Type 0 where
   pub meant : Meaning
   pub means : Means service port one meant
 
 -- it asks for an account with the right password
-pub record Asks (service : ServiceSeen) (one : Datagram) : Type 0 where
+pub record Asks (service : ServiceSeen) (one : PeerDatagram) : Type 0 where
   pub account : ℕ
   pub key : Key
   pub nas : Nas
   pub means : Means service ports.Auth one (Own account (Ask key nas))
 
 -- it is well formed, and rejected for this cause
-pub record IsRejectedFor (service : ServiceSeen) (one : Datagram) (cause : RejectCause) : Type 0 where
+pub record IsRejectedFor (service : ServiceSeen) (one : PeerDatagram) (cause : RejectCause) : Type 0 where
   pub means : Means service ports.Auth one Reject
-  pub is_cause : reject_cause service.config one.source one.octets ≡ Some cause
+  pub is_cause : cause_in (detail_at service ports.Auth one) ≡ Some cause
 
 -- it is an accounting request of this status
-pub record HasStatus (service : ServiceSeen) (one : Datagram) (status : Option Status) : Type 0 where
+pub record HasStatus (service : ServiceSeen) (one : PeerDatagram) (status : Option Status) : Type 0 where
   pub meaning : HasMeaning service ports.Acct one
-  pub is_status : request_status one.octets ≡ status
+  pub is_status : status_in (detail_at service ports.Acct one) ≡ status
 
 -- what an end at the authentication port says of a datagram
-abbrev pub AuthSays : ServiceSeen → Datagram → AuthEnd → Type 0
+abbrev pub AuthSays : ServiceSeen → PeerDatagram → AuthEnd → Type 0
 AuthSays service one auth.Short = IsDroppedBy service ports.Auth one drops.Short
 AuthSays service one auth.BadLength = IsDroppedBy service ports.Auth one drops.BadLength
 AuthSays service one auth.UnknownClient = IsDroppedBy service ports.Auth one drops.UnknownClient
@@ -82,7 +87,7 @@ AuthSays service one auth.UnknownAccount = IsRejectedFor service one causes.Unkn
 AuthSays service one auth.WrongPassword = IsRejectedFor service one causes.WrongPassword
 
 -- what an end at the accounting port says of a datagram
-abbrev pub AcctSays : ServiceSeen → Datagram → AcctEnd → Type 0
+abbrev pub AcctSays : ServiceSeen → PeerDatagram → AcctEnd → Type 0
 AcctSays service one acct.Short = IsDroppedBy service ports.Acct one drops.Short
 AcctSays service one acct.BadLength = IsDroppedBy service ports.Acct one drops.BadLength
 AcctSays service one acct.UnknownClient = IsDroppedBy service ports.Acct one drops.UnknownClient
@@ -103,16 +108,16 @@ AcctSays service one acct.AccountingOff = HasStatus service one (Some statuses.A
 AcctSays service one acct.OtherStatus = HasStatus service one None
 
 -- what an end says of a datagram that came to a port: it is an end of that port
-abbrev pub Says : ServiceSeen → Port → Datagram → End → Type 0
+abbrev pub Says : ServiceSeen → Port → PeerDatagram → End → Type 0
 Says service ports.Auth one (Auth end) = AuthSays service one end
 Says service ports.Acct one (Acct end) = AcctSays service one end
 Says service _ one _ = ⊥
 
--- each of these datagrams has an end, by what was told of it, and that says the truth of it
-abbrev pub HaveEnds : ServiceSeen → Port → (told : List Told) → (taken : List Datagram) → Type 0
+-- each of these datagrams has an end, by what a watcher learns of it, and that says the truth of it
+abbrev pub HaveEnds : ServiceSeen → Port → (told : List Told) → (taken : List PeerDatagram) → Type 0
 HaveEnds service port [] [] = ⊤
 HaveEnds service port (told ∷ more) (one ∷ taken) =
-    IsSomeAnd (end_at service.config port told) (Says service port one)
+    IsSomeAnd (end_at port told) (Says service port one)
     × HaveEnds service port more taken
 HaveEnds service port _ _ = ⊥
 
@@ -120,6 +125,6 @@ HaveEnds service port _ _ = ⊥
 abbrev pub EndsAreTrue : Type 0
 EndsAreTrue =
     (service : ServiceSeen) (port : Port) (moment : ℕ) (recorded : Bool) (begun : List BooksSeen)
-    (told : List Told) (taken : List Datagram) (batch : List Move) (sent : List Datagram)
+    (told : List Told) (taken : List PeerDatagram) (batch : List Move) (sent : List PeerDatagram)
     → Turned service port moment recorded begun told taken batch sent
     → HaveEnds service port told taken

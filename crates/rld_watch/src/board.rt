@@ -1,8 +1,8 @@
 ghost use Rattle.std.specs.Prelude.{◌≡◌, All, IfOk, length, map};
-ghost use Rattle.rld_watch.specs.Counted.{AreCounts, IsCount};
 
 use crate::counted::Counted;
-use rld_counts::{Cell, ClientCounts, Counts, Ended};
+use crate::reading::Reading;
+use rld_counts::{ClientCounts, Ended};
 use rsl_event::Port;
 use std::alloc::{AllocError, Global};
 use std::sync::{Mutex, Wait};
@@ -29,8 +29,8 @@ pub struct Board {
 }
 
 impl Board {
-    /// A place for each receiver, of these ports, which have counted nothing, for so many clients. It
-    /// fails only where memory is refused.
+    /// A place for each receiver, one for each of these ports, with counts of 0 for each of `clients`
+    /// clients. It fails only where memory is refused.
     pub fn new(alloc: Global, clients: u32, ports: &[Port]) -> Result<Board, AllocError>
         ensures { IfOk result (λ board. map (λ place. place.port) board.places.items ≡ ports.now) }
     {
@@ -45,8 +45,8 @@ impl Board {
         Ok(Board { places })
     }
 
-    /// Counts for so many clients, for each receiver: what `renew` takes. It fails only where memory is
-    /// refused.
+    /// For each receiver counts of 0 for each of `clients` clients: what `renew` takes. It fails only where
+    /// memory is refused.
     pub fn counts_for(&self, alloc: Global, clients: u32) -> Result<Vec<ClientCounts>, AllocError>
         ensures len { IfOk result (λ each. length each.items ≡ length self.now.places.items) }
         ensures clients { IfOk result (λ each. All (λ one. one ≡ clients) each.items) }
@@ -54,8 +54,8 @@ impl Board {
         new_counts(alloc, clients, self.places.len())
     }
 
-    /// Each receiver begins to count by client anew, in these counts, one for each, as client numbers
-    /// mean other clients from now on. The counts in all and the times go on.
+    /// Each receiver begins to count by client anew, in the counts that `each` has for it, as
+    /// client numbers mean other clients from now on. The counts in all and the times go on.
     ///
     /// The receivers begin one after the other. Let no look come between: where there are as many clients
     /// as before, it would add what former ones and new ones have by their numbers.
@@ -67,63 +67,46 @@ impl Board {
         }
     }
 
-    /// How all datagrams ended, of both ports.
-    #[tactic(auto, using(crate::proofs::Counting::counting))]
-    pub fn counts<R: Wait>(&self, rt: &R) -> Counts
-        ensures { ∥ AreCounts result ∥₁ }
-    {
-        let mut all = Counts::new();
-        for place in self.places.as_slice() {
-            all.add(&place.counts(rt));
-        }
-        all
-    }
-
-    /// What the receivers of a port have counted together, for so many clients. A receiver that counts for
-    /// another number of clients is in the counts in all and the times alone. It fails only where memory
-    /// is refused.
-    pub fn cell<R: Wait>(
+    /// Looks at each receiver: what it has counted until now, in all, of each of `clients` clients, and in
+    /// times. It fails only where memory is refused.
+    pub fn read<R: Wait>(
         &self,
         rt: &R,
         alloc: Global,
-        port: Port,
         clients: u32,
-    ) -> Result<Cell, AllocError>
-        ensures count { IfOk result (λ cell. ∥ IsCount cell ∥₁) }
-        ensures clients { IfOk result (λ cell. length cell.clients ≡ clients) }
+    ) -> Result<Vec<Reading>, AllocError>
+        ensures { IfOk result (λ readings. map (λ reading. reading.port) readings.items
+            ≡ map (λ place. place.port) self.now.places.items) }
     {
-        let mut all = Counted::new(alloc, clients)?;
+        let mut readings = Vec::new(alloc);
         for place in self.places.as_slice() {
-            if place.port == port {
-                place.add_to(rt, &mut all);
-            }
+            readings.push(place.read(rt, alloc, clients)?)?;
         }
-        Ok(all.into_cell())
+        Ok(readings)
     }
 }
 
 impl Place {
-    /// How its datagrams ended.
-    fn counts<R: Wait>(&self, rt: &R) -> Counts
-        ensures { ∥ AreCounts result ∥₁ }
-    {
-        self.counted.lock(rt).counts()
-    }
-
     /// Begins to count by client anew.
     fn renew<R: Wait>(&self, rt: &R, clients: ClientCounts) {
         self.counted.lock(rt).renew(clients);
     }
 
-    /// Adds what it has counted.
-    fn add_to<R: Wait>(&self, rt: &R, all: &mut Counted)
-        ensures { length all.new.cell.clients ≡ length all.old.cell.clients }
+    /// What its receiver has counted until now. Where that is for another number of clients, the counts of
+    /// each client are 0.
+    fn read<R: Wait>(&self, rt: &R, alloc: Global, clients: u32) -> Result<Reading, AllocError>
+        ensures { IfOk result (λ reading. reading.port ≡ self.now.port) }
     {
-        all.add(&*self.counted.lock(rt));
+        let mut counted = Counted::new(alloc, clients)?;
+        counted.add(&*self.counted.lock(rt));
+        Ok(Reading {
+            port: self.port,
+            counted,
+        })
     }
 }
 
-/// Counts for so many clients, once for each of so many receivers.
+/// For each of `receivers` receivers counts of 0 for each of `clients` clients.
 fn new_counts(
     alloc: Global,
     clients: u32,

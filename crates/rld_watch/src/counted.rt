@@ -1,7 +1,7 @@
-ghost use Rattle.std.specs.Prelude.{◌≡◌, ◌≢◌, ◌∷◌, ◌++◌, [], IfOk, List, length};
+ghost use Rattle.std.specs.Prelude.{◌≡◌, ◌∷◌, ◌++◌, [], IfOk, List, length};
 ghost use Rattle.rld_counts.specs.Cell.{HasCounted, without_clients};
 ghost use Rattle.rld_counts.specs.declared.ended.Ended.{Ended as OneEnded};
-ghost use Rattle.rld_watch.specs.Counted.{AreCounts, IsCount};
+ghost use Rattle.rld_watch.specs.Counted.{IsCount, for_clients};
 
 use rld_counts::{Cell, ClientCounts, Counts, Ended};
 use std::alloc::{AllocError, Global};
@@ -15,7 +15,7 @@ pub(crate) struct Counted {
 }
 
 impl Counted {
-    /// Nothing, for so many clients. It fails only where memory is refused.
+    /// Counts of 0, with some for each of `clients` clients. It fails only where memory is refused.
     #[tactic(auto, using(crate::proofs::Counting::counting))]
     pub(crate) fn new(alloc: Global, clients: u32) -> Result<Counted, AllocError>
         ensures none { IfOk result (λ counted. HasCounted [] counted.cell) }
@@ -35,10 +35,8 @@ impl Counted {
     }
 
     /// How all datagrams ended.
-    #[tactic(auto, using(crate::proofs::Counting::counting))]
     pub(crate) fn counts(&self) -> Counts
-        ensures counts { result ≡ self.now.cell.counts }
-        ensures are { ∥ AreCounts result ∥₁ }
+        ensures { result ≡ self.now.cell.counts }
     {
         self.cell.counts()
     }
@@ -54,18 +52,13 @@ impl Counted {
         self.cell.renew(clients);
     }
 
-    /// Adds what another has counted. Where that is for another number of clients, its client numbers
+    /// Adds what `other` has counted. Where that is for another number of clients, its client numbers
     /// mean other clients, so it is added to the counts in all and the times alone.
-    #[tactic(auto, using(crate::proofs::Counting::counting))]
+    #[tactic(auto, using(crate::proofs::Counting::adding))]
     pub(crate) fn add(&mut self, other: &Counted)
-        ensures same { (all others : List OneEnded) →
-            length other.now.cell.clients ≡ length self.old.cell.clients →
+        ensures added { (all others : List OneEnded) →
             HasCounted all self.old.cell → HasCounted others other.now.cell →
-            HasCounted (all ++ others) self.new.cell }
-        ensures other { (all others : List OneEnded) →
-            length other.now.cell.clients ≢ length self.old.cell.clients →
-            HasCounted all self.old.cell → HasCounted others other.now.cell →
-            HasCounted (all ++ without_clients others) self.new.cell }
+            HasCounted (all ++ for_clients (length self.old.cell.clients) other.now.cell others) self.new.cell }
         ensures clients { length self.new.cell.clients ≡ length self.old.cell.clients }
     {
         if other.cell.clients() == self.cell.clients() {
@@ -77,8 +70,7 @@ impl Counted {
 
     /// The cell alone.
     pub(crate) fn into_cell(self) -> Cell
-        ensures cell { result ≡ self.cell }
-        ensures is_count { ∥ IsCount result ∥₁ }
+        ensures { result ≡ self.cell }
     {
         self.cell
     }

@@ -1,46 +1,58 @@
-ghost use Rattle.std.specs.Prelude.{◌≡◌, Ok};
-ghost use Rattle.rsl_wire.specs.Seen.{fields_of};
+ghost use Rattle.std.specs.Prelude.{◌≡◌};
+ghost use Rattle.rsl_event.specs.Laws.{cause_in};
 ghost use Rattle.rld_turn.specs.Told.{told_as};
-ghost use Rattle.rld_why.specs.Cause.{reject_cause};
 ghost use Rattle.rld_watch.specs.Ending as ending;
 
 use rld_counts::{AcctEnd, AuthEnd, End};
 use rld_turn::{End as TurnEnd, Ended};
-use rld_why::{RejectCause, why_rejected};
-use rsl_accounts::Config;
-use rsl_event::codes::ACCT_STATUS_TYPE;
-use rsl_event::{Dropped, Port, Said, Source, Status};
-use rsl_wire::{Packet, read};
+use rsl_event::{Detail, Dropped, Port, RejectCause, Said, Status};
 
-/// How a datagram that came to this port is counted, by what a receiver tells of it. It is `None` where
-/// no datagram ends so at the port; a receiver of the port never tells that (`laws`).
-///
-/// Only of a reject, and of an accounting request that is answered, are the octets looked at: those are
-/// the datagram's. It takes no memory.
-pub fn end_at(config: &Config, port: Port, ended: &Ended<'_>) -> Option<End>
-    ensures { result ≡ ending.end_at config.now port (told_as ended.now) }
+/// How a datagram that came to this port is counted, by what a watcher learns of it. It is `None`
+/// where no datagram ends so at the port; a receiver of the port never gives that (`laws`).
+pub fn end_at(port: Port, ended: &Ended<'_>) -> Option<End>
+    ensures { result ≡ ending.end_at port (told_as ended.now) }
 {
     match port {
-        Port::Auth => Some(End::Auth(auth_end(config, ended)?)),
-        Port::Acct => Some(End::Acct(acct_end(ended)?)),
+        Port::Auth => Some(End::Auth(auth_end(cause_in(ended.detail), ended.end)?)),
+        Port::Acct => Some(End::Acct(acct_end(status_in(ended.detail), ended.end)?)),
     }
 }
 
-/// That of the authentication port.
-fn auth_end(config: &Config, ended: &Ended<'_>) -> Option<AuthEnd>
-    ensures { result ≡ ending.auth_end
-        (reject_cause config.now ended.now.source ended.now.octets.now) ended.now.end }
+/// The cause that a detail gives why an Access-Request is rejected.
+fn cause_in(detail: Option<Detail>) -> Option<RejectCause>
+    ensures { result ≡ cause_in detail }
 {
-    match ended.end {
-        TurnEnd::Dropped(cause) => auth_drop(cause),
+    match detail {
+        Some(Detail::Rejected(cause)) => Some(cause),
+        Some(Detail::Asks | Detail::Accounting(_)) | None => None,
+    }
+}
+
+/// The status of an Accounting-Request that a detail gives, if it is one that is known.
+fn status_in(detail: Option<Detail>) -> Option<Status>
+    ensures { result ≡ ending.status_in detail }
+{
+    match detail {
+        Some(Detail::Accounting(status)) => status,
+        Some(Detail::Asks | Detail::Rejected(_)) | None => None,
+    }
+}
+
+/// How a datagram is counted that ended so at the authentication port. `cause` is why the request
+/// is rejected, if it is.
+fn auth_end(cause: Option<RejectCause>, end: TurnEnd) -> Option<AuthEnd>
+    ensures { result ≡ ending.auth_end cause end }
+{
+    match end {
+        TurnEnd::Dropped(dropped) => auth_drop(dropped),
         TurnEnd::Refused => Some(AuthEnd::Refused),
         TurnEnd::Unrecorded => Some(AuthEnd::Unrecorded),
-        TurnEnd::Answered(said) => auth_answer(config, ended.source, ended.octets, said),
+        TurnEnd::Answered(said) => auth_answer(cause, said),
         TurnEnd::Unsent(_) => Some(AuthEnd::Unsent),
     }
 }
 
-/// A drop at the authentication port.
+/// How a drop at the authentication port is counted.
 fn auth_drop(cause: Dropped) -> Option<AuthEnd>
     ensures { result ≡ ending.auth_drop cause }
 {
@@ -60,22 +72,19 @@ fn auth_drop(cause: Dropped) -> Option<AuthEnd>
     }
 }
 
-/// An answer of the authentication port that was sent to this datagram.
-fn auth_answer(config: &Config, source: Source, octets: &[u8], said: Said) -> Option<AuthEnd>
-    ensures { result ≡ ending.auth_answer (reject_cause config.now source octets.now) said }
+/// How an answer of the authentication port is counted that was sent.
+fn auth_answer(cause: Option<RejectCause>, said: Said) -> Option<AuthEnd>
+    ensures { result ≡ ending.auth_answer cause said }
 {
     match said {
         Said::Accept(_) => Some(AuthEnd::Accept),
         Said::LimitReject => Some(AuthEnd::LimitReject),
-        Said::Reject => match why_rejected(config, source, octets) {
-            Some(cause) => Some(reject_end(cause)),
-            None => None,
-        },
+        Said::Reject => Some(reject_end(cause?)),
         Said::Account => None,
     }
 }
 
-/// A reject that is no matter of places.
+/// How a reject is counted that is no matter of places.
 fn reject_end(cause: RejectCause) -> AuthEnd
     ensures { result ≡ ending.reject_end cause }
 {
@@ -89,21 +98,22 @@ fn reject_end(cause: RejectCause) -> AuthEnd
     }
 }
 
-/// That of the accounting port.
-fn acct_end(ended: &Ended<'_>) -> Option<AcctEnd>
-    ensures { result ≡ ending.acct_end (ending.request_status ended.now.octets.now) ended.now.end }
+/// How a datagram is counted that ended so at the accounting port. `status` is that of the request,
+/// if it is one that is known.
+fn acct_end(status: Option<Status>, end: TurnEnd) -> Option<AcctEnd>
+    ensures { result ≡ ending.acct_end status end }
 {
-    match ended.end {
-        TurnEnd::Dropped(cause) => acct_drop(cause),
+    match end {
+        TurnEnd::Dropped(dropped) => acct_drop(dropped),
         TurnEnd::Refused => Some(AcctEnd::Refused),
         TurnEnd::Unrecorded => Some(AcctEnd::Unrecorded),
-        TurnEnd::Answered(Said::Account) => Some(status_end(request_status(ended.octets))),
+        TurnEnd::Answered(Said::Account) => Some(status_end(status)),
         TurnEnd::Answered(Said::Accept(_) | Said::LimitReject | Said::Reject) => None,
         TurnEnd::Unsent(_) => Some(AcctEnd::Unsent),
     }
 }
 
-/// A drop at the accounting port.
+/// How a drop at the accounting port is counted.
 fn acct_drop(cause: Dropped) -> Option<AcctEnd>
     ensures { result ≡ ending.acct_drop cause }
 {
@@ -121,7 +131,7 @@ fn acct_drop(cause: Dropped) -> Option<AcctEnd>
     }
 }
 
-/// An answer to a request of this status, or of none that is known.
+/// How an answer is counted to a request of this status, or of none that is known.
 fn status_end(status: Option<Status>) -> AcctEnd
     ensures { result ≡ ending.status_end status }
 {
@@ -132,28 +142,5 @@ fn status_end(status: Option<Status>) -> AcctEnd
         Some(Status::AccountingOn) => AcctEnd::AccountingOn,
         Some(Status::AccountingOff) => AcctEnd::AccountingOff,
         None => AcctEnd::OtherStatus,
-    }
-}
-
-/// The status of the request in a datagram (RFC 2866 section 5.1), if there is one that is known.
-fn request_status(datagram: &[u8]) -> Option<Status>
-    ensures { result ≡ ending.request_status datagram.now }
-{
-    match read(datagram) {
-        Ok(packet) => packet_status(&packet),
-        Err(_) => None,
-    }
-}
-
-/// That of a packet.
-fn packet_status(packet: &Packet<'_>) -> Option<Status>
-    ensures { result ≡ ending.packet_status (Ok (fields_of packet.now)) }
-{
-    let Ok(attributes) = packet.attributes() else {
-        return None;
-    };
-    match attributes.number(ACCT_STATUS_TYPE) {
-        Some(number) => Status::from_number(number),
-        None => None,
     }
 }

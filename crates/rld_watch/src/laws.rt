@@ -2,12 +2,12 @@
 
 ghost use Rattle.rld_watch.specs.Laws.{EndsAreTrue};
 
-use rld_why::laws::causes_are_of_rejects;
+use rsl_event::laws::causes_are_of_rejects;
 
-/// Each datagram of a turn has an end, by what a watcher is told of it. One that is dropped is counted
-/// under the cause why it has no meaning; one that is rejected under the cause of its reject; an
-/// accepted one, and one that found no place, asks for an account with the right password; an
-/// accounting request is counted under its Acct-Status-Type.
+/// Each datagram of a turn has an end, by what a watcher learns of it. One that is dropped is
+/// counted under the cause why it has no meaning; one that is rejected under the cause of its
+/// reject; an accepted one, and one that found no place, asks for an account with the right
+/// password; an accounting request is counted under its Acct-Status-Type.
 pub fn ends_are_true()
     ensures { EndsAreTrue }
 {

@@ -2,16 +2,19 @@
 //!
 //! The promise: a datagram is counted by how it ended, as `specs/Ending.antt` defines it, and that says
 //! the truth of what the datagram means (`specs/Laws.antt`, `laws`); whatever a look finds of a
-//! receiver, or of all receivers of a port, is the count of some datagrams, each by its end, its client
-//! and its time, and of nothing else (`specs/Counted.antt`).
+//! receiver is the count of some datagrams, each by its end, its client and its time, and of nothing
+//! else (`specs/Counted.antt`); and the counts of a port are those of all its receivers
+//! (`specs/Reading.antt`).
 #![tactic(auto)]
 
 mod board;
 mod counted;
 mod ending;
 pub mod laws;
+mod reading;
 mod watcher;
 
 pub use board::Board;
 pub use ending::end_at;
-pub use watcher::{Desk, Watcher};
+pub use reading::{Reading, cell_of, counts_of};
+pub use watcher::{WatchContext, Watcher};

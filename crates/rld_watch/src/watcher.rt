@@ -5,9 +5,8 @@ ghost use Rattle.rld_watch.specs.Counted.{count_of, time_if};
 use crate::board::{Board, Place};
 use crate::ending::end_at;
 use rld_counts::{End as CountedEnd, Ended as CountedEnded};
-use rld_refusals::{Refusals, Refused, is_refusal};
+use rld_look::{Refusals, Refused, is_refusal};
 use rld_turn::{End, Ended, Watch};
-use rsl_accounts::Config;
 use rsl_event::Port;
 use std::alloc::Global;
 use std::sync::Wait;
@@ -15,43 +14,41 @@ use std::time::{Clock, Duration, Instant};
 
 /// What all watchers of a server share.
 #[derive(Clone, Copy)]
-pub struct Desk<'a> {
-    /// Its accounts and clients.
-    pub config: &'a Config,
+pub struct WatchContext<'a> {
     /// Where its receivers count.
     pub board: &'a Board,
     /// Where its refusals wait for their lines.
     pub refusals: &'a Refusals,
 }
 
-/// Who is told how the datagrams of a receiver ended: counts each at the receiver's place of the board,
-/// and notes it among the refusals, if it is one.
+/// A watcher of one receiver: it counts each datagram at the receiver's place of the board, and
+/// notes the datagram among the refusals, if it is one.
 ///
-/// The time of an answer is that from its turn's first datagram until the answer was sent. How long a
+/// The time of an answer is that from its turn's beginning until the answer was sent. How long a
 /// datagram waited in its socket's room before is not in it.
 #[derive(Drop)]
 pub struct Watcher<'a, R: Wait + Clock> {
     rt: &'a R,
     alloc: Global,
-    desk: Desk<'a>,
+    context: WatchContext<'a>,
     receiver: usize,
     place: &'a Place,
     begun: Option<Instant>,
 }
 
 impl<'a, R: Wait + Clock> Watcher<'a, R> {
-    /// That of the receiver with this number, if the board has a place for it.
+    /// The watcher of the receiver with the number `receiver`, if the board has a place for it.
     pub fn new(
         rt: &'a R,
         alloc: Global,
-        desk: Desk<'a>,
+        context: WatchContext<'a>,
         receiver: usize,
     ) -> Option<Watcher<'a, R>> {
-        let place = desk.board.places.as_slice().get(receiver)?;
+        let place = context.board.places.as_slice().get(receiver)?;
         Some(Watcher {
             rt,
             alloc,
-            desk,
+            context,
             receiver,
             place,
             begun: None,
@@ -70,7 +67,7 @@ impl<'a, R: Wait + Clock> Watcher<'a, R> {
     /// Notes a datagram among the refusals, if it is one. In a flood it is left out before anything of it
     /// is read.
     fn note_refusal(&self, ended: &Ended<'_>, end: CountedEnd) {
-        let refusals = self.desk.refusals;
+        let refusals = self.context.refusals;
         if !is_refusal(end) || refusals.leave_out(self.rt, self.receiver, end) {
             return;
         }
@@ -80,7 +77,7 @@ impl<'a, R: Wait + Clock> Watcher<'a, R> {
         };
         let refused = Refused {
             moment,
-            source: ended.source,
+            source: ended.origin.source,
             client: ended.client,
             octets: ended.octets,
             end,
@@ -99,24 +96,19 @@ impl<R: Wait + Clock> Watch for Watcher<'_, R> {
 
     fn note(&mut self, ended: Ended<'_>) {
         let micros = self.micros();
-        if let Some(counted) = count_of(self.desk.config, self.place.port, &ended, micros) {
+        if let Some(counted) = count_of(self.place.port, &ended, micros) {
             self.place.note(self.rt, counted);
             self.note_refusal(&ended, counted.end);
         }
     }
 }
 
-/// What is counted of a datagram that came to this port, by what a receiver tells of it, if its answer
-/// took so long. There is always something, as `laws` says.
-fn count_of(
-    config: &Config,
-    port: Port,
-    ended: &Ended<'_>,
-    micros: Option<u64>,
-) -> Option<CountedEnded>
-    ensures { result ≡ count_of config.now port (told_as ended.now) micros }
+/// What is counted of a datagram that came to this port, by what a watcher learns of it, if its
+/// answer took `micros` microseconds. There is always something, as `laws` says.
+fn count_of(port: Port, ended: &Ended<'_>, micros: Option<u64>) -> Option<CountedEnded>
+    ensures { result ≡ count_of port (told_as ended.now) micros }
 {
-    let end = end_at(config, port, ended)?;
+    let end = end_at(port, ended)?;
     Some(CountedEnded {
         end,
         client: ended.client,

@@ -8,7 +8,7 @@ use Rattle.http_uri.specs.Uri.{uri_path}
 use Rattle.http_server.specs.declared.response.Response.{Response}
 use Rattle.http_server.specs.Response.{IsResponse}
 use Rattle.rld_look.specs.declared.look.Look.{Look}
-use Rattle.rld_metrics.specs.Metrics.{metrics_text}
+use Rattle.rld_text.specs.Metrics.{metrics_text}
 use Rattle.rld_page.specs.Health.{health_of, health_text}
 use Rattle.rld_page.specs.Json.{accounts_json}
 use Rattle.rld_page.specs.Page.{IsHtml}

@@ -7,11 +7,11 @@
 #![tactic(auto)]
 
 mod answer;
-mod desk;
+mod connections;
+mod http_connection;
+mod page_service;
 mod path;
 mod place;
-mod room;
-mod visitor;
 mod web;
 
 pub use web::Web;

@@ -3,7 +3,7 @@ ghost use Rattle.http_header.specs.FieldValue.{is_visible_text};
 ghost use Rattle.rld_web.specs.Path.{media_type_of, path_of};
 
 /// What is shown of a server.
-#[derive(Clone, Copy, PartialEq, Eq)]
+#[derive(Clone, Copy)]
 pub(crate) enum Path {
     /// The page for a browser.
     Page,
@@ -16,7 +16,7 @@ pub(crate) enum Path {
 }
 
 impl Path {
-    /// What a request's path asks for: nothing for any other one.
+    /// What a request's path asks for: `None` for any path that there is not.
     pub(crate) fn of(path: &str) -> Option<Path>
         ensures { result ≡ path_of path.now }
     {

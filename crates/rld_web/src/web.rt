@@ -1,5 +1,5 @@
-use crate::desk::Desk;
-use crate::room::Room;
+use crate::connections::Connections;
+use crate::page_service::PageService;
 use rld_look::{Pages, Shown};
 use std::alloc::Global;
 use std::hash::RandomState;
@@ -47,16 +47,16 @@ impl Web {
 
 impl Pages for Web {
     fn show<S: Shown, R: Net + Clock + Wait>(&self, rt: &R, server: &S) -> io::Result<()> {
-        let mut room = Room::new(rt, self.alloc, self.keys, &self.listener)?;
-        let mut desk = Desk::new(self.alloc, self.place);
+        let mut connections = Connections::new(rt, self.alloc, self.keys, &self.listener)?;
+        let mut service = PageService::new(self.alloc, self.place);
         for _ in rt.forever() {
             if server.is_over() {
                 break;
             }
-            room.wait(millis(rt))?;
+            connections.wait(millis(rt))?;
             let now = millis(rt);
-            room.let_in(&self.listener, now);
-            room.serve(&mut desk, server, now);
+            connections.let_in(&self.listener, now);
+            connections.serve(&mut service, server, now);
         }
         Ok(())
     }

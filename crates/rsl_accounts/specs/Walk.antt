@@ -24,12 +24,12 @@ text_fault field text = fault_unless (takes_text field text) field
 unfoldable pub count_fault : Field → ℕ → Option ConfigFault
 count_fault field count = fault_unless (takes_count field count) field
 
--- the same of a number that may be left out
+-- the fault of a number that may be left out
 abbrev pub option_fault : Field → Option ℕ → Option ConfigFault
 option_fault field None = None
 option_fault field (Some number) = number_fault field number
 
--- the same of the seconds between interim updates, which version 1 does not know
+-- the fault of the seconds between interim updates, which version 1 does not know
 abbrev pub interim_fault : (version : ℕ) → Option ℕ → Option ConfigFault
 interim_fault version interim =
     if knows_own_times version then option_fault field.InterimSecs interim else None

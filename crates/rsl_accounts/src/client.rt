@@ -7,7 +7,7 @@ use crate::field::Field;
 use crate::secret::Secret;
 
 /// An access server that may send packets.
-#[derive(PartialEq, Eq, Drop)]
+#[derive(Drop)]
 pub struct Client {
     /// Its IPv4 address.
     pub address: [u8; 4],

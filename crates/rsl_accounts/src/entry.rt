@@ -15,7 +15,7 @@ use crate::settings::knows_own_times;
 use crate::text::Text;
 
 /// An account. What each login reads of it stands first, as fields lie in memory in their order.
-#[derive(PartialEq, Eq, Drop)]
+#[derive(Drop)]
 pub struct Entry {
     /// The password: 1 to 128 octets of UTF-8 without NUL.
     pub password: Secret,
@@ -52,7 +52,7 @@ impl Entry {
         self.check_own_times(version)
     }
 
-    /// The same of the fields that each version knows.
+    /// `BadValue` of the first field with a wrong value, of those that each version knows.
     #[tactic(auto, unfolding(crate::specs::Walk::common_checks))]
     fn check_common(&self) -> Result<(), ConfigFault>
         ensures { result_err result ≡ first_fault (common_checks self.now) }
@@ -67,7 +67,8 @@ impl Entry {
         Field::IdleTimeout.check_short(self.idle_timeout)
     }
 
-    /// The same of its own times, and of the seconds between its interim updates.
+    /// `BadValue` of the first field with a wrong value, of its own times and the seconds between
+    /// its interim updates.
     #[tactic(auto, unfolding(crate::specs::Walk::own_checks, crate::specs::Walk::own_times_checks))]
     fn check_own_times(&self, version: u64) -> Result<(), ConfigFault>
         ensures { result_err result ≡ first_fault (own_checks version self.now) }

@@ -8,7 +8,7 @@ use thiserror::Error;
 
 /// Why there is no configuration. It prints as its name, followed by the key of the field if it has
 /// one: `BadValue keep_secs`.
-#[derive(Clone, Copy, Debug, PartialEq, Eq, Error)]
+#[derive(Clone, Copy, Debug, Error)]
 pub enum ConfigFault {
     /// The file is not UTF-8 or not TOML.
     #[error("NotToml")]

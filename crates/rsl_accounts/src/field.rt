@@ -37,7 +37,7 @@ const MAX_SECRET_LEN: u64 = 128;
 const MAX_NAME_LEN: u64 = 64;
 
 /// A field of an account file.
-#[derive(Clone, Copy, Debug, PartialEq, Eq)]
+#[derive(Clone, Copy, Debug)]
 pub enum Field {
     /// The version of the file's format.
     Version,
@@ -178,7 +178,7 @@ impl Field {
         }
     }
 
-    /// The same of a number that may be left out.
+    /// `BadValue` unless the field may have the number, or the number is left out.
     pub(crate) fn check_option(self, number: Option<u64>) -> Result<(), ConfigFault>
         ensures { result_err result ≡ option_fault self number }
     {
@@ -188,7 +188,7 @@ impl Field {
         }
     }
 
-    /// The same of one of 32 bits.
+    /// `BadValue` unless the field may have the number, of 32 bits, or the number is left out.
     pub(crate) fn check_short(self, number: Option<u32>) -> Result<(), ConfigFault>
         ensures { result_err result ≡ option_fault self number }
     {

@@ -19,6 +19,7 @@ use crate::rules::Rules;
 use crate::secret::Secret;
 use crate::settings::Settings;
 use crate::table::{address, interim, number, own_time, short_number, signed, text};
+use crate::text::Text;
 use std::alloc::Global;
 use toml::Value;
 
@@ -62,10 +63,12 @@ fn client(alloc: Global, table: &Value) -> Result<Client, ConfigFault>
         client_in (view table.now) ≡ Err fault) }
     ensures right { IfOk result (λ client. first_fault (client_checks client) ≡ None) }
 {
+    let address = address(table)?;
+    let secret = text(table, Field::Secret)?;
     Ok(Client {
-        address: address(table)?,
-        secret: Secret::from(text(alloc, table, Field::Secret)?),
+        address,
         signed: signed(table)?,
+        secret: Secret::from_str(alloc, secret)?,
     })
 }
 
@@ -94,9 +97,10 @@ fn entry(alloc: Global, version: u64, table: &Value) -> Result<Entry, ConfigFaul
         entry_in version (view table.now) ≡ Err fault) }
     ensures right { IfOk result (λ entry. first_fault (account_checks version entry) ≡ None) }
 {
+    // these are copied last, so that none is owned where a fault of another field leaves
+    let name = text(table, Field::Name)?;
+    let password = text(table, Field::Password)?;
     Ok(Entry {
-        name: text(alloc, table, Field::Name)?,
-        password: Secret::from(text(alloc, table, Field::Password)?),
         rules: Rules::of_places(number(table, Field::Places)?, number(table, Field::Ports)?),
         service_type: short_number(table, Field::ServiceType)?,
         framed_protocol: short_number(table, Field::FramedProtocol)?,
@@ -105,6 +109,8 @@ fn entry(alloc: Global, version: u64, table: &Value) -> Result<Entry, ConfigFaul
         own_live: own_time(version, table, Field::OwnLive)?,
         own_grace: own_time(version, table, Field::OwnGrace)?,
         interim: interim(version, table)?,
+        name: Text::from_str(alloc, name)?,
+        password: Secret::from_str(alloc, password)?,
     })
 }
 

@@ -40,8 +40,8 @@ pub struct Rules {
 }
 
 impl Rules {
-    /// The session limit of so many places and ports, whose times `Config::make` fills in: until
-    /// then each is 0, and the rules do not fit.
+    /// The session limit of `places` places with `ports` ports each, whose times `Config::make`
+    /// fills in: until then each is 0, and the rules do not fit.
     pub fn of_places(places: u64, ports: u64) -> Rules
         ensures { result ≡ rules_of_places places ports }
     {

@@ -19,7 +19,7 @@ pub(crate) const MAX_VERSION: u64 = 2;
 const OWN_TIMES_VERSION: u64 = 2;
 
 /// What an account file says once, for all accounts.
-#[derive(Clone, Copy, PartialEq, Eq)]
+#[derive(Clone, Copy)]
 pub struct Settings {
     /// The version of the file's format: 1 or 2. In version 2 an account can have times of its own,
     /// and accepts can have an Acct-Interim-Interval.

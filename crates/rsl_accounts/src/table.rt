@@ -1,7 +1,6 @@
 //! The values of fields in a table of TOML: each with its value, or with the fault of the field.
 ghost use Rattle.std.specs.Prelude.{
   ◌≡◌,
-  ◌≢◌,
   ◌<◌,
   ◌^◌,
   ℕ,
@@ -45,8 +44,6 @@ use crate::address::address_of;
 use crate::fault::ConfigFault;
 use crate::field::Field;
 use crate::settings::knows_own_times;
-use crate::text::Text;
-use std::alloc::Global;
 use toml::Value;
 
 /// What a table has under the key of a field.
@@ -109,7 +106,7 @@ pub(crate) fn optional_number(table: &Value, field: Field) -> Result<Option<u64>
     }
 }
 
-/// The same of a field whose numbers have 32 bits.
+/// The number of a field that may be left out, and whose numbers have 32 bits.
 pub(crate) fn short_number(table: &Value, field: Field) -> Result<Option<u32>, ConfigFault>
     requires { (number : ℕ) → number_fault field number ≡ None → number < 2 ^ 32 }
     ensures value { result ≡ option_in (view table.now) field }
@@ -166,16 +163,15 @@ fn text_of(value: &Value, field: Field) -> Option<&str>
     }
 }
 
-/// The text of a field, as a text of its own. `NoMemory` comes after the faults of the field.
+/// The text of a field, lent.
 #[tactic(auto, unfolding(crate::specs::File::text_in))]
-pub(crate) fn text(alloc: Global, table: &Value, field: Field) -> Result<Text, ConfigFault>
-    ensures ok { IfOk result (λ text. text_in (view table.now) field ≡ Ok text) }
-    ensures fault { IfErr result (λ fault. fault ≢ ConfigFault.NoMemory →
-        text_in (view table.now) field ≡ Err fault) }
-    ensures right { IfOk result (λ text. text_fault field text ≡ None) }
+pub(crate) fn text(table: &Value, field: Field) -> Result<&str, ConfigFault>
+    ensures ok { IfOk result (λ text. text_in (view table.now) field ≡ Ok text.now) }
+    ensures fault { IfErr result (λ fault. text_in (view table.now) field ≡ Err fault) }
+    ensures right { IfOk result (λ text. text_fault field text.now ≡ None) }
 {
     match text_of(present(table, field)?, field) {
-        Some(text) => Ok(Text::from_str(alloc, text)?),
+        Some(text) => Ok(text),
         None => Err(ConfigFault::BadValue(field)),
     }
 }
@@ -226,7 +222,7 @@ pub(crate) fn tables(table: &Value, field: Field) -> Result<&[Value], ConfigFaul
     }
 }
 
-/// The tables that a value is, if the field may have so many.
+/// The tables that a value is, if the field may have that many.
 fn tables_of(value: &Value, field: Field) -> Option<&[Value]>
     ensures value { option_map (λ tables. map view tables.now) result
         ≡ tables_of field (view value.now) }
@@ -235,7 +231,7 @@ fn tables_of(value: &Value, field: Field) -> Option<&[Value]>
     tables_of_list(value.as_array()?.as_slice(), field)
 }
 
-/// The items of an array, if they are tables and the field may have so many.
+/// The items of an array, if they are tables and the field may have that many.
 #[tactic(auto, unfolding(crate::specs::Walk::count_fault))]
 fn tables_of_list(items: &[Value], field: Field) -> Option<&[Value]>
     ensures value { option_map (λ tables. map view tables.now) result

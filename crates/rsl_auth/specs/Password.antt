@@ -52,7 +52,7 @@ revealed value secret request_auth = revealed_blocks (length value / 16) value s
 abbrev pub IsPasswordLength : ℕ → Type 0
 IsPasswordLength n = (n % 16 ≡ 0) × (16 ≤ n) × (n ≤ 128)
 
--- the same as a test
+-- `IsPasswordLength` as a test
 abbrev pub is_password_length : ℕ → Bool
 is_password_length n = n % 16 == 0 && nat_le 16 n && nat_le n 128
 
@@ -64,7 +64,7 @@ are_nuls octets = list_all (λ octet. octet == 0) octets
 abbrev pub IsPadded : (octets password : List ℕ) → Type 0
 IsPadded octets password = (zeros : ℕ) × (octets ≡ password ++ replicate zeros 0)
 
--- the same as a test
+-- `IsPadded` as a test
 abbrev pub is_padded : (octets password : List ℕ) → Bool
 is_padded octets password =
     starts_with nat_eq octets password && are_nuls (drop (length password) octets)

@@ -42,7 +42,7 @@ pub struct HmacKey {
 impl HmacKey {
     ghost use Rattle.rsl_auth.specs.Hmac.{IsKeyOf};
 
-    /// That of a key of any length. It takes no memory.
+    /// What HMAC-MD5 makes of a key of any length. It takes no memory.
     pub fn new(key: &[u8]) -> HmacKey
         ensures { IsKeyOf key.now result }
     {

@@ -35,7 +35,7 @@ use std::alloc::Global;
 const BLOCK_LEN: usize = 16;
 
 /// Octets that are digested in one piece: a block of MD5, in which a secret of up to 48 octets lies
-/// with what stands behind it.
+/// with what stands after it.
 const PIECE_LEN: usize = 64;
 
 /// The most octets of a password, and of the value that hides it (RFC 2865 section 5.2).
@@ -173,7 +173,7 @@ fn digest_of(secret: &[u8], before: &[u8]) -> [u8; 16]
     Md5::digest(&piece[..len])
 }
 
-/// The same of octets of any length.
+/// MD5(secret, before), of octets of any length.
 fn digest_of_parts(secret: &[u8], before: &[u8]) -> [u8; 16]
     ensures { result ≡ md5 (secret.now ++ before.now) }
 {

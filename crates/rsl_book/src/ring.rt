@@ -77,7 +77,7 @@ fn push_copies<S: Subject>(
 }
 
 impl<S: Subject> Ring<S> {
-    /// A ring of none, with room for so many. It fails only where memory is refused.
+    /// An empty ring, with room for `capacity`. It fails only where memory is refused.
     pub(crate) fn new(alloc: Global, capacity: usize) -> Result<Ring<S>, NoMemory>
         ensures { IfOk result (λ ring. ring ≡ buffer [] capacity) }
     {

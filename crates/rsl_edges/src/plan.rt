@@ -5,7 +5,7 @@ use rsl_accounts::address_of;
 use rsl_script::read_number;
 
 /// Where a server takes datagrams, and how long.
-#[derive(Clone, Copy, PartialEq, Eq)]
+#[derive(Clone, Copy)]
 pub struct Plan {
     /// The IPv4 address of both sockets, its first octet first.
     pub address: [u8; 4],

@@ -4,3 +4,4 @@ pub mod SignatureLaws
 pub mod ReplyAttributeLaws
 pub mod Callers
 pub mod ClientKeys
+pub mod Rejecting

@@ -9,6 +9,9 @@ pub mod Copied
 pub mod Meaning
 pub mod MeaningKind
 pub mod Prepared
+pub mod Cause
+pub mod Detail
+pub mod Laws
 pub mod Answer
 pub mod Draft
 pub mod Same

@@ -7,12 +7,12 @@ use Rattle.rsl_event.specs.declared.meaning_kind.MeaningKind.TheVariants as kind
 use Rattle.rsl_event.specs.declared.meaning.Meaning.{Meaning}
 use Rattle.rsl_event.specs.declared.meaning.Meaning.TheVariants.{Bare, Reject, Own, Restart, Stray}
 
--- that of an act of an account: only an ask is decided
+-- the kind of an act of an account: only an ask is decided
 abbrev pub kind_of_act : (account : ℕ) → Act → MeaningKind
 kind_of_act account (Ask key nas) = kinds.Ask account
 kind_of_act account _ = kinds.Account
 
--- that of a meaning
+-- the kind of a meaning
 abbrev pub kind_of : Meaning → MeaningKind
 kind_of Bare = kinds.Bare
 kind_of Reject = kinds.Reject

@@ -12,7 +12,13 @@ use Rattle.rsl_event.specs.declared.meaning.Dropped.{Dropped}
 use Rattle.rsl_event.specs.declared.meaning.Meaning.{Meaning}
 use Rattle.rsl_event.specs.declared.meaning.Meaning.TheVariants.{Bare, Own}
 use Rattle.rsl_event.specs.declared.meaning.Prepared.{Prepared}
+use Rattle.rsl_event.specs.declared.preparation.Detailed.{Detailed}
 use Rattle.rsl_event.specs.declared.codes.TheConstants.{MAX_PROXY_STATE_LEN}
+
+-- what was prepared, without its detail
+abbrev pub prepared_in : Result Detailed Dropped → Result Prepared Dropped
+prepared_in (Ok found) = Ok found.prepared
+prepared_in (Err dropped) = Err dropped
 
 -- what `prepare` answered is as it is defined
 abbrev pub GivesPrepared : Result Prepared Dropped → Result Meaning Dropped → Type 0
@@ -39,7 +45,7 @@ abbrev pub HasRoomForReply : (attributes : List ℕ) → Meaning → Type 0
 HasRoomForReply attributes Bare = Unit {0}
 HasRoomForReply attributes _ = HasProxyStates attributes
 
--- the same of a reply to a meaning of this kind
+-- a reply to a meaning of this kind, if it repeats Proxy-States, has room for them
 abbrev pub HasRoomFor : (attributes : List ℕ) → MeaningKind → Type 0
 HasRoomFor attributes kinds.Bare = Unit {0}
 HasRoomFor attributes _ = HasProxyStates attributes

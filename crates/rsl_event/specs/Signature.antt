@@ -59,7 +59,7 @@ abbrev pub signing_if : Bool → Signing
 signing_if false = Plain
 signing_if true = Signed
 
--- that of a reply: it is signed where it answers an Access-Request that carried a
+-- the signing of a reply: it is signed where it answers an Access-Request that carried a
 -- Message-Authenticator
 abbrev pub reply_signing : Said → (request : List Attribute) → Signing
 reply_signing word request = signing_if (is_access word && has_signature request)
@@ -68,7 +68,7 @@ reply_signing word request = signing_if (is_access word && has_signature request
 abbrev pub unsigned_signature : Attribute
 unsigned_signature = attribute_of MESSAGE_AUTHENTICATOR (replicate 16 0)
 
--- that of a packet, if it is signed
+-- the Message-Authenticator of a packet, if it is signed
 abbrev pub signature_attributes : Signing → List Attribute
 signature_attributes Plain = []
 signature_attributes Signed = unsigned_signature ∷ []

@@ -1,10 +1,12 @@
-ghost use Rattle.std.specs.Prelude.{◌≡◌, ◌<◌, IfSome, length};
+ghost use Rattle.std.specs.Prelude.{◌≡◌, ◌<◌, IfOk, length};
 ghost use Rattle.rsl_wire.specs.Seen.{fields_of};
 ghost use Rattle.rsl_event.specs.Access.{shows_password, asker, access_meaning};
-ghost use Rattle.rsl_event.specs.Meaning.{Gives};
+ghost use Rattle.rsl_event.specs.Cause.{IsAsker, listed_cause, request_cause};
+ghost use Rattle.rsl_event.specs.Detail.{GivesDetailed, detail_by};
 
 use crate::access_attributes::AccessAttributes;
 use crate::codes::ACCESS_REQUEST;
+use crate::detail::{Detail, RejectCause};
 use crate::event::{Act, Key, Source};
 use crate::meaning::{Dropped, Meaning};
 use crate::request::{access_server, account_named};
@@ -14,7 +16,7 @@ use rsl_auth::{chap_ok, pap_ok};
 use rsl_wire::Packet;
 use std::alloc::Global;
 
-/// What a packet of this client on the authentication port means.
+/// What a packet of this client on the authentication port means, with its detail.
 #[tactic(auto, unfolding(crate::specs::Access::access_meaning))]
 pub(crate) fn access_meaning(
     alloc: Global,
@@ -22,9 +24,12 @@ pub(crate) fn access_meaning(
     client: u32,
     source: Source,
     packet: &Packet<'_>,
-) -> Result<Meaning, Dropped>
+) -> Result<(Meaning, Detail), Dropped>
     requires { client < length config.now.clients }
-    ensures { Gives result (access_meaning config.now source client (fields_of packet.now)) }
+    ensures meaning { GivesDetailed result
+        (access_meaning config.now source client (fields_of packet.now)) }
+    ensures detail { IfOk result (λ found.
+        found.1 ≡ detail_by (request_cause config.now client (fields_of packet.now))) }
 {
     if packet.code != ACCESS_REQUEST {
         return Err(Dropped::WrongCode);
@@ -33,7 +38,7 @@ pub(crate) fn access_meaning(
         return if config.client_at(client).signed {
             Err(Dropped::Unsigned)
         } else {
-            Ok(Meaning::Bare)
+            Ok((Meaning::Bare, Detail::Rejected(RejectCause::Malformed)))
         };
     };
     let attributes = AccessAttributes::of(attributes);
@@ -43,8 +48,9 @@ pub(crate) fn access_meaning(
     if attributes.has_long_proxy_states() {
         return Err(Dropped::ProxyTooLong);
     }
-    let Some(account) = asker(config, client, &packet.authenticator, &attributes) else {
-        return Ok(Meaning::Reject);
+    let account = match asker(config, client, &packet.authenticator, &attributes) {
+        Ok(account) => account,
+        Err(cause) => return Ok((Meaning::Reject, Detail::Rejected(cause))),
     };
     let key = Key {
         source,
@@ -57,34 +63,39 @@ pub(crate) fn access_meaning(
         attributes.identifiers.first,
         attributes.addresses.first,
     )?;
-    Ok(Meaning::Own {
+    let meaning = Meaning::Own {
         account,
         act: Act::Ask { key, nas },
-    })
+    };
+    Ok((meaning, Detail::Asks))
 }
 
-/// The account that a request asks for, with its password.
+/// The account that a request asks for, with its password, or why it is rejected.
 #[tactic(auto, unfolding(crate::specs::Access::asker))]
 fn asker(
     config: &Config,
     client: u32,
     authenticator: &[u8; 16],
     attributes: &AccessAttributes<'_>,
-) -> Option<u32>
+) -> Result<u32, RejectCause>
     requires { client < length config.now.clients }
-    ensures account { result ≡ asker config.now client authenticator.now attributes.now.all }
-    ensures within { IfSome result (λ account. account < length config.now.accounts) }
+    ensures asker { IsAsker result
+        (asker config.now client authenticator.now attributes.now.all)
+        (listed_cause config.now client authenticator.now attributes.now.all) }
+    ensures within { IfOk result (λ account. account < length config.now.accounts) }
 {
-    if !attributes.ask_once() {
-        return None;
+    if let Some(cause) = attributes.count_cause() {
+        return Err(cause);
     }
-    let account = account_named(config, attributes.names.first)?;
+    let Some(account) = account_named(config, attributes.names.first) else {
+        return Err(RejectCause::UnknownAccount);
+    };
     let secret = config.client_at(client).secret.expose();
     let password = config.entry(account).password.expose();
     if shows_password(secret, authenticator, attributes, password) {
-        Some(account)
+        Ok(account)
     } else {
-        None
+        Err(RejectCause::WrongPassword)
     }
 }
 

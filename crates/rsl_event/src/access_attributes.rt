@@ -1,5 +1,6 @@
-ghost use Rattle.std.specs.Prelude.{◌≡◌, nat_lt};
+ghost use Rattle.std.specs.Prelude.{◌≡◌, is_none, nat_lt};
 ghost use Rattle.rsl_event.specs.Access.{asks_once};
+ghost use Rattle.rsl_event.specs.Cause.{count_cause};
 ghost use Rattle.rsl_event.specs.Occurrences.{AreOf};
 ghost use Rattle.rsl_event.specs.Request.{proxy_len};
 ghost use Rattle.rsl_event.specs.declared.codes.TheConstants.{
@@ -18,6 +19,7 @@ use crate::codes::{
     CHAP_CHALLENGE, CHAP_PASSWORD, MESSAGE_AUTHENTICATOR, NAS_IDENTIFIER, NAS_IP_ADDRESS,
     PROXY_STATE, USER_NAME, USER_PASSWORD,
 };
+use crate::detail::RejectCause;
 use crate::occurrences::Occurrences;
 use crate::request::has_long_proxy_states;
 use rsl_wire::Attrs;
@@ -93,13 +95,23 @@ impl<'a> AccessAttributes<'a> {
         }
     }
 
-    /// Whether there is exactly one User-Name, exactly one password, of either kind, and at most
-    /// one CHAP-Challenge.
-    pub(crate) fn ask_once(&self) -> bool
-        ensures { result ≡ asks_once self.now.all }
+    /// The first of the attributes of an ask that does not stand there as often as it has to: exactly one
+    /// User-Name, exactly one password, of either kind, and at most one CHAP-Challenge.
+    pub(crate) fn count_cause(&self) -> Option<RejectCause>
+        ensures cause { result ≡ count_cause self.now.all }
+        ensures once { is_none result ≡ asks_once self.now.all }
     {
+        if self.names.count != 1 {
+            return Some(RejectCause::NotOneName);
+        }
         let passwords = (self.user_passwords.count, self.chap_passwords.count);
-        self.names.count == 1 && matches!(passwords, (1, 0) | (0, 1)) && self.challenges.count <= 1
+        if !matches!(passwords, (1, 0) | (0, 1)) {
+            return Some(RejectCause::NotOnePassword);
+        }
+        if self.challenges.count > 1 {
+            return Some(RejectCause::SeveralChallenges);
+        }
+        None
     }
 
     /// Whether the Proxy-State attributes have over 3,900 octets, with their headers.

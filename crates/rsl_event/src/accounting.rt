@@ -12,12 +12,15 @@ ghost use Rattle.rsl_event.specs.Accounting.{
   status_meaning,
   accounting_meaning,
 };
+ghost use Rattle.rsl_event.specs.Detail.{GivesDetailed, request_status};
 ghost use Rattle.rsl_event.specs.Meaning.{Gives};
+ghost use Rattle.rsl_event.specs.declared.detail.Detail.TheVariants.{Accounting};
 
 use crate::codes::{
     ACCOUNTING_REQUEST, ACCT_MULTI_SESSION_ID, ACCT_SESSION_ID, ACCT_STATUS_TYPE, CLASS, CLASS_LEN,
     USER_NAME,
 };
+use crate::detail::Detail;
 use crate::event::Act;
 use crate::meaning::{Dropped, Meaning, Note};
 use crate::request::{access_server_of, account_named, has_long_proxy_states, text_of};
@@ -27,7 +30,7 @@ use rsl_auth::accounting_ok;
 use rsl_wire::{Attrs, NoMemory, Octets, Packet};
 use std::alloc::Global;
 
-/// What a packet of this client on the accounting port means.
+/// What a packet of this client on the accounting port means, with its detail.
 #[tactic(auto, unfolding(crate::specs::Accounting::accounting_meaning))]
 pub(crate) fn accounting_meaning(
     alloc: Global,
@@ -35,9 +38,12 @@ pub(crate) fn accounting_meaning(
     boot: u64,
     client: u32,
     packet: &Packet<'_>,
-) -> Result<Meaning, Dropped>
+) -> Result<(Meaning, Detail), Dropped>
     requires { client < length config.now.clients }
-    ensures { Gives result (accounting_meaning config.now boot client (fields_of packet.now)) }
+    ensures meaning { GivesDetailed result
+        (accounting_meaning config.now boot client (fields_of packet.now)) }
+    ensures detail { IfOk result (λ found.
+        found.1 ≡ Accounting (request_status (fields_of packet.now))) }
 {
     if packet.code != ACCOUNTING_REQUEST {
         return Err(Dropped::WrongCode);
@@ -55,7 +61,8 @@ pub(crate) fn accounting_meaning(
     let Some(number) = attributes.number(ACCT_STATUS_TYPE) else {
         return Err(Dropped::NoStatus);
     };
-    status_meaning(alloc, config, boot, client, number, &attributes)
+    let meaning = status_meaning(alloc, config, boot, client, number, &attributes)?;
+    Ok((meaning, Detail::Accounting(Status::from_number(number))))
 }
 
 /// What an accounting packet means whose Acct-Status-Type has this number.

@@ -95,12 +95,7 @@ impl Act {
                 session,
                 bundle,
                 class,
-            } => Act::Alive {
-                nas: nas.try_copy(alloc)?,
-                session: session.try_copy(alloc)?,
-                bundle: Octets::try_copy_option(alloc, bundle)?,
-                class: *class,
-            },
+            } => copy_alive(alloc, nas, session, bundle, *class)?,
             Act::Stop { nas, session } => Act::Stop {
                 nas: nas.try_copy(alloc)?,
                 session: session.try_copy(alloc)?,
@@ -111,6 +106,24 @@ impl Act {
             Act::Tick => Act::Tick,
         })
     }
+}
+
+/// An alive with equal fields. It fails only where memory is refused.
+fn copy_alive(
+    alloc: Global,
+    nas: &Nas,
+    session: &Octets,
+    bundle: &Option<Octets>,
+    class: Option<u64>,
+) -> Result<Act, NoMemory>
+    ensures { IfOk result (λ copy. copy ≡ Act.Alive nas.now session.now bundle.now class) }
+{
+    Ok(Act::Alive {
+        nas: nas.try_copy(alloc)?,
+        session: session.try_copy(alloc)?,
+        bundle: Octets::try_copy_option(alloc, bundle)?,
+        class,
+    })
 }
 
 /// An act, and the moment at which it happened.

@@ -8,7 +8,7 @@ use std::alloc::Global;
 use std::fmt;
 
 /// Which of the server's two ports a datagram came to.
-#[derive(Clone, Copy, PartialEq, Eq)]
+#[derive(Clone, Copy)]
 pub enum Port {
     /// The authentication port, usually 1812 (RFC 2865 section 3).
     Auth,
@@ -45,7 +45,7 @@ impl Note {
 }
 
 /// What a datagram means.
-#[derive(PartialEq, Eq, Drop)]
+#[derive(Drop)]
 pub enum Meaning {
     /// A request on the authentication port whose attributes are malformed: it is rejected, and
     /// nothing of it is repeated.

@@ -10,7 +10,7 @@ use crate::words::Said;
 
 /// The kind of a meaning: all of it that its reply hangs on. So a reply can still be made where the
 /// act of the meaning was handed on.
-#[derive(Clone, Copy, PartialEq, Eq)]
+#[derive(Clone, Copy)]
 pub enum MeaningKind {
     /// A request whose attributes are malformed.
     Bare,

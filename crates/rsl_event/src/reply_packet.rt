@@ -49,9 +49,9 @@ pub fn room(alloc: Global, prepared: &Prepared<'_>) -> Result<Draft, NoMemory>
     room_in(prepared, Vec::new(alloc))
 }
 
-/// The same in the room of an earlier reply, whose octets are let go: it takes memory only where
-/// there is room for less than 4,096 octets, and fails only where that is refused. Then the room is
-/// let go too.
+/// Room for the longest reply to a request, in the room of an earlier reply, whose octets are let
+/// go: it takes memory only where there is room for less than 4,096 octets, and fails only where
+/// that is refused. Then the room is let go too.
 pub fn room_in(prepared: &Prepared<'_>, earlier: Vec<u8>) -> Result<Draft, NoMemory>
     ensures draft { IfOk result (λ draft.
         draft ≡ record { id = prepared.now.packet.id; attributes = [] }) }
@@ -89,8 +89,8 @@ pub fn reply(
     )
 }
 
-/// The same to a packet of this client whose meaning is of this kind, where the meaning itself was
-/// handed on.
+/// The octets of the reply to a packet of this client whose meaning is of this kind, where the
+/// meaning itself was handed on.
 pub fn reply_to(
     request: &Packet<'_>,
     client: u32,

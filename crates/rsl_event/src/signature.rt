@@ -66,9 +66,10 @@ fn has_right_signature(
     key.is_right(packet.octets(), at)
 }
 
-/// How many octets the attributes before the first Message-Authenticator have.
+/// How many octets the attributes before the first Message-Authenticator have, or all of them where there
+/// is none.
 #[tactic(auto, using(crate::proofs::SignatureLaws::octets_before_step))]
-fn octets_before_signature(attributes: &Attrs<'_>) -> usize
+pub fn octets_before_signature(attributes: &Attrs<'_>) -> usize
     requires { length (list_octets attributes.now) ≤ 4096 }
     ensures count { result ≡ length (list_octets (before_signature attributes.now)) }
     ensures short { result ≤ 4096 }

@@ -12,7 +12,7 @@ use rsl_auth::{HmacKey, SIGNATURE_LEN};
 use rsl_wire::Draft;
 
 /// Whether a packet that is written has a Message-Authenticator (RFC 3579 section 3.2).
-#[derive(Clone, Copy, PartialEq, Eq)]
+#[derive(Clone, Copy)]
 pub enum Signing {
     /// It has none.
     Plain,
@@ -21,7 +21,7 @@ pub enum Signing {
 }
 
 impl Signing {
-    /// That of an Access-Request of a client: it is signed where the client has to sign.
+    /// The signing of an Access-Request of a client: it is signed where the client has to sign.
     pub fn of(client: &Client) -> Signing
         ensures { result ≡ signing_if client.now.signed }
     {

@@ -4,7 +4,7 @@ ghost use Rattle.rsl_event.specs.Status.{status_number, status_of};
 use crate::codes::{ACCOUNTING_OFF, ACCOUNTING_ON, INTERIM_UPDATE, START, STOP};
 
 /// What an Accounting-Request reports, by its Acct-Status-Type (RFC 2866 section 5.1).
-#[derive(Clone, Copy, PartialEq, Eq)]
+#[derive(Clone, Copy)]
 pub enum Status {
     /// A session begins.
     Start,

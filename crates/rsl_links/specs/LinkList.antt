@@ -46,7 +46,7 @@ pub record AreNoOrders (orders : Orders) : Type 0 where
   pub sessions : orders.sessions.slots.items ≡ []
   pub bundles : orders.bundles.slots.items ≡ []
 
--- each order has room for so many links
+-- each order has room for `most` links
 pub record HaveOrdersRoom (most : ℕ) (orders : Orders) : Type 0 where
   pub reserved : most ≤ deque_capacity orders.reserved.slots
   pub bound : most ≤ deque_capacity orders.bound.slots

@@ -33,7 +33,7 @@ pub struct Links {
     pub places: u64,
 }
 
-/// Whether one more link beside so many of its bundle takes a place more.
+/// Whether one more link beside `others` of its bundle takes a place more.
 fn takes_a_place(ports: u64, others: usize) -> bool
     requires { 1 ≤ ports }
     ensures { div_ceil (others + 1) ports ≡ div_ceil others ports + (if result then 1 else 0) }
@@ -42,7 +42,7 @@ fn takes_a_place(ports: u64, others: usize) -> bool
 }
 
 impl Links {
-    /// No links, with room for so many.
+    /// No links, with room for `room`.
     pub fn new(alloc: Global, ports: u64, room: usize) -> Result<Links, NoMemory>
         ensures empty { IfOk result (λ links. links.list.items ≡ []) }
         ensures ports { IfOk result (λ links. links.ports ≡ ports) }
@@ -281,7 +281,7 @@ impl Links {
         }
     }
 
-    /// Equal links, with room for so many. It fails only where memory is refused.
+    /// Equal links, with room for `room`. It fails only where memory is refused.
     pub fn try_copy(&self, alloc: Global, room: usize) -> Result<Links, NoMemory>
         requires { length self.now.list.items ≤ room }
         ensures links { IfOk result (λ copy. copy.list.items ≡ self.now.list.items) }

@@ -35,7 +35,7 @@ struct Orders {
 }
 
 impl Orders {
-    /// Orders of no links, with room for so many. It fails only where memory is refused.
+    /// Orders of no links, with room for `room`. It fails only where memory is refused.
     fn new(alloc: Global, room: usize) -> Result<Orders, NoMemory>
         ensures kinds { IfOk result HaveKinds }
         ensures empty { IfOk result AreNoOrders }
@@ -105,7 +105,7 @@ impl Model for LinkList {
 }
 
 impl LinkList {
-    /// No links, with room for so many. It fails only where memory is refused.
+    /// No links, with room for `room`. It fails only where memory is refused.
     pub fn new(alloc: Global, room: usize) -> Result<LinkList, NoMemory>
         ensures { IfOk result (λ list. list ≡ record { items = []; room = room }) }
     {
@@ -293,7 +293,7 @@ impl LinkList {
         Some(self.slots.position(order.slots[0]))
     }
 
-    /// Equal links, with room for so many. It fails only where memory is refused.
+    /// Equal links, with room for `room`. It fails only where memory is refused.
     pub fn try_copy(&self, alloc: Global, room: usize) -> Result<LinkList, NoMemory>
         requires { length self.now.items ≤ room }
         ensures { IfOk result (λ copy. copy ≡ record { items = self.now.items; room = room }) }

@@ -105,7 +105,7 @@ pub(crate) struct Order {
 }
 
 impl Order {
-    /// An order of no links, with room for so many. It fails only where memory is refused.
+    /// An order of no links, with room for `room`. It fails only where memory is refused.
     pub(crate) fn new(alloc: Global, kind: OrderKind, room: usize) -> Result<Order, NoMemory>
         ensures kind { IfOk result (λ order. order.kind ≡ kind) }
         ensures empty { IfOk result (λ order. order.slots.items ≡ []) }

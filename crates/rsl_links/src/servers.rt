@@ -34,7 +34,7 @@ impl Model for Servers {
         (s.fingerprints.items ≡ fingerprints_of s.table.items) };
 }
 
-/// The fingerprint of octets behind what a fingerprint was made of.
+/// The fingerprint of octets that follow those of which `start` was made.
 #[tactic(auto, using(crate::proofs::Fingerprints::fingerprint_steps))]
 fn fingerprint_with(start: u32, octets: &[u8]) -> u32
     ensures { result ≡ fingerprint_with start octets.now }

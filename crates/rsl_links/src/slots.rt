@@ -51,7 +51,7 @@ pub(crate) struct Slots {
 }
 
 impl Slots {
-    /// No links, with room for so many. It fails only where memory is refused.
+    /// No links, with room for `room`. It fails only where memory is refused.
     pub(crate) fn new(alloc: Global, room: usize) -> Result<Slots, NoMemory>
         ensures kept { IfOk result IsKept }
         ensures none { IfOk result (λ slots. opened_of slots ≡ []) }

@@ -25,7 +25,7 @@ is_passing Interrupted = true
 is_passing OutOfMemory = true
 is_passing kind = false
 
--- so many octets from a source, if there is one
+-- `len` octets from a source, if there is one
 abbrev pub octets_from : (len : ℕ) → Option Source → Option (ℕ × Source)
 octets_from len (Some source) = Some (len, source)
 octets_from len None = None
@@ -35,7 +35,7 @@ abbrev pub IsFailed : (passing : Bool) → Received → Type 0
 IsFailed true received = received ≡ Ok None
 IsFailed false received = is_err received ≡ true
 
--- a port gives what a read gave, which had room for so many octets
+-- a port gives what a read gave, which had room for `room` octets
 abbrev pub IsReception : (room : ℕ) → Result (ℕ × SocketAddr) Error → Received → Type 0
 IsReception room (Ok read) received = received ≡ Ok (octets_from (min read.0 room) (source_in read.1))
 IsReception room (Err error) received = IsFailed (is_passing (error_kind error)) received

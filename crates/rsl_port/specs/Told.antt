@@ -7,7 +7,7 @@ use Rattle.rsl_port.specs.declared.datagram_port.Datagram.{Datagram}
 use Rattle.rsl_port.specs.declared.datagram_port.PortFault.{PortFault}
 use Rattle.rsl_port.specs.declared.datagram_port.Numbers.{Numbers}
 
--- those of a port that was not called yet
+-- the numbers of a port that was not called yet
 abbrev pub no_numbers : Numbers
 no_numbers = record {
   receives = 0;
@@ -18,12 +18,12 @@ no_numbers = record {
   last = None;
 }
 
--- so many more calls of `receive` bring no number over 2^64 - 1
+-- `calls` more calls of `receive` bring no number over 2^64 - 1
 pub record CanReceive (calls : ℕ) (numbers : Numbers) : Type 0 where
   pub receives : numbers.receives + calls < 2 ^ 64
   pub failed : numbers.failed_receives + calls < 2 ^ 64
 
--- nor do so many more calls of `send`
+-- nor do `calls` more calls of `send`
 pub record CanSend (calls : ℕ) (numbers : Numbers) : Type 0 where
   pub sends : numbers.sends + calls < 2 ^ 64
   pub failed : numbers.failed_sends + calls < 2 ^ 64

@@ -7,11 +7,11 @@ use rsl_event::Source;
 use rsl_wire::Octets;
 
 /// A call of a port failed.
-#[derive(Clone, Copy, PartialEq, Eq)]
+#[derive(Clone, Copy)]
 pub struct PortFault;
 
 /// A datagram, with the source that it came from or that it goes to.
-#[derive(PartialEq, Eq, Drop)]
+#[derive(Drop)]
 pub struct Datagram {
     /// The other side's address and port.
     pub source: Source,
@@ -72,7 +72,7 @@ pub trait DatagramPort {
 ///
 /// A port holds one of these, hands its calls' results to `note_receive` and `note_send`, and gives
 /// it as its `numbers`.
-#[derive(Clone, Copy, PartialEq, Eq)]
+#[derive(Clone, Copy)]
 pub struct Numbers {
     /// The calls of `receive`.
     pub receives: u64,

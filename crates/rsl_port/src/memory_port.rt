@@ -7,7 +7,7 @@ use rsl_wire::Octets;
 use std::alloc::Global;
 
 /// What a call of `receive` meets at a port over memory.
-#[derive(PartialEq, Eq, Drop)]
+#[derive(Drop)]
 pub enum Coming {
     /// This datagram.
     Datagram(Datagram),

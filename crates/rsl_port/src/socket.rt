@@ -29,7 +29,7 @@ fn source_in(from: SocketAddr) -> Option<Source>
     }
 }
 
-/// What a port gives for what a read of a UDP socket gave, which had room for so many octets.
+/// What a port gives for what a read of a UDP socket gave, which had room for `room` octets.
 ///
 /// A datagram is cut to the room. That none came in time, that the wait was interrupted, or that the
 /// system had no memory for it is `None`, and so is a datagram from an IPv6 address; every other fault

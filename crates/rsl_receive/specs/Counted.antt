@@ -32,7 +32,8 @@ failed_in (Ok counts) = 0
 failed_in (Err (faults.Down counts)) = 1
 failed_in (Err faults.NoMemory) = 0
 
--- a port was called this often, so many of the calls failed, and none of the sends went astray
+-- `receive` of a port was called `receives` times and `send` `sends` times, `failed_receives` and
+-- `failed_sends` of these calls failed, and none of the sends went astray
 pub record IsCalled (receives failed_receives sends failed_sends : ℕ) (old new : Numbers)
     : Type 0 where
   pub receives_now : new.receives ≡ old.receives + receives

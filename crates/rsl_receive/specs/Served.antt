@@ -57,9 +57,9 @@ pub record IsAnsweredBy (service : ServiceSeen) (port : Port) (taken : Datagram)
   pub octets : sent.octets
       ≡ answer service.config service.boot client fields meant decision
 
--- so many datagrams were dropped, refused and answered, in the order in which they were taken; the
--- receipts that were there have become these, these are the sends, and the clock showed these
--- moments
+-- Of the datagrams `dropped` were dropped, `refused` refused and `answered` answered, in the order
+-- in which they were taken; the receipts that were there have become these, these are the sends,
+-- and the clock showed these moments.
 pub data Served (service : ServiceSeen) (port : Port) (old : List Receipt)
     : (dropped refused answered : ℕ) → (taken : List Datagram) → (new : List Receipt)
     → (sent : List Datagram) → (shown : List ℕ) → Type 0 where

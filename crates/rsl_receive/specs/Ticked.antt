@@ -15,15 +15,15 @@ unfoldable pub ticks_of : (shard : ℕ) → List Receipt → ℕ
 ticks_of shard receipts =
     count_by (λ (receipt : Receipt). receipt.shard == shard && is_tick receipt.line.moved) receipts
 
--- each of so many shards has at least so many ticks more, and no shard has more receipts more than
--- the most
+-- each of `shards` shards has at least `least` ticks more, and no shard has over `most` receipts
+-- more
 pub record AreTicked (shards least most : ℕ) (old new : List Receipt) : Type 0 where
   pub ticks : (shard : ℕ) → shard < shards → ticks_of shard old + least ≤ ticks_of shard new
   pub receipts : (shard : ℕ) → shard < shards → count_of shard old + least ≤ count_of shard new
   pub few : (shard : ℕ) → count_of shard new ≤ count_of shard old + most
 
--- Turns were taken, each at the moment that the clock showed for it. In so many of them every shard
--- has its tick of that moment; in each other the first shards have it, fewer than all.
+-- `turns` turns were taken, each at the moment that the clock showed for it. In `done` of them
+-- every shard has its tick of that moment; in each other the first shards have it, fewer than all.
 pub data Ticked (shards : ℕ) (old : List Receipt)
     : (done turns : ℕ) → (shown : List ℕ) → (new : List Receipt) → Type 0 where
   NoTurn : Ticked shards old 0 0 [] old
@@ -44,7 +44,7 @@ pub record IsTurn (shards done : ℕ) (old_shown new_shown : Option (List ℕ))
   pub ticked : ((done ≡ 1) × AreNoted shards (Tick moment) old new)
       ⊎ ((done ≡ 0) × (swept : ℕ) × (swept < shards) × AreNoted swept (Tick moment) old new)
 
--- The turns of a worker: at most so many, and fewer only where a pause, if it reports what it said,
+-- The turns of a worker: at most `most`, and fewer only where a pause, if it reports what it said,
 -- said last that there shall be no more.
 pub record HasWorked (shards : ℕ) (done most : ℕ) (said : Option Bool)
     (old_shown new_shown : Option (List ℕ)) (old new : List Receipt) : Type 0 where

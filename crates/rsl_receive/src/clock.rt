@@ -8,7 +8,7 @@ use rsl_service::{Gate, Pass, Service, Tally};
 use std::alloc::Global;
 use std::sync::Wait;
 
-/// Makes a tick of the clock's present moment in every shard, and pauses, for so many turns or
+/// Makes a tick of the clock's present moment in every shard, and pauses, for `turns` turns or
 /// until a pause says that there shall be no more. Gives the number of turns in which every shard
 /// had its tick; the others met a fault, and the loop went on.
 #[tactic(auto, using(crate::proofs::Ticking::ticking))]

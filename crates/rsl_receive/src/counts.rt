@@ -9,19 +9,19 @@ pub struct Counts {
     pub turns: u64,
     /// The datagrams that were received: the sum of the four below.
     pub received: u64,
-    /// Those whose reply was sent.
+    /// The datagrams whose reply was sent.
     pub answered: u64,
-    /// Those that were dropped, by a cause of their own.
+    /// The datagrams that were dropped, by a cause of their own.
     pub dropped: u64,
-    /// Those that were neither dropped nor answered: memory was refused, or a shard has made
-    /// 2^64 - 1 moves.
+    /// The datagrams that were neither dropped nor answered: memory was refused, or a shard has
+    /// made 2^64 - 1 moves.
     pub refused: u64,
-    /// Those whose reply could not be sent. What they did stands.
+    /// The datagrams whose reply could not be sent. What they did stands.
     pub unsent: u64,
 }
 
 impl Counts {
-    /// Those of no turns.
+    /// The counts of no turns.
     pub(crate) fn new() -> Counts
         ensures { result ≡ no_counts }
     {
@@ -55,7 +55,7 @@ impl Counts {
 }
 
 /// How a turn of a receiver ended.
-#[derive(Clone, Copy, PartialEq, Eq)]
+#[derive(Clone, Copy)]
 pub(crate) enum Turn {
     /// The port's `receive` failed.
     Down,

@@ -14,7 +14,7 @@ use std::alloc::Global;
 use std::sync::Wait;
 
 /// Why a receiver ended before its last turn.
-#[derive(Clone, Copy, PartialEq, Eq)]
+#[derive(Clone, Copy)]
 pub enum ReceiveFault {
     /// The port's `receive` failed. These are the counts up to and with that turn.
     Down(Counts),
@@ -22,8 +22,8 @@ pub enum ReceiveFault {
     NoMemory,
 }
 
-/// Takes datagrams from a port, and sends the service's answers to where they came from, for so
-/// many turns (RFC 2865 section 3, RFC 2866 section 3).
+/// Takes datagrams from a port, and sends the service's answers to where they came from, for
+/// `turns` turns (RFC 2865 section 3, RFC 2866 section 3).
 ///
 /// Each turn calls the port's `receive` once, with room for 4,096 octets. A datagram that is not
 /// dropped makes its moves in the service, with receipts in the pass, at the clock's present
@@ -100,7 +100,7 @@ struct Receiver<'a, L0: Tally, L1: Tally, L2: Tally, L3: Tally, G: Gate, R> {
 }
 
 /// Why a datagram has no answer.
-#[derive(Clone, Copy, PartialEq, Eq)]
+#[derive(Clone, Copy)]
 pub(crate) enum Unanswered {
     /// It has no meaning.
     Dropped,

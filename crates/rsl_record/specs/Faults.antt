@@ -82,7 +82,7 @@ IsNumberFaultOfPass shards receipts (Mismatch shard position) =
     × (receipt.position ≡ position)
 IsNumberFaultOfPass shards receipts NoMemory = ⊥
 
--- the same of a pass among passes
+-- a fault of the shards' numbers in the receipts of one of the passes
 abbrev pub IsNumberFaultOfPasses : (shards : ℕ) → List (List Receipt) → CloseFault → Type 0
 IsNumberFaultOfPasses shards passes fault =
     (pass : List Receipt) × Contains passes pass × IsNumberFaultOfPass shards pass fault

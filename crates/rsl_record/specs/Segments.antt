@@ -25,14 +25,14 @@ lines_of segments = flat_map (λ (segment : Segment). segment.lines.items) segme
 abbrev pub shard_lines : (shard : ℕ) → List Segment → List Line
 shard_lines shard segments = lines_of (of_shard shard segments)
 
--- The segment begins with these books, after so many lines, and the shard takes its moves.
+-- The segment begins with these books, after `lines` lines, and the shard takes its moves.
 pub record GoesOn (setup : Setup) (lines : ℕ) (books : List RuledBook) (segment : Segment) : Type 0
   where
     pub first : segment.first ≡ lines
     pub opening : segment.opening.items ≡ books
     pub taken : All (λ line. IsTaken setup line.moved) segment.lines.items
 
--- segments of a shard go on from these books, after so many lines, one after another
+-- segments of a shard go on from these books, after `lines` lines, one after another
 unfoldable pub AllGoOn : Setup → (lines : ℕ) → (books : List RuledBook) → List Segment → Type 0
 AllGoOn setup lines books [] = ⊤
 AllGoOn setup lines books (segment ∷ segments) =

@@ -4,7 +4,7 @@ ghost use Rattle.rsl_record.specs.declared.audit_fault.AuditFault.TheVariants.{N
 use rsl_wire::NoMemory;
 
 /// Why a record was not kept right, or that memory was refused.
-#[derive(Clone, Copy, Debug, PartialEq, Eq)]
+#[derive(Clone, Copy, Debug)]
 pub enum AuditFault {
     /// The first segment is of no shard, or does not open with the new books of its shard and no
     /// line before it.

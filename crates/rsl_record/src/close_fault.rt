@@ -5,7 +5,7 @@ use rsl_wire::NoMemory;
 use std::fmt;
 
 /// Why a record isn't settled, or that memory was refused.
-#[derive(Clone, Copy, Debug, PartialEq, Eq)]
+#[derive(Clone, Copy, Debug)]
 pub enum CloseFault {
     /// Not as many passes are given as were opened.
     MissingPass,

@@ -4,7 +4,7 @@ ghost use Rattle.rsl_record.specs.declared.receipt.Receipt.{Receipt as OneReceip
 use rsl_shard::Line;
 
 /// What a caller keeps of a move that it made: the line that the move is in a shard's journal.
-#[derive(PartialEq, Eq, Drop)]
+#[derive(Drop)]
 pub struct Receipt {
     /// The shard's number.
     pub shard: u32,

@@ -53,7 +53,7 @@ pub fn settle<P: HasReceipts>(
     check_receipts(alloc, config.shards(), passes, &journals)
 }
 
-/// Whether so many passes are as many as were opened.
+/// Whether there are as many passes as were opened.
 fn are_all(passes: usize, opened: u64) -> bool
     ensures { IsTrue result ↔ (passes ≡ opened) }
 {

@@ -2,7 +2,7 @@ ghost use Rattle.std.specs.Prelude.{◌≡◌};
 ghost use Rattle.rsl_report.specs.ExitStatus.{number_of};
 
 /// How a program ends, as whoever started it can see.
-#[derive(Clone, Copy, PartialEq, Eq)]
+#[derive(Clone, Copy)]
 pub enum ExitStatus {
     /// All was done.
     Done,

@@ -3,7 +3,7 @@ use rsl_event::Port;
 use rsl_wire::Octets;
 
 /// A line of a script that says what happens, and when.
-#[derive(PartialEq, Eq, Drop)]
+#[derive(Drop)]
 pub struct EventLine {
     /// The moment, in seconds. A later line may have a lower moment.
     pub moment: u64,
@@ -12,7 +12,7 @@ pub struct EventLine {
 }
 
 /// What a line says that happens.
-#[derive(PartialEq, Eq, Drop)]
+#[derive(Drop)]
 pub enum Happening {
     /// An Access-Request comes: `ask` or `chap`.
     Access {

@@ -7,7 +7,7 @@ use std::alloc::{AllocError, AllocFailed};
 use thiserror::Error;
 
 /// Why there is no script. It prints as `line 7` or `no memory`.
-#[derive(Clone, Copy, Debug, PartialEq, Eq, Error)]
+#[derive(Clone, Copy, Debug, Error)]
 pub enum ScriptFault {
     /// The line with this number is wrong. Every line counts, from 1, and the first wrong one is
     /// named.
@@ -19,7 +19,7 @@ pub enum ScriptFault {
 }
 
 /// Why a line was not read.
-#[derive(Clone, Copy, PartialEq, Eq)]
+#[derive(Clone, Copy)]
 pub(crate) enum LineFault {
     /// The line is wrong.
     Wrong,

@@ -1,7 +1,5 @@
 //! What a request carries in an attribute: octets whose number the attribute limits.
-ghost use Rattle.std.specs.Prelude.{◌≡◌, IfOk, nat_eq};
-ghost use Rattle.std.specs.Cmp.{partial_equiv_from_equiv};
-ghost use Rattle.std.specs.Cmp.Lexicographic.{pointwise, nat_list_eq_equiv};
+ghost use Rattle.std.specs.Prelude.{◌≡◌, IfOk};
 ghost use Rattle.rsl_script.specs.Reads.{Reads};
 ghost use Rattle.rsl_script.specs.Values.{IsUpTo, read_name, read_password, up_to};
 
@@ -60,20 +58,6 @@ impl AttributeText {
     }
 }
 
-impl PartialEq for AttributeText {
-    ghost eq = { pointwise nat_eq };
-
-    ghost laws = { partial_equiv_from_equiv nat_list_eq_equiv };
-
-    fn eq(&self, other: &AttributeText) -> bool {
-        self.octets == other.octets
-    }
-}
-
-impl Eq for AttributeText {
-    ghost laws = { nat_list_eq_equiv };
-}
-
 /// A password that a User-Password can hide: 1 to 128 octets (RFC 2865 section 5.2). It is a
 /// secret. A contract sees it as the list of its octets.
 #[derive(Drop)]
@@ -113,18 +97,4 @@ impl Password {
     {
         self.secret.expose()
     }
-}
-
-impl PartialEq for Password {
-    ghost eq = { pointwise nat_eq };
-
-    ghost laws = { partial_equiv_from_equiv nat_list_eq_equiv };
-
-    fn eq(&self, other: &Password) -> bool {
-        self.secret == other.secret
-    }
-}
-
-impl Eq for Password {
-    ghost laws = { nat_list_eq_equiv };
 }

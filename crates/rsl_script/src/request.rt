@@ -6,7 +6,7 @@ use rsl_accounts::Secret;
 use rsl_event::Status;
 
 /// How a request shows that it knows the password.
-#[derive(Clone, Copy, PartialEq, Eq)]
+#[derive(Clone, Copy)]
 pub enum Method {
     /// By a User-Password: the line `ask`.
     Pap,
@@ -27,7 +27,7 @@ impl Method {
 }
 
 /// The Access-Request of a line `ask` or `chap` (RFC 2865 section 4.1).
-#[derive(PartialEq, Eq, Drop)]
+#[derive(Drop)]
 pub struct AccessRequest {
     /// How it shows that it knows the password.
     pub method: Method,
@@ -47,7 +47,7 @@ pub struct AccessRequest {
 
 /// The Accounting-Request of a line `start`, `interim`, `stop`, `on` or `off` (RFC 2866 section
 /// 4.1).
-#[derive(PartialEq, Eq, Drop)]
+#[derive(Drop)]
 pub enum AccountingRequest {
     /// It reports on a session: `start`, `interim` or `stop`.
     Session {

@@ -5,7 +5,7 @@ use crate::request::Method;
 use rsl_event::{Port, Status};
 
 /// What a line is about, by its first word.
-#[derive(Clone, Copy, PartialEq, Eq)]
+#[derive(Clone, Copy)]
 pub(crate) enum Verb {
     /// A setting.
     Set,
@@ -18,7 +18,7 @@ pub(crate) enum Verb {
 }
 
 /// What happens, by the first word of its line.
-#[derive(Clone, Copy, PartialEq, Eq)]
+#[derive(Clone, Copy)]
 pub(crate) enum EventVerb {
     /// An Access-Request comes.
     Access(Method),
@@ -31,7 +31,7 @@ pub(crate) enum EventVerb {
 }
 
 /// A setting that a script may give.
-#[derive(Clone, Copy, PartialEq, Eq)]
+#[derive(Clone, Copy)]
 pub(crate) enum Setting {
     /// How many shards there are.
     Shards,

@@ -1,14 +1,17 @@
 -- What a report's rows and a server's lines come to.
 use Rattle.std.proofs.Common.{◌≡◌, ℕ, ◌<◌, ◌≤◌, ◌⊎◌, inl, inr, List, [], ◌∷◌, ◌++◌, length, get_or, Some, None, ap, subst, ◌∙◌, arith}
-use Rattle.std.specs.Prelude.{All, codes, slice_get}
+use Rattle.std.specs.Prelude.{All, IfOk, Result, Ok, Err, codes, slice_get}
 use Rattle.std.proofs.lemmas.Option.{slice_get-get_or, slice_get_cases}
 use Rattle.rsl_accounts.specs.Configuration.{Configuration}
 use Rattle.rsl_accounts.specs.Limits.{IsConfiguration}
 use Rattle.rsl_accounts.specs.declared.entry.Entry.{Entry}
 use Rattle.rsl_receive.specs.declared.counts.Counts.{Counts}
+use Rattle.rsl_report.specs.Output.{output_octets}
 use Rattle.rsl_report.specs.Table.{table}
+use Rattle.rsl_report.specs.declared.output.Output.{Output}
 use Rattle.rsl_edges.specs.Output.{counts_line}
-use Rattle.rsl_serve.specs.Served.{HasClosed, HasReceived, HasReported, IsEnded, IsServed}
+use Rattle.rsl_edges.specs.declared.fault.ServeFault.{ServeFault}
+use Rattle.rsl_serve.specs.Served.{HasClosed, HasReceived, HasReported, HasServed, IsServed}
 use Rattle.rsl_service.specs.Closed.{IsClosed}
 use Rattle.rsl_service.specs.Receipts.{PassSeen, receipts_of}
 use Rattle.rsl_service.specs.Report.{IsReport}
@@ -40,21 +43,35 @@ has_reported config rows report limits reported printed = record {
 }
 
 -- what both receivers did, and a report, is what a server prints
-pub is_served : (config : Configuration) (turns : ℕ) (auth acct : Counts) (lines report : List ℕ)
+pub is_served : (config : Configuration) (turns : ℕ) (auth_pass acct_pass ticks_pass : List Receipt)
+    (auth acct : Counts) (lines report : List ℕ)
     → HasReported config report
     → lines ≡ counts_line (codes "auth") auth ++ counts_line (codes "acct") acct
-    → HasReceived turns auth → HasReceived turns acct → IsEnded config
-    → IsServed config turns (lines ++ report)
-is_served config turns auth acct lines report reported line first second ended = record {
+    → HasReceived turns auth → HasReceived turns acct → HasClosed config auth_pass acct_pass ticks_pass
+    → IsServed config turns auth_pass acct_pass ticks_pass (lines ++ report)
+is_served config turns auth_pass acct_pass ticks_pass auth acct lines report reported line first second closed = record {
   auth = auth;
   acct = acct;
   report = report;
   auth_received = first;
   acct_received = second;
   reported = reported;
-  ended = ended;
+  closed = closed;
   printed = ap (λ xs. xs ++ report) line;
 }
+
+-- what was served, and its service closed with these passes, was so with some
+pub of_some_passes : (config : Configuration) (turns : ℕ) (auth_pass acct_pass ticks_pass : List Receipt)
+    (result : Result Output ServeFault)
+    → IfOk result (λ output. IsServed config turns auth_pass acct_pass ticks_pass (output_octets output))
+    → IfOk result (λ output. HasServed config turns (output_octets output))
+of_some_passes config turns auth_pass acct_pass ticks_pass (Ok output) served = record {
+  auth_pass = auth_pass;
+  acct_pass = acct_pass;
+  ticks_pass = ticks_pass;
+  served = served;
+}
+of_some_passes config turns auth_pass acct_pass ticks_pass (Err fault) served = tt
 
 -- a service that was closed with the passes of a list
 pub has_closed : (config : Configuration) (auth acct ticks : PassSeen)
@@ -68,16 +85,6 @@ has_closed config auth acct ticks passes given segments are none closed = record
       (subst (λ given. IsClosed config (receipts_of passes) given segments) none closed);
 }
 
--- is one that has ended
-pub has_ended : (config : Configuration) (auth acct ticks : List Receipt)
-    → HasClosed config auth acct ticks → IsEnded config
-has_ended config auth acct ticks closed = record {
-  auth = auth;
-  acct = acct;
-  ticks = ticks;
-  closed = closed;
-}
-
 pub ruleset reported = rows_of_accounts
 
-pub ruleset closing = (has_closed, has_ended)
+pub ruleset closing = has_closed

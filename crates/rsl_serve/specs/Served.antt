@@ -30,21 +30,22 @@ pub record HasClosed (config : Configuration) (auth acct ticks : List Receipt) :
   pub segments : List Segment
   pub closed : IsClosed config (auth ∷ acct ∷ ticks ∷ []) [] segments
 
--- the service was closed, with some passes of its three workers
-pub record IsEnded (config : Configuration) : Type 0 where
-  pub auth : List Receipt
-  pub acct : List Receipt
-  pub ticks : List Receipt
-  pub closed : HasClosed config auth acct ticks
-
 -- What is printed: what the receivers did, a line for each, and the report of a configuration, whose
--- service was then closed.
-pub record IsServed (config : Configuration) (turns : ℕ) (written : List ℕ) : Type 0 where
+-- service was then closed with these passes of its three workers.
+pub record IsServed (config : Configuration) (turns : ℕ) (auth_pass acct_pass ticks_pass : List Receipt)
+    (written : List ℕ) : Type 0 where
   pub auth : Counts
   pub acct : Counts
   pub report : List ℕ
   pub auth_received : HasReceived turns auth
   pub acct_received : HasReceived turns acct
   pub reported : HasReported config report
-  pub ended : IsEnded config
+  pub closed : HasClosed config auth_pass acct_pass ticks_pass
   pub printed : written ≡ counts_line (codes "auth") auth ++ counts_line (codes "acct") acct ++ report
+
+-- so of some passes
+pub record HasServed (config : Configuration) (turns : ℕ) (written : List ℕ) : Type 0 where
+  pub auth_pass : List Receipt
+  pub acct_pass : List Receipt
+  pub ticks_pass : List Receipt
+  pub served : IsServed config turns auth_pass acct_pass ticks_pass written

@@ -21,7 +21,8 @@ impl RunTime {
     ghost use Rattle.std.specs.Prelude.{◌≡◌, ◌/◌};
     ghost use Rattle.std.specs.Duration.{as_nanos};
 
-    /// Of a server that starts so long after 1970, and whose receivers take so many turns.
+    /// The run time of a server that starts `start` after 1970, and whose receivers take `turns`
+    /// turns.
     pub(crate) fn new(start: Duration, turns: u64) -> RunTime
         ensures boot { result.boot ≡ as_nanos start / 1_000_000_000 }
         ensures turns { result.turns ≡ turns }

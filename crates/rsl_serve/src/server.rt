@@ -2,8 +2,9 @@ ghost use Rattle.std.specs.Prelude.{◌≡◌, ◌≢◌, ◌∷◌, ℕ, List, 
 ghost use Rattle.std.specs.Io.KnownBytes.{Appends, Keeps};
 ghost use Rattle.rsl_accounts.specs.Configuration.{Configuration};
 ghost use Rattle.rsl_receive.specs.Told.{no_numbers};
+ghost use Rattle.rsl_record.specs.declared.receipt.Receipt.{Receipt};
 ghost use Rattle.rsl_report.specs.Output.{output_octets};
-ghost use Rattle.rsl_serve.specs.Served.{HasClosed, HasReceived, HasReported, IsEnded, IsServed};
+ghost use Rattle.rsl_serve.specs.Served.{HasClosed, HasReceived, HasReported, HasServed, IsServed};
 ghost use Rattle.rsl_service.specs.Service.{IsLedgerOf};
 
 use crate::clock::RunTime;
@@ -23,7 +24,7 @@ use std::sync::Wait;
 use std::thread::Threads;
 use std::time;
 
-/// Serves the accounts of a file: takes RADIUS datagrams from two UDP sockets, for so many turns of
+/// Serves the accounts of a file: takes RADIUS datagrams from two UDP sockets, for TURNS turns of
 /// each, and answers them. Then it writes what both receivers did, a line for each, and what each
 /// account holds.
 ///
@@ -41,7 +42,7 @@ where
     // What is written is what the receivers did and what the accounts hold, and nothing else; and
     // the service was closed.
     ensures served { OnOk result ((config : Configuration) × (turns : ℕ) × (written : List ℕ)
-        × IsServed config turns written
+        × HasServed config turns written
         × Appends (W.contents stdout.old) (W.contents stdout.new) written) }
     // After every other fault than `InputOutput` nothing was written.
     ensures silent { IfErr result (λ fault.
@@ -57,7 +58,7 @@ fn run_server<R>(rt: &R) -> Result<Output, ServeFault>
 where
     R: Env + Files + Net + time::Clock + AllocGlobal + Threads + Wait + Sync,
     ensures { IfOk result (λ output. (config : Configuration) × (turns : ℕ)
-        × IsServed config turns (output_octets output)) }
+        × HasServed config turns (output_octets output)) }
 {
     let start = rt.since_1970();
     let alloc = rt.alloc();
@@ -157,7 +158,7 @@ where
         blanks.blank3.name blanks.blank3.parts L3.name L3.parts L3.setup L3.books }
     requires auth { sockets.auth ≡ no_numbers }
     requires acct { sockets.acct ≡ no_numbers }
-    ensures { IfOk result (λ output. IsServed config run_time.turns (output_octets output)) }
+    ensures { IfOk result (λ output. HasServed config run_time.turns (output_octets output)) }
 {
     let service: Service<L0, L1, L2, L3, Open> = Service::new(
         alloc,
@@ -200,21 +201,22 @@ impl<L0: Tally, L1: Tally, L2: Tally, L3: Tally, R: Wait> Server<'_, L0, L1, L2,
 
     /// What is printed of the service, as it stands, and of its receivers.
     fn output(&self, auth: &Counts, acct: &Counts) -> Result<Output, ServeFault>
-        ensures { (turns : ℕ) → HasReceived turns auth.now → HasReceived turns acct.now →
-            IsEnded self.now.service.config →
-            IfOk result (λ output. IsServed self.now.service.config turns (output_octets output)) }
+        ensures { (turns : ℕ) (first second third : List Receipt) →
+            HasReceived turns auth.now → HasReceived turns acct.now →
+            HasClosed self.now.service.config first second third → IfOk result (λ output.
+            IsServed self.now.service.config turns first second third (output_octets output)) }
     {
         let report = self.report()?;
         let lines = counts_of(self.alloc, auth, acct)?;
         Ok(Output { lines, report })
     }
 
-    /// Takes the report of the service, and closes it.
-    #[tactic(auto, using(crate::proofs::Reported::closing))]
+    /// Takes the report of the service, and closes it with these passes.
     fn close(self, finished: Finished<L0, L1, L2, L3>) -> Result<Output, ServeFault>
         ensures { (turns : ℕ) → HasReceived turns finished.auth →
             HasReceived turns finished.acct →
-            IfOk result (λ output. IsServed self.entry.service.config turns (output_octets output)) }
+            IfOk result (λ output. IsServed self.entry.service.config turns finished.passes.auth.receipts
+            finished.passes.acct.receipts finished.passes.ticks.receipts (output_octets output)) }
     {
         let output = self.output(&finished.auth, &finished.acct)?;
         let Server {

@@ -51,7 +51,7 @@ abbrev pub swept_before : ApplyFault → ℕ
 swept_before (faults.NoMemory swept) = swept
 swept_before (faults.Spent swept) = swept
 
--- the fault of a step that was not made, after so many shards had made their moves
+-- the fault of a step that was not made, after `swept` shards had made their moves
 abbrev pub fault_after : (swept : ℕ) → StepFault → ApplyFault
 fault_after swept steps.NoMemory = faults.NoMemory swept
 fault_after swept steps.Spent = faults.Spent swept

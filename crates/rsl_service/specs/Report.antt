@@ -28,7 +28,7 @@ abbrev pub with_book : (account : ℕ) → Option RuledBook → List Row → Lis
 with_book account None rows = rows
 with_book account (Some ruled) rows = set rows account (row_of account ruled)
 
--- Of the first accounts, so many, each that is of the shard has the row that its book there shows.
+-- Of the first `many` accounts, each that is of the shard has the row that its book there shows.
 -- All other rows are as they were.
 pub record AreShown (many : ℕ) (shard : ShardSeen) (old new : List Row) : Type 0 where
   pub shown : (account : ℕ) (ruled : RuledBook) → account < many

@@ -19,7 +19,7 @@ use std::sync::ledger::Share;
 use std::sync::{Mutex, Wait};
 
 /// The answer to a datagram.
-#[derive(PartialEq, Eq, Drop)]
+#[derive(Drop)]
 pub struct Answered {
     /// Its word.
     pub said: Said,
@@ -164,7 +164,7 @@ impl<L0: Tally, L1: Tally, L2: Tally, L3: Tally, G: Gate> Service<L0, L1, L2, L3
         Ok(())
     }
 
-    /// Makes a copy of a move in the shard after so many that have made it.
+    /// Makes a copy of a move in shard `shard`, after the shards before it have made it.
     fn step_copy<R: Wait>(
         &self,
         rt: &R,

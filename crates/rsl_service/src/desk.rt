@@ -65,7 +65,7 @@ fn count_line<L: Tally>(ledger: &mut LineLedger<L>, mine: &mut Share<L>)
 }
 
 impl<L: Tally> Desk<L> {
-    /// A shard of new books behind its ledger, with the share that has all of the ledger's parts.
+    /// A shard of new books with its ledger, and the share that has all of the ledger's parts.
     /// It fails only where memory is refused.
     #[tactic(auto, using(crate::proofs::Ruled::ruled))]
     pub(crate) fn new(

@@ -7,7 +7,7 @@ use rsl_wire::NoMemory;
 use std::alloc::AllocError;
 
 /// Why a step was not made.
-#[derive(Clone, Copy, PartialEq, Eq, Drop)]
+#[derive(Clone, Copy, Drop)]
 pub(crate) enum StepFault {
     /// Memory was refused.
     NoMemory,
@@ -32,7 +32,7 @@ impl From<AllocError> for StepFault {
 }
 
 /// Why a pass was not opened.
-#[derive(Clone, Copy, Debug, PartialEq, Eq, Drop)]
+#[derive(Clone, Copy, Debug, Drop)]
 pub enum PassFault {
     /// 1,024 passes were opened.
     TooMany,
@@ -41,7 +41,7 @@ pub enum PassFault {
 }
 
 /// Why a journal was not handed out.
-#[derive(Clone, Copy, Debug, PartialEq, Eq, Drop)]
+#[derive(Clone, Copy, Debug, Drop)]
 pub enum CutFault {
     /// The configuration has no shard of this number.
     NoShard,
@@ -59,9 +59,9 @@ impl From<NoMemory> for CutFault {
 
 /// Why a datagram was not answered, or a tick not made in every shard.
 ///
-/// The moves of so many shards, from shard 0 on, had been made by then, and stand: those of a
+/// The moves of `swept` shards, from shard 0 on, had been made by then, and stand: those of a
 /// restart or of a tick, each with its receipt. All else is as it was.
-#[derive(Clone, Copy, Debug, PartialEq, Eq, Drop)]
+#[derive(Clone, Copy, Debug, Drop)]
 pub enum ApplyFault {
     /// Memory was refused.
     NoMemory {
@@ -76,7 +76,7 @@ pub enum ApplyFault {
 }
 
 impl StepFault {
-    /// The fault, where so many shards had made their moves before it.
+    /// The fault, where `swept` shards had made their moves before it.
     pub(crate) fn after(self, swept: u32) -> ApplyFault
         ensures fault { result ≡ fault_after swept self }
         ensures swept { swept_before result ≡ swept }

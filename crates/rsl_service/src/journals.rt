@@ -329,7 +329,7 @@ pub(crate) fn end<L: Tally>(
     desk.into_inner().end(alloc)
 }
 
-/// The same of a shard that there may be.
+/// Ends the journal of a shard, if there is one, and hands it out with its ledger.
 pub(crate) fn end_if_there<L: Tally>(
     alloc: Global,
     desk: Option<Mutex<Desk<L>>>,
@@ -384,7 +384,7 @@ fn push_if_there(all: &mut Vec<Segment>, journal: Option<Segment>) -> Result<(),
     Ok(())
 }
 
-/// The segments given, and behind those of each shard its present journal, by shard.
+/// The segments given, and after those of each shard its present journal, by shard.
 fn by_shard(given: Vec<Segment>, mut present: Vec<Segment>) -> Result<Vec<Segment>, NoMemory>
     ensures same { (shard : ℕ) → IfOk result (λ sorted.
         of_shard shard sorted.items ≡ of_shard shard (given.items ++ present.items)) }

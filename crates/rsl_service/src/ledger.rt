@@ -15,7 +15,7 @@ use std::sync::ledger::{Blank, Book as LineLedger, Ledger, Share};
 ///
 /// Its type alone says of which shard, so that a share of one shard's ledger is never taken for
 /// that of another, and so that the moves that a shard takes, and the rules of its accounts, are
-/// known before its lock is taken: those are told by the new books of the accounts.
+/// known before its lock is taken: the new books of the accounts show those rules.
 pub trait Tally: Ledger {
     ghost setup: { Setup };
 
@@ -36,13 +36,13 @@ const PARTS: u64 = MAX_PASSES + 1;
 /// The four ledgers of a service, before it is made.
 #[derive(Drop)]
 pub struct Blanks {
-    /// That of shard 0.
+    /// The ledger of shard 0.
     pub blank0: Blank,
-    /// That of shard 1.
+    /// The ledger of shard 1.
     pub blank1: Blank,
-    /// That of shard 2.
+    /// The ledger of shard 2.
     pub blank2: Blank,
-    /// That of shard 3.
+    /// The ledger of shard 3.
     pub blank3: Blank,
 }
 

@@ -32,7 +32,7 @@ pub trait Gate {
 }
 
 /// A gate that holds no call.
-#[derive(Clone, Copy, PartialEq, Eq, Drop)]
+#[derive(Clone, Copy, Drop)]
 pub struct Open;
 
 impl Gate for Open {

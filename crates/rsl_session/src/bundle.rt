@@ -6,7 +6,7 @@ use rsl_wire::Octets;
 
 /// A multilink bundle: the access server that it is at, and the Acct-Multi-Session-Id that its
 /// links share there (RFC 2866 section 5.11). No bundle spans two access servers.
-#[derive(PartialEq, Eq, Drop)]
+#[derive(Drop)]
 pub struct Bundle {
     /// The access server.
     pub nas: Nas,

@@ -2,7 +2,7 @@ use rsl_event::Decision;
 
 /// What an event did. A link is named by the number of the event that opened it: 1 for the account's
 /// first event.
-#[derive(Clone, Copy, PartialEq, Eq)]
+#[derive(Clone, Copy)]
 pub enum Outcome {
     /// A fresh ask was accepted with this number, and opened a reserved link.
     Accepted(u64),

@@ -2,7 +2,7 @@ use crate::outcome::Outcome;
 use rsl_event::Event;
 
 /// An event of an account's past, with what it did.
-#[derive(PartialEq, Eq, Drop)]
+#[derive(Drop)]
 pub struct PastEvent {
     /// The event.
     pub event: Event,

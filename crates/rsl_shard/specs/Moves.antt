@@ -57,11 +57,6 @@ AreTaken config Nothing = Unit {0}
 AreTaken config (One shard moved) = IsTakenAt config shard moved
 AreTaken config (Each moved) = IsOfAll moved
 
--- the event of an account's own move, if it is one
-abbrev pub event_in : Move → Option Event
-event_in (Own account event) = Some event
-event_in _ = None
-
 -- what a move is to an account of the shard: its own event, a sweep or a tick
 abbrev pub event_to : (account : ℕ) → Move → Option Event
 event_to account (Own other event) = if other == account then Some event else None

@@ -22,7 +22,7 @@ ghost use Rattle.rsl_book.specs.RuledBook.{IsWithinLimit};
 ghost use Rattle.rsl_event.specs.Prepared.{IsOfOneAccount};
 ghost use Rattle.rsl_event.specs.declared.event.Act.TheVariants.{Sweep, Tick};
 ghost use Rattle.rsl_session.specs.BookStep.{step};
-ghost use Rattle.rsl_shard.specs.Moves.{IsOfShard, IsOwn, IsTaken, event_in};
+ghost use Rattle.rsl_shard.specs.Moves.{IsOfShard, IsOwn, IsTaken};
 ghost use Rattle.rsl_shard.specs.Opening.{as_new};
 ghost use Rattle.rsl_shard.specs.Restep.{
   AreBooks,
@@ -267,28 +267,6 @@ impl Books {
             Move::Sweep { moment, nas } => Ok(self.sweep(*moment, nas)),
             Move::Tick { moment } => Ok(self.tick(*moment)),
             Move::Stray { .. } => Ok(Decision::Done),
-        }
-    }
-
-    /// Steps the books by a move as `step` does, with a copy of its event if it is an account's
-    /// own, as `Move::try_copy_event` gives it. So it takes no memory, and can't fail.
-    pub fn step_ready(&mut self, moved: &Move, copy: Option<Event>) -> Decision
-        requires taken { IsTaken self.old.setup moved.now }
-        requires copy { copy ≡ event_in moved.now }
-        ensures setup { self.new.setup ≡ self.old.setup }
-        ensures books { self.new.books ≡
-            books_after self.old.setup self.old.books moved.now }
-        ensures decision { result ≡
-            decision_by self.old.setup self.old.books moved.now }
-    {
-        match moved {
-            Move::Own { account, .. } => match copy {
-                Some(event) => self.own(*account, event),
-                None => unreachable!(),
-            },
-            Move::Sweep { moment, nas } => self.sweep(*moment, nas),
-            Move::Tick { moment } => self.tick(*moment),
-            Move::Stray { .. } => Decision::Done,
         }
     }
 

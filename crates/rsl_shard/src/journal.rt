@@ -51,7 +51,7 @@ impl Model for Journal {
     ghost invariant = { IsCounted };
 }
 
-/// Moves a chunk's lines behind what is there. There is room for them.
+/// Moves a chunk's lines after what is there. There is room for them.
 fn move_behind(all: &mut Vec<Line>, chunk: &mut Vec<Line>)
     requires { vec_len all.old + vec_len chunk.old ≤ vec_capacity all.old }
     ensures items { all.new.items ≡ all.old.items ++ chunk.old.items }
@@ -65,7 +65,7 @@ fn move_behind(all: &mut Vec<Line>, chunk: &mut Vec<Line>)
     }
 }
 
-/// Moves the lines of chunks, in their order, behind what is there. There is room for them.
+/// Moves the lines of chunks, in their order, after what is there. There is room for them.
 fn join(all: &mut Vec<Line>, chunks: &mut [Vec<Line>])
     requires { vec_len all.old + length (flat_map vec_items chunks.old) ≤ vec_capacity all.old }
     ensures items { all.new.items ≡ all.old.items ++ flat_map vec_items chunks.old }

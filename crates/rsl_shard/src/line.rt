@@ -2,7 +2,7 @@ use crate::moved::Move;
 use rsl_event::Decision;
 
 /// A line of a journal: a move that was made, and what was decided.
-#[derive(PartialEq, Eq, Drop)]
+#[derive(Drop)]
 pub struct Line {
     /// The move.
     pub moved: Move,

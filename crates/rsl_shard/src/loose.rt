@@ -29,7 +29,7 @@ impl Model for CutRoom {
 }
 
 impl CutRoom {
-    /// Room for so many lines. It fails only where memory is refused.
+    /// Room for `lines` lines. It fails only where memory is refused.
     pub fn new(alloc: Global, lines: usize) -> Result<CutRoom, NoMemory>
         ensures { IfOk result (λ room. lines ≤ room) }
     {

@@ -1,5 +1,4 @@
 ghost use Rattle.std.specs.Prelude.{◌≡◌, IfOk};
-ghost use Rattle.rsl_shard.specs.Moves.{event_in};
 
 use rsl_event::{Event, Nas, Note};
 use rsl_wire::NoMemory;
@@ -37,17 +36,6 @@ pub enum Move {
 }
 
 impl Move {
-    /// A copy of the event of an account's own move, if it is one: what `Books::step_ready` takes
-    /// over. It fails only where memory is refused.
-    pub fn try_copy_event(&self, alloc: Global) -> Result<Option<Event>, NoMemory>
-        ensures { IfOk result (λ copy. copy ≡ event_in self.now) }
-    {
-        match self {
-            Move::Own { event, .. } => Ok(Some(event.try_copy(alloc)?)),
-            Move::Sweep { .. } | Move::Tick { .. } | Move::Stray { .. } => Ok(None),
-        }
-    }
-
     /// An equal move. It fails only where memory is refused.
     pub fn try_copy(&self, alloc: Global) -> Result<Move, NoMemory>
         ensures { IfOk result (λ copy. copy ≡ self.now) }

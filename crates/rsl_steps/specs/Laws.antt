@@ -61,7 +61,7 @@ pub record Served : Type 0 where
   pub there : slice_get config.accounts account ≡ Some entry
   pub answered : AreAnswers config boot [] steps answers
 
--- what is told to the account
+-- the words that the account is given
 abbrev pub words_of : Served → List Said
 words_of served = words_to served.config served.boot served.account served.steps served.answers
 
@@ -74,8 +74,8 @@ events_of served =
 abbrev pub places_held : Served → ℕ
 places_held served = places_after served.entry.rules (events_of served)
 
--- Two accounts with the same rules and equal own events are told the same, and hold as many places,
--- whatever else is in their servers' configurations and steps.
+-- Two accounts with the same rules and equal own events are given the same words, and hold as many
+-- places, whatever else is in their servers' configurations and steps.
 abbrev pub EqualOwnEventsAreAnsweredAlike : Type 0
 EqualOwnEventsAreAnsweredAlike =
     (one other : Served) → one.entry.rules ≡ other.entry.rules → events_of one ≡ events_of other

@@ -38,6 +38,7 @@ event_of config boot account (steps.Tick shard moment) =
 unfoldable pub own_events : Configuration → (boot account : ℕ) → List Step → List Event
 own_events config boot account steps = filter_map (event_of config boot account) steps
 
--- the same where the steps are listed newest first, as those before a step of a run are
+-- an account's own events among steps that are listed newest first, as those before a step of a run
+-- are
 unfoldable pub own : Configuration → (boot account : ℕ) → (before : List Step) → List Event
 own config boot account before = own_events config boot account (reverse before)

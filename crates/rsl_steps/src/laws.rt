@@ -14,8 +14,8 @@ ghost use Rattle.rsl_steps.specs.Laws.{
 
 use rsl_session::laws;
 
-/// Accounts are independent: what an account is told and the places that it holds are a function of
-/// its rules and of its own events.
+/// Accounts are independent: the words that an account is given and the places that it holds are a
+/// function of its rules and of its own events.
 pub fn equal_own_events_are_answered_alike()
     ensures { EqualOwnEventsAreAnsweredAlike }
 {}

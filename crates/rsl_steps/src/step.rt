@@ -4,7 +4,7 @@ use rsl_shard::Shard;
 use rsl_wire::Octets;
 
 /// What reaches the server.
-#[derive(PartialEq, Eq, Drop)]
+#[derive(Drop)]
 pub enum Step {
     /// A datagram.
     Datagram {

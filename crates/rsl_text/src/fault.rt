@@ -1,7 +1,7 @@
 use std::alloc::AllocError;
 
 /// Why a reader gives no text.
-#[derive(Clone, Copy, PartialEq, Eq)]
+#[derive(Clone, Copy)]
 pub enum TextFault {
     /// The file is not there, a read failed, or the reads came to no end.
     Unreadable,

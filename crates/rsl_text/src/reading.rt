@@ -22,7 +22,7 @@ use std::io::{ErrorKind, Read};
 /// Octets of one read.
 const READ_LEN: usize = 4096;
 
-/// The text of the file of this name, of at most so many octets. The faults are those of
+/// The text of the file of this name, of at most `most` octets. The faults are those of
 /// `read_text`; `Unreadable` also comes where the file can't be opened.
 pub fn read_file<F: Files>(
     files: &F,
@@ -38,7 +38,7 @@ pub fn read_file<F: Files>(
     }
 }
 
-/// All octets that a reader gives, of which there may be so many.
+/// All octets that a reader gives, if they are at most `most`.
 ///
 /// `TooLong` comes as soon as there are more, `Unreadable` where a read fails or twice as many reads
 /// as the text may have octets have come to no end, and `NoMemory` where memory is refused. A read

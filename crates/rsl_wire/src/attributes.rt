@@ -5,7 +5,7 @@ use crate::attr::ATTR_HEADER_LEN;
 use std::marker::Model;
 
 /// The list of attributes is malformed.
-#[derive(Clone, Copy, Debug, PartialEq, Eq)]
+#[derive(Clone, Copy, Debug)]
 pub struct BadAttribute {
     /// The offset, in the octets of the attributes, of the first attribute whose Length is missing,
     /// under 2, or past the end.
@@ -76,8 +76,8 @@ impl<'a> Attrs<'a> {
         Attrs::checked(octets)
     }
 
-    /// The same, proved against the function that reads a list; `in_octets` adds what the grammar
-    /// says.
+    /// The attributes of octets, or where the first bad one is, proved against the function that
+    /// reads a list; `in_octets` adds what the grammar says.
     fn checked(octets: &'a [u8]) -> Result<Attrs<'a>, BadAttribute>
         ensures { MatchResult result
             (λ attrs. attribute_list octets.now ≡ Ok attrs)

@@ -25,7 +25,7 @@ use std::alloc::Global;
 use std::marker::Model;
 
 /// An attribute's value has over 253 octets, or the packet would have over 4,096.
-#[derive(Clone, Copy, Debug, PartialEq, Eq)]
+#[derive(Clone, Copy, Debug)]
 pub struct TooLong;
 
 /// A packet that is being written: its Identifier and its attributes so far, in room for 4,096
@@ -58,9 +58,9 @@ impl Draft {
         Draft::in_room(Vec::new(alloc), id)
     }
 
-    /// The same in the room of earlier octets, which are let go: it takes memory only where there
-    /// is room for less than 4,096 octets, and fails only where that is refused. Then the room is
-    /// let go too.
+    /// A packet with an Identifier and no attribute, in the room of earlier octets, which are let
+    /// go: it takes memory only where there is room for less than 4,096 octets, and fails only
+    /// where that is refused. Then the room is let go too.
     pub fn in_room(room: Vec<u8>, id: u8) -> Result<Draft, NoMemory>
         ensures draft { IfOk result (λ draft. draft ≡ record { id = id; attributes = [] }) }
         ensures enough { 4096 ≤ vec_capacity room → IsOk result }

@@ -10,7 +10,7 @@ use crate::packet::{HEADER_LEN, MAX_LEN};
 use std::alloc::Global;
 
 /// Why a packet could not be built.
-#[derive(Clone, Copy, Debug, PartialEq, Eq)]
+#[derive(Clone, Copy, Debug)]
 pub enum BuildFault {
     /// A value has over 253 octets, or the packet would have over 4,096.
     TooLong,

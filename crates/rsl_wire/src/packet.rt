@@ -21,7 +21,7 @@ const _: () = prove!(HEADER_LEN == 20);
 const _: () = prove!(MAX_LEN == 4096);
 
 /// Why a datagram has no packet.
-#[derive(Clone, Copy, Debug, PartialEq, Eq)]
+#[derive(Clone, Copy, Debug)]
 pub enum WireFault {
     /// It has fewer than 20 octets.
     Short,

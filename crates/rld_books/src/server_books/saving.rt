@@ -10,6 +10,7 @@ ghost use Rattle.rsl_shard.specs.Opening.{as_new};
 ghost use Rattle.rsl_shard.specs.Restep.{new_books};
 ghost use Rattle.rsl_shard.specs.Setup.{setup_of};
 
+use crate::blank_books::BlankBooks;
 use crate::fault::ServerFault;
 use crate::server_books::ServerBooks;
 use rsl_accounts::{Config, Rules};
@@ -32,13 +33,20 @@ fn saved_of(alloc: Global, shards: &[Books]) -> Result<Vec<SavedBook>, NoMemory>
     Ok(kept)
 }
 
-/// The book of an account with these rules, put back.
-fn restored_book(alloc: Global, rules: Rules, kept: &SavedBook) -> Result<Book, ServerFault>
+/// The book of an account with these rules, put back in the blank one if there is one.
+fn restored_book(
+    alloc: Global,
+    blanks: &mut BlankBooks,
+    account: u32,
+    rules: Rules,
+    kept: &SavedBook,
+) -> Result<Book, ServerFault>
     requires { RulesFit rules }
     ensures { IfOk result (λ book. saved book ≡ saved_book kept.now) }
 {
     put_back_is_saved();
-    Ok(Book::restore(alloc, rules, kept)?)
+    let blank = blanks.take(alloc, account, rules)?;
+    Ok(Book::restore_in(alloc, blank, kept)?)
 }
 
 /// The books of a shard's accounts, put back from the first of these, and those that are left.
@@ -46,6 +54,7 @@ fn restored_list<'a>(
     alloc: Global,
     config: &Config,
     shard: u32,
+    blanks: &mut BlankBooks,
     kept: &'a [SavedBook],
 ) -> Result<(Vec<Book>, &'a [SavedBook]), ServerFault>
     ensures { IfOk result (λ found.
@@ -58,7 +67,8 @@ fn restored_list<'a>(
             let Some((first, rest)) = left.split_first() else {
                 return Err(ServerFault::WrongCount);
             };
-            books.push(restored_book(alloc, config.entry(account).rules, first)?)?;
+            let rules = config.entry(account).rules;
+            books.push(restored_book(alloc, blanks, account, rules, first)?)?;
             left = rest;
         }
     }
@@ -69,6 +79,7 @@ fn restored_list<'a>(
 fn restored_shards(
     alloc: Global,
     config: &Config,
+    blanks: &mut BlankBooks,
     kept: &[SavedBook],
 ) -> Result<Vec<Books>, ServerFault>
     ensures server { IfOk result (λ shards. IsServerOf config.now shards.items) }
@@ -77,7 +88,7 @@ fn restored_shards(
     let mut shards = Vec::new(alloc);
     let mut left = kept;
     for shard in 0..config.shards() {
-        let (books, rest) = restored_list(alloc, config, shard, left)?;
+        let (books, rest) = restored_list(alloc, config, shard, blanks, left)?;
         let Ok(books) = Books::from_books(config, shard, books) else {
             return Err(ServerFault::WrongCount);
         };
@@ -110,9 +121,24 @@ impl ServerBooks {
         ensures server { IfOk result (λ server. IsServerOf config.now server) }
         ensures saved { IfOk result (λ server. saved_server server ≡ map saved_book kept.now) }
     {
+        ServerBooks::restore_in(alloc, config, BlankBooks::none(alloc), kept)
+    }
+
+    /// `restore` in blank books. Those that were made for this configuration are used up, and then it
+    /// takes memory only for what the saved ones hold.
+    pub fn restore_in(
+        alloc: Global,
+        config: &Config,
+        blanks: BlankBooks,
+        kept: &[SavedBook],
+    ) -> Result<ServerBooks, ServerFault>
+        ensures server { IfOk result (λ server. IsServerOf config.now server) }
+        ensures saved { IfOk result (λ server. saved_server server ≡ map saved_book kept.now) }
+    {
         // A configuration has 1 to 4 shards: this call tells it.
         let _shards = config.shards();
-        let shards = restored_shards(alloc, config, kept)?;
+        let mut blanks = blanks;
+        let shards = restored_shards(alloc, config, &mut blanks, kept)?;
         Ok(ServerBooks { shards })
     }
 }

@@ -4,7 +4,7 @@ ghost use Rattle.std.specs.Prelude.{◌≡◌, ◌≢◌, ◌<◌, ◌≤◌, []
 ghost use Rattle.rsl_accounts.specs.Limits.{RulesFit};
 ghost use Rattle.rsl_event.specs.declared.nas.Nas.{Nas};
 ghost use Rattle.rsl_session.specs.Places.{places_of};
-ghost use Rattle.rsl_session.specs.Book.{bundles_in};
+ghost use Rattle.rsl_session.specs.Book.{bundles_in, new_book};
 ghost use Rattle.rsl_links.specs.Seen.{holder_at};
 ghost use Rattle.rsl_saved.specs.Saved.{saved_book, saved_holder, saved_link, saved_links};
 ghost use Rattle.rsl_book.specs.RuledBook.{IsWithinLimit};
@@ -64,13 +64,26 @@ impl Book {
         ensures fault { IfErr result (λ fault. fault ≢ RestoreFault.NoMemory →
             restored rules (saved_book saved.now) ≡ Err fault) }
     {
+        let blank = Book::new(alloc, rules)?;
+        Book::restore_in(alloc, blank, saved)
+    }
+
+    /// `restore` in a book that was made for the account and has had no event. It takes memory only
+    /// for names and ids of more than 22 octets.
+    pub fn restore_in(alloc: Global, blank: Book, saved: &SavedBook) -> Result<Book, RestoreFault>
+        requires { blank ≡ record { rules = blank.rules; book = new_book } }
+        ensures book { IfOk result (λ book. restored blank.rules (saved_book saved.now) ≡ Ok book) }
+        ensures limit { IfOk result (λ book. IsWithinLimit book) }
+        ensures fault { IfErr result (λ fault. fault ≢ RestoreFault.NoMemory →
+            restored blank.rules (saved_book saved.now) ≡ Err fault) }
+    {
         if saved.asks.len() > KEPT_ASKS {
             return Err(RestoreFault::TooManyAsks);
         }
         if saved.stops.len() > KEPT_STOPS {
             return Err(RestoreFault::TooManyStops);
         }
-        let mut book = Book::new(alloc, rules)?;
+        let mut book = blank;
         book.set_numbers(saved.clock, saved.accepts, saved.over);
         let fits = book.put_links(alloc, saved.links.as_slice())?;
         if !fits {

@@ -1,70 +1,50 @@
-use Rattle.std.proofs.Common.{◌≡◌, List, ◌++◌, ◌∷◌, [], length, take, ap, ◌∙◌, arith}
-use Rattle.std.specs.Prelude.{Ok, Some}
-use Rattle.rsl_port.specs.Told.{datagram_of}
-use Rattle.rld_turn.proofs.Calling.{room_turn, turn_called}
-use Rattle.rld_turn.proofs.Entering.{batch_entered, none_came, none_failed, one_taken}
-use Rattle.rld_turn.proofs.Serving.{none_turned, turned_by, turned_since}
-use Rattle.rld_turn.specs.Turned.{service_of}
-use Rattle.rld_turn.specs.declared.entry.Entry.{Entry}
+use Rattle.std.proofs.Common.{List, [], ◌++◌, ap, subst, sym, ◌∙◌}
+use Rattle.std.specs.Prelude.{Option}
+use Rattle.rld_turn.proofs.Failing.{same_down}
+use Rattle.rld_turn.proofs.Entering.{can_end}
+use Rattle.rld_turn.specs.Present.{service_of}
+use Rattle.rld_turn.specs.Recorded.{decisions_in, is_down, is_recorded}
+use Rattle.rld_turn.specs.Told.{HasTold, Told}
+use Rattle.rld_turn.specs.declared.peer_port.PeerDatagram.{PeerDatagram}
 use Rattle.rld_turn.proofs.receiver.Receiver.turn.Goals as goal
 
-pub returns-in-Ok-None-clause-turned : goal.returns-in-Ok-None-clause-turned
-returns-in-Ok-None-clause-turned g c = λ told recorder_told.
-    none_turned _ _ c.quiet.result.ends _ _ _ _ _ _ _ _ (ap (λ t. t.ends) c.quiet.ensures)
-    (none_came c.receive.result c.receive.new.buffer _ _ (c.in-Ok-None.is ∙ ap (λ o. Ok o) c.in-Ok-None.field-0-is) (c.receive.ensures.taken told))
-    (c.receive.ensures.sent told)
+pub answer_each-ends-requires-clause-can : goal.answer_each-ends-requires-clause-can
+answer_each-ends-requires-clause-can g c =
+    can_end (service_of c.args.present.now) c.args.self.now.port c.now-moment.result
+    (decisions_in c.record-outcome.result) c.gather-taking.ensures.gathered.taken c.gather-taking.new.queue.items [] c.gather-taking.new.batch.items
+    c.gather-taking.ensures.gathered.entered c.record-outcome.ensures.count
 
-pub returns-in-Err-clause-turned : goal.returns-in-Err-clause-turned
-returns-in-Err-clause-turned g c = λ told recorder_told.
-    none_turned _ _ c.quiet-in-Err.result.ends _ _ _ _ _ _ _ _ (ap (λ t. t.ends) c.quiet-in-Err.ensures)
-    (none_failed c.receive.result c.receive.new.buffer _ _ _ c.in-Err.is (c.receive.ensures.taken told))
-    (c.receive.ensures.sent told)
+pub returns-clause-down : goal.returns-clause-down
+returns-clause-down g c = λ told.
+    c.answer_each-ends.ensures.down told ∙ c.gather-taking.ensures.down (c.answer_each-ends.ensures.telling told)
+    ∙ sym (ap is_down c.ending.ensures ∙ same_down c.record-outcome.result c.gather-taking.result)
 
-pub finish-requires-clause-entered : goal.finish-requires-clause-entered
-finish-requires-clause-entered g c =
+pub returns-clause-turned : goal.returns-clause-turned
+returns-clause-turned g c = λ told recorder_told.
     let gathered = c.gather-taking.ensures.gathered in
-    let one = datagram_of c.in-Ok-Some.source (take c.in-Ok-Some.len c.receive.new.buffer) in (
-      c.now-moment.result,
-      one ∷ gathered.taken,
-      batch_entered (service_of c.args.self.now.config.now c.args.self.now.boot) c.args.self.now.port c.now-moment.result _
-          one c.enter-entry.result _ _ c.args.queue.now.items c.push_back_reserved.new.self.items c.gather-taking.new.queue.items
-          c.new-batch.result.items c.enter-entry.new.batch.items c.gather-taking.new.batch.items
-          c.requires.empty c.new-batch.ensures.items c.enter-entry.ensures c.push_back_reserved.ensures.items gathered,
-    )
-
-pub returns-in-Ok-Some-clause-turned : goal.returns-in-Ok-Some-clause-turned
-returns-in-Ok-Some-clause-turned g c = λ told recorder_told.
-    let service = service_of c.args.self.now.config.now c.args.self.now.boot in
-    let gathered = c.gather-taking.ensures.gathered in
-    let one = datagram_of c.in-Ok-Some.source (take c.in-Ok-Some.len c.receive.new.buffer) in
-    let got : c.receive.result ≡ Ok (Some (c.in-Ok-Some.len, c.in-Ok-Some.source)) =
-    c.in-Ok-Some.is ∙ ap (λ o. Ok o) c.in-Ok-Some.field-0-is in
-    let mid = c.finish.ensures.port_tells told in
-    let first = c.gather-taking.ensures.telling mid in
-    turned_since service c.args.self.now.port c.finish.result.ends _ _ _ _ _ _ _ _ _ c.begin.ensures.told
-    (turned_by service c.args.self.now.port c.now-moment.result one gathered.taken c.gather-taking.new.batch.items c.finish.result.ends
-    _ _ _ _ _ _ _ _ _ _ _ _ _ _ c.now-moment.ensures.shown
-    (one_taken c.in-Ok-Some.len c.in-Ok-Some.source c.receive.result c.receive.new.buffer _ _ got (c.receive.ensures.taken first))
-    (c.finish.ensures.taken told ∙ gathered.told mid)
-    (c.gather-taking.ensures.sent mid ∙ c.receive.ensures.sent first)
-    (c.finish.ensures.finished told recorder_told c.now-moment.result (one ∷ gathered.taken)
-    (batch_entered service c.args.self.now.port c.now-moment.result _
-    one c.enter-entry.result _ _ c.args.queue.now.items c.push_back_reserved.new.self.items c.gather-taking.new.queue.items
-    c.new-batch.result.items c.enter-entry.new.batch.items c.gather-taking.new.batch.items
-    c.requires.empty c.new-batch.ensures.items c.enter-entry.ensures c.push_back_reserved.ensures.items gathered)))
-
-pub returns-in-Ok-Some-clause-calls : goal.returns-in-Ok-Some-clause-calls
-returns-in-Ok-Some-clause-calls g c =
-    let got : c.receive.result ≡ Ok (Some (c.in-Ok-Some.len, c.in-Ok-Some.source)) =
-    c.in-Ok-Some.is ∙ ap (λ o. Ok o) c.in-Ok-Some.field-0-is in
-    turn_called c.finish.result.ends c.finish.result.ending c.gather-taking.result _ _ c.in-Ok-Some.len c.in-Ok-Some.source c.receive.result _ _ _ _
-    (ap length (c.push_back_reserved.ensures.items ∙ ap (λ (q : List Entry). q ++ c.enter-entry.result ∷ []) c.requires.empty))
-    c.finish.ensures.failed c.finish.ensures.count got c.receive.ensures.numbers c.gather-taking.ensures.calls c.finish.ensures.calls
-
-pub returns-in-Ok-Some-clause-room : goal.returns-in-Ok-Some-clause-room
-returns-in-Ok-Some-clause-room g c = λ told.
-    let mid = c.finish.ensures.port_tells told in
-    let first = c.gather-taking.ensures.telling mid in
-    room_turn (g.P.DatagramPort.room c.args.datagrams.now) (g.P.DatagramPort.room c.receive.new.self) (g.P.DatagramPort.room c.gather-taking.new.datagrams)
-    (g.P.DatagramPort.room c.finish.new.datagrams) (length c.receive.new.buffer) (length c.args.buffer.now)
-    (omega (arith, c.receive.auto.buffer)) (c.receive.ensures.room first) (c.gather-taking.ensures.room mid) (c.finish.ensures.room told)
+    let recorded = c.record-outcome.ensures.recorded recorder_told in
+    let mid = c.answer_each-ends.ensures.telling told in
+    let answered = c.answer_each-ends.ensures.answered told (record {
+      moment = c.now-moment.result;
+      begun = g.R.Recorder.books c.args.recorder.now;
+      taken = gathered.taken;
+      moves = c.gather-taking.new.batch.items;
+      entered = gathered.entered;
+      decided = recorded.decided;
+    }) in
+    record {
+      taken = gathered.taken;
+      batch = c.gather-taking.new.batch.items;
+      sent = answered.sent;
+      told = answered.told;
+      moment = c.now-moment.result;
+      recorded = is_recorded (decisions_in c.record-outcome.result);
+      more_taken = c.answer_each-ends.ensures.taken told ∙ gathered.told mid;
+      more_sent = answered.more_sent ∙ ap (λ (t : List PeerDatagram). t ++ answered.sent) (c.gather-taking.ensures.sent mid);
+      more_shown = c.now-moment.ensures.shown;
+      more_told = subst (λ (t : Option (List Told)). HasTold answered.told t (g.W.Watch.told c.answer_each-ends.new.watch)) c.begin.ensures.told answered.more_told;
+      books = recorded.books;
+      history = c.record-outcome.ensures.stands recorder_told;
+      turned = answered.turned;
+      numbers = answered.numbers;
+    }

@@ -1,0 +1,257 @@
+ghost use Rattle.std.specs.Prelude.{◌≡◌};
+ghost use Rattle.radlimitd.specs.Arguments.{takes, topic_of};
+
+use std::fmt;
+
+/// A command that the program does, but for those that print what there is.
+#[derive(Clone, Copy, Debug)]
+pub(crate) enum Topic {
+    /// To check a server's file.
+    Check,
+    /// To write a server's file and an account file.
+    Init,
+    /// To run a server.
+    Run,
+    /// To ask a running server what it is and does.
+    Status,
+    /// To ask it what its accounts hold.
+    Accounts,
+    /// To ask it for the links of an account.
+    Sessions,
+    /// To have it free the place of a session.
+    Free,
+    /// To have it read its accounts anew.
+    Reload,
+    /// To end it.
+    Stop,
+    /// To print the moves of logs.
+    Lines,
+    /// To cut the books of a state folder to the present.
+    Rebase,
+}
+
+impl Topic {
+    /// The command of this name.
+    pub(crate) fn of_word(word: &str) -> Option<Topic>
+        ensures { result ≡ topic_of word.now }
+    {
+        match word {
+            "check" => Some(Topic::Check),
+            "init" => Some(Topic::Init),
+            "run" => Some(Topic::Run),
+            "status" => Some(Topic::Status),
+            "accounts" => Some(Topic::Accounts),
+            "sessions" => Some(Topic::Sessions),
+            "free" => Some(Topic::Free),
+            "reload" => Some(Topic::Reload),
+            "stop" => Some(Topic::Stop),
+            "lines" => Some(Topic::Lines),
+            "rebase" => Some(Topic::Rebase),
+            _ => None,
+        }
+    }
+
+    /// Whether it takes this number of words after its name. The last word is the name of a file, and of
+    /// `init` that of a folder; `lines` takes the names of several files. `free` takes what `sessions` prints
+    /// as one word or as four. Flags are words of their own.
+    pub(crate) fn takes(self, words: usize) -> bool
+        ensures { result ≡ takes self words }
+    {
+        match self {
+            Topic::Lines => words >= 1,
+            Topic::Status => words == 1 || words == 2,
+            Topic::Accounts => words == 1 || words == 2 || words == 3,
+            Topic::Sessions => words == 2 || words == 3,
+            Topic::Free => words >= 2,
+            Topic::Check | Topic::Init | Topic::Run | Topic::Reload | Topic::Stop | Topic::Rebase =>
+                words == 1,
+        }
+    }
+
+    /// How it goes.
+    fn usage(self) -> &'static str {
+        match self {
+            Topic::Check => "radlimitd check FILE",
+            Topic::Init => "radlimitd init FOLDER",
+            Topic::Run => "radlimitd run FILE",
+            Topic::Status => "radlimitd status [--json] FILE",
+            Topic::Accounts => "radlimitd accounts [--json] [--held | --full] FILE",
+            Topic::Sessions => "radlimitd sessions [--json] NAME FILE",
+            Topic::Free => "radlimitd free NAME CLIENT NAS SESSION FILE",
+            Topic::Reload => "radlimitd reload FILE",
+            Topic::Stop => "radlimitd stop FILE",
+            Topic::Lines => "radlimitd lines FILE..",
+            Topic::Rebase => "radlimitd rebase FILE",
+        }
+    }
+
+    /// What its words look like that name a session or an account, if there are such.
+    pub(crate) fn form(self) -> &'static str {
+        match self {
+            Topic::Free =>
+                "; NAS is nas=NAME, nas-address=DIGITS or unnamed, as `sessions` prints it",
+            Topic::Sessions => "; NAME is written as `accounts` prints it",
+            Topic::Check
+            | Topic::Init
+            | Topic::Run
+            | Topic::Status
+            | Topic::Accounts
+            | Topic::Reload
+            | Topic::Stop
+            | Topic::Lines
+            | Topic::Rebase => "",
+        }
+    }
+
+    /// What it does and prints, with an example and the statuses that it ends with.
+    pub(crate) fn help(self) -> &'static str {
+        match self {
+            Topic::Check => CHECK,
+            Topic::Init => INIT,
+            Topic::Run => RUN,
+            Topic::Status => STATUS,
+            Topic::Accounts => ACCOUNTS,
+            Topic::Sessions => SESSIONS,
+            Topic::Free => FREE,
+            Topic::Reload => RELOAD,
+            Topic::Stop => STOP,
+            Topic::Lines => LINES,
+            Topic::Rebase => REBASE,
+        }
+    }
+}
+
+impl fmt::Display for Topic {
+    /// Writes how it goes.
+    fn fmt<W: fmt::Write>(&self, f: &mut fmt::Formatter<W>) -> fmt::Result {
+        f.write_str(self.usage())
+    }
+}
+
+const CHECK: &str = "\
+radlimitd check FILE
+
+Says what is wrong with the server's file FILE, or with the account file that it names: the first fault, with the
+file and the line and column, or the table and key. If both are right it prints `ok`, and what to know of them.
+
+    radlimitd check /etc/radlimit/radlimitd.toml
+
+Exit status: 0 both are right; 1 one is wrong; 2 one cannot be read; 3 no memory.
+";
+
+const INIT: &str = "\
+radlimitd init FOLDER
+
+Writes a server's file and an account file into the folder FOLDER, which is made if it is not there, and says how to go
+on. The files say what each line is for. The one client has a random secret, and both files are for their owner alone. A
+folder that has one of the files already is refused: nothing is written over.
+
+    radlimitd init radlimit
+
+Exit status: 0; 2 the folder has one of the files, or they cannot be written; 3 no memory.
+";
+
+const RUN: &str = "\
+radlimitd run FILE
+
+Runs the server of the file FILE, in the foreground. It says on standard error that it has started, a line for each
+request that it refuses, and what goes wrong. A kill at any moment loses nothing that it has answered: start it again,
+and it goes on.
+
+    radlimitd run /etc/radlimit/radlimitd.toml
+
+Exit status: 0 it was asked to end; 1 a file or the state folder is wrong; 2 a file, a port or a call of the system
+failed; 3 no memory; 4 the disk took a write and could not say that it has it.
+";
+
+const STATUS: &str = "\
+radlimitd status [--json] FILE
+
+Prints what the running server of the file FILE is and does: its version, whether it is proved, since when it runs and
+whether it records; then numbers, a line each; then what it answered lately, how all requests ended, and the fullest
+accounts. --json prints one object of JSON for scripts.
+
+    radlimitd status --json /etc/radlimit/radlimitd.toml
+
+Exit status: 0; 1 FILE is wrong; 2 no server answers; 3 no memory.
+";
+
+const ACCOUNTS: &str = "\
+radlimitd accounts [--json] [--held | --full] FILE
+
+Prints what each account of the running server of the file FILE holds, a line each, in the order of the account file:
+with --held those that hold a place, with --full those that have no free place. --json prints an object of JSON a line.
+
+    radlimitd accounts --full /etc/radlimit/radlimitd.toml
+
+Exit status: 0; 1 FILE is wrong; 2 no server answers; 3 no memory.
+";
+
+const SESSIONS: &str = "\
+radlimitd sessions [--json] NAME FILE
+
+Prints the links of the account NAME, a line each, in the order in which they opened. The first four words of a line
+name the session: `free` takes them. --json prints an object of JSON a line, in which `free` has these words.
+
+    radlimitd sessions nemo /etc/radlimit/radlimitd.toml
+
+Exit status: 0; 1 FILE is wrong; 2 no server answers, or it has no such account; 3 no memory.
+";
+
+const FREE: &str = "\
+radlimitd free NAME CLIENT NAS SESSION FILE
+
+Frees the place of a session that its access server has forgotten, by the Stop that it would have sent. NAME is the
+account; CLIENT the client's IPv4 address; NAS what the access server calls itself: `nas=` and its NAS-Identifier,
+`nas-address=` and the hexadecimal digits of its NAS-IP-Address, or `unnamed`; SESSION the Acct-Session-Id. They are the
+first four words of a line of `sessions`. It prints `freed`, or `no such session`.
+
+    radlimitd free nemo 192.0.2.7 nas=pop1 0000A1F3 /etc/radlimit/radlimitd.toml
+
+Exit status: 0; 1 the words name no session, or FILE is wrong; 2 no server answers, or it refuses; 3 no memory.
+";
+
+const RELOAD: &str = "\
+radlimitd reload FILE
+
+Has the running server of the file FILE read its account file anew, and go on by what it says. Sessions go on by the
+names of accounts and the addresses of clients. A wrong account file is refused, and the server goes on as before. Look at
+it first with `radlimitd check`.
+
+    radlimitd reload /etc/radlimit/radlimitd.toml
+
+Exit status: 0; 1 FILE is wrong; 2 no server answers, or it refuses the account file; 3 no memory.
+";
+
+const STOP: &str = "\
+radlimitd stop FILE
+
+Ends the running server of the file FILE.
+
+    radlimitd stop /etc/radlimit/radlimitd.toml
+
+Exit status: 0; 1 FILE is wrong; 2 no server answers; 3 no memory.
+";
+
+const LINES: &str = "\
+radlimitd lines FILE..
+
+Prints each change that these logs of a state folder or of its archive have, with what was decided. It only reads, and may
+run beside the server.
+
+    radlimitd lines /var/lib/radlimit/log-1-1
+
+Exit status: 0; 1 a log is damaged, whose first wrong place is named; 2 a file cannot be read; 3 no memory.
+";
+
+const REBASE: &str = "\
+radlimitd rebase FILE
+
+Cuts the history of the server of the file FILE to the present, which a clock that was ahead has led past it. Stop the
+server, set the clock right, run this, and start the server again.
+
+    radlimitd rebase /etc/radlimit/radlimitd.toml
+
+Exit status: 0; 1 a file or the state folder is wrong; 2 the server runs, or a file cannot be had; 3 no memory; 4 the disk
+took a write and could not say that it has it.
+";

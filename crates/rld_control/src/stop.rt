@@ -1,0 +1,231 @@
+ghost use Rattle.std.specs.Prelude.{◌≡◌, ◌↔◌, map, None, IsTrue, IfOk, IsErrOf};
+ghost use Rattle.std.specs.List.{list_any};
+ghost use Rattle.rsl_accounts.specs.Configuration.{account_number};
+ghost use Rattle.rsl_event.specs.declared.event.Act.TheVariants as acts;
+ghost use Rattle.rsl_event.specs.declared.meaning.Meaning.TheVariants as meanings;
+ghost use Rattle.rsl_shard.specs.declared.moved.Move.TheVariants as moves;
+ghost use Rattle.rsl_wire.specs.NewPacket.{seen};
+ghost use Rattle.rld_control.specs.Stops.{IsStopOf, MeansStop, is_ended, is_holder, request_octets, stop_octets};
+
+use crate::fault::FreeFault;
+use crate::named::NamedSession;
+use rsl_accounts::Config;
+use rsl_auth::sealed;
+use rsl_event::codes::{
+    ACCOUNTING_REQUEST, ACCT_SESSION_ID, ACCT_STATUS_TYPE, NAS_IDENTIFIER, NAS_IP_ADDRESS, STOP,
+    USER_NAME,
+};
+use rsl_event::{Act, Dropped, Event, Meaning, Nas, NasName, Port, Source, prepare};
+use rsl_saved::{SavedHolder, SavedLink};
+use rsl_shard::Move;
+use rsl_wire::{Attr, BuildFault, NoMemory, Octets, build};
+use std::alloc::Global;
+
+/// The Identifier of each Stop.
+const IDENTIFIER: u8 = 0;
+
+/// The UDP port that each Stop comes from, which no answer depends on.
+const SOURCE_PORT: u16 = 0;
+
+/// A Stop of a session, as its access server would have sent it.
+#[derive(Drop)]
+pub struct Stop {
+    /// The number of the session's account.
+    pub account: u32,
+    /// The session's access server.
+    pub nas: Nas,
+    /// The session's Acct-Session-Id (RFC 2866 section 5.5).
+    pub session: Octets,
+    /// The octets of the Accounting-Request (RFC 2866 section 4.1).
+    pub octets: Vec<u8>,
+}
+
+impl Stop {
+    /// The Stop of the session that an operator names, for the server with this boot number. Its
+    /// datagram means this Stop to the server: it was prepared as any that comes from the client.
+    ///
+    /// The faults come in this order: `UnknownAccount`, `UnknownClient`, and `NoSession` where the id is
+    /// empty or a value has over 253 octets. `NoMemory` comes only where memory is refused.
+    pub fn of(
+        alloc: Global,
+        config: &Config,
+        boot: u64,
+        named: &NamedSession,
+    ) -> Result<Stop, FreeFault>
+        ensures stop { IfOk result (λ stop. IsStopOf config.now named.now stop) }
+        ensures meaning { IfOk result (λ stop.
+            MeansStop config.now boot (record { address = named.now.client; port = 0 }) stop) }
+        ensures account { IsErrOf result FreeFault.UnknownAccount ↔
+            (account_number config.now named.now.account ≡ None) }
+    {
+        let stop = built(alloc, config, named)?;
+        let source = Source {
+            address: named.client,
+            port: SOURCE_PORT,
+        };
+        if is_meant(alloc, config, boot, source, &stop)? {
+            Ok(stop)
+        } else {
+            Err(FreeFault::NoSession)
+        }
+    }
+
+    /// Whether one of these links is bound to the session.
+    pub fn ends_one(&self, links: &[SavedLink]) -> bool
+        ensures { result ≡ list_any (is_ended self.now) links.now }
+    {
+        links.iter().any(|link| self.ends(link))
+    }
+
+    /// Whether a link is bound to the session.
+    fn ends(&self, link: &SavedLink) -> bool
+        ensures { result ≡ is_ended self.now link.now }
+    {
+        link.nas.is_same(&self.nas) && is_holder(&self.session, &link.holder)
+    }
+
+    /// The move that it is to the books at a moment, in seconds since 1970.
+    pub fn into_move(self, moment: u64) -> Move
+        ensures { result ≡ moves.Own self.account
+            (record { moment = moment; act = acts.Stop self.nas self.session }) }
+    {
+        let Stop {
+            account,
+            nas,
+            session,
+            octets: _,
+        } = self;
+        Move::Own {
+            account,
+            event: Event {
+                moment,
+                act: Act::Stop { nas, session },
+            },
+        }
+    }
+}
+
+/// Whether a link is bound to a session of this id.
+fn is_holder(session: &Octets, holder: &SavedHolder) -> bool
+    ensures { result ≡ is_holder session.now holder.now }
+{
+    match holder {
+        SavedHolder::Reserved(_) => false,
+        SavedHolder::Bound(id) => id.as_slice() == session.as_slice(),
+    }
+}
+
+/// The Stop of a session, whatever it means.
+fn built(alloc: Global, config: &Config, named: &NamedSession) -> Result<Stop, FreeFault>
+    ensures stop { IfOk result (λ stop. IsStopOf config.now named.now stop) }
+    ensures account { IsErrOf result FreeFault.UnknownAccount ↔
+        (account_number config.now named.now.account ≡ None) }
+{
+    let Some(account) = config.account(named.account.as_slice()) else {
+        return Err(FreeFault::UnknownAccount);
+    };
+    let Some(client) = config.client(named.client) else {
+        return Err(FreeFault::UnknownClient);
+    };
+    let octets = stop_octets(alloc, named, config.client_at(client).secret.expose())?;
+    let nas = Nas {
+        client,
+        name: named.nas.try_copy(alloc)?,
+    };
+    let session = named.session.try_copy(alloc)?;
+    Ok(Stop {
+        account,
+        nas,
+        session,
+        octets,
+    })
+}
+
+/// The octets of a Stop, to a server that shares this secret.
+fn stop_octets(alloc: Global, named: &NamedSession, secret: &[u8]) -> Result<Vec<u8>, FreeFault>
+    ensures octets { IfOk result (λ octets. octets.items ≡ stop_octets named.now secret.now) }
+    ensures known { IsErrOf result FreeFault.UnknownAccount → ⊥ }
+{
+    let status = STOP.to_be_bytes();
+    let name = Attr {
+        kind: USER_NAME,
+        value: named.account.as_slice(),
+    };
+    let status = Attr {
+        kind: ACCT_STATUS_TYPE,
+        value: status.as_slice(),
+    };
+    let session = Attr {
+        kind: ACCT_SESSION_ID,
+        value: named.session.as_slice(),
+    };
+    match &named.nas {
+        NasName::Identifier(identifier) => {
+            let nas = Attr {
+                kind: NAS_IDENTIFIER,
+                value: identifier.as_slice(),
+            };
+            sealed_with(alloc, &[name, status, session, nas], secret)
+        }
+        NasName::Address(address) => {
+            let nas = Attr {
+                kind: NAS_IP_ADDRESS,
+                value: address.as_slice(),
+            };
+            sealed_with(alloc, &[name, status, session, nas], secret)
+        }
+        NasName::Unnamed => sealed_with(alloc, &[name, status, session], secret),
+    }
+}
+
+/// An Accounting-Request with these attributes, to a server that shares this secret.
+#[tactic(auto, unfolding(crate::specs::Stops::request_octets))]
+fn sealed_with(alloc: Global, attributes: &[Attr<'_>], secret: &[u8]) -> Result<Vec<u8>, FreeFault>
+    ensures octets { IfOk result (λ octets.
+        octets.items ≡ request_octets (map seen attributes.now) secret.now) }
+    ensures known { IsErrOf result FreeFault.UnknownAccount → ⊥ }
+{
+    match build(alloc, ACCOUNTING_REQUEST, IDENTIFIER, &[0; 16], attributes) {
+        Ok(octets) => Ok(sealed(octets, &[0; 16], secret)),
+        Err(BuildFault::TooLong) => Err(FreeFault::NoSession),
+        Err(BuildFault::NoMemory) => Err(FreeFault::NoMemory),
+    }
+}
+
+/// Whether the datagram of a Stop means it to the server, where it comes from this source.
+fn is_meant(
+    alloc: Global,
+    config: &Config,
+    boot: u64,
+    source: Source,
+    stop: &Stop,
+) -> Result<bool, NoMemory>
+    ensures { IfOk result (λ is. IsTrue is → MeansStop config.now boot source stop.now) }
+{
+    match prepare(
+        alloc,
+        config,
+        boot,
+        Port::Acct,
+        source,
+        stop.octets.as_slice(),
+    ) {
+        Ok(prepared) => Ok(is_that(&prepared.meaning, stop)),
+        Err(Dropped::NoMemory) => Err(NoMemory),
+        Err(_) => Ok(false),
+    }
+}
+
+/// Whether a meaning is this Stop.
+fn is_that(meaning: &Meaning, stop: &Stop) -> bool
+    ensures { IsTrue result → meaning.now
+        ≡ meanings.Own stop.now.account (acts.Stop stop.now.nas stop.now.session) }
+{
+    match meaning {
+        Meaning::Own {
+            account,
+            act: Act::Stop { nas, session },
+        } => *account == stop.account && nas.is_same(&stop.nas) && *session == stop.session,
+        _ => false,
+    }
+}

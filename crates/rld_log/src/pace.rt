@@ -1,0 +1,21 @@
+use crate::ticks::Ticks;
+
+/// When a sync of a log reaches the disk.
+#[derive(Clone, Copy)]
+pub enum Pace {
+    /// Each time.
+    Always,
+    /// The first time after each tick has begun.
+    Second,
+    /// Only where a kill might undo something.
+    Never,
+}
+
+/// When the logs of a server are synced to the disk.
+#[derive(Clone, Copy)]
+pub struct Pacing<'a> {
+    /// The pace of each of them.
+    pub pace: Pace,
+    /// The ticks of the server.
+    pub ticks: &'a Ticks,
+}

@@ -1,0 +1,52 @@
+-- What waits for its line, and how much of what was refused gets none.
+use Rattle.std.specs.Prelude.{◌≡◌, ◌≢◌, ℕ, ◌+◌, ◌<◌, ◌≤◌, List, [], ◌∷◌, ◌++◌, map}
+use Rattle.rld_counts.specs.Counts.{count_in, counts_of}
+use Rattle.rld_counts.specs.Ends.{number_of}
+use Rattle.rld_counts.specs.Tally.{how_many, kept}
+use Rattle.rld_counts.specs.declared.end.End.{End}
+use Rattle.rld_look.specs.declared.backlog.Noted.{Noted}
+use Rattle.rld_look.specs.declared.backlog.Noted.TheVariants.{Waits, LeftOut, NoMemory}
+use Rattle.rld_look.specs.declared.backlog.TheConstants.{MOST_LINES}
+use Rattle.rld_look.specs.declared.refusal.Refusal.{Refusal}
+
+-- the refusals that wait, the oldest first, and how many of each cause were left out
+pub record BacklogSeen : Type 0 where
+  pub waiting : List Refusal
+  pub left_out : List ℕ
+
+abbrev pub empty_backlog : BacklogSeen
+empty_backlog = record { waiting = []; left_out = counts_of [] }
+
+abbrev pub ends_of : List Refusal → List End
+ends_of refusals = map (λ one. one.end) refusals
+
+-- how many of some ends are this one
+abbrev pub of_cause : End → List End → ℕ
+of_cause end ends = how_many (number_of end) (map number_of ends)
+
+-- how many refusals of a cause wait
+abbrev pub lines_of : End → BacklogSeen → ℕ
+lines_of end backlog = of_cause end (ends_of backlog.waiting)
+
+-- one more ended so, and no other count changed
+abbrev pub IsCounted : End → (old new : List ℕ) → Type 0
+IsCounted end old new =
+    (count_in new end ≡ kept (count_in old end + 1))
+    × ((other : End) → other ≢ end → count_in new other ≡ count_in old other)
+
+-- it is left out, and what waits is as before
+abbrev pub IsLeftOut : End → (old new : BacklogSeen) → Type 0
+IsLeftOut end old new = (new.waiting ≡ old.waiting) × IsCounted end old.left_out new.left_out
+
+-- at most `MOST_LINES` of a cause wait: what comes after them is left out
+abbrev pub IsNoted : Refusal → (old new : BacklogSeen) → Noted → Type 0
+IsNoted refusal old new Waits =
+    (lines_of refusal.end old < MOST_LINES) × (new.waiting ≡ old.waiting ++ refusal ∷ []) × (new.left_out ≡ old.left_out)
+IsNoted refusal old new LeftOut = (MOST_LINES ≤ lines_of refusal.end old) × IsLeftOut refusal.end old new
+IsNoted refusal old new NoMemory = (lines_of refusal.end old < MOST_LINES) × IsLeftOut refusal.end old new
+
+-- of what was noted since it was empty, as much waits as is not left out, of each cause; and of none
+-- too much waits
+pub record HasNoted (ends : List End) (backlog : BacklogSeen) : Type 0 where
+  pub all : (end : End) → kept (of_cause end ends) ≡ kept (lines_of end backlog + count_in backlog.left_out end)
+  pub few : (end : End) → lines_of end backlog ≤ MOST_LINES

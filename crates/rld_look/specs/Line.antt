@@ -1,0 +1,103 @@
+-- The lines of refusals. No value in them has a space or a line feed.
+use Rattle.std.specs.Prelude.{ℕ, ◌==◌, List, [], ◌++◌, codes, if◌then◌else◌, Option, Some, None}
+use Rattle.std.specs.Fmt.{decimal}
+use Rattle.std.specs.List.{flat_map}
+use Rattle.rld_counts.specs.Counts.{count_in}
+use Rattle.rld_counts.specs.Ends.{acct_ends, acct_name, auth_ends, auth_name}
+use Rattle.rld_counts.specs.declared.acct_end.AcctEnd.{AcctEnd}
+use Rattle.rld_counts.specs.declared.auth_end.AuthEnd.{AuthEnd}
+use Rattle.rld_counts.specs.declared.auth_end.AuthEnd.TheVariants as auth
+use Rattle.rld_counts.specs.declared.end.End.{End}
+use Rattle.rld_counts.specs.declared.end.End.TheVariants.{Auth, Acct}
+use Rattle.rld_values.specs.Values.{dotted, escaped, hex}
+use Rattle.rsl_event.specs.declared.event.Source.{Source}
+use Rattle.rsl_event.specs.declared.nas.NasName.{NasName}
+use Rattle.rsl_event.specs.declared.nas.NasName.TheVariants.{Identifier, Address, Unnamed}
+use Rattle.rld_look.specs.declared.line.Places.{Places}
+use Rattle.rld_look.specs.declared.priority.Priority.{Priority}
+use Rattle.rld_look.specs.declared.priority.Priority.TheVariants.{Error, Warning, Notice}
+use Rattle.rld_look.specs.declared.priority.Sink.{Sink}
+use Rattle.rld_look.specs.declared.priority.Sink.TheVariants.{Journal, Plain}
+use Rattle.rld_look.specs.declared.refusal.Refusal.{Refusal}
+
+-- a mark as journald reads it at the front of a line
+abbrev pub mark_of : Sink → Priority → List ℕ
+mark_of Plain priority = []
+mark_of Journal Error = codes "<3>"
+mark_of Journal Warning = codes "<4>"
+mark_of Journal Notice = codes "<5>"
+
+-- rejects are notices, all else is a warning
+abbrev pub priority_of : End → Priority
+priority_of (Auth auth.LimitReject) = Notice
+priority_of (Auth auth.Malformed) = Notice
+priority_of (Auth auth.NotOneName) = Notice
+priority_of (Auth auth.NotOnePassword) = Notice
+priority_of (Auth auth.SeveralChallenges) = Notice
+priority_of (Auth auth.UnknownAccount) = Notice
+priority_of (Auth auth.WrongPassword) = Notice
+priority_of (Auth end) = Warning
+priority_of (Acct end) = Warning
+
+abbrev pub port_of : End → List ℕ
+port_of (Auth end) = codes "auth"
+port_of (Acct end) = codes "acct"
+
+abbrev pub name_of : End → List ℕ
+name_of (Auth end) = auth_name end
+name_of (Acct end) = acct_name end
+
+-- ---- a refusal
+
+unfoldable pub front_words : Sink → End → List ℕ
+front_words sink end = mark_of sink (priority_of end) ++ (codes "refused port=" ++ port_of end)
+
+unfoldable pub source_words : Source → List ℕ
+source_words source = codes " client=" ++ (dotted source.address ++ (codes ":" ++ decimal source.port))
+
+abbrev pub nas_words : NasName → List ℕ
+nas_words (Identifier name) = codes " nas=" ++ escaped name
+nas_words (Address address) = codes " nas-address=" ++ hex address
+nas_words Unnamed = []
+
+abbrev pub account_words : Option (List ℕ) → List ℕ
+account_words None = []
+account_words (Some name) = codes " account=" ++ escaped name
+
+unfoldable pub asker_words : Refusal → List ℕ
+asker_words refusal = nas_words refusal.nas ++ account_words refusal.name
+
+unfoldable pub cause_words : End → List ℕ
+cause_words end = codes " cause=" ++ name_of end
+
+abbrev pub held_words : Option Places → List ℕ
+held_words None = codes "\n"
+held_words (Some places) = codes " held=" ++ (decimal places.held ++ (codes "/" ++ (decimal places.all ++ codes "\n")))
+
+unfoldable pub line_of : Sink → Refusal → Option Places → List ℕ
+line_of sink refusal places =
+    front_words sink refusal.end ++ (source_words refusal.source
+    ++ (asker_words refusal ++ (cause_words refusal.end ++ held_words places)))
+
+-- ---- those that were left out
+
+unfoldable pub number_words : Sink → End → (number : ℕ) → List ℕ
+number_words sink end number = mark_of sink (priority_of end) ++ decimal number
+
+unfoldable pub more_words : End → List ℕ
+more_words end = codes " more refused port=" ++ port_of end
+
+unfoldable pub left_out_line : Sink → End → (number : ℕ) → List ℕ
+left_out_line sink end number = number_words sink end number ++ (more_words end ++ (cause_words end ++ codes "\n"))
+
+abbrev pub left_out_if_any : Sink → End → (number : ℕ) → List ℕ
+left_out_if_any sink end number = if number == 0 then [] else left_out_line sink end number
+
+abbrev pub auth_left_out : Sink → (counts : List ℕ) → List AuthEnd → List ℕ
+auth_left_out sink counts ends = flat_map (λ end. left_out_if_any sink (Auth end) (count_in counts (Auth end))) ends
+
+abbrev pub acct_left_out : Sink → (counts : List ℕ) → List AcctEnd → List ℕ
+acct_left_out sink counts ends = flat_map (λ end. left_out_if_any sink (Acct end) (count_in counts (Acct end))) ends
+
+unfoldable pub left_out_lines : Sink → (counts : List ℕ) → List ℕ
+left_out_lines sink counts = auth_left_out sink counts auth_ends ++ acct_left_out sink counts acct_ends

@@ -1,0 +1,51 @@
+-- Which datagrams are refused, and what an operator learns of one.
+use Rattle.std.specs.Prelude.{ℕ, Bool, true, false, List, [], Result, Ok, Err}
+use Rattle.rld_counts.specs.declared.acct_end.AcctEnd.TheVariants as acct
+use Rattle.rld_counts.specs.declared.auth_end.AuthEnd.TheVariants as auth
+use Rattle.rld_counts.specs.declared.end.End.{End}
+use Rattle.rld_counts.specs.declared.end.End.TheVariants.{Auth, Acct}
+use Rattle.rsl_event.specs.Request.{nas_name_of}
+use Rattle.rsl_event.specs.declared.codes.TheConstants.{NAS_IDENTIFIER, NAS_IP_ADDRESS, USER_NAME}
+use Rattle.rsl_wire.specs.Attributes.{Attribute, attribute_list, first_of}
+use Rattle.rsl_wire.specs.Packet.{Fields, packet_of}
+use Rattle.rsl_wire.specs.declared.packet.WireFault.{WireFault}
+use Rattle.rld_look.specs.declared.refusal.Refusal.{Refusal}
+use Rattle.rld_look.specs.declared.refusal.Refused.{Refused}
+
+-- on the authentication port all but an accept; on the accounting port all that is not answered
+abbrev pub is_refusal : End → Bool
+is_refusal (Auth auth.Accept) = false
+is_refusal (Auth end) = true
+is_refusal (Acct acct.Start) = false
+is_refusal (Acct acct.Stop) = false
+is_refusal (Acct acct.InterimUpdate) = false
+is_refusal (Acct acct.AccountingOn) = false
+is_refusal (Acct acct.AccountingOff) = false
+is_refusal (Acct acct.OtherStatus) = false
+is_refusal (Acct end) = true
+
+-- the attributes that a datagram has, or none where they cannot be read
+abbrev pub attributes_or_none : Result (List Attribute) ℕ → List Attribute
+attributes_or_none (Ok attributes) = attributes
+attributes_or_none (Err at) = []
+
+abbrev pub attributes_by : Result Fields WireFault → List Attribute
+attributes_by (Ok fields) = attributes_or_none (attribute_list fields.attributes)
+attributes_by (Err fault) = []
+
+abbrev pub attributes_of : (octets : List ℕ) → List Attribute
+attributes_of octets = attributes_by (packet_of octets)
+
+-- the refusal of a datagram that has these attributes
+abbrev pub refusal_with : Refused → List Attribute → Refusal
+refusal_with refused attributes = record {
+  moment = refused.moment;
+  source = refused.source;
+  client = refused.client;
+  nas = nas_name_of (first_of NAS_IDENTIFIER attributes) (first_of NAS_IP_ADDRESS attributes);
+  name = first_of USER_NAME attributes;
+  end = refused.end;
+}
+
+abbrev pub refusal_of : Refused → Refusal
+refusal_of refused = refusal_with refused (attributes_of refused.octets.now)

@@ -1,0 +1,243 @@
+//! The lines of refusals.
+
+ghost use Rattle.std.specs.Prelude.{◌≡◌, ◌++◌, OnOk};
+ghost use Rattle.rld_counts.specs.Ends.{acct_ends, auth_ends};
+ghost use Rattle.rld_look.specs.Line.{account_words, acct_left_out, asker_words, auth_left_out, cause_words, front_words, held_words, left_out_if_any, left_out_line, left_out_lines, line_of, more_words, nas_words, number_words, source_words};
+
+use crate::priority::{Priority, Sink, name_of, port_of};
+use crate::refusal::Refusal;
+use rld_counts::{AcctEnd, AuthEnd, Counts, End};
+use rld_values::{push_decimal, push_dotted, push_escaped, push_hex};
+use rsl_event::{NasName, Source};
+use rsl_wire::Octets;
+use std::alloc::{AllocError, Global};
+
+/// How many places an account has, and how many it holds.
+#[derive(Clone, Copy)]
+pub struct Places {
+    /// How many it holds.
+    pub held: u32,
+    /// How many it has.
+    pub all: u32,
+}
+
+impl Refusal {
+    /// Writes the line of the refusal. `places` are those of the account that it names, if there is
+    /// one, when the line is written. It fails only where memory is refused; a part of the line may
+    /// then have been written.
+    #[tactic(auto, unfolding(crate::specs::Line::line_of))]
+    pub fn write_line(
+        &self,
+        alloc: Global,
+        out: &mut Vec<u8>,
+        sink: Sink,
+        places: Option<Places>,
+    ) -> Result<(), AllocError>
+        ensures { OnOk result (out.new.items ≡ out.old.items ++ line_of sink self.now places) }
+    {
+        push_front(out, sink, self.end)?;
+        push_source(alloc, out, self.source)?;
+        push_asker(out, self)?;
+        push_cause(out, self.end)?;
+        push_held(alloc, out, places)
+    }
+}
+
+/// Writes a line for each cause of which some were left out, with their number. It fails only where
+/// memory is refused; a part of the lines may then have been written.
+#[tactic(auto, unfolding(crate::specs::Line::left_out_lines))]
+pub fn write_left_out(
+    alloc: Global,
+    out: &mut Vec<u8>,
+    sink: Sink,
+    left_out: &Counts,
+) -> Result<(), AllocError>
+    ensures { OnOk result (out.new.items ≡ out.old.items ++ left_out_lines sink left_out.now) }
+{
+    push_auth(alloc, out, sink, left_out, &AuthEnd::all())?;
+    push_acct(alloc, out, sink, left_out, &AcctEnd::all())
+}
+
+/// Writes a text.
+fn push_text(out: &mut Vec<u8>, text: &str) -> Result<(), AllocError>
+    ensures { OnOk result (out.new.items ≡ out.old.items ++ text.now) }
+{
+    out.extend_from_slice(text.as_bytes())
+}
+
+/// Writes how a line begins: its mark, and the port.
+#[tactic(auto, unfolding(crate::specs::Line::front_words))]
+fn push_front(out: &mut Vec<u8>, sink: Sink, end: End) -> Result<(), AllocError>
+    ensures { OnOk result (out.new.items ≡ out.old.items ++ front_words sink end) }
+{
+    push_text(out, Priority::of(end).mark(sink))?;
+    push_text(out, "refused port=")?;
+    push_text(out, port_of(end))
+}
+
+/// Writes where a datagram came from.
+#[tactic(auto, unfolding(crate::specs::Line::source_words))]
+fn push_source(alloc: Global, out: &mut Vec<u8>, source: Source) -> Result<(), AllocError>
+    ensures { OnOk result (out.new.items ≡ out.old.items ++ source_words source) }
+{
+    push_text(out, " client=")?;
+    push_dotted(alloc, out, source.address)?;
+    push_text(out, ":")?;
+    push_decimal(alloc, out, u64::from(source.port))
+}
+
+/// Writes who asks, as far as it is known: the access server, and the account.
+#[tactic(auto, unfolding(crate::specs::Line::asker_words))]
+fn push_asker(out: &mut Vec<u8>, refusal: &Refusal) -> Result<(), AllocError>
+    ensures { OnOk result (out.new.items ≡ out.old.items ++ asker_words refusal.now) }
+{
+    push_nas(out, &refusal.nas)?;
+    push_account(out, &refusal.name)
+}
+
+/// Writes what an access server calls itself, if it does.
+fn push_nas(out: &mut Vec<u8>, name: &NasName) -> Result<(), AllocError>
+    ensures { OnOk result (out.new.items ≡ out.old.items ++ nas_words name.now) }
+{
+    match name {
+        NasName::Identifier(name) => {
+            push_text(out, " nas=")?;
+            push_escaped(out, name.as_slice())
+        }
+        NasName::Address(address) => {
+            push_text(out, " nas-address=")?;
+            push_hex(out, address.as_slice())
+        }
+        NasName::Unnamed => Ok(()),
+    }
+}
+
+/// Writes a User-Name, if there is one.
+fn push_account(out: &mut Vec<u8>, name: &Option<Octets>) -> Result<(), AllocError>
+    ensures { OnOk result (out.new.items ≡ out.old.items ++ account_words name.now) }
+{
+    match name {
+        Some(name) => {
+            push_text(out, " account=")?;
+            push_escaped(out, name.as_slice())
+        }
+        None => Ok(()),
+    }
+}
+
+/// Writes the cause.
+#[tactic(auto, unfolding(crate::specs::Line::cause_words))]
+fn push_cause(out: &mut Vec<u8>, end: End) -> Result<(), AllocError>
+    ensures { OnOk result (out.new.items ≡ out.old.items ++ cause_words end) }
+{
+    push_text(out, " cause=")?;
+    push_text(out, name_of(end))
+}
+
+/// Writes how many places are held of all, if they are known, and ends the line.
+fn push_held(alloc: Global, out: &mut Vec<u8>, places: Option<Places>) -> Result<(), AllocError>
+    ensures { OnOk result (out.new.items ≡ out.old.items ++ held_words places) }
+{
+    if let Some(places) = places {
+        push_text(out, " held=")?;
+        push_decimal(alloc, out, u64::from(places.held))?;
+        push_text(out, "/")?;
+        push_decimal(alloc, out, u64::from(places.all))?;
+    }
+    push_text(out, "\n")
+}
+
+/// Writes how many were left out of these causes of the authentication port.
+fn push_auth(
+    alloc: Global,
+    out: &mut Vec<u8>,
+    sink: Sink,
+    left_out: &Counts,
+    ends: &[AuthEnd],
+) -> Result<(), AllocError>
+    ensures { OnOk result
+        (out.new.items ≡ out.old.items ++ auth_left_out sink left_out.now ends.now) }
+{
+    for end in ends {
+        let end = End::Auth(*end);
+        push_if_any(alloc, out, sink, end, left_out.count(end))?;
+    }
+    Ok(())
+}
+
+/// Writes how many were left out of these causes of the accounting port.
+fn push_acct(
+    alloc: Global,
+    out: &mut Vec<u8>,
+    sink: Sink,
+    left_out: &Counts,
+    ends: &[AcctEnd],
+) -> Result<(), AllocError>
+    ensures { OnOk result
+        (out.new.items ≡ out.old.items ++ acct_left_out sink left_out.now ends.now) }
+{
+    for end in ends {
+        let end = End::Acct(*end);
+        push_if_any(alloc, out, sink, end, left_out.count(end))?;
+    }
+    Ok(())
+}
+
+/// Writes how many were left out of a cause, if any were.
+fn push_if_any(
+    alloc: Global,
+    out: &mut Vec<u8>,
+    sink: Sink,
+    end: End,
+    number: u64,
+) -> Result<(), AllocError>
+    ensures { OnOk result
+        (out.new.items ≡ out.old.items ++ left_out_if_any sink end number) }
+{
+    if number == 0 {
+        Ok(())
+    } else {
+        push_left_out(alloc, out, sink, end, number)
+    }
+}
+
+/// Writes how many were left out of a cause.
+#[tactic(auto, unfolding(crate::specs::Line::left_out_line))]
+fn push_left_out(
+    alloc: Global,
+    out: &mut Vec<u8>,
+    sink: Sink,
+    end: End,
+    number: u64,
+) -> Result<(), AllocError>
+    ensures { OnOk result (out.new.items ≡ out.old.items ++ left_out_line sink end number) }
+{
+    push_number(alloc, out, sink, end, number)?;
+    push_more(out, end)?;
+    push_cause(out, end)?;
+    push_text(out, "\n")
+}
+
+/// Writes what the number is of, and the port.
+fn push_more(out: &mut Vec<u8>, end: End) -> Result<(), AllocError>
+    ensures { OnOk result (out.new.items ≡ out.old.items ++ more_words end) }
+{
+    push_text(out, " more refused port=")?;
+    push_text(out, port_of(end))?;
+    Ok(())
+}
+
+/// Writes how a line begins that has the number of a cause: its mark, and the number.
+#[tactic(auto, unfolding(crate::specs::Line::number_words))]
+fn push_number(
+    alloc: Global,
+    out: &mut Vec<u8>,
+    sink: Sink,
+    end: End,
+    number: u64,
+) -> Result<(), AllocError>
+    ensures { OnOk result (out.new.items ≡ out.old.items ++ number_words sink end number) }
+{
+    push_text(out, Priority::of(end).mark(sink))?;
+    push_decimal(alloc, out, number)
+}

@@ -1,0 +1,77 @@
+ghost use Rattle.std.specs.Prelude.{◌≡◌};
+ghost use Rattle.rld_look.specs.Line.{mark_of, name_of, port_of, priority_of};
+
+use rld_counts::{AuthEnd, End};
+
+/// Who reads the lines that a server writes.
+#[derive(Clone, Copy)]
+pub enum Sink {
+    /// systemd's journal, which takes a mark at the front of a line as its priority.
+    Journal,
+    /// A person, a file or another program.
+    Plain,
+}
+
+/// How grave a line is, by the names of RFC 5424 section 6.2.1.
+#[derive(Clone, Copy)]
+pub enum Priority {
+    /// The server does not do its work.
+    Error,
+    /// Something is set up wrongly, or fails.
+    Warning,
+    /// Something that an operator may want to know.
+    Notice,
+}
+
+impl Priority {
+    /// What stands before a line of this priority: a mark that the journal reads, or nothing.
+    pub fn mark(self, sink: Sink) -> &'static str
+        ensures { result.now ≡ mark_of sink self }
+    {
+        match (sink, self) {
+            (Sink::Plain, _) => "",
+            (Sink::Journal, Priority::Error) => "<3>",
+            (Sink::Journal, Priority::Warning) => "<4>",
+            (Sink::Journal, Priority::Notice) => "<5>",
+        }
+    }
+
+    /// The priority of the line of a datagram that ended so. A reject is the business of a
+    /// customer; any other is that of whoever runs the access servers or this server.
+    pub fn of(end: End) -> Priority
+        ensures { result ≡ priority_of end }
+    {
+        match end {
+            End::Auth(
+                AuthEnd::LimitReject
+                | AuthEnd::Malformed
+                | AuthEnd::NotOneName
+                | AuthEnd::NotOnePassword
+                | AuthEnd::SeveralChallenges
+                | AuthEnd::UnknownAccount
+                | AuthEnd::WrongPassword,
+            ) => Priority::Notice,
+            _ => Priority::Warning,
+        }
+    }
+}
+
+/// The word for the port that a datagram came to.
+pub(crate) fn port_of(end: End) -> &'static str
+    ensures { result.now ≡ port_of end }
+{
+    match end {
+        End::Auth(_) => "auth",
+        End::Acct(_) => "acct",
+    }
+}
+
+/// The word for how a datagram ended.
+pub(crate) fn name_of(end: End) -> &'static str
+    ensures { result.now ≡ name_of end }
+{
+    match end {
+        End::Auth(end) => end.name(),
+        End::Acct(end) => end.name(),
+    }
+}

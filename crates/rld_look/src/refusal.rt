@@ -1,0 +1,152 @@
+ghost use Rattle.std.specs.Prelude.{◌≡◌, [], IfOk};
+ghost use Rattle.rsl_event.specs.Occurrences.{value_of};
+ghost use Rattle.rsl_event.specs.Request.{nas_name_of};
+ghost use Rattle.rld_look.specs.Refusal.{is_refusal, refusal_of, refusal_with};
+
+use rld_counts::{AcctEnd, AuthEnd, End};
+use rsl_event::codes::{NAS_IDENTIFIER, NAS_IP_ADDRESS, USER_NAME};
+use rsl_event::{NasName, Source};
+use rsl_wire::{Attrs, NoMemory, Octets, read};
+use std::alloc::Global;
+
+/// A datagram that has ended, as a receiver knows it.
+#[derive(Clone, Copy)]
+pub struct Refused<'a> {
+    /// When it ended, in seconds since 1970.
+    pub moment: u64,
+    /// Where it came from.
+    pub source: Source,
+    /// The number of the client that has this address, if there is one.
+    pub client: Option<u32>,
+    /// Its octets, or none where they are not at hand.
+    pub octets: &'a [u8],
+    /// How it ended.
+    pub end: End,
+}
+
+/// What an operator learns of a datagram that was refused.
+#[derive(Drop)]
+pub struct Refusal {
+    /// When it ended, in seconds since 1970.
+    pub moment: u64,
+    /// Where it came from.
+    pub source: Source,
+    /// The number of the client that has this address, if there is one.
+    pub client: Option<u32>,
+    /// What the access server calls itself: unnamed also where the datagram's attributes cannot be
+    /// read.
+    pub nas: NasName,
+    /// The first User-Name (RFC 2865 section 5.1), if the datagram's attributes can be read and
+    /// there is one.
+    pub name: Option<Octets>,
+    /// How it ended.
+    pub end: End,
+}
+
+impl Refusal {
+    /// The refusal of this datagram. It fails only where memory is refused.
+    pub fn of(alloc: Global, refused: &Refused<'_>) -> Result<Refusal, NoMemory>
+        ensures { IfOk result (λ refusal. refusal ≡ refusal_of refused.now) }
+    {
+        let Ok(packet) = read(refused.octets) else {
+            return Ok(bare(refused));
+        };
+        let Ok(attributes) = packet.attributes() else {
+            return Ok(bare(refused));
+        };
+        named(alloc, refused, &attributes)
+    }
+
+    /// An equal refusal. It fails only where memory is refused.
+    pub fn try_copy(&self, alloc: Global) -> Result<Refusal, NoMemory>
+        ensures { IfOk result (λ copy. copy ≡ self.now) }
+    {
+        Ok(Refusal {
+            moment: self.moment,
+            source: self.source,
+            client: self.client,
+            nas: self.nas.try_copy(alloc)?,
+            name: Octets::try_copy_option(alloc, &self.name)?,
+            end: self.end,
+        })
+    }
+}
+
+/// Whether a datagram that ended so was refused: it came to the authentication port and got no
+/// accept, or it came to the accounting port and got no answer.
+pub fn is_refusal(end: End) -> bool
+    ensures { result ≡ is_refusal end }
+{
+    match end {
+        End::Auth(AuthEnd::Accept) => false,
+        End::Auth(_) => true,
+        End::Acct(
+            AcctEnd::Start
+            | AcctEnd::Stop
+            | AcctEnd::InterimUpdate
+            | AcctEnd::AccountingOn
+            | AcctEnd::AccountingOff
+            | AcctEnd::OtherStatus,
+        ) => false,
+        End::Acct(_) => true,
+    }
+}
+
+/// The refusal of a datagram whose attributes cannot be read.
+fn bare(refused: &Refused<'_>) -> Refusal
+    ensures { result ≡ refusal_with refused.now [] }
+{
+    Refusal {
+        moment: refused.moment,
+        source: refused.source,
+        client: refused.client,
+        nas: NasName::Unnamed,
+        name: None,
+        end: refused.end,
+    }
+}
+
+/// The refusal of a datagram that has these attributes.
+fn named(alloc: Global, refused: &Refused<'_>, attributes: &Attrs<'_>) -> Result<Refusal, NoMemory>
+    ensures { IfOk result (λ refusal. refusal ≡ refusal_with refused.now attributes.now) }
+{
+    Ok(Refusal {
+        moment: refused.moment,
+        source: refused.source,
+        client: refused.client,
+        nas: nas_name(
+            alloc,
+            attributes.first(NAS_IDENTIFIER),
+            attributes.first(NAS_IP_ADDRESS),
+        )?,
+        name: copied(alloc, attributes.first(USER_NAME))?,
+        end: refused.end,
+    })
+}
+
+/// What an access server calls itself: its NAS-Identifier (RFC 2865 section 5.32), else its
+/// NAS-IP-Address (RFC 2865 section 5.4), else nothing.
+fn nas_name(
+    alloc: Global,
+    identifier: Option<&[u8]>,
+    address: Option<&[u8]>,
+) -> Result<NasName, NoMemory>
+    ensures { IfOk result (λ name.
+        name ≡ nas_name_of (value_of identifier.entry) (value_of address.entry)) }
+{
+    Ok(match (identifier, address) {
+        (Some(identifier), _) => NasName::Identifier(Octets::from_slice(alloc, identifier)?),
+        (None, Some(address)) => NasName::Address(Octets::from_slice(alloc, address)?),
+        (None, None) => NasName::Unnamed,
+    })
+}
+
+/// A copy of the octets, if there are any.
+fn copied(alloc: Global, octets: Option<&[u8]>) -> Result<Option<Octets>, NoMemory>
+    ensures { IfOk result (λ copy. copy ≡ value_of octets.entry) }
+{
+    match octets {
+        Some(octets) => Ok(Some(Octets::from_slice(alloc, octets)?)),
+        None => Ok(None),
+    }
+}

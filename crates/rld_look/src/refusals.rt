@@ -1,0 +1,72 @@
+use crate::backlog::{Backlog, Taken};
+use crate::lately::Lately;
+use crate::refusal::{Refusal, Refused, is_refusal};
+use rld_counts::End;
+use rsl_wire::NoMemory;
+use std::alloc::{AllocError, Global};
+use std::sync::{Mutex, Wait};
+
+/// The refusals of a server: what each of its receivers notes, behind a lock of its own, and what was
+/// refused lately, for whoever looks. One worker takes what waits and writes the lines. No lock is held
+/// while a line is written, and no receiver waits for another.
+#[derive(Drop)]
+pub struct Refusals {
+    backlogs: Vec<Mutex<Backlog>>,
+    lately: Mutex<Lately>,
+}
+
+impl Refusals {
+    /// The refusals of `receivers` receivers, none yet. It fails only where memory is refused.
+    pub fn new(alloc: Global, receivers: usize) -> Result<Refusals, AllocError> {
+        let mut backlogs = Vec::new(alloc);
+        for _ in 0..receivers {
+            backlogs.push(Mutex::new(Backlog::new(alloc)))?;
+        }
+        Ok(Refusals {
+            backlogs,
+            lately: Mutex::new(Lately::new(alloc)),
+        })
+    }
+
+    /// Leaves out a datagram that ended so at this receiver, where as many refusals of its cause wait
+    /// there as may, and gives whether it has. A flood of refusals costs a receiver no more.
+    pub fn leave_out<R: Wait>(&self, rt: &R, receiver: usize, end: End) -> bool {
+        match self.backlogs.as_slice().get(receiver) {
+            Some(backlog) => backlog.lock(rt).leave_out(end),
+            None => false,
+        }
+    }
+
+    /// Notes how a datagram ended at this receiver, if it was refused: it waits for its line, or is
+    /// counted as left out.
+    pub fn note<R: Wait>(&self, rt: &R, alloc: Global, receiver: usize, refused: &Refused<'_>) {
+        if !is_refusal(refused.end) {
+            return;
+        }
+        if let Some(backlog) = self.backlogs.as_slice().get(receiver) {
+            let _ = backlog.lock(rt).note(alloc, refused);
+        }
+    }
+
+    /// Takes what waits at all receivers, at most `MOST_LINES` of each cause, and the counts of what was
+    /// left out since it was taken last. Those of one receiver stand together, the oldest first.
+    pub fn take<R: Wait>(&self, rt: &R, alloc: Global) -> Taken {
+        let mut all = Backlog::new(alloc);
+        for backlog in self.backlogs.as_slice() {
+            all.join(backlog.lock(rt).take(alloc));
+        }
+        all.take(alloc)
+    }
+
+    /// Keeps a refusal whose line is written, to be looked at. Where memory is refused it is not
+    /// kept.
+    pub fn keep<R: Wait>(&self, rt: &R, refusal: Refusal) {
+        let _ = self.lately.lock(rt).push(refusal);
+    }
+
+    /// The last refusals that were kept, at most 64, the oldest first. It fails only where memory
+    /// is refused.
+    pub fn lately<R: Wait>(&self, rt: &R, alloc: Global) -> Result<Vec<Refusal>, NoMemory> {
+        self.lately.lock(rt).copies(alloc)
+    }
+}

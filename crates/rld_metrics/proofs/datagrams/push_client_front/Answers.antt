@@ -1,9 +1,0 @@
-use Rattle.rld_metrics.specs.Metrics.{client_front}
-use Rattle.rld_metrics.proofs.Pieces.{written_3}
-use Rattle.rld_metrics.proofs.datagrams.push_client_front.Goals as goal
-
-pub returns : goal.returns
-unfolding client_front
-returns c =
-    written_3 _ _ _ _ _ _ _
-    c.in_ok-push_text.ensures c.in_ok-push_dotted.ensures c.in_ok-push_text-2.ensures

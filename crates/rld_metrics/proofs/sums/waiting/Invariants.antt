@@ -1,6 +1,0 @@
-use Rattle.std.proofs.Common.{◌≡◌, drop}
-use Rattle.rld_metrics.specs.Metrics.{waiting_after}
-use Rattle.rld_metrics.proofs.sums.waiting.Given as goal
-
-abbrev pub invariant-loop-socket : goal.invariant-loop-socket
-invariant-loop-socket l = waiting_after 0 l.sockets ≡ waiting_after l.number (drop l.socket-index l.sockets)

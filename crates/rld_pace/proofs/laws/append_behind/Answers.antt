@@ -1,7 +1,0 @@
-use Rattle.rld_pace.proofs.Steps.{append_on_disk}
-use Rattle.rld_pace.proofs.laws.append_behind.Goals as goal
-
-pub returns : goal.returns
-returns g c = λ told front there.
-    append_on_disk g.L.Log.tears front c.args.octets.now (g.L.Log.seen c.args.log.now) (g.L.Log.seen c.append.new.self)
-    (g.L.Log.may_leave c.args.log.now) (g.L.Log.may_leave c.append.new.self) there (c.append.ensures.front told) (c.append.ensures.crash told)

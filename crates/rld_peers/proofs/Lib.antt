@@ -1,4 +1,0 @@
-pub mod Candidates
-pub mod Giving
-pub mod Joining
-pub mod Seeing

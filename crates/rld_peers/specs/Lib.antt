@@ -1,3 +1,0 @@
-pub mod Batch
-pub mod Peers
-pub mod Ports

@@ -1,5 +1,0 @@
-use Rattle.rld_refusals.proofs.Noting.{noted_empty}
-use Rattle.rld_refusals.proofs.backlog.Backlog.new.Goals as goal
-
-pub returns-clause-noted : goal.returns-clause-noted
-returns-clause-noted c = noted_empty _ _ c.new.ensures.items c.new-3.ensures

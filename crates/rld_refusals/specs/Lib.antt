@@ -1,4 +1,0 @@
-pub mod Refusal
-pub mod Backlog
-pub mod Lately
-pub mod Line

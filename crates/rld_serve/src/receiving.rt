@@ -1,0 +1,104 @@
+//! The workers that take datagrams.
+
+use crate::accounts::Accounts;
+use crate::server::Server;
+use crate::socket_port::SocketPort;
+use crate::status_service::StatusService;
+use rld_edges::{Bound, Readiness, RunFault};
+use rld_start::Generations;
+use rld_turn::{Ending, Receiver, Turn};
+use rld_watch::{WatchContext, Watcher};
+use rsl_event::Port;
+use rsl_port::SystemClock;
+use std::net::Net;
+use std::sync::Wait;
+use std::time;
+
+/// What a receiver has to itself, from turn to turn.
+#[derive(Drop)]
+struct Place<'a, R: Wait + time::Clock> {
+    receiver: Receiver,
+    clock: SystemClock<'a, R>,
+    watcher: Watcher<'a, R>,
+}
+
+/// What comes after a turn on a socket.
+enum Next {
+    /// Another turn at once, since more may wait there.
+    Turn,
+    /// A wait for the socket.
+    Wait,
+}
+
+impl<'a, G, A, R> Server<'a, G, A, R>
+where
+    G: Generations,
+    A: Accounts,
+    R: Net + Eprint + time::Clock + Wait,
+{
+    /// Takes datagrams from a socket, for a port, until the server shall end: each turn by the accounts that
+    /// it has then. Receivers are the first of all jobs, so a receiver has the number of its job.
+    pub(crate) fn receive_all(
+        &self,
+        bound: &Bound,
+        port: Port,
+        number: usize,
+    ) -> Result<(), RunFault> {
+        let mut readiness = Readiness::of(self.rt, self.alloc, &bound.socket)?;
+        let context = WatchContext {
+            board: &self.board,
+            refusals: &self.refusals,
+        };
+        let Some(watcher) = Watcher::new(self.rt, self.alloc, context, number) else {
+            return Ok(());
+        };
+        let mut place = Place {
+            receiver: Receiver::new(self.alloc, port)?,
+            clock: SystemClock::new(self.rt, self.plan.start),
+            watcher,
+        };
+        if !self.has_started()? {
+            return Ok(());
+        }
+        for _ in self.rt.forever() {
+            if self.shutdown.is_over() {
+                break;
+            }
+            match self.take_turn(bound, port, &mut place)? {
+                Next::Turn => {}
+                Next::Wait => readiness.wait()?,
+            }
+        }
+        Ok(())
+    }
+
+    /// Takes a turn on a socket. `Down` comes where the socket failed, and `Unsynced` where nothing more can
+    /// be recorded.
+    fn take_turn(
+        &self,
+        bound: &Bound,
+        port: Port,
+        place: &mut Place<'_, R>,
+    ) -> Result<Next, RunFault> {
+        let current = self.current.read(self.rt);
+        let present = current.present(&self.plan);
+        let status = bound
+            .status_server
+            .then_some(StatusService { present, port });
+        let mut datagrams = SocketPort::new(&bound.socket, self.alloc, status);
+        let mut recorder = self.recorder(Some(current.era));
+        let Turn { ending, .. } = place.receiver.turn(
+            &present,
+            &mut datagrams,
+            &mut recorder,
+            &mut place.clock,
+            &mut place.watcher,
+        );
+        match ending {
+            Ending::Open if datagrams.is_drained() => Ok(Next::Wait),
+            Ending::Open => Ok(Next::Turn),
+            Ending::Down => Err(RunFault::Down),
+            Ending::Ended => Err(RunFault::Unsynced),
+        }
+    }
+}

@@ -1,0 +1,39 @@
+use rld_networks::client_of;
+use rld_status::{STATUS_SERVER, status_answer};
+use rld_turn::Present;
+use rsl_event::Port;
+use std::alloc::Global;
+use std::net::SocketAddr;
+
+/// What answers Status-Server packets that come to a port.
+#[derive(Clone, Copy)]
+pub(crate) struct StatusService<'a> {
+    pub(crate) present: Present<'a>,
+    pub(crate) port: Port,
+}
+
+impl StatusService<'_> {
+    /// The answer to a datagram that came from this peer, if it is a Status-Server packet that is
+    /// answered, and there is memory for an answer.
+    pub(crate) fn answer(
+        &self,
+        alloc: Global,
+        datagram: &[u8],
+        peer: SocketAddr,
+    ) -> Option<Vec<u8>> {
+        match datagram.first() {
+            Some(code) if *code == STATUS_SERVER => {}
+            _ => return None,
+        }
+        let Present {
+            config,
+            networks,
+            ..
+        } = self.present;
+        let client = client_of(networks, peer.ip())?;
+        match status_answer(alloc, config, self.port, client, datagram) {
+            Ok(answer) => answer,
+            Err(_) => None,
+        }
+    }
+}

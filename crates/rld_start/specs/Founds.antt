@@ -1,0 +1,58 @@
+-- Which generation counts, and that a start goes on from it.
+use Rattle.std.specs.Prelude.{◌≡◌, ◌⊎◌, ⊤, List, Option, None, Some, All, Contains}
+use Rattle.std.specs.Option.{option_map}
+use Rattle.rld_folder.specs.Newest.{IsBelow, Precedes}
+use Rattle.rld_folder.specs.declared.name.FileName.{FileName}
+use Rattle.rld_folder.specs.declared.name.FileName.TheVariants.{Lock, Era, Log}
+use Rattle.rld_folder.specs.declared.name.Generation.{Generation}
+use Rattle.rld_start.specs.Numbers.{IsFirstOrNone}
+use Rattle.rld_start.specs.declared.count.Admitted.{Admitted}
+use Rattle.rld_start.specs.declared.count.Found.{Found}
+use Rattle.rld_start.specs.declared.newest.Begun.{Begun as WasBegun}
+use Rattle.rld_start.specs.declared.newest.Look.{Look}
+use Rattle.rld_start.specs.declared.newest.Look.TheVariants.{Begun as begun, Unbegun as unbegun}
+use Rattle.rld_start.specs.declared.newest.Newest.{Newest}
+use Rattle.rld_start.specs.declared.newest.Unbegun.{Unbegun as NotBegun}
+
+-- the log that was looked at is that of a generation
+abbrev pub IsLookAt : Generation → Look → Type 0
+IsLookAt generation (begun found) = found.generation ≡ generation
+IsLookAt generation (unbegun found) = found.generation ≡ generation
+
+-- it was seen that a generation was not begun
+abbrev pub WasPassed : (passed : List NotBegun) → Generation → Type 0
+WasPassed passed generation = Contains passed (record { generation = generation })
+
+-- each log that is not below a limit was passed over
+abbrev pub IsPassed : (limit : Option Generation) → (passed : List NotBegun) → FileName → Type 0
+IsPassed limit passed Lock = ⊤
+IsPassed limit passed (Era era) = ⊤
+IsPassed limit passed (Log generation) = (IsBelow limit generation → ⊥) → WasPassed passed generation
+
+-- each log that is newer than the generation that counts was passed over
+abbrev pub IsNewerPassed : Generation → (passed : List NotBegun) → FileName → Type 0
+IsNewerPassed counts passed Lock = ⊤
+IsNewerPassed counts passed (Era era) = ⊤
+IsNewerPassed counts passed (Log generation) = Precedes counts generation → WasPassed passed generation
+
+-- The generation that counts is among the files, and each newer log was passed over. Where none counts
+-- each log is that of the first generation of its era.
+abbrev pub IsNewestOf : (files : List FileName) → Option WasBegun → (passed : List NotBegun) → Type 0
+IsNewestOf files None passed = All IsFirstOrNone files
+IsNewestOf files (Some found) passed =
+    Contains files (Log found.generation) × All (IsNewerPassed found.generation passed) files
+
+abbrev pub IsNewestBegun : (files : List FileName) → Newest → Type 0
+IsNewestBegun files newest = IsNewestOf files newest.begun newest.passed.items
+
+-- the generation that counts, if one does
+abbrev pub generation_in : Option WasBegun → Option Generation
+generation_in found = option_map (λ (found : WasBegun). found.generation) found
+
+-- What was found is of the generation that counts: a new one of its era goes on from it, or a new era
+-- has taken over what is admitted of its books. Where none counts nothing was found.
+abbrev pub IsFrom : Option Generation → Found → Type 0
+IsFrom None found = (found.generation ≡ 0) × (found.admitted ≡ None)
+IsFrom (Some generation) found =
+    ((found.era ≡ generation.era) × (found.generation ≡ generation.number) × (found.admitted ≡ None))
+    ⊎ (option_map (λ (admitted : Admitted). admitted.from) found.admitted ≡ Some generation)

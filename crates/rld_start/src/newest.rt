@@ -1,0 +1,169 @@
+//! The generation that counts: the newest one that was begun.
+
+ghost use Rattle.std.specs.Prelude.{◌≡◌, ◌↔◌, All, IfOk, IsTrue, OnOk};
+ghost use Rattle.rld_start.specs.Firsts.{IsFirst};
+ghost use Rattle.rld_start.specs.Founds.{IsLookAt, IsNewestBegun, generation_in};
+ghost use Rattle.rld_start.specs.Numbers.{IsFirstOrNone};
+
+use crate::fault::{StartFault, log_fault};
+use crate::files::open_log;
+use crate::first::First;
+use crate::new_era::FIRST;
+use crate::wrong::{Cause, Wrong};
+use rld_folder::{FileName, Folder, Generation, newest_generation};
+use rld_log::{FileLog, Log};
+use rld_spelling::Header;
+use std::alloc::Global;
+use std::fs::{File, Files};
+
+/// A generation that was begun, and its log. Only `look_at` makes one.
+#[derive(Drop)]
+pub(crate) struct Begun {
+    pub(crate) generation: Generation,
+    pub(crate) header: Header,
+    pub(crate) log: FileLog,
+}
+
+/// That the log of a generation was read, and has no whole snapshot: it was not begun. Only `look_at`
+/// makes one.
+#[derive(Drop)]
+pub(crate) struct Unbegun {
+    generation: Generation,
+}
+
+/// What a look at the log of a generation finds.
+#[derive(Drop)]
+enum Look {
+    Begun(Begun),
+    Unbegun(Unbegun),
+}
+
+/// The generation that counts.
+#[derive(Drop)]
+pub(crate) struct Newest {
+    /// The newest one that was begun, if there is one.
+    pub(crate) begun: Option<Begun>,
+    /// Those that were passed over on the way to it.
+    pub(crate) passed: Vec<Unbegun>,
+}
+
+/// The generation that counts, if there is one.
+pub(crate) fn generation_in(begun: &Option<Begun>) -> Option<Generation>
+    ensures { result ≡ generation_in begun.now }
+{
+    match begun {
+        Some(begun) => Some(begun.generation),
+        None => None,
+    }
+}
+
+/// The newest generation that was begun, if there is one. `Alone` of the newest log where there is none
+/// and a log is not that of the first generation of its era.
+#[tactic(auto, using(crate::proofs::Passed::none_passed))]
+pub(crate) fn newest_begun<R: Files<File = File>>(
+    files: &R,
+    alloc: Global,
+    folder: &Folder,
+    names: &[FileName],
+) -> Result<Newest, StartFault>
+    ensures { IfOk result (IsNewestBegun names.now) }
+{
+    let mut passed = Vec::new(alloc);
+    let mut later = None;
+    for _ in 0..names.len() {
+        let Some(generation) = newest_generation(names, later) else {
+            break;
+        };
+        match look_at(files, alloc, folder, generation)? {
+            Look::Begun(begun) => {
+                return Ok(Newest {
+                    begun: Some(begun),
+                    passed,
+                });
+            }
+            Look::Unbegun(unbegun) => match passed.push(unbegun) {
+                Ok(()) => later = Some(generation),
+                Err(_) => return Err(StartFault::NoMemory),
+            },
+        }
+    }
+    check_first(names)?;
+    Ok(Newest {
+        begun: None,
+        passed,
+    })
+}
+
+/// Opens the log of a generation, and looks whether that was begun.
+fn look_at<R: Files<File = File>>(
+    files: &R,
+    alloc: Global,
+    folder: &Folder,
+    generation: Generation,
+) -> Result<Look, StartFault>
+    ensures { IfOk result (IsLookAt generation) }
+{
+    let mut log = open_log(files, alloc, folder, generation)?;
+    match first_in(alloc, generation, &mut log)? {
+        First::Begun(header) => Ok(Look::Begun(Begun {
+            generation,
+            header,
+            log,
+        })),
+        First::Unbegun => Ok(Look::Unbegun(Unbegun { generation })),
+    }
+}
+
+/// What stands at the front of a log.
+fn first_in<L: Log>(alloc: Global, generation: Generation, log: &mut L) -> Result<First, StartFault>
+    ensures { IsTrue (L.tells log.new) → IfOk result (IsFirst (L.seen log.old)) }
+{
+    let file = FileName::Log(generation);
+    let octets = match log.read(alloc) {
+        Ok(octets) => octets,
+        Err(fault) => return Err(log_fault(file, fault)),
+    };
+    match First::of(octets.as_slice()) {
+        Ok(first) => Ok(first),
+        Err(wrong) => Err(StartFault::bad(file, wrong)),
+    }
+}
+
+/// Whether a file is no log, or that of the first generation of an era.
+fn is_first(name: FileName) -> bool
+    ensures { IsTrue result ↔ IsFirstOrNone name }
+{
+    match name {
+        FileName::Log(generation) => generation.number <= FIRST,
+        FileName::Lock | FileName::Era(_) => true,
+    }
+}
+
+/// Whether each log is that of the first generation of its era.
+fn are_first(names: &[FileName]) -> bool
+    ensures { IsTrue result ↔ All IsFirstOrNone names.now }
+{
+    for name in names {
+        if !is_first(*name) {
+            return false;
+        }
+    }
+    true
+}
+
+/// Makes sure that it may be so that no generation was begun: that each log is that of the first one of
+/// its era. `Alone` of the newest log where it may not.
+fn check_first(names: &[FileName]) -> Result<(), StartFault>
+    ensures { OnOk result (All IsFirstOrNone names.now) }
+{
+    match newest_generation(names, None) {
+        Some(newest) if !are_first(names) => {
+            let wrong = Wrong {
+                offset: 0,
+                cause: Cause::Alone,
+            };
+            Err(StartFault::bad(FileName::Log(newest), wrong))
+        }
+        _ => Ok(()),
+    }
+}

@@ -1,0 +1,9 @@
+use Rattle.rld_text.specs.Metrics.{holdings}
+use Rattle.rld_text.proofs.Pieces.{written_4}
+use Rattle.rld_text.proofs.gauges.push_holdings.Goals as goal
+
+pub returns : goal.returns
+unfolding holdings
+returns c =
+    written_4 _ _ _ _ _ _ _ _ _
+    c.in_ok-push_gauge.ensures c.in_ok-push_gauge-2.ensures c.in_ok-push_gauge-3.ensures c.in_ok-push_gauge-4.ensures

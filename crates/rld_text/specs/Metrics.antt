@@ -1,0 +1,189 @@
+-- The metrics of a running server.
+use Rattle.std.specs.Prelude.{ℕ, ◌+◌, ◌^◌, nat_le, List, [], ◌∷◌, ◌++◌, codes, sum, take, if◌then◌else◌}
+use Rattle.std.specs.Fmt.{decimal}
+use Rattle.std.specs.List.{flat_map, range_with_len}
+use Rattle.rld_counts.specs.Counts.{count_in}
+use Rattle.rld_counts.specs.Ends.{acct_ends, acct_name, auth_ends, auth_name}
+use Rattle.rld_counts.specs.Histogram.{Times}
+use Rattle.rld_counts.specs.Tally.{kept}
+use Rattle.rld_counts.specs.declared.acct_end.AcctEnd.{AcctEnd}
+use Rattle.rld_counts.specs.declared.auth_end.AuthEnd.{AuthEnd}
+use Rattle.rld_counts.specs.declared.end.End.TheVariants.{Auth, Acct}
+use Rattle.rld_look.specs.Totals.{plus, totals_of}
+use Rattle.rld_look.specs.declared.build.Build.{Build}
+use Rattle.rld_look.specs.declared.look.AccountLook.{AccountLook}
+use Rattle.rld_look.specs.declared.look.ClientLook.{ClientLook}
+use Rattle.rld_look.specs.declared.look.Look.{Look}
+use Rattle.rld_look.specs.declared.look.Recording.{Recording}
+use Rattle.rld_look.specs.declared.look.Recording.TheVariants.{Recorded, Failing}
+use Rattle.rld_look.specs.declared.look.SocketLook.{SocketLook}
+use Rattle.rld_look.specs.declared.totals.Totals.{Totals}
+use Rattle.rld_values.specs.Values.{dotted}
+use Rattle.rld_text.specs.Build.{proof_word}
+use Rattle.rld_text.specs.Text.{head_of, label, seconds}
+
+-- ---- how the datagrams ended
+
+unfoldable pub datagrams_head : List ℕ
+datagrams_head =
+    head_of (codes "radlimitd_datagrams_total") (codes "counter")
+    (codes "Datagrams taken, by their port and by how they ended.")
+
+unfoldable pub clients_head : List ℕ
+clients_head =
+    head_of (codes "radlimitd_client_datagrams_total") (codes "counter")
+    (codes "Datagrams taken of a client, by their port and by how they ended.")
+
+-- how a line begins: of all datagrams, and of those of a client
+abbrev pub all_front : List ℕ
+all_front = codes "radlimitd_datagrams_total{"
+
+unfoldable pub client_front : (address : List ℕ) → List ℕ
+client_front address = codes "radlimitd_client_datagrams_total{client=\"" ++ (dotted address ++ codes "\",")
+
+-- `number` datagrams of the port `port` ended as `end` says
+unfoldable pub datagrams_line : (front port end : List ℕ) → (number : ℕ) → List ℕ
+datagrams_line front port end number =
+    front ++ (label (codes "port") port
+    ++ (codes "," ++ (label (codes "end") end ++ (codes "} " ++ (decimal number ++ codes "\n")))))
+
+-- the lines of these ends
+abbrev pub auth_lines : (front counts : List ℕ) → List AuthEnd → List ℕ
+auth_lines front counts ends =
+    flat_map (λ end. datagrams_line front (codes "auth") (auth_name end) (count_in counts (Auth end))) ends
+
+abbrev pub acct_lines : (front counts : List ℕ) → List AcctEnd → List ℕ
+acct_lines front counts ends =
+    flat_map (λ end. datagrams_line front (codes "acct") (acct_name end) (count_in counts (Acct end))) ends
+
+-- the lines of all ends
+unfoldable pub ends_lines : (front counts : List ℕ) → List ℕ
+ends_lines front counts = auth_lines front counts auth_ends ++ acct_lines front counts acct_ends
+
+abbrev pub client_lines : ClientLook → List ℕ
+client_lines client = ends_lines (client_front client.address) client.counts
+
+-- how all datagrams ended, and those of each client
+unfoldable pub ends_text : Look → List ℕ
+ends_text look =
+    datagrams_head ++ (ends_lines all_front look.counts ++ (clients_head ++ flat_map client_lines look.clients.items))
+
+-- ---- how long the answers took
+
+unfoldable pub times_head : List ℕ
+times_head =
+    head_of (codes "radlimitd_answer_seconds") (codes "histogram")
+    (codes "From when a datagram was taken to when its answer was sent, by its port.")
+
+-- `number` answers of the port `port` took at most `bound` seconds
+unfoldable pub bucket_line : (port bound : List ℕ) → (number : ℕ) → List ℕ
+bucket_line port bound number =
+    codes "radlimitd_answer_seconds_bucket{" ++ (label (codes "port") port
+    ++ (codes ",le=\"" ++ (bound ++ (codes "\"} " ++ (decimal number ++ codes "\n")))))
+
+-- the answers of a port in all: the sum of what they took, and their number
+unfoldable pub times_end : (port : List ℕ) → (micros number : ℕ) → List ℕ
+times_end port micros number =
+    codes "radlimitd_answer_seconds_sum{" ++ (label (codes "port") port
+    ++ (codes "} " ++ (seconds micros
+    ++ (codes "\nradlimitd_answer_seconds_count{" ++ (label (codes "port") port
+    ++ (codes "} " ++ (decimal number ++ codes "\n")))))))
+
+-- how many times are in a bucket or in one before it
+abbrev pub up_to : Times → (bucket : ℕ) → ℕ
+up_to times bucket = kept (sum (take (bucket + 1) times.buckets))
+
+-- the lines of the first `size` buckets
+unfoldable pub bucket_lines : (port : List ℕ) → Times → (size : ℕ) → List ℕ
+bucket_lines port times size =
+    flat_map (λ bucket. bucket_line port (seconds (2 ^ bucket)) (up_to times bucket)) (range_with_len 0 size)
+
+unfoldable pub times_lines : (port : List ℕ) → Times → List ℕ
+times_lines port times =
+    bucket_lines port times 24
+    ++ (bucket_line port (codes "+Inf") (kept (sum times.buckets))
+    ++ times_end port times.micros (kept (sum times.buckets)))
+
+-- the histograms of both ports
+unfoldable pub times_text : Look → List ℕ
+times_text look =
+    times_head ++ (times_lines (codes "auth") look.auth_times ++ times_lines (codes "acct") look.acct_times)
+
+-- ---- numbers of the whole server
+
+-- a number by itself: a gauge may go up and down, a counter goes up
+unfoldable pub sample : (kind name help : List ℕ) → (number : ℕ) → List ℕ
+sample kind name help number =
+    head_of name kind help ++ (name ++ (codes " " ++ (decimal number ++ codes "\n")))
+
+abbrev pub gauge : (name help : List ℕ) → (number : ℕ) → List ℕ
+gauge = sample (codes "gauge")
+
+-- `number`, and one more for each account of a list that has no free place
+abbrev pub full_after : ℕ → List AccountLook → ℕ
+full_after number [] = number
+full_after number (account ∷ accounts) =
+    full_after (if nat_le account.row.places account.row.held then plus number 1 else number) accounts
+
+-- what all accounts hold, and how many have no free place
+unfoldable pub holdings : Totals → (full : ℕ) → List ℕ
+holdings totals full =
+    gauge (codes "radlimitd_places") (codes "Places of all accounts.") totals.places
+    ++ (gauge (codes "radlimitd_places_held") (codes "Places that are held.") totals.held
+    ++ (gauge (codes "radlimitd_accounts") (codes "Accounts that there are.") totals.accounts
+    ++ gauge (codes "radlimitd_accounts_full") (codes "Accounts that have no free place.") full))
+
+-- 1 where batches are being recorded, else 0
+abbrev pub recording_of : Recording → ℕ
+recording_of Recorded = 1
+recording_of Failing = 0
+
+-- what the server writes, and since when
+unfoldable pub writing : (era generation start recording : ℕ) → List ℕ
+writing era generation start recording =
+    gauge (codes "radlimitd_era") (codes "Number of the era.") era
+    ++ (gauge (codes "radlimitd_generation") (codes "Number of the generation.") generation
+    ++ (gauge (codes "radlimitd_start_time_seconds") (codes "When the server started, in seconds since 1970.") start
+    ++ gauge (codes "radlimitd_recording") (codes "1 where batches are being recorded, else 0.") recording))
+
+-- `number`, and with it the octets that wait at the sockets of a list
+abbrev pub waiting_after : ℕ → List SocketLook → ℕ
+waiting_after number [] = number
+waiting_after number (socket ∷ sockets) = waiting_after (plus number socket.waiting) sockets
+
+-- `number`, and with it the datagrams that were dropped at the sockets of a list
+abbrev pub dropped_after : ℕ → List SocketLook → ℕ
+dropped_after number [] = number
+dropped_after number (socket ∷ sockets) = dropped_after (plus number socket.dropped) sockets
+
+-- what waits at the sockets, and what was dropped there
+unfoldable pub at_sockets : (waiting dropped : ℕ) → List ℕ
+at_sockets waiting dropped =
+    gauge (codes "radlimitd_sockets_waiting_octets") (codes "Octets that wait in the room of the UDP sockets.") waiting
+    ++ sample (codes "counter") (codes "radlimitd_sockets_dropped_total")
+    (codes "Datagrams that the system dropped at the UDP sockets for want of room.") dropped
+
+unfoldable pub numbers_text : Look → List ℕ
+numbers_text look =
+    holdings (totals_of look.accounts.items) (full_after 0 look.accounts.items)
+    ++ (writing look.era look.generation look.start (recording_of look.recording)
+    ++ at_sockets (waiting_after 0 look.sockets.items) (dropped_after 0 look.sockets.items))
+
+-- ---- which program it is
+
+unfoldable pub build_head : List ℕ
+build_head =
+    head_of (codes "radlimitd_build_info") (codes "gauge")
+    (codes "1, with the version that runs, and the commit that it is proved at, or no.")
+
+unfoldable pub build_sample : Build → List ℕ
+build_sample build =
+    codes "radlimitd_build_info{" ++ (label (codes "version") build.version.now
+    ++ (codes ",proved=\"" ++ (proof_word build.proof ++ codes "\"} 1\n")))
+
+unfoldable pub build_text : Build → List ℕ
+build_text build = build_head ++ build_sample build
+
+-- all of them
+unfoldable pub metrics_text : Look → List ℕ
+metrics_text look = build_text look.build ++ (ends_text look ++ (times_text look ++ numbers_text look))

@@ -1,0 +1,109 @@
+-- What a running server says of itself: who it is and whether it records, numbers, a line each, what has happened
+-- lately, and that it is all; or all of that but the times for people as one object of JSON.
+use Rattle.std.specs.Prelude.{◌≡◌, ℕ, List, ◌++◌, codes}
+use Rattle.std.specs.Fmt.{decimal}
+use Rattle.std.specs.List.{flat_map}
+use Rattle.rld_counts.specs.Counts.{count_in}
+use Rattle.rld_counts.specs.Ends.{acct_ends, acct_name, auth_ends, auth_name}
+use Rattle.rld_counts.specs.declared.acct_end.AcctEnd.{AcctEnd}
+use Rattle.rld_counts.specs.declared.auth_end.AuthEnd.{AuthEnd}
+use Rattle.rld_counts.specs.declared.end.End.TheVariants.{Auth, Acct}
+use Rattle.rld_look.specs.Totals.{totals_of}
+use Rattle.rld_look.specs.declared.build.Build.{Build}
+use Rattle.rld_look.specs.declared.look.Look.{Look}
+use Rattle.rld_look.specs.declared.look.Recording.{Recording}
+use Rattle.rld_look.specs.declared.look.Recording.TheVariants.{Recorded, Failing}
+use Rattle.rld_look.specs.declared.totals.Totals.{Totals}
+use Rattle.rld_text.specs.Build.{build_line, proof_word}
+use Rattle.rld_text.specs.Json.{json_string, member_front, number_member, string_member}
+use Rattle.rld_text.specs.Metrics.{dropped_after, full_after, waiting_after}
+use Rattle.rld_text.specs.Words.{number_line}
+
+abbrev pub recording_line : Recording → List ℕ
+recording_line Recorded = codes "recording\n"
+recording_line Failing = codes "NOT RECORDING: the disk is full or fails, or memory is refused\n"
+
+abbrev pub totals_lines : Totals → List ℕ
+totals_lines totals =
+    number_line (codes "accounts") totals.accounts
+    ++ number_line (codes "places") totals.places
+    ++ number_line (codes "held") totals.held
+    ++ number_line (codes "reserved") totals.reserved
+    ++ number_line (codes "live") totals.live
+    ++ number_line (codes "stale") totals.stale
+    ++ number_line (codes "over") totals.over
+
+-- since when, the era, the generation, what all accounts hold, the moves of the generation, and the octets
+-- that the books take
+abbrev pub number_lines : Look → List ℕ
+number_lines look =
+    number_line (codes "since") look.start
+    ++ number_line (codes "era") look.era
+    ++ number_line (codes "generation") look.generation
+    ++ totals_lines (totals_of look.accounts.items)
+    ++ number_line (codes "moves") look.moves
+    ++ number_line (codes "memory") look.memory
+
+-- two parts are for people alone: since when it runs, and what has happened lately
+abbrev pub IsStatus : Look → (text : List ℕ) → Type 0
+IsStatus look text =
+    (started more : List ℕ)
+    × (text ≡ build_line look.build ++ (started ++ (recording_line look.recording ++ (number_lines look ++ (more ++ codes "ok\n")))))
+
+-- ---- as an object
+
+abbrev pub recording_word : Recording → List ℕ
+recording_word Recorded = codes "true"
+recording_word Failing = codes "false"
+
+-- who it is, since when and at which second, and whether it records
+unfoldable pub who_members : Build → (start now : ℕ) → Recording → List ℕ
+who_members build start now recording =
+    codes "{\"version\":" ++ (json_string build.version.now
+    ++ (codes ",\"proved\":\"" ++ (proof_word build.proof
+    ++ (codes "\"" ++ (number_member (codes "start") start
+    ++ (number_member (codes "now") now
+    ++ (member_front (codes "recording") ++ recording_word recording)))))))
+
+unfoldable pub totals_members : Totals → List ℕ
+totals_members totals =
+    number_member (codes "accounts") totals.accounts
+    ++ (number_member (codes "places") totals.places
+    ++ (number_member (codes "held") totals.held
+    ++ (number_member (codes "reserved") totals.reserved
+    ++ (number_member (codes "live") totals.live
+    ++ (number_member (codes "stale") totals.stale ++ number_member (codes "over") totals.over)))))
+
+-- the numbers of the lines, and how many accounts have no free place
+unfoldable pub numbers_members : Look → List ℕ
+numbers_members look =
+    number_member (codes "era") look.era
+    ++ (number_member (codes "generation") look.generation
+    ++ (totals_members (totals_of look.accounts.items)
+    ++ (number_member (codes "full") (full_after 0 look.accounts.items)
+    ++ (number_member (codes "moves") look.moves ++ number_member (codes "memory") look.memory))))
+
+-- how many datagrams of a port ended so
+unfoldable pub end_member : (port end : List ℕ) → (number : ℕ) → List ℕ
+end_member port end number = codes ",\"" ++ (port ++ (codes "_" ++ (end ++ (codes "\":" ++ decimal number))))
+
+abbrev pub auth_members : (counts : List ℕ) → List AuthEnd → List ℕ
+auth_members counts ends =
+    flat_map (λ end. end_member (codes "auth") (auth_name end) (count_in counts (Auth end))) ends
+
+abbrev pub acct_members : (counts : List ℕ) → List AcctEnd → List ℕ
+acct_members counts ends =
+    flat_map (λ end. end_member (codes "acct") (acct_name end) (count_in counts (Acct end))) ends
+
+-- what waits at the sockets, and what was dropped there
+unfoldable pub socket_members : (waiting dropped : ℕ) → List ℕ
+socket_members waiting dropped =
+    number_member (codes "sockets_waiting_octets") waiting ++ number_member (codes "sockets_dropped") dropped
+
+unfoldable pub status_object : Look → List ℕ
+status_object look =
+    who_members look.build look.start look.now look.recording
+    ++ (numbers_members look
+    ++ (auth_members look.counts auth_ends
+    ++ (acct_members look.counts acct_ends
+    ++ (socket_members (waiting_after 0 look.sockets.items) (dropped_after 0 look.sockets.items) ++ codes "}\nok\n"))))

@@ -1,0 +1,36 @@
+//! What a running server shows of itself as text: what it answers at its control, and its metrics as
+//! Prometheus reads them, in its text format, version 0.0.4.
+//!
+//! The promise: what each account holds, and the links of one, are the lines of `specs/Accounts.antt` and
+//! `specs/Links.antt`, in which no name or id can forge a word or a line; the words that name a link's
+//! session are those by which it is freed. A status has the build, whether it records and the numbers of
+//! `specs/Status.antt`; what else is for people in it is shown by tests. What is written of metrics has the
+//! octets of `specs/Metrics.antt`, and nothing else: a value of a label may have any text, and the buckets
+//! of a histogram are cumulative. As JSON each has the octets of the same definitions, over the strings and
+//! members of `specs/Json.antt`.
+#![tactic(auto)]
+
+mod accounts;
+mod build;
+mod columns;
+mod datagrams;
+mod date;
+mod fullest;
+mod gauges;
+mod json;
+mod link_objects;
+mod links;
+mod metrics;
+mod recent;
+mod status;
+mod status_object;
+mod sums;
+mod text;
+mod times;
+mod words;
+
+pub use accounts::accounts_text;
+pub use links::{Holder, links_text};
+pub use metrics::push_metrics;
+pub use status::status_text;
+pub use status_object::status_json;

@@ -1,0 +1,22 @@
+ghost use Rattle.std.specs.Prelude.{◌≡◌, ◌++◌, OnOk};
+ghost use Rattle.rld_text.specs.Metrics.{metrics_text};
+
+use crate::build::push_build_text;
+use crate::datagrams::push_ends_text;
+use crate::gauges::push_numbers;
+use crate::times::push_times_text;
+use rld_look::Look;
+use std::alloc::{AllocError, Global};
+
+/// Writes the metrics of a server that was looked at, after what `out` has, as text of Prometheus'
+/// format, version 0.0.4. It fails only where memory is refused; a part of the text may then have
+/// been written.
+#[tactic(auto, unfolding(crate::specs::Metrics::metrics_text))]
+pub fn push_metrics(alloc: Global, out: &mut Vec<u8>, look: &Look) -> Result<(), AllocError>
+    ensures { OnOk result (out.new.items ≡ out.old.items ++ metrics_text look.entry.now) }
+{
+    push_build_text(out, &look.build)?;
+    push_ends_text(alloc, out, look)?;
+    push_times_text(alloc, out, look)?;
+    push_numbers(alloc, out, look)
+}

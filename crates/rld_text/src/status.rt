@@ -1,0 +1,64 @@
+ghost use Rattle.std.specs.Prelude.{◌≡◌, ◌++◌, IfOk, OnOk};
+ghost use Rattle.rld_text.specs.Status.{IsStatus, number_lines, recording_line, totals_lines};
+
+use crate::build::push_build_line;
+use crate::recent::{recent_text, start_text};
+use crate::text::push_text;
+use crate::words::push_number_line;
+use rld_look::{Look, Recording, Totals};
+use std::alloc::{AllocError, Global};
+
+/// What a server says of itself: who it is and whether it records, numbers, a line each, then what has
+/// happened lately, and the line `ok`, which says that it is all. It fails only where memory is refused.
+pub fn status_text(alloc: Global, look: &Look) -> Result<Vec<u8>, AllocError>
+    ensures { IfOk result (λ text. IsStatus look.entry.now text.items) }
+{
+    let started = start_text(alloc, look)?;
+    let recent = recent_text(alloc, look)?;
+    let mut text = Vec::new(alloc);
+    push_build_line(&mut text, &look.build)?;
+    text.extend_from_slice(started.as_slice())?;
+    push_recording(&mut text, look.recording)?;
+    push_numbers(alloc, &mut text, look)?;
+    text.extend_from_slice(recent.as_slice())?;
+    push_text(&mut text, "ok\n")?;
+    Ok(text)
+}
+
+/// Writes whether batches are being recorded.
+fn push_recording(out: &mut Vec<u8>, recording: Recording) -> Result<(), AllocError>
+    ensures { OnOk result (out.new.items ≡ out.old.items ++ recording_line recording) }
+{
+    match recording {
+        Recording::Recorded => push_text(out, "recording\n"),
+        Recording::Failing => push_text(
+            out,
+            "NOT RECORDING: the disk is full or fails, or memory is refused\n",
+        ),
+    }
+}
+
+/// Writes the numbers.
+fn push_numbers(alloc: Global, out: &mut Vec<u8>, look: &Look) -> Result<(), AllocError>
+    ensures { OnOk result (out.new.items ≡ out.old.items ++ number_lines look.entry.now) }
+{
+    push_number_line(alloc, out, "since", look.start)?;
+    push_number_line(alloc, out, "era", look.era)?;
+    push_number_line(alloc, out, "generation", look.generation)?;
+    push_totals(alloc, out, &look.totals())?;
+    push_number_line(alloc, out, "moves", look.moves)?;
+    push_number_line(alloc, out, "memory", look.memory)
+}
+
+/// Writes what all accounts hold.
+fn push_totals(alloc: Global, out: &mut Vec<u8>, totals: &Totals) -> Result<(), AllocError>
+    ensures { OnOk result (out.new.items ≡ out.old.items ++ totals_lines totals.now) }
+{
+    push_number_line(alloc, out, "accounts", totals.accounts)?;
+    push_number_line(alloc, out, "places", totals.places)?;
+    push_number_line(alloc, out, "held", totals.held)?;
+    push_number_line(alloc, out, "reserved", totals.reserved)?;
+    push_number_line(alloc, out, "live", totals.live)?;
+    push_number_line(alloc, out, "stale", totals.stale)?;
+    push_number_line(alloc, out, "over", totals.over)
+}

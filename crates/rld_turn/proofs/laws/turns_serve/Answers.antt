@@ -1,0 +1,10 @@
+use Rattle.rld_turn.proofs.Serving.{none_served, served_more}
+use Rattle.rld_turn.proofs.laws.turns_serve.Goals as goal
+
+pub returns : goal.returns
+returns g c = record {
+  none = λ service port state. none_served service port state (g.R.Recorder.stands c.args.begun.now);
+  more = λ service port ends old mid new.
+      served_more service port ends old mid new (g.R.Recorder.stands c.args.begun.now) (g.R.Recorder.stands c.args.between.now)
+      (g.R.Recorder.stands c.args.ended.now);
+}

@@ -1,0 +1,34 @@
+use Rattle.std.proofs.Common.{◌≡◌, ◌+◌, length, true}
+use Rattle.std.specs.List.{AllByRecursion}
+use Rattle.std.specs.VecDeque.{deque_capacity}
+use Rattle.rld_turn.proofs.Replying.{AreAnswered}
+use Rattle.rld_turn.specs.Answered.{Batch}
+use Rattle.rld_turn.specs.Counted.{ends_of}
+use Rattle.rld_turn.specs.Ended.{CanEnd}
+use Rattle.rld_turn.specs.Recorded.{decisions_in}
+use Rattle.rld_turn.specs.Present.{service_of}
+use Rattle.rld_turn.proofs.turner.Turner.answer_each.Given as goal
+
+abbrev pub invariant-loop-entry : goal.invariant-loop-entry
+invariant-loop-entry g l = record {
+  capacity : deque_capacity l.queue ≡ deque_capacity l.fn.queue;
+  can : AllByRecursion (CanEnd l.self.present.config.now (decisions_in l.outcome)) l.queue.items;
+  count : ends_of l.ends + length l.queue.items ≡ length l.fn.queue.items;
+  telling : g.P.PeerPort.tells l.datagrams ≡ true → g.P.PeerPort.tells l.fn.datagrams ≡ true;
+  taken : g.P.PeerPort.tells l.datagrams ≡ true
+      → g.P.PeerPort.taken l.datagrams ≡ g.P.PeerPort.taken l.fn.datagrams;
+  room : g.P.PeerPort.tells l.datagrams ≡ true
+      → g.P.PeerPort.room l.datagrams ≡ g.P.PeerPort.room l.fn.datagrams;
+  down : g.P.PeerPort.tells l.datagrams ≡ true
+      → g.P.PeerPort.is_down l.datagrams ≡ g.P.PeerPort.is_down l.fn.datagrams;
+  answered : g.P.PeerPort.tells l.datagrams ≡ true
+      → (batch : Batch (service_of l.self.present) l.self.port
+      (decisions_in l.outcome) l.fn.queue.items)
+      → AreAnswered (service_of l.self.present) l.self.port batch.moment
+      (decisions_in l.outcome) batch.begun batch.taken batch.moves l.queue.items l.ends
+      (g.P.PeerPort.sent l.fn.datagrams) (g.P.PeerPort.sent l.datagrams)
+      (g.W.Watch.told l.fn.watch) (g.W.Watch.told l.watch);
+}
+
+abbrev pub decreases-loop-entry : goal.decreases-loop-entry
+decreases-loop-entry g l = length l.queue.items

@@ -1,0 +1,21 @@
+use Rattle.std.proofs.Common.{◌≡◌, ◌<◌, ◌≤◌, min, length, false, true}
+use Rattle.std.specs.VecDeque.{deque_capacity}
+use Rattle.rld_turn.specs.Entered.{HasGathered}
+use Rattle.rld_turn.specs.Present.{service_of}
+use Rattle.rld_turn.proofs.turner.Turner.gather.Given as goal
+
+abbrev pub invariant-loop : goal.invariant-loop
+invariant-loop g l = record {
+  capacity : deque_capacity l.queue ≡ deque_capacity l.fn.queue;
+  entries : length l.queue.items ≡ l.counter;
+  telling : g.P.PeerPort.tells l.datagrams ≡ true → g.P.PeerPort.tells l.fn.datagrams ≡ true;
+  gathered : HasGathered (service_of l.self.present) l.self.port l.moment
+      (g.P.PeerPort.tells l.datagrams ≡ true)
+      (g.P.PeerPort.taken l.fn.datagrams) (g.P.PeerPort.taken l.datagrams)
+      l.queue.items l.batch.items;
+  sent : g.P.PeerPort.tells l.datagrams ≡ true
+      → g.P.PeerPort.sent l.datagrams ≡ g.P.PeerPort.sent l.fn.datagrams;
+  room : g.P.PeerPort.tells l.datagrams ≡ true
+      → min (g.P.PeerPort.room l.fn.datagrams) (length l.fn.buffer) ≤ g.P.PeerPort.room l.datagrams;
+  down : 0 < l.counter → g.P.PeerPort.tells l.datagrams ≡ true → g.P.PeerPort.is_down l.datagrams ≡ false;
+}

@@ -1,0 +1,56 @@
+use rsl_port::PortFault;
+use rsl_wire::Octets;
+use std::net::SocketAddr;
+
+/// A datagram, with the address and port that it came from or that it goes to.
+#[derive(Drop)]
+pub struct PeerDatagram {
+    /// The other side's address and port.
+    pub peer: SocketAddr,
+    /// What it holds.
+    pub octets: Octets,
+}
+
+/// Where datagrams come from and answers go to, as a UDP socket whose calls do not wait.
+///
+/// A port over memory also reports to contracts which datagrams it gave, which sends were tried, the least
+/// room that a `receive` was given, in octets, and whether the last `receive` failed, as long as `tells` is
+/// true.
+pub trait PeerPort {
+    ghost use Rattle.std.specs.Prelude.{◌≡◌, ◌≤◌, ℕ, min, Bool, true, false, List, [], ◌∷◌, ◌++◌, length, IfOk, IfSome, is_err};
+    ghost use Rattle.rld_turn.specs.Present.{peer_datagram};
+    ghost use Rattle.rld_turn.specs.Received.{taken_by};
+    ghost use Rattle.rld_turn.specs.declared.peer_port.PeerDatagram.{PeerDatagram as OneDatagram};
+
+    ghost tells: { Self → Bool } = { λ _. false };
+
+    ghost taken: { Self → List OneDatagram } = { λ _. [] };
+
+    ghost sent: { Self → List OneDatagram } = { λ _. [] };
+
+    ghost room: { Self → ℕ } = { λ _. 0 };
+
+    ghost is_down: { Self → Bool } = { λ _. false };
+
+    /// Takes a datagram, without waiting for one, and puts its octets at the start of the buffer. Gives
+    /// how many they are, with the peer, or `None` where none is there. A datagram longer than the buffer
+    /// is cut. It fails where the port can give no more, as a socket that the system closed.
+    fn receive(&mut self, buffer: &mut [u8]) -> Result<Option<(usize, SocketAddr)>, PortFault>
+        ensures within { IfOk result (λ received. IfSome received (λ found.
+            found.0 ≤ length buffer.new)) }
+        ensures telling { tells self.new ≡ true → tells self.old ≡ true }
+        ensures taken { tells self.new ≡ true →
+            taken self.new ≡ taken self.old ++ taken_by result buffer.new }
+        ensures sent { tells self.new ≡ true → sent self.new ≡ sent self.old }
+        ensures room { tells self.new ≡ true → room self.new ≡ min (room self.old) (length buffer.old) }
+        ensures down { tells self.new ≡ true → is_down self.new ≡ is_err result };
+
+    /// Sends these octets to a peer. Where it fails, nothing is known to have been sent.
+    fn send(&mut self, octets: &[u8], to: SocketAddr) -> Result<(), PortFault>
+        ensures telling { tells self.new ≡ true → tells self.old ≡ true }
+        ensures taken { tells self.new ≡ true → taken self.new ≡ taken self.old }
+        ensures sent { tells self.new ≡ true →
+            sent self.new ≡ sent self.old ++ peer_datagram to octets.now ∷ [] }
+        ensures room { tells self.new ≡ true → room self.new ≡ room self.old }
+        ensures down { tells self.new ≡ true → is_down self.new ≡ is_down self.old };
+}

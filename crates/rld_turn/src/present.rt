@@ -1,0 +1,36 @@
+ghost use Rattle.std.specs.Prelude.{◌≡◌, None};
+ghost use Rattle.rsl_accounts.specs.Configuration.{client_number};
+
+use crate::unassigned::unassigned_address;
+use rld_networks::Network;
+use rsl_accounts::Config;
+
+/// What a server fixes from one change of its accounts to the next.
+#[derive(Clone, Copy)]
+pub struct Present<'a> {
+    /// The accounts, the clients and the rules.
+    pub config: &'a Config,
+    /// Which addresses stand for which clients.
+    pub networks: &'a [Network],
+    /// The boot number of its Classes.
+    pub boot: u64,
+    /// An address that no client has, as which peers are seen that stand for no client.
+    pub(crate) nobody: [u8; 4],
+    ghost unassigned: { client_number config.now nobody ≡ None },
+}
+
+impl<'a> Present<'a> {
+    /// What these accounts, networks and boot number fix.
+    pub fn new(config: &'a Config, networks: &'a [Network], boot: u64) -> Present<'a>
+        ensures config { result.config.now ≡ config.entry.now }
+        ensures networks { result.networks.now ≡ networks.entry.now }
+        ensures boot { result.boot ≡ boot }
+    {
+        Present {
+            config,
+            networks,
+            boot,
+            nobody: unassigned_address(config),
+        }
+    }
+}

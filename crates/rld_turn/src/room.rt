@@ -1,0 +1,42 @@
+use std::alloc::Global;
+
+/// The memory of a request: for its octets, and for its answer. A receiver keeps it from one request to
+/// the next.
+#[derive(Drop)]
+pub(crate) struct Room {
+    pub(crate) octets: Vec<u8>,
+    pub(crate) reply: Vec<u8>,
+}
+
+/// The rooms that no request has.
+#[derive(Drop)]
+pub(crate) struct Rooms {
+    alloc: Global,
+    free: Vec<Room>,
+}
+
+impl Rooms {
+    /// No rooms.
+    pub(crate) fn new(alloc: Global) -> Rooms {
+        Rooms {
+            alloc,
+            free: Vec::new(alloc),
+        }
+    }
+
+    /// A room of an earlier request, or one that has no memory yet.
+    pub(crate) fn take(&mut self) -> Room {
+        match self.free.pop() {
+            Some(room) => room,
+            None => Room {
+                octets: Vec::new(self.alloc),
+                reply: Vec::new(self.alloc),
+            },
+        }
+    }
+
+    /// Keeps a room for another request. Where there is no memory to note it, it is let go.
+    pub(crate) fn keep(&mut self, room: Room) {
+        let _ = self.free.push(room);
+    }
+}

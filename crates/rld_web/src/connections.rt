@@ -1,0 +1,142 @@
+//! All connections, served from one thread.
+
+use crate::http_connection::{HttpConnection, Turn};
+use crate::page_service::PageService;
+use mio::unix::SourceFd;
+use mio::{Events, Interest, Poll, Token};
+use rld_look::Shown;
+use std::alloc::Global;
+use std::hash::RandomState;
+use std::io;
+use std::net::{Net, TcpListener, TcpStream};
+use std::os::fd::AsRawFd;
+use std::time::Duration;
+
+/// How many connections are served at once.
+const MOST_OPEN: usize = 16;
+
+/// How long a wait takes at most, in milliseconds.
+const WAIT_MILLIS: u64 = 1_000;
+
+/// The name of each socket that is waited for: which one is ready is not asked, since each has its turn.
+const SOCKET: Token = Token(0);
+
+/// All connections, in the order in which they came.
+#[derive(Drop)]
+pub(crate) struct Connections {
+    alloc: Global,
+    keys: RandomState,
+    open: Vec<HttpConnection>,
+    poll: Poll,
+    events: Events,
+    has_more: bool,
+}
+
+impl Connections {
+    /// No connection yet, at a listener whose calls do not wait. The error is the system's: it
+    /// has no room to wait for the listener; or memory is refused.
+    pub(crate) fn new<N: Net>(
+        net: &N,
+        alloc: Global,
+        keys: RandomState,
+        listener: &TcpListener,
+    ) -> io::Result<Connections> {
+        let poll = Poll::new(net)?;
+        let fd = listener.as_raw_fd();
+        poll.registry()
+            .register(&mut SourceFd(&fd), SOCKET, Interest::READABLE)?;
+        Ok(Connections {
+            alloc,
+            keys,
+            open: Vec::with_capacity(alloc, MOST_OPEN)?,
+            poll,
+            events: Events::with_capacity(alloc, MOST_OPEN)?,
+            has_more: true,
+        })
+    }
+
+    /// Waits until something can be done, for at most a second.
+    pub(crate) fn wait(&mut self, now: u64) -> io::Result<()> {
+        let mut wait = WAIT_MILLIS;
+        if let Some(oldest) = self.open.first() {
+            wait = wait.min(oldest.left(now));
+        }
+        if self.has_more {
+            wait = 0;
+        }
+        self.poll
+            .poll(&mut self.events, Some(Duration::from_millis(wait)))
+    }
+
+    /// Takes in the connections that wait at the listener. Where there is no room for one more, the oldest is
+    /// closed: so one that does not finish keeps no other out.
+    pub(crate) fn let_in(&mut self, listener: &TcpListener, now: u64) {
+        self.has_more = false;
+        for _ in 0..MOST_OPEN {
+            let Ok((stream, _)) = listener.accept() else {
+                return;
+            };
+            self.take_in(stream, now);
+        }
+        self.has_more = true;
+    }
+
+    /// Takes in a connection. Where the system refuses it, it is closed.
+    fn take_in(&mut self, stream: TcpStream, now: u64) {
+        let Ok(connection) = HttpConnection::new(self.alloc, self.keys, stream, now) else {
+            return;
+        };
+        let fd = connection.stream().as_raw_fd();
+        let both = Interest::READABLE | Interest::WRITABLE;
+        let registered = self
+            .poll
+            .registry()
+            .register(&mut SourceFd(&fd), SOCKET, both);
+        if registered.is_err() {
+            return;
+        }
+        if self.open.len() >= MOST_OPEN {
+            self.open.remove(0);
+        }
+        let _ = self.open.push(connection);
+    }
+
+    /// Gives each connection a turn, and closes those that are done with or have had their time.
+    pub(crate) fn serve<S: Shown>(&mut self, service: &mut PageService, server: &S, now: u64) {
+        let count = self.open.len();
+        for behind in 0..count {
+            let at = count - 1 - behind;
+            match self.turn(at, service, server, now) {
+                Turn::Waits => {}
+                Turn::GoesOn => self.has_more = true,
+                Turn::Leaves => self.see_out(at),
+            }
+        }
+    }
+
+    /// A turn of a connection.
+    fn turn<S: Shown>(
+        &mut self,
+        at: usize,
+        service: &mut PageService,
+        server: &S,
+        now: u64,
+    ) -> Turn {
+        let Some(connection) = self.open.get_mut(at) else {
+            return Turn::Waits;
+        };
+        if connection.left(now) == 0 {
+            return Turn::Leaves;
+        }
+        service.look_at(server, now);
+        service.turn_to(connection.place());
+        connection.take_turn(service)
+    }
+
+    /// Closes a connection.
+    fn see_out(&mut self, at: usize) {
+        if at < self.open.len() {
+            self.open.remove(at);
+        }
+    }
+}

@@ -1,0 +1,167 @@
+ghost use Rattle.std.specs.Prelude.{◌≡◌, IfOk, OnOk};
+ghost use Rattle.http_server.specs.Response.{IsBlank};
+ghost use Rattle.rld_web.specs.Answer.{Answers, HasAnswered, IsRead, IsRefusedMethod, IsShown, IsTextOf, is_reading, status_of};
+ghost use Rattle.rld_web.specs.Path.{path_of};
+
+use crate::answer::{fill, refuse};
+use crate::path::Path;
+use crate::place::is_asked_for;
+use bytes::Bytes;
+use http::{HeaderValue, Request, StatusCode};
+use http_header::ALLOW;
+use http_server::{Response, Service};
+use rld_look::{Look, Shown};
+use rld_page::{Health, accounts_json, page};
+use rld_text::push_metrics;
+use std::alloc::{AllocError, Global};
+use std::net::SocketAddrV4;
+
+/// For how many milliseconds a look is shown to all who ask.
+const LOOK_MILLIS: u64 = 1_000;
+
+/// Answers requests by a look at the server, which is at most a second old when a request is read.
+#[derive(Drop)]
+pub(crate) struct PageService {
+    alloc: Global,
+    look: Option<Look>,
+    taken: u64,
+    place: SocketAddrV4,
+}
+
+impl PageService {
+    /// A service at this place that has not looked yet.
+    pub(crate) fn new(alloc: Global, place: SocketAddrV4) -> PageService {
+        PageService {
+            alloc,
+            look: None,
+            taken: 0,
+            place,
+        }
+    }
+
+    /// Looks at the server where the last look is a second old, at this moment in milliseconds. Where
+    /// memory for it is refused there is none, and no request is answered.
+    pub(crate) fn look_at<S: Shown>(&mut self, server: &S, now: u64) {
+        if self.look.is_some() && now.saturating_sub(self.taken) < LOOK_MILLIS {
+            return;
+        }
+        self.look = server.take_look().ok();
+        self.taken = now;
+    }
+
+    /// Answers what came to this place from now on.
+    pub(crate) fn turn_to(&mut self, place: SocketAddrV4) {
+        self.place = place;
+    }
+}
+
+impl Service for PageService {
+    ghost answers = { λ old request response new.
+        HasAnswered old.look old.place request response × (new ≡ old) };
+
+    fn call(
+        &mut self,
+        request: &Request<Bytes>,
+        response: &mut Response,
+    ) -> Result<(), AllocError> {
+        let Some(look) = &self.look else {
+            return Err(AllocError);
+        };
+        answer(self.alloc, self.place, look, request, response)?;
+        Ok(())
+    }
+}
+
+/// Answers a request to the server at this place by a look at it.
+fn answer(
+    alloc: Global,
+    place: SocketAddrV4,
+    look: &Look,
+    request: &Request<Bytes>,
+    response: &mut Response,
+) -> Result<(), AllocError>
+    requires { IsBlank response.old }
+    ensures { OnOk result (Answers look.entry.now place request.now response.new) }
+{
+    if is_asked_for(alloc, place, request)? {
+        let method = request.method().as_str();
+        read(alloc, look, method, request.uri().path(), response)
+    } else {
+        let text = "ask for this server by its address or as localhost\n";
+        refuse(response, StatusCode::MISDIRECTED_REQUEST, text)
+    }
+}
+
+/// Answers a method that came to the server's own name.
+fn read(
+    alloc: Global,
+    look: &Look,
+    method: &str,
+    path: &str,
+    response: &mut Response,
+) -> Result<(), AllocError>
+    requires { IsBlank response.old }
+    ensures { OnOk result (IsRead look.entry.now (is_reading method.now) path.now response.new) }
+{
+    if is_reading(method) {
+        show(alloc, look, path, response)
+    } else {
+        refuse_method(response)
+    }
+}
+
+/// Whether a method only reads.
+fn is_reading(method: &str) -> bool
+    ensures { result ≡ is_reading method.now }
+{
+    method == "GET" || method == "HEAD"
+}
+
+/// Answers a method that does not only read.
+fn refuse_method(response: &mut Response) -> Result<(), AllocError>
+    requires { IsBlank response.old }
+    ensures { OnOk result (IsRefusedMethod response.new) }
+{
+    let text = "only GET and HEAD are answered\n";
+    refuse(response, StatusCode::METHOD_NOT_ALLOWED, text)?;
+    response.add_header(ALLOW, HeaderValue::from_static("GET, HEAD"))
+}
+
+/// Shows what a path asks for.
+fn show(alloc: Global, look: &Look, path: &str, response: &mut Response) -> Result<(), AllocError>
+    requires { IsBlank response.old }
+    ensures { OnOk result (IsShown look.entry.now (path_of path.now) response.new) }
+{
+    let Some(path) = Path::of(path) else {
+        return refuse(response, StatusCode::NOT_FOUND, "there is no such page\n");
+    };
+    let text = text_of(alloc, look, path)?;
+    let body = Bytes::from_vec(text)?;
+    fill(response, status_of(look, path), path.media_type(), body)
+}
+
+/// The text of a path.
+fn text_of(alloc: Global, look: &Look, path: Path) -> Result<Vec<u8>, AllocError>
+    ensures { IfOk result (λ text. IsTextOf look.entry.now path text.items) }
+{
+    match path {
+        Path::Page => page(alloc, look),
+        Path::Metrics => {
+            let mut text = Vec::new(alloc);
+            push_metrics(alloc, &mut text, look)?;
+            Ok(text)
+        }
+        Path::Accounts => accounts_json(alloc, look),
+        Path::Health => Vec::from_slice(alloc, Health::of(look.recording).text().as_bytes()),
+    }
+}
+
+/// The status of a path: 200, and 503 for the health of a server that is not well.
+fn status_of(look: &Look, path: Path) -> StatusCode
+    ensures { result ≡ status_of look.entry.now path }
+{
+    match (path, Health::of(look.recording)) {
+        (Path::Health, Health::Failing) => StatusCode::SERVICE_UNAVAILABLE,
+        _ => StatusCode::OK,
+    }
+}

@@ -1,0 +1,32 @@
+-- Details and meanings.
+use Rattle.std.specs.Prelude.{◌≡◌, ◌≢◌, ℕ, List, Option, Some, None, IsSomeAnd, Ok}
+use Rattle.rsl_accounts.specs.Configuration.{Configuration}
+use Rattle.rsl_event.specs.Detail.{detail_of}
+use Rattle.rsl_event.specs.Meaning.{meaning}
+use Rattle.rsl_event.specs.declared.detail.Detail.{Detail}
+use Rattle.rsl_event.specs.declared.detail.Detail.TheVariants.{Asks, Rejected, Accounting}
+use Rattle.rsl_event.specs.declared.detail.RejectCause.{RejectCause}
+use Rattle.rsl_event.specs.declared.detail.RejectCause.TheVariants.{Malformed}
+use Rattle.rsl_event.specs.declared.event.Source.{Source}
+use Rattle.rsl_event.specs.declared.meaning.Meaning.{Meaning}
+use Rattle.rsl_event.specs.declared.meaning.Meaning.TheVariants.{Bare, Reject}
+use Rattle.rsl_event.specs.declared.meaning.Port.TheVariants.{Auth}
+
+-- the cause of a meaning: of a bare reject malformed attributes, of any other another, and else none
+abbrev pub IsCauseOf : Meaning → Option RejectCause → Type 0
+IsCauseOf Bare cause = cause ≡ Some Malformed
+IsCauseOf Reject cause = IsSomeAnd cause (λ named. named ≢ Malformed)
+IsCauseOf _ cause = cause ≡ None
+
+-- the cause that a detail tells
+abbrev pub cause_in : Option Detail → Option RejectCause
+cause_in (Some (Rejected cause)) = Some cause
+cause_in (Some Asks) = None
+cause_in (Some (Accounting status)) = None
+cause_in None = None
+
+abbrev pub CausesAreOfRejects : Type 0
+CausesAreOfRejects =
+    (config : Configuration) (boot : ℕ) (source : Source) (datagram : List ℕ) (meant : Meaning)
+    → meaning config boot Auth source datagram ≡ Ok meant
+    → IsCauseOf meant (cause_in (detail_of config Auth source datagram))
