@@ -11,6 +11,8 @@ from gate import proofs, repository, unproved
 # the crates of the programs, by their names
 CRATES = {"radlimit": "rsl_app", "radlimitd": "radlimitd"}
 LOG = os.path.join(repository.TOP, "out", "prove.log")
+# the variable by which a program hears that it is proved, and at which commit
+PROVED = "RADLIMITD_PROVED"
 NO_RT = "the command `rt` of the Rattle kit is not on the PATH"
 
 
@@ -21,9 +23,10 @@ def say(name, text):
 
 def launch(name, arguments):
     """Runs a program in this one's place."""
-    crate = CRATES[name]
+    crate, environment = CRATES[name], {word: value for word, value in os.environ.items() if word != PROVED}
     if proofs.is_current(crate):
         path = proofs.program(crate)
+        environment[PROVED] = repository.commit()
     elif repository.kit() is None:
         say(name, NO_RT)
         return 1
@@ -34,7 +37,7 @@ def launch(name, arguments):
         except unproved.BuildFault as fault:
             say(name, str(fault))
             return 1
-    os.execv(path, [path, *arguments])
+    os.execve(path, [path, *arguments], environment)
 
 
 class Teller:

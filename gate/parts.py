@@ -23,7 +23,7 @@ SHOWN = re.compile(r"\./radlimit replay < (examples/\S+)\n(?:```.*?```\n)?(.*?)`
 # a report that a document shows by itself, and of each document the worked rows that print them, in their order
 REPORT = re.compile(r"^```\n(name +places .*?)```", re.M | re.S)
 REPORTS = {
-    "docs/OPERATING.md": ["example_access_request"],
+    "docs/RADLIMIT-SERVE.md": ["example_access_request"],
     "docs/SESSION-RULE.md": ["example_sessions", "example_of_a_yield", "example_of_the_longest_silence"],
 }
 ROWS = os.path.join(repository.TESTS, "test_scripts", "data")
@@ -180,9 +180,7 @@ PARTS = {
 
 # the parts that wait as long as an answer takes, the longest first: they run beside one another. Of the others each looks
 # at how soon something is answered or ends, or has all processors to itself
-PATIENT = (
-    "damaged", "package", "launcher", "reload", "unrecorded", "freeradius", "killed-server", "copied", "killed-log",
-)
+PATIENT = ("damaged", "package", "reload", "unrecorded", "freeradius", "killed-server", "copied", "killed-log")
 
 # the parts that an unproved run tries, the longest first. There none looks at how soon an answer comes, and all run beside
 # one another. Each other part takes over a minute on builds that are not proved, since these check each access, and a
@@ -218,7 +216,7 @@ def apart(name, ports, words):
 
 
 def run_together(names, lanes, words):
-    """Parts side by side, so many at once, each by a run of `check` that is given words."""
+    """Parts side by side, on as many lanes as given, each by a run of `check` that is given words."""
     share = len(PORTS) // len(names)
     with ThreadPoolExecutor(lanes) as pool:
         works = [

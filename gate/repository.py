@@ -102,6 +102,19 @@ def kit():
     return subprocess.run(["rt", "version"], check=True, capture_output=True, text=True).stdout.strip()
 
 
+def commit(top=TOP):
+    """The name of the commit that has the sources that are there, or `uncommitted` where none has."""
+
+    def git(*words):
+        run = subprocess.run(["git", *words], cwd=top, capture_output=True, text=True, check=False)
+        return run.stdout.strip() if run.returncode == 0 else None
+
+    if not shutil.which("git") or os.path.realpath(git("rev-parse", "--show-toplevel") or "/") != os.path.realpath(top):
+        return "uncommitted"
+    changed = git("status", "--porcelain", "--", "crates", "crates.txt", "HANDLES")
+    return git("rev-parse", "HEAD") if changed == "" else "uncommitted"
+
+
 def digest(names, top=TOP):
     """A digest of all that programs are built from: their sources, and what stands on what."""
     lists, summed = crates(top), hashlib.sha256()

@@ -15,7 +15,7 @@ TRIED_WITH = {
     "test_packet": ["test_rule"],
     "test_server": ["test_service"],
     "test_library": ["test_store"],
-    "test_turn": ["test_spelling", "test_config", "test_peers", "test_lives"],
+    "test_turn": ["test_spelling", "test_config", "test_status", "test_lives"],
 }
 
 # a constant of a test, and after it the value that it has in a short run

@@ -307,7 +307,7 @@ class Books:
             "accounts": len(self.books), "places": sum(book.places for book in self.books), "held": held,
             "reserved": held - sessions, "live": sessions, "stale": 0, "over": sum(book.over for book in self.books),
         }
-        return "".join(f"{word} {number}\n" for word, number in numbers.items())
+        return "".join(f"{word:10} {number:11}\n" for word, number in numbers.items())
 
 
 def frames(octets):

@@ -15,10 +15,10 @@
 //! Where a call is refused, what is seen of its subject has to be the same as before, or a line says that
 //! it is not; then the call is made again. Where a call has no subject, the work begins anew.
 //!
-//! `bench_memory WORK AHEAD` does one work, and makes so many allocations before it, so that a refusal
-//! of one fixed number can be tried on each of the work's. A last line says which call was refused, or
-//! how many allocations could be made after the work until one was refused. `bench/refused-memory`
-//! runs it.
+//! `bench_memory WORK AHEAD` does one work, and makes AHEAD allocations before it, so that a
+//! refusal of one fixed number can be tried on each of the work's. A last line says which call was
+//! refused, or how many allocations could be made after the work until one was refused.
+//! `bench/refused-memory` runs it.
 #![tactic(auto)]
 
 mod calls;
@@ -57,7 +57,7 @@ const MOST_LEFT: u64 = 100_000;
 const BOOT: u64 = 1;
 
 /// A work.
-#[derive(Clone, Copy, Debug, PartialEq, Eq)]
+#[derive(Clone, Copy, Debug)]
 enum Work {
     Calls,
     Saved,
@@ -103,7 +103,7 @@ fn main(rt: HostRuntime) -> ExitCode {
     }
 }
 
-/// Does what the arguments say: each work, or one behind so many allocations.
+/// Does what the arguments say: each work, or one after `ahead` allocations.
 fn worked<R: AllocGlobal + Env + Input + Print + Wait>(rt: &R) -> Result<(), Stop> {
     let alloc = rt.alloc();
     let asked = asked_of(rt)?;

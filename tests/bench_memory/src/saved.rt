@@ -16,8 +16,8 @@ use std::alloc::Global;
 /// After how many events a book is written: it has a link of a bundle, then a stop, then a swept ask.
 const BOOKS: [usize; 3] = [4, 5, 7];
 
-/// Writes the moves of a script's first account, and its book as it is after so many of them as
-/// `BOOKS` says. Reads all of it again, and tells what it is.
+/// Writes the moves of a script's first account, and its book as it is after each number of them in
+/// `BOOKS`. Reads all of it again, and tells what it is.
 pub(crate) fn tell<R: Print>(page: &mut Page<R>, given: &Given) -> Result<(), Stop> {
     let config = &given.config;
     let counts = Counts {

@@ -249,7 +249,7 @@ fn lines_in(receipts: &[Receipt], shard: u32) -> usize {
         .count()
 }
 
-/// What a call is named that was refused after so many shards.
+/// What a call is named that was refused after `swept` shards.
 fn name_of(step: &Step, swept: u32) -> &'static str {
     match (step, swept) {
         (Step::Datagram { .. }, 0) => "datagram",
@@ -300,7 +300,7 @@ pub(crate) fn is_mixed(
     })
 }
 
-/// Cuts a shard, and puts the segment behind the others.
+/// Cuts a shard, and puts the segment after the others.
 pub(crate) fn cut<L0: Tally, L1: Tally, L2: Tally, L3: Tally, R: Print + Wait>(
     page: &mut Page<R>,
     service: &Service<L0, L1, L2, L3, Open>,

@@ -11,7 +11,7 @@ use std::alloc::{AllocError, AllocFailed};
 use std::io::{self, ErrorKind};
 
 /// Why a work was given up. The process ends with its number.
-#[derive(Clone, Copy, Debug, PartialEq, Eq)]
+#[derive(Clone, Copy, Debug)]
 pub(crate) enum Stop {
     /// The arguments or the script are wrong, or a call failed for another cause than these.
     Failed = 1,

@@ -15,10 +15,10 @@
 //! | `books` | makes new books and keeps them all |
 //!
 //! It prints what the book shows then. `bench_time audit LINES` reads an account file from standard
-//! input and makes the record of its first shard in two segments, of so many lines together, over
-//! the accounts in turn: an ask, the Start of its session, an Interim-Update and a Stop; it audits
-//! the record, and prints the answer. `bench_time record LINES` makes the record alone.
-//! `bench/book` and `bench/audit` run it.
+//! input and makes the record of its first shard in two segments, of LINES lines together, over the
+//! accounts in turn: an ask, the Start of its session, an Interim-Update and a Stop; it audits the
+//! record, and prints the answer. `bench_time record LINES` makes the record alone. `bench/book`
+//! and `bench/audit` run it.
 #![tactic(auto)]
 
 mod events;

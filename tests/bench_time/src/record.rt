@@ -5,7 +5,7 @@ use rsl_shard::{Move, Segment, Shard};
 use rsl_wire::{NoMemory, Octets};
 use std::alloc::Global;
 
-/// The record of the first shard in two segments, of so many lines together.
+/// The record of the first shard in two segments, of `lines` lines together.
 pub(crate) fn record_of(
     alloc: Global,
     config: &Config,

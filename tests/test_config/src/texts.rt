@@ -24,7 +24,7 @@ impl Read for Sevens<'_> {
     }
 }
 
-/// What comes of a text of at most so many octets.
+/// What comes of a text of at most `most` octets.
 fn read(rt: &HostRuntime, octets: &[u8], fails: bool, most: u32) -> Result<Vec<u8>, TextFault> {
     let mut reader = Sevens { octets, fails };
     read_text(rt.alloc(), &mut reader, most)

@@ -1,5 +1,5 @@
-//! What an operator is told of an account file that is right. The fields of a row are its lines
-//! behind those of the head.
+//! What an operator learns of an account file that is right. The fields of a row are its lines
+//! after those of the head.
 
 use crate::server_file::text_of;
 use rld_config::{unknown_client, warnings};
@@ -19,7 +19,7 @@ closed_secs = 3600
 keep_secs = 10
 ";
 
-/// What is told of a file with a mode.
+/// What an operator learns of a file with a mode.
 struct Warned {
     mode: u32,
 }
@@ -81,7 +81,8 @@ places = 1
 ports = 1
 ";
 
-/// What is told of a network of a prefix for a client, or the fault where the client is missing.
+/// What an operator learns of a network of a prefix for a client, or the fault where the client is
+/// missing.
 struct Networked;
 
 impl Subject for Networked {

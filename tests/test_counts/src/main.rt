@@ -3,8 +3,8 @@
 #![tactic(auto)]
 
 use rld_counts::{AcctEnd, AuthEnd, Cell, ClientCounts, Counts, End, Ended, Histogram};
-use rld_look::{AccountLook, ClientLook, Look, Recording, SocketLook};
-use rld_metrics::push_metrics;
+use rld_look::{AccountLook, Build, ClientLook, Look, Proof, Recording, SocketLook};
+use rld_text::push_metrics;
 use rsl_accounts::Text;
 use rsl_shard::Row;
 use std::alloc::{AllocError, Global};
@@ -87,9 +87,9 @@ fn print_client(rt: &HostRuntime, cell: &Cell, client: u32) -> io::Result<()> {
     )
 }
 
-/// Prints what a cell has counted that began to count by client anew, for so many clients, after it had
-/// counted the logins; and what one for CLIENTS clients has to which it is added. Each then took the
-/// accounting.
+/// Prints what a cell has counted that began to count by client anew, for `clients` clients, after
+/// it had counted the logins; and what one for CLIENTS clients has to which it is added. Each then
+/// took the accounting.
 fn print_renewed(rt: &HostRuntime, clients: u32) -> io::Result<()> {
     let mut cell = Cell::new(rt.alloc(), CLIENTS)?;
     note_auth(&mut cell);
@@ -130,11 +130,16 @@ fn print_metrics(
 ) -> io::Result<()> {
     let alloc = rt.alloc();
     let look = Look {
+        build: Build {
+            version: "0.2.0",
+            proof: Proof::Unproved,
+        },
         start: 1_790_000_000,
         now: 1_790_000_060,
         era: 3,
         generation: u64::MAX,
         moves: 12,
+        memory: 0,
         recording: Recording::Recorded,
         counts: all.counts(),
         clients: vec![in alloc;

@@ -1,6 +1,6 @@
 //! Eras: the file of one, and the account files with which it goes on.
 
-use rld_era::{era_file, is_era_file};
+use rld_admit::{era_file, is_era_file};
 use rsl_accounts::Config;
 use std::io;
 

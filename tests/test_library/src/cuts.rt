@@ -1,9 +1,9 @@
 //! Tests of books that are cut to a moment.
 //!
-//! A row has the moments of the first account's book, which are those of its clock, of its link, its
-//! ask and its stop, and behind them the clock of the second account, in another shard; then the
-//! moment that they are cut to. What is expected is the greatest clock before, the moments after, and
-//! how many were cut.
+//! A row has the moments of the first account's book, which are those of its clock, of its link,
+//! its ask and its stop, and after them the clock of the second account, in another shard; then the
+//! moment that they are cut to. What is expected is the greatest clock before, the moments after,
+//! and how many were cut.
 
 use crate::saved::{ask_of, link_of, stop_of};
 use crate::steps::config_and_steps;
@@ -49,7 +49,7 @@ fn full(
     Ok(saved)
 }
 
-/// The moments of a book, one behind the other.
+/// The moments of a book, one after the other.
 fn moments_of(alloc: Global, saved: &SavedBook) -> Result<String, Fail> {
     let mut text = String::new(alloc);
     write!(text, " {}", saved.clock)?;

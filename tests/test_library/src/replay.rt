@@ -374,7 +374,7 @@ impl Read for Endless {
     }
 }
 
-/// A writer that takes up to three octets of each write, and fails once it has so many in all. It
+/// A writer that takes up to three octets of each write, and fails once it has `most` in all. It
 /// passes on what it has at a flush, which can fail.
 #[derive(Drop)]
 struct Threes {
@@ -562,7 +562,7 @@ octets | given | Err(TooLong) [], few octets true
     )
 }
 
-/// A script with `WORD` in it, what stands there, and so many times over: what a replay gives and
+/// A script with `WORD` in it, what stands there, and how many times over: what a replay gives and
 /// prints.
 struct Replayed;
 

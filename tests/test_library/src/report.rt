@@ -64,7 +64,8 @@ const EACH: Row = Row {
     over: 4,
 };
 
-/// A writer that takes so many octets of one write, and fails once it has taken so many in all.
+/// A writer that takes up to `of_one` octets of one write, and fails once it has taken `in_all`
+/// octets.
 #[derive(Drop)]
 struct Limited {
     taken: Vec<u8>,
@@ -185,7 +186,7 @@ fn an_output_is_its_lines_and_then_its_report(rt: HostRuntime) -> Result<(), Fai
     Ok(())
 }
 
-/// The same as `write`, with a configuration that is read for it.
+/// Writes a table as `write` does, with a configuration that is read for it.
 fn write_anew<R: AllocGlobal + Abort>(
     rt: &R,
     rows: &[Row],

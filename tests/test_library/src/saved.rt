@@ -65,7 +65,7 @@ pub(crate) fn link_of(alloc: Global, bundle: &str) -> Result<SavedLink, NoMemory
     })
 }
 
-/// A book with so many asks and stops, and a link for each bundle.
+/// A book with `asks` asks and `stops` stops, and a link for each bundle.
 fn book_of(alloc: Global, asks: u64, stops: u64, bundles: &str) -> Result<SavedBook, NoMemory> {
     let mut saved = SavedBook {
         clock: 5,
@@ -87,7 +87,8 @@ fn book_of(alloc: Global, asks: u64, stops: u64, bundles: &str) -> Result<SavedB
     Ok(saved)
 }
 
-/// What becomes of a saved book of so many asks and stops, and a link for each bundle.
+/// What becomes of a saved book with the number of asks and of stops that a row has, and a link for
+/// each bundle.
 struct PutBack;
 
 impl Subject for PutBack {

@@ -246,7 +246,7 @@ all, one twice \
     )
 }
 
-/// A line with `WORD` in it, what stands there, so many times over, and how many such lines there
+/// A line with `WORD` in it, what stands there, how many times over, and how many such lines there
 /// are: how many clients, accounts and events are read of them.
 struct Counted;
 
@@ -298,7 +298,7 @@ events | ask 0 1.2.3.4 n u p 1 | | 0 | 5000 | (0, 0, 5000)
     )
 }
 
-/// So many ticks that a script of them is nearly as long as one may be.
+/// How many ticks make a script that is nearly as long as one may be.
 const TICKS: usize = 149_000; // quick: 1_000
 
 #[test]

@@ -72,7 +72,7 @@ fn answered(lines: &[Line], answers: &[Recorded]) -> Result<usize, Fail> {
     Ok(count)
 }
 
-/// That a life, which had these lines to answer, answered as they say, and left so many of their
+/// That a life, which had these lines to answer, answered as they say, and left `left` of their
 /// moves in the log: those that it answered, with the batch after them or without.
 fn check_life(lines: &[Line], answers: &[Recorded], left: usize) -> Result<(), Fail> {
     let done = answered(lines, answers)?;
@@ -201,7 +201,7 @@ impl Server {
     }
 }
 
-/// A life of a log that fails after so many calls.
+/// A life of a log that fails after `calls` calls.
 fn short(calls: u64, kept: usize) -> Life {
     Life {
         calls,

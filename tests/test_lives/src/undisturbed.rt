@@ -18,9 +18,10 @@ account = [\n\
 { name = \"b\", password = \"pw\", places = 2, ports = 1 },\n\
 { name = \"c\", password = \"pw\", places = 1, ports = 1 },\n]\n";
 
-/// What comes, with every kind of move, from two access servers, `n` and `m`, at one client. Behind its
-/// name a line has the port, the moment, and a datagram, whose hidden password and authenticator are
-/// those of Python's `hashlib`; or the moment of a tick; or of a restart, and the access server.
+/// What comes, with every kind of move, from two access servers, `n` and `m`, at one client. After
+/// its name a line has the port, the moment, and a datagram, whose hidden password and
+/// authenticator are those of Python's `hashlib`; or the moment of a tick; or of a restart, and the
+/// access server.
 const COMING: &str = "
 a asks at n: auth 0 0101002c01010101010101010101010101010101010361021251c5bcb219e931fc103179dc5ab1205a20036e
 that again: auth 1 0101002c01010101010101010101010101010101010361021251c5bcb219e931fc103179dc5ab1205a20036e

@@ -5,7 +5,7 @@ use std::alloc::{AllocError, Global};
 const WIDTH: usize = 8;
 
 /// The numbers of a log.
-#[derive(Clone, Copy, Debug, PartialEq, Eq)]
+#[derive(Clone, Copy, Debug)]
 pub struct Numbers {
     /// How many there are.
     pub count: u64,
@@ -37,7 +37,7 @@ impl Numbers {
     }
 }
 
-/// The octets of so many numbers, from the first one on.
+/// The octets of `count` numbers, from `first` on.
 pub fn payload_of(alloc: Global, first: u64, count: u64) -> Result<Vec<u8>, AllocError> {
     let mut payload = Vec::new(alloc);
     for step in 0..count {

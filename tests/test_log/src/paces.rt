@@ -1,5 +1,4 @@
 use rld_log::*;
-use rld_pace::*;
 use std::alloc::Global;
 use std::sync::atomic::{AtomicU64, Ordering};
 use std::test::Fail;
@@ -178,8 +177,8 @@ fn live<L: Log>(alloc: Global, log: &mut L) -> u64 {
     3
 }
 
-/// How many records were told in a life in which all calls fail after so many, and how many a kill
-/// leaves.
+/// How many records were told in a life in which all calls fail after the first `calls`, and how
+/// many a kill leaves.
 fn told_and_left(alloc: Global, pace: Pace, calls: u64) -> Result<(u64, usize), Fail> {
     let life = Life {
         calls,

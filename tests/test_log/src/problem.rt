@@ -4,7 +4,7 @@ use std::io;
 use thiserror::Error;
 
 /// Why the program ends with status 1.
-#[derive(Clone, Copy, Debug, PartialEq, Eq, Error)]
+#[derive(Clone, Copy, Debug, Error)]
 pub enum Problem {
     /// The arguments are not the program's.
     #[error("usage: test_log FILE [record|write COUNT SIZE]")]

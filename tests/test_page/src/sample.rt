@@ -1,8 +1,9 @@
 //! Looks at two servers.
 
 use rld_counts::{AcctEnd, AuthEnd, Counts, End, Histogram};
-use rld_look::{AccountLook, ClientLook, Look, Minute, Recording, SocketLook};
-use rld_refusals::Refusal;
+use rld_look::{
+    AccountLook, Build, ClientLook, Look, Minute, Proof, Recording, Refusal, SocketLook,
+};
 use rsl_accounts::Text;
 use rsl_event::{NasName, Source};
 use rsl_shard::Row;
@@ -15,11 +16,16 @@ const NOW: u64 = 1_764_182_907;
 /// A look at a server that has just started, whose batches are not recorded.
 pub(crate) fn idle(alloc: Global) -> Result<Look, NoMemory> {
     Ok(Look {
+        build: Build {
+            version: "0.2.0",
+            proof: Proof::Unproved,
+        },
         start: NOW,
         now: NOW,
         era: 1,
         generation: 1,
         moves: 0,
+        memory: 0,
         recording: Recording::Failing,
         counts: Counts::new(),
         clients: Vec::new(alloc),

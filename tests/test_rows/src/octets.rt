@@ -35,7 +35,7 @@ pub fn octets_of(alloc: Global, text: &str) -> Result<Vec<u8>, Fail> {
     Ok(whole)
 }
 
-/// The first octets, at most so many.
+/// The first octets, at most `len` of them.
 pub fn front(octets: &[u8], len: usize) -> &[u8] {
     &octets[..len.min(octets.len())]
 }

@@ -25,7 +25,7 @@ impl<R: AllocGlobal> Subject for Ticked<'_, R> {
     }
 }
 
-/// What is found after so many ticks.
+/// What is found after `ticks` ticks.
 fn after_ticks(alloc: Global, config: &Config, ticks: u64) -> Result<String, Fail> {
     // A configuration has a shard: this call tells it.
     let mut shard = Shard::new(alloc, config, 0)?;
@@ -43,7 +43,7 @@ fn cut_of(alloc: Global, shard: &mut Shard) -> Result<String, Fail> {
     )
 }
 
-/// Makes so many ticks.
+/// Makes `ticks` ticks.
 fn tick_ready(alloc: Global, shard: &mut Shard, ticks: u64) -> Result<(), Fail> {
     let mut spare = Spare::new(alloc);
     for moment in 0..ticks {

@@ -28,7 +28,7 @@ const MOST_READS: u64 = 8;
 /// How long a read waits, in seconds.
 const WAIT_SECS: u64 = 5;
 
-/// What a client has been told.
+/// What a client has been answered.
 #[derive(Clone, Copy, Debug)]
 pub(crate) struct Answers {
     /// Asks that were accepted.
@@ -97,7 +97,8 @@ impl Side {
         same_of(first, second)
     }
 
-    /// The same of a request that is sent again before its answer is read.
+    /// The answer to a request that is sent again before its answer is read: both answers are the
+    /// same octets.
     fn hastily(&mut self, alloc: Global, request: &[u8]) -> Result<Vec<u8>, Fail> {
         self.send(request)?;
         let first = self.once(alloc, request)?;

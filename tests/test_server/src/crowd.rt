@@ -315,8 +315,8 @@ fn push_client(text: &mut String, tally: Answers, held: u64) -> Result<(), Fail>
     push_printed(text, &(tally.repeats > 4 * ACCOUNTS))
 }
 
-/// Tells how many of so many datagrams a receiver has not received and not answered, and how many
-/// it has dropped, refused and not sent an answer to.
+/// Tells how many of `sent` datagrams a receiver has not received and not answered, and how many it
+/// has dropped, refused and not sent an answer to.
 fn push_counts(text: &mut String, counts: &Counts, sent: u64) -> Result<(), Fail> {
     let told = [
         sent.wrapping_sub(counts.received),
@@ -328,7 +328,7 @@ fn push_counts(text: &mut String, counts: &Counts, sent: u64) -> Result<(), Fail
     push_printed(text, &told)
 }
 
-/// Tells whether the segments have so many lines, and the audit of each shard.
+/// Tells whether the segments have `moves` lines, and the audit of each shard.
 fn push_record(
     text: &mut String,
     alloc: Global,

@@ -8,7 +8,7 @@ use std::alloc::Global;
 use std::test::Fail;
 use test_rows::{Hex, number, octets_of, port_number, printed};
 
-/// So many shards, the client whose datagrams come, and the account of RFC 2865 section 7.1 with
+/// `shards` shards, the client whose datagrams come, and the account of RFC 2865 section 7.1 with
 /// one place.
 pub(crate) fn config_of(alloc: Global, shards: &str) -> Result<Config, Fail> {
     let text = format!(in alloc;

@@ -166,7 +166,7 @@ fn push_prefixes(alloc: Global, coming: &mut Vec<Coming>, packet: &[u8]) -> Resu
     Ok(())
 }
 
-/// Adds a packet with each octet in turn changed to each so many-th value.
+/// Adds a packet with each octet in turn changed to each `step`th value.
 fn push_changes(
     alloc: Global,
     coming: &mut Vec<Coming>,
@@ -256,7 +256,7 @@ a Start with a bundle and a class | acct | changed 1 | 0400003cf96891fcc68449155
     15360, 60, 15300, 0, 0] [0, 0, 60, 20] 60 1
 ";
 
-/// The same with each 51st value.
+/// What comes of packets with each octet in turn changed to each 51st value.
 const SOME_CHANGES: &str = "
 the RFC's request | auth | changed 51 | 010000380f403f9473978057bd83d5cb98f4227a01066e656d6f02120d\
     be708d93d413ce3196e43f782a0aee0406c0a80110050600000003 | [336, 336, 320, 16, 0, 0] [62, 258, \

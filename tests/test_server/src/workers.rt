@@ -46,7 +46,7 @@ impl Clock for Steady {
     }
 }
 
-/// So many pauses after which there is a turn more.
+/// The pauses after which there is a turn more.
 ///
 /// It reports what it said last.
 #[derive(Drop)]
@@ -56,7 +56,7 @@ pub(crate) struct Pauses {
 }
 
 impl Pauses {
-    /// So many pauses that say yes. Those after them say no.
+    /// The first `left` pauses say yes. Those after them say no.
     pub(crate) fn new(left: u64) -> Pauses {
         Pauses {
             left,

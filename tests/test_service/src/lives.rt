@@ -92,7 +92,7 @@ struct Served<L0: Tally, L1: Tally, L2: Tally, L3: Tally> {
 }
 
 impl<L0: Tally, L1: Tally, L2: Tally, L3: Tally> Served<L0, L1, L2, L3> {
-    /// Opens so many passes, unless that fails: how many were opened, and the fault if there is one.
+    /// Opens `many` passes, unless that fails: how many were opened, and the fault if there is one.
     fn told_open<R: Wait>(&mut self, rt: &R, alloc: Global, many: u64) -> Result<String, Fail> {
         for opened in 0..many {
             match self.service.open_pass(rt, alloc) {

@@ -34,7 +34,7 @@ account = [
 ]
 "#;
 
-/// So many shards, and the four accounts with so many places each.
+/// `shards` shards, and the four accounts with `places` places each.
 pub(crate) fn config_of(alloc: Global, shards: &str, places: &str) -> Result<Config, Fail> {
     let text = FILE.replace(alloc, "SHARDS", shards)?;
     let text = text.replace(alloc, "PLACES", places)?;

@@ -29,7 +29,7 @@ struct Flags {
     late: AtomicU64,
 }
 
-/// A gate that holds each call at shard 0 until a call was answered, or for so many turns.
+/// A gate that holds each call at shard 0 until a call was answered, or for `MOST_TURNS` turns.
 #[derive(Drop)]
 struct Holding<'a> {
     flags: &'a Flags,
@@ -72,7 +72,7 @@ fn asked<L0: Tally, L1: Tally, L2: Tally, L3: Tally, G: Gate, R: Wait>(
     }
 }
 
-/// What two callers are told, over ledgers of their own.
+/// What two callers are answered, over ledgers of their own.
 fn two_of<R: Threads + Wait + Sync>(
     rt: &R,
     alloc: Global,
@@ -137,7 +137,7 @@ fn a_held_shard_holds_no_other(rt: HostRuntime) -> Result<(), Fail> {
 /// The names of the accounts.
 const NAMES: [&str; 4] = ["a", "b", "c", "d"];
 
-/// So many asks, over the accounts in turn. No two are of one Request Authenticator.
+/// `many` asks, over the accounts in turn. No two are of one Request Authenticator.
 fn asks(alloc: Global, many: u64) -> Result<Vec<Vec<u8>>, Fail> {
     let mut asks = Vec::new(alloc);
     for number in 0..many {
@@ -164,7 +164,7 @@ fn worked<L0: Tally, L1: Tally, L2: Tally, L3: Tally, R: Wait>(
     Some(pass)
 }
 
-/// Cuts the shards in turn, so many times, unless that fails.
+/// Cuts the shards in turn, `times` times in all, unless that fails.
 fn cuts<L0: Tally, L1: Tally, L2: Tally, L3: Tally, R: Wait>(
     rt: &R,
     alloc: Global,
@@ -189,9 +189,9 @@ const CALLS_UNCUT: u64 = 2_500; // quick: 250
 /// its four shards.
 const CROWD: &str = "(true, \"Ok(())Ok(())Ok(())Ok(())\")";
 
-/// Eight callers on four shards, each with so many asks, and one that cuts so many times: whether
-/// there are as many lines as asks, and the audit of each shard. The audit answers `Ok` only where each
-/// account's decisions are those of `decide` over its own events, in the order of the journal.
+/// Eight callers on four shards, each with `calls` asks, and one that cuts `times` times: whether
+/// there are as many lines as asks, and the audit of each shard. The audit answers `Ok` only where
+/// each account's decisions are those of `decide` over its own events, in the order of the journal.
 fn crowd_of<R: Threads + Wait + Sync>(
     rt: &R,
     alloc: Global,
@@ -313,7 +313,7 @@ fn told_closed<L0: Tally, L1: Tally, L2: Tally, L3: Tally>(
     told_lines(alloc, &closed.segments, asks)
 }
 
-/// The same of segments.
+/// Whether these segments have as many lines as asks, and the audit of each shard.
 fn told_lines(alloc: Global, segments: &[Segment], asks: u64) -> Result<String, Fail> {
     let config = config_of(alloc, "4", "3")?;
     let mut lines = 0u64;

@@ -13,7 +13,7 @@ use test_rows::octets_of;
 /// The books of the snapshot.
 const BOOKS: u64 = 3;
 
-/// Each octet of a book that lived is changed to so many others.
+/// To how many others each octet of a book that lived is changed.
 const CHANGES: u8 = 255; // quick: 3
 
 fn push_books(octets: &mut Vec<u8>, books: &[SavedBook]) -> Result<(), Fail> {
@@ -65,7 +65,7 @@ fn change(octets: &mut Vec<u8>, place: usize, bits: u8) {
 }
 
 /// How many of some changed snapshots were read, and how many were refused.
-#[derive(Clone, Copy, Debug, PartialEq, Eq)]
+#[derive(Clone, Copy, Debug)]
 struct Counted {
     read: u64,
     refused: u64,

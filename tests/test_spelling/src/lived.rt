@@ -54,7 +54,7 @@ fn is_put_back(alloc: Global, book: &Book, saved: &SavedBook) -> Result<bool, Fa
 }
 
 /// What there was in all books, so that none of it was missed.
-#[derive(Clone, Copy, Debug, PartialEq, Eq)]
+#[derive(Clone, Copy, Debug)]
 struct Seen {
     links: u64,
     asks: u64,

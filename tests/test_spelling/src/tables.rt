@@ -180,7 +180,7 @@ fn refused(alloc: Global, era: &Era) -> Result<(Option<SpellFault>, usize), Fail
     Ok((fault, octets.len()))
 }
 
-/// The same of a table whose account is this.
+/// What a table whose account is this is refused for, and how many octets were written.
 fn refused_account(
     alloc: Global,
     name: &[u8],

@@ -6,7 +6,7 @@
 //! `flopsy` holds the session `f1` at 10.0.0.2.
 
 use crate::server::{alive, ask, commit, pacing, stop_of};
-use rld_pace::Ticks;
+use rld_log::Ticks;
 use rld_start::{Started, start};
 use rsl_accounts::Config;
 use rsl_saved::{SavedHolder, SavedLink};
@@ -32,7 +32,7 @@ pub const CHANGES: [&str; 12] = [
 /// The address of the client at which most happens.
 const FIRST: [u8; 4] = [10, 0, 0, 1];
 
-/// That of the other.
+/// The address of the other client.
 const SECOND: [u8; 4] = [10, 0, 0, 2];
 
 /// What comes of sessions as account files change, and as a crash cuts that short.
@@ -97,7 +97,7 @@ pub fn begin_before(rt: &HostRuntime, folder: &str) -> io::Result<()> {
 }
 
 /// What is recorded.
-#[derive(Clone, Copy, Debug, PartialEq, Eq)]
+#[derive(Clone, Copy, Debug)]
 enum Batch {
     /// What comes before each change.
     Before,

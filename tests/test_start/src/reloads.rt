@@ -6,7 +6,7 @@ use crate::rolls::list;
 use crate::server::pacing;
 use rld_config::Archive;
 use rld_folder::{Folder, Generation};
-use rld_pace::{PacedLog, Ticks};
+use rld_log::{PacedLog, Ticks};
 use rld_start::{
     FolderGenerations, Generations, NextEra, Started, admitted_books, generation_named,
     has_same_clients, is_same_era, sessions_in,
@@ -70,13 +70,17 @@ fn begin_era(rt: &HostRuntime, running: Started<'_>, old: &Config, new: &Config)
     } = running;
     let generations = FolderGenerations::new(rt, folder, Archive::Keep);
     let former = generation_named(&header);
-    let (Ok(next), Ok(books)) = (
-        generations.next_era(rt.alloc(), new, boot),
-        admitted_books(rt.alloc(), old, former, store.books(), new),
-    ) else {
+    let Ok(next) = generations.next_era(rt.alloc(), new, boot) else {
         return println!(rt; "no era");
     };
-    let NextEra { header, log } = next;
+    let NextEra {
+        header,
+        log,
+        blanks,
+    } = next;
+    let Ok(books) = admitted_books(rt.alloc(), old, former, store.books(), new, blanks) else {
+        return println!(rt; "no books");
+    };
     let ticks = Ticks::new();
     let log = PacedLog::new(log, pacing(&ticks));
     let Ok(store) = Store::begin_with(rt.alloc(), new, header, books, log) else {

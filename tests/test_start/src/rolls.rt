@@ -4,7 +4,7 @@ use crate::files::copy;
 use crate::running::Running;
 use crate::server::{OURS, login, say};
 use rld_config::Archive;
-use rld_pace::Ticks;
+use rld_log::Ticks;
 use std::fs::{self, File};
 use std::io;
 use std::time::{Duration, UNIX_EPOCH};
@@ -12,7 +12,7 @@ use std::time::{Duration, UNIX_EPOCH};
 /// The folder.
 const FOLDER: &str = "rolled";
 
-/// A second since 1970 at which the logs changed last, as the system is told.
+/// A second since 1970 at which the logs changed last, as the test sets it.
 const CHANGED: u64 = 1_000_000;
 
 /// What comes of generations while a server runs.

@@ -2,8 +2,7 @@
 
 use crate::server::{OURS, pacing, started};
 use rld_config::Archive;
-use rld_log::FileLog;
-use rld_pace::{PacedLog, Pacing, Ticks};
+use rld_log::{FileLog, PacedLog, Pacing, Ticks};
 use rld_spelling::Header;
 use rld_start::{FolderGenerations, Generations, NextLog, Started, next_header};
 use rld_store::Store;
@@ -64,8 +63,8 @@ impl<'a> Running<'a> {
         }
     }
 
-    /// Goes on in the next generation, after so many moves of this one, and says in which. In its log
-    /// these octets stand already.
+    /// Goes on in the next generation, after `moves` moves of this one, and says in which. In its
+    /// log these octets stand already.
     pub fn roll(&mut self, rt: &HostRuntime, moves: u64, octets: &str) -> io::Result<()> {
         let next = match self.generations.next_log(rt.alloc(), self.header.era) {
             Ok(next) => next,

@@ -1,7 +1,6 @@
 //! A server that is started and answers a request.
 
-use rld_log::frame_of;
-use rld_pace::{Pace, Pacing, Ticks};
+use rld_log::{Pace, Pacing, Ticks, frame_of};
 use rld_start::{StartFault, Started, rebase, start};
 use rsl_accounts::Config;
 use rsl_event::{Act, Event, Key, Nas, NasName, Note, Source};
@@ -275,7 +274,7 @@ pub fn record(rt: &HostRuntime, folder: &str, moves: Vec<Move>, now: u64) -> io:
     }
 }
 
-/// The same of two batches in one log.
+/// Starts a server that records two batches of moves in one log, and says what it decided.
 pub fn record_both(
     rt: &HostRuntime,
     folder: &str,

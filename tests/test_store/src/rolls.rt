@@ -87,7 +87,7 @@ fn fail_to_roll<R: Abort + AllocGlobal>(
     commit_one(rt, store, ask(0, 1), Decision::Accept(0))
 }
 
-/// The next log, whose calls fail after so many, where a roll has failed.
+/// The next log, whose calls fail after the first `calls`, where a roll has failed.
 fn unrolled(alloc: Global, store: &mut Store<MemoryLog>, calls: u64) -> Result<MemoryLog, Fail> {
     let life = Life {
         calls,

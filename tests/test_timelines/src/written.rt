@@ -30,7 +30,7 @@ pub fn push_octets(
     push_value(text, before, &octets.as_slice(), after)
 }
 
-/// The same of octets that need not be there.
+/// Adds the numbers of octets that need not be there, with what stands before and after them.
 pub fn push_option(
     text: &mut String,
     before: &str,

@@ -1,14 +1,18 @@
 //! What comes to a port and what is sent from it, as words.
 
+use rld_networks::{Network, prefix_of};
+use rld_turn::{Arrival, PeerDatagram};
 use rsl_accounts::Config;
-use rsl_event::Source;
-use rsl_port::{Coming, Datagram};
 use rsl_wire::Octets;
 use std::alloc::Global;
+use std::net::{IpAddr, SocketAddr};
 use std::test::Fail;
 use test_rows::{Hex, number, octets_of, port_number, printed};
 
-/// So many shards, the client whose datagrams come, and the account of RFC 2865 section 7.1 with
+/// The client whose datagrams come.
+const CLIENT: [u8; 4] = [192, 168, 1, 16];
+
+/// `shards` shards, the client whose datagrams come, and the account of RFC 2865 section 7.1 with
 /// one place.
 pub(crate) fn config_of(alloc: Global, shards: &str) -> Result<Config, Fail> {
     let text = format!(in alloc;
@@ -18,6 +22,21 @@ pub(crate) fn config_of(alloc: Global, shards: &str) -> Result<Config, Fail> {
          account = [{{ name = \"nemo\", password = \"arctangent\", places = 1, ports = 1 }}]\n"
     )?;
     Ok(Config::read(alloc, text.as_bytes())?)
+}
+
+/// The networks that stand for the client.
+pub(crate) fn networks_of(alloc: Global) -> Result<Vec<Network>, Fail> {
+    let mut networks = Vec::new(alloc);
+    for text in ["2001:db8:7::/64", "192.0.2.0/24"] {
+        let Some(prefix) = prefix_of(text.as_bytes()) else {
+            return Err("no prefix")?;
+        };
+        networks.push(Network {
+            prefix,
+            client: CLIENT,
+        })?;
+    }
+    Ok(networks)
 }
 
 /// The octets of a datagram that comes. `ask` is the request of RFC 2865 section 7.1, of which
@@ -72,39 +91,56 @@ fn reply_of(digits: &str) -> &str {
     }
 }
 
-/// Adds what was handed to be sent, and to which port.
-pub(crate) fn push_sent(text: &mut String, alloc: Global, sent: &[Datagram]) -> Result<(), Fail> {
+/// Adds what was handed to be sent, and to which port of the client, or to which other peer.
+pub(crate) fn push_sent(
+    text: &mut String,
+    alloc: Global,
+    sent: &[PeerDatagram],
+) -> Result<(), Fail> {
     for datagram in sent {
         let digits = printed(alloc, &Hex(datagram.octets.as_slice()))?;
         let reply = reply_of(digits.as_str());
-        let port = datagram.source.port;
-        write!(text, " {reply} to {port},")?;
+        let peer = datagram.peer;
+        if peer.ip() == IpAddr::from(CLIENT) {
+            write!(text, " {reply} to {},", peer.port())?;
+        } else {
+            write!(text, " {reply} to {peer},")?;
+        }
     }
     Ok(())
 }
 
-/// The datagram of a word, from port 1024 of the client, or from the port after `:`.
-fn datagram_of(alloc: Global, word: &str) -> Result<Datagram, Fail> {
+/// Where the datagram of a word comes from, and what it is: from port 1024 of the client, from the port after
+/// `:`, or from port 1024 of the address after `@`.
+fn peer_of(word: &str) -> Result<(&str, SocketAddr), Fail> {
+    if let Some((word, address)) = word.split_once('@') {
+        return Ok((word, SocketAddr::new(address.parse::<IpAddr>()?, 1024)));
+    }
     let (word, port) = word.split_once(':').unwrap_or((word, "1024"));
-    let source = Source {
-        address: [192, 168, 1, 16],
-        port: port_number(port)?,
-    };
+    Ok((
+        word,
+        SocketAddr::new(IpAddr::from(CLIENT), port_number(port)?),
+    ))
+}
+
+/// The datagram of a word.
+fn datagram_of(alloc: Global, word: &str) -> Result<PeerDatagram, Fail> {
+    let (word, peer) = peer_of(word)?;
     let octets = Octets::from_slice(alloc, &octets_of(alloc, digits_of(word)?)?)?;
-    Ok(Datagram { source, octets })
+    Ok(PeerDatagram { peer, octets })
 }
 
 /// What comes, of a word.
-fn one_coming(alloc: Global, word: &str) -> Result<Coming, Fail> {
+fn one_coming(alloc: Global, word: &str) -> Result<Arrival, Fail> {
     match word {
-        "nothing" => Ok(Coming::Nothing),
-        "fault" => Ok(Coming::Fault),
-        _ => Ok(Coming::Datagram(datagram_of(alloc, word)?)),
+        "nothing" => Ok(Arrival::Nothing),
+        "fault" => Ok(Arrival::Fault),
+        _ => Ok(Arrival::Datagram(datagram_of(alloc, word)?)),
     }
 }
 
 /// What comes, of words: each once, or as often as the number after `*` says.
-pub(crate) fn coming_of(alloc: Global, words: &str) -> Result<Vec<Coming>, Fail> {
+pub(crate) fn coming_of(alloc: Global, words: &str) -> Result<Vec<Arrival>, Fail> {
     let mut coming = Vec::new(alloc);
     for word in words.split_ascii_whitespace() {
         let (word, times) = word.split_once('*').unwrap_or((word, "1"));

@@ -5,9 +5,10 @@ use crate::disk::store_of;
 use crate::turns::{Scene, port_of, scene_of, served};
 use rld_counts::{AcctEnd, AuthEnd, Cell, Counts, End};
 use rld_log::MemoryLog;
-use rld_refusals::Refusals;
+use rld_look::Refusals;
 use rld_store::Store;
-use rld_watch::{Board, Desk, Watcher};
+use rld_watch::{Board, WatchContext, Watcher, cell_of};
+use rsl_accounts::Config;
 use rsl_event::Port;
 use std::alloc::Global;
 use std::sync::Wait;
@@ -29,22 +30,20 @@ impl<R: Wait + Clock> Subject for Counted<'_, R> {
         let port = port_of(scene.port)?;
         let board = Board::new(alloc, config.clients(), &[port])?;
         let refusals = Refusals::new(alloc, 1)?;
-        let desk = Desk {
-            config: &config,
+        let context = WatchContext {
             board: &board,
             refusals: &refusals,
         };
-        let Some(mut watcher) = Watcher::new(self.rt, alloc, desk, 0) else {
+        let Some(mut watcher) = Watcher::new(self.rt, alloc, context, 0) else {
             return Err("no place")?;
         };
         let mut counts = String::new(alloc);
         served(alloc, &config, scene, &mut store, &mut watcher, &mut counts)?;
+        let clients = config.clients();
+        let readings = board.read(self.rt, alloc, clients)?;
+        let cell = cell_of(alloc, readings.as_slice(), port, clients)?;
         let mut text = String::new(alloc);
-        push_cell(
-            &mut text,
-            &board.cell(self.rt, alloc, port, config.clients())?,
-            port,
-        )?;
+        push_cell(&mut text, &cell, port)?;
         Ok(text)
     }
 }
@@ -67,16 +66,17 @@ impl<R: Wait + Clock> Subject for Renewed<'_, R> {
         let port = port_of(scene.port)?;
         let board = Board::new(alloc, config.clients(), &[port, port])?;
         let refusals = Refusals::new(alloc, 2)?;
-        let desk = Desk {
-            config: &config,
+        let context = WatchContext {
             board: &board,
             refusals: &refusals,
         };
-        served_by_two(self.rt, alloc, desk, scene, &mut store)?;
+        served_by_two(self.rt, alloc, &config, context, scene, &mut store)?;
         let counts = board.counts_for(alloc, short_number(clients)?)?;
         board.renew(self.rt, counts);
-        served_by_two(self.rt, alloc, desk, scene, &mut store)?;
-        let cell = board.cell(self.rt, alloc, port, short_number(looked)?)?;
+        served_by_two(self.rt, alloc, &config, context, scene, &mut store)?;
+        let looked = short_number(looked)?;
+        let readings = board.read(self.rt, alloc, looked)?;
+        let cell = cell_of(alloc, readings.as_slice(), port, looked)?;
         let mut text = String::new(alloc);
         push_cell(&mut text, &cell, port)?;
         Ok(text)
@@ -87,16 +87,17 @@ impl<R: Wait + Clock> Subject for Renewed<'_, R> {
 fn served_by_two<R: Wait + Clock>(
     rt: &R,
     alloc: Global,
-    desk: Desk<'_>,
+    config: &Config,
+    context: WatchContext<'_>,
     scene: Scene<'_>,
     store: &mut Store<MemoryLog>,
 ) -> Result<(), Fail> {
     for receiver in 0..2 {
-        let Some(mut watcher) = Watcher::new(rt, alloc, desk, receiver) else {
+        let Some(mut watcher) = Watcher::new(rt, alloc, context, receiver) else {
             return Err("no place")?;
         };
         let mut counts = String::new(alloc);
-        served(alloc, desk.config, scene, store, &mut watcher, &mut counts)?;
+        served(alloc, config, scene, store, &mut watcher, &mut counts)?;
     }
     Ok(())
 }

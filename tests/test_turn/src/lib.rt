@@ -1,7 +1,8 @@
-//! Tests of `rld_turn` and `rld_watch`: what turns make of what waits at a port of memory, what a watcher
-//! is told of it and counts, and what a loss of power leaves of their batches on a disk of memory; and of
-//! `rld_why`. They are rows of text (`test_rows`). Expected values come from the session rule, worked by
-//! hand, and the octets from Python's hashlib. Also of `rld_look`: sockets and minutes.
+//! Tests of `rld_turn` and `rld_watch`: what turns make of what waits at a port of memory, what a
+//! watcher learns of it and counts, and what a loss of power leaves of their batches on a disk of
+//! memory; and why logins are rejected. They are rows of text (`test_rows`). Expected values come
+//! from the session rule, worked by hand, and the octets from Python's hashlib. Also of `rld_look`:
+//! sockets and minutes.
 #![tactic(auto)]
 
 #[cfg(test)]

@@ -7,9 +7,9 @@ use std::net::IpAddr;
 use std::test::Fail;
 use test_rows::{Subject, check_rows, number, port_number};
 
-/// Tables of sockets as Linux 6 gave them, one behind the other, with lines that are wrong between: of
-/// 1,000 datagrams of 1,000 octets to port 1812 of 127.0.0.1, and of 500 to that of 2001:db8::5, nothing
-/// was read, and neither was one of 100 octets to port 1813, of IPv4 and of IPv6.
+/// Tables of sockets as Linux 6 gave them, one after the other, with lines that are wrong between:
+/// of 1,000 datagrams of 1,000 octets to port 1812 of 127.0.0.1, and of 500 to that of 2001:db8::5,
+/// nothing was read, and neither was one of 100 octets to port 1813, of IPv4 and of IPv6.
 const TABLE: &str =
     "   sl  local_address rem_address   st tx_queue rx_queue tr tm->when retrnsmt   \
 uid  timeout inode ref pointer drops            
@@ -71,7 +71,7 @@ fn sockets_are_found_in_the_table(rt: HostRuntime) -> Result<(), Fail> {
     check_rows(&rt, &Waiting, WAITING)
 }
 
-/// What a history has after so many minutes, each of one login, one limit reject, one wrong password
+/// What a history has after some minutes, each of one login, one limit reject, one wrong password
 /// and one Start more.
 #[derive(Clone, Copy)]
 struct Minutes;

@@ -1,23 +1,20 @@
-//! A watcher that notes what it is told, as words.
+//! A watcher that notes what it learns, as words.
 
 use rld_turn::{Ended, Watch};
-use rld_why::why_rejected;
-use rsl_accounts::Config;
+use rsl_event::{Detail, RejectCause};
 use std::alloc::Global;
 
-/// What a watcher was told: that a turn has begun, and for each datagram the port that it came from, the
-/// number of the client, how it ended and, where it can be a reject, why.
+/// What a watcher has learned: that a turn has begun, and for each datagram the port that it came
+/// from, the number of the client, how it ended and, where it can be a reject, why.
 #[derive(Drop)]
-pub(crate) struct Notes<'a> {
-    config: &'a Config,
+pub(crate) struct Notes {
     text: String,
 }
 
-impl<'a> Notes<'a> {
+impl Notes {
     /// Nothing yet.
-    pub(crate) fn new(alloc: Global, config: &'a Config) -> Notes<'a> {
+    pub(crate) fn new(alloc: Global) -> Notes {
         Notes {
-            config,
             text: String::new(alloc),
         }
     }
@@ -28,14 +25,22 @@ impl<'a> Notes<'a> {
     }
 }
 
-impl Watch for Notes<'_> {
+impl Watch for Notes {
     fn begin(&mut self) {
         let _ = write!(self.text, " begin");
     }
 
     fn note(&mut self, ended: Ended<'_>) {
-        let cause = why_rejected(self.config, ended.source, ended.octets);
-        let told = (ended.source.port, ended.client, ended.end, cause);
+        let port = ended.origin.source.port;
+        let told = (port, ended.client, ended.end, cause_in(ended.detail));
         let _ = write!(self.text, " {told:?}");
+    }
+}
+
+/// Why a request is rejected, if it is.
+fn cause_in(detail: Option<Detail>) -> Option<RejectCause> {
+    match detail {
+        Some(Detail::Rejected(cause)) => Some(cause),
+        Some(Detail::Asks | Detail::Accounting(_)) | None => None,
     }
 }

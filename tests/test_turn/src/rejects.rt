@@ -4,8 +4,7 @@
 //! it is rejected, if it is.
 
 use crate::coming::config_of;
-use rld_why::why_rejected;
-use rsl_event::{MeaningKind, Port, Source, prepare};
+use rsl_event::{Detail, MeaningKind, Port, Source, prepare_in_detail};
 use std::alloc::Global;
 use std::test::Fail;
 use test_rows::{Subject, check_rows, octets_of};
@@ -25,10 +24,13 @@ impl Subject for Rejects {
             address: [192, 168, 1, 16],
             port: 1024,
         };
-        let prepared = prepare(alloc, &config, 1, Port::Auth, source, octets.as_slice())?;
-        let cause = why_rejected(&config, source, octets.as_slice());
+        let found = prepare_in_detail(alloc, &config, 1, Port::Auth, source, octets.as_slice())?;
+        let cause = match found.detail {
+            Detail::Rejected(cause) => Some(cause),
+            Detail::Asks | Detail::Accounting(_) => None,
+        };
         let mut text = String::new(alloc);
-        match prepared.meaning.kind() {
+        match found.prepared.meaning.kind() {
             MeaningKind::Bare => text.push_str("(Bare, ")?,
             MeaningKind::Reject => text.push_str("(Reject, ")?,
             MeaningKind::Ask(account) => write!(text, "(Ask({account}), ")?,

@@ -5,21 +5,20 @@
 //! number of its batch.
 //!
 //! It tells the counts: turns, taken, dropped, refused, unrecorded, answered and unsent, after `Down`
-//! where the port failed and `Ended` where nothing more could be recorded. Then what the port counts:
-//! datagrams taken, receives and how many of them failed, sends and how many of them failed. Then
-//! what was handed to be sent, and to which port; and each move that a loss of power leaves in the
-//! log, as its batch, its moment, what it is and the decision.
+//! where the port failed and `Ended` where nothing more could be recorded. Then how many datagrams the
+//! port gave, and how many it was handed to send. Then what was handed to be sent, and to which port; and
+//! each move that a loss of power leaves in the log, as its batch, its moment, what it is and the
+//! decision.
 
 use crate::clock::clock_of;
-use crate::coming::{coming_of, config_of, numbers_of, push_sent};
+use crate::coming::{coming_of, config_of, networks_of, numbers_of, push_sent};
 use crate::disk::{batches_of, left_by, push_moves, store_of};
 use crate::notes::Notes;
 use rld_log::MemoryLog;
 use rld_store::Store;
-use rld_turn::{Counts, ReceiveFault, RecordFault, Unwatched, Watch, receive, tick};
+use rld_turn::{Ending, MemoryPeers, Present, Receiver, RecordFault, Turn, Unwatched, Watch, tick};
 use rsl_accounts::Config;
 use rsl_event::Port;
-use rsl_port::MemoryPort;
 use rsl_shard::Move;
 use std::alloc::Global;
 use std::test::Fail;
@@ -97,7 +96,7 @@ impl Subject for Crowds {
     }
 }
 
-/// The turns of rows that tell what a watcher is told.
+/// The turns of rows that have what a watcher learns.
 #[derive(Clone, Copy)]
 struct Watched;
 
@@ -106,7 +105,7 @@ impl Subject for Watched {
         let scene = scene_of(fields)?;
         let config = config_of(alloc, scene.shards)?;
         let mut store = store_of(alloc, &config, scene.disk)?;
-        let mut notes = Notes::new(alloc, &config);
+        let mut notes = Notes::new(alloc);
         let mut counts = String::new(alloc);
         served(alloc, &config, scene, &mut store, &mut notes, &mut counts)?;
         Ok(String::from_str(alloc, notes.text())?)
@@ -121,68 +120,59 @@ pub(crate) fn served<W: Watch>(
     store: &mut Store<MemoryLog>,
     watch: &mut W,
     text: &mut String,
-) -> Result<MemoryPort, Fail> {
+) -> Result<MemoryPeers, Fail> {
     let coming = coming_of(alloc, scene.coming)?;
-    let mut datagrams = MemoryPort::new(alloc, coming, numbers_of(alloc, scene.failing)?);
-    let turns = number(scene.turns)?;
-    if turns > 1000 {
-        return Err("too many turns")?;
+    let mut datagrams = MemoryPeers::new(alloc, coming, numbers_of(alloc, scene.failing)?);
+    let mut clock = clock_of(scene.clock)?;
+    let networks = networks_of(alloc)?;
+    let present = Present::new(config, networks.as_slice(), 1);
+    let mut receiver = Receiver::new(alloc, port_of(scene.port)?)?;
+    let mut counts = [0; 7];
+    for _ in 0..number(scene.turns)? {
+        let turn = receiver.turn(&present, &mut datagrams, store, &mut clock, watch);
+        count(&mut counts, &turn);
+        match turn.ending {
+            Ending::Open => {}
+            Ending::Down => {
+                push_printed(text, &Plain("Down"))?;
+                break;
+            }
+            Ending::Ended => {
+                push_printed(text, &Plain("Ended"))?;
+                break;
+            }
+        }
     }
-    let answer = receive(
-        alloc,
-        config,
-        1,
-        port_of(scene.port)?,
-        &mut datagrams,
-        store,
-        &mut clock_of(scene.clock)?,
-        watch,
-        turns,
-    );
-    push_counts(text, answer)?;
+    push_printed(text, &counts)?;
     Ok(datagrams)
 }
 
-/// Tells what a receiver answers.
-fn push_counts(text: &mut String, answer: Result<Counts, ReceiveFault>) -> Result<(), Fail> {
-    let counts = match answer {
-        Ok(counts) => counts,
-        Err(ReceiveFault::Down(counts)) => {
-            push_printed(text, &Plain("Down"))?;
-            counts
-        }
-        Err(ReceiveFault::Ended(counts)) => {
-            push_printed(text, &Plain("Ended"))?;
-            counts
-        }
-        Err(ReceiveFault::NoMemory) => return Err("no memory")?,
-    };
-    let told = [
-        counts.turns,
-        counts.taken,
-        counts.dropped,
-        counts.refused,
-        counts.unrecorded,
-        counts.answered,
-        counts.unsent,
+/// Counts a turn: turns, taken, dropped, refused, unrecorded, answered and unsent.
+fn count(counts: &mut [u64; 7], turn: &Turn) {
+    let ends = turn.ends;
+    let more = [
+        1,
+        ends.sum(),
+        ends.dropped,
+        ends.refused,
+        ends.unrecorded,
+        ends.answered,
+        ends.unsent,
     ];
-    push_printed(text, &told)
+    for i in 0..counts.len() {
+        counts[i] += more[i];
+    }
 }
 
-/// Tells what a port counts.
-fn push_port(text: &mut String, datagrams: &MemoryPort) -> Result<(), Fail> {
+/// Tells how many datagrams a port gave, and how many it was handed to send.
+fn push_port(text: &mut String, datagrams: &MemoryPeers) -> Result<(), Fail> {
     if !datagrams.is_telling() {
         return Err("the port was refused memory")?;
     }
-    let numbers = datagrams.numbers();
-    let told = [
-        datagrams.taken().len() as u64,
-        numbers.receives,
-        numbers.failed_receives,
-        numbers.sends,
-        numbers.failed_sends,
-    ];
-    push_printed(text, &told)
+    if datagrams.room() < 4096 && !datagrams.taken().is_empty() {
+        return Err("a datagram had less room than 4,096 octets")?;
+    }
+    push_printed(text, &[datagrams.taken().len(), datagrams.sent().len()])
 }
 
 /// Tells how many moves each batch has.
@@ -196,66 +186,76 @@ fn push_sizes(text: &mut String, batches: &[Vec<Move>]) -> Result<(), Fail> {
 /// What is dropped, answered, unsent and unrecorded, in one turn and in several.
 const TURNS: &str = "
 an ask | 1 | auth | 1 | ask | | 5 1 | \
-    | [1, 1, 0, 0, 0, 1, 0] [1, 2, 0, 1, 0] accept to 1024, (0, 5, own, Accept(0))
+    | [1, 1, 0, 0, 0, 1, 0] [1, 1] accept to 1024, (0, 5, own, Accept(0))
 what waits is one batch, at one moment | 1 | auth | 1 | ask wrong:1025 short ask:1026 ask | | 5 1 | \
-    | [1, 5, 1, 0, 0, 4, 0] [5, 6, 0, 4, 0] \
+    | [1, 5, 1, 0, 0, 4, 0] [5, 4] \
     accept to 1024, reject to 1025, limit to 1026, accept to 1024, \
     (0, 5, own, Accept(0)) (0, 5, own, LimitReject) (0, 5, own, Accept(0))
 each turn is a batch of its own | 1 | auth | 2 | ask nothing ask:1025 | | 5 1 | \
-    | [2, 2, 0, 0, 0, 2, 0] [2, 4, 0, 2, 0] accept to 1024, limit to 1025, \
+    | [2, 2, 0, 0, 0, 2, 0] [2, 2] accept to 1024, limit to 1025, \
     (0, 5, own, Accept(0)) (1, 6, own, LimitReject)
-no turns | 1 | auth | 0 | ask | | 5 1 | | [0, 0, 0, 0, 0, 0, 0] [0, 0, 0, 0, 0]
-nothing comes | 1 | auth | 2 | nothing | | 5 1 | | [2, 0, 0, 0, 0, 0, 0] [0, 2, 0, 0, 0]
+no turns | 1 | auth | 0 | ask | | 5 1 | | [0, 0, 0, 0, 0, 0, 0] [0, 0]
+nothing comes | 1 | auth | 2 | nothing | | 5 1 | | [2, 0, 0, 0, 0, 0, 0] [0, 0]
 a restart is one sweep, a stray a line | 3 | acct | 1 | start on stray stop | | 5 1 | \
-    | [1, 4, 0, 0, 0, 4, 0] [4, 5, 0, 4, 0] start to 1024, on to 1024, stray to 1024, stop to 1024, \
+    | [1, 4, 0, 0, 0, 4, 0] [4, 4] start to 1024, on to 1024, stray to 1024, stop to 1024, \
     (0, 5, own, Done) (0, 5, sweep, Done) (0, 5, stray, Done) (0, 5, own, Done)
 a restart frees a place for what waits behind it | 1 | acct | 2 | start nothing on start forged | | 5 1 | \
-    | [2, 4, 1, 0, 0, 3, 0] [4, 6, 0, 3, 0] start to 1024, on to 1024, start to 1024, \
+    | [2, 4, 1, 0, 0, 3, 0] [4, 3] start to 1024, on to 1024, start to 1024, \
     (0, 5, own, Done) (1, 6, sweep, Done) (1, 6, own, Done)
+peers of a network count as its client, and each gets its answer | 1 | auth | 1 | ask@2001:db8:7::5 \
+    ask@192.0.2.9 ask wrong@2001:db8:7::6 ask:1025 | | 5 1 | \
+    | [1, 5, 0, 0, 0, 5, 0] [5, 5] accept to [2001:db8:7::5]:1024, accept to 192.0.2.9:1024, accept to 1024, \
+    reject to [2001:db8:7::6]:1024, limit to 1025, (0, 5, own, Accept(0)) (0, 5, own, Accept(0)) \
+    (0, 5, own, Accept(0)) (0, 5, own, LimitReject)
+peers of no client are dropped | 1 | auth | 1 | ask@2001:db8:8::5 ask@198.51.100.1 ask@0.0.0.0 | | 5 1 | \
+    | [1, 3, 3, 0, 0, 0, 0] [3, 0]
 the first send fails | 1 | auth | 1 | ask ask:1025 | 0 | 5 1 | \
-    | [1, 2, 0, 0, 0, 1, 1] [2, 3, 0, 2, 1] accept to 1024, limit to 1025, \
+    | [1, 2, 0, 0, 0, 1, 1] [2, 2] accept to 1024, limit to 1025, \
     (0, 5, own, Accept(0)) (0, 5, own, LimitReject)
 a reject beside unrecorded asks | 1 | auth | 1 | ask wrong:1025 ask:1026 | | 5 1 | append 0 \
-    | [1, 3, 0, 0, 2, 1, 0] [3, 4, 0, 1, 0] reject to 1025,
+    | [1, 3, 0, 0, 2, 1, 0] [3, 1] reject to 1025,
 a batch that fails leaves no trace | 1 | auth | 2 | ask:1025 wrong nothing ask | | 5 1 | append 0 \
-    | [2, 3, 0, 0, 1, 2, 0] [3, 5, 0, 2, 0] reject to 1024, accept to 1024, (0, 6, own, Accept(0))
+    | [2, 3, 0, 0, 1, 2, 0] [3, 2] reject to 1024, accept to 1024, (0, 6, own, Accept(0))
 a batch without moves is not recorded | 1 | auth | 1 | wrong bare half | | 5 1 | sync 0 \
-    | [1, 3, 1, 0, 0, 2, 0] [3, 4, 0, 2, 0] reject to 1024, bare to 1024,
+    | [1, 3, 1, 0, 0, 2, 0] [3, 2] reject to 1024, bare to 1024,
 nothing more can be recorded | 1 | auth | 9 | ask wrong nothing ask | | 5 1 | sync 0 \
-    | Ended [1, 2, 0, 0, 1, 1, 0] [2, 3, 0, 1, 0] reject to 1024,
+    | Ended [1, 2, 0, 0, 1, 1, 0] [2, 1] reject to 1024,
 the second batch is the last | 1 | auth | 9 | ask nothing ask nothing ask | | 5 1 | sync 1 \
-    | Ended [2, 2, 0, 0, 1, 1, 0] [2, 4, 0, 1, 0] accept to 1024, (0, 5, own, Accept(0))
+    | Ended [2, 2, 0, 0, 1, 1, 0] [2, 1] accept to 1024, (0, 5, own, Accept(0))
 the port fails at once | 1 | auth | 9 | fault ask | | 5 1 | \
-    | Down [1, 0, 0, 0, 0, 0, 0] [0, 1, 1, 0, 0]
+    | Down [1, 0, 0, 0, 0, 0, 0] [0, 0]
 what came before the port failed is answered | 1 | auth | 9 | ask wrong fault ask | | 5 1 | \
-    | Down [1, 2, 0, 0, 0, 2, 0] [2, 3, 1, 2, 0] accept to 1024, reject to 1024, \
+    | Down [1, 2, 0, 0, 0, 2, 0] [2, 2] accept to 1024, reject to 1024, \
     (0, 5, own, Accept(0))
 the port fails and nothing can be recorded | 1 | auth | 9 | ask fault | | 5 1 | sync 0 \
-    | Down [1, 1, 0, 0, 1, 0, 0] [1, 2, 1, 0, 0]
+    | Down [1, 1, 0, 0, 1, 0, 0] [1, 0]
 ";
 
-/// So many come at once: the counts, what the port counts, and how many moves each batch has that was
+/// Many come at once: the counts, what the port counts, and how many moves each batch has that was
 /// recorded.
 const CROWDS: &str = "
 as many as a turn takes | 1 | auth | 1 | ask*64 | | 5 1 | \
-    | [1, 64, 0, 0, 0, 64, 0] [64, 64, 0, 64, 0] 64
+    | [1, 64, 0, 0, 0, 64, 0] [64, 64] 64
 one more stays at the port | 1 | auth | 1 | ask*65 | | 5 1 | \
-    | [1, 64, 0, 0, 0, 64, 0] [64, 64, 0, 64, 0] 64
+    | [1, 64, 0, 0, 0, 64, 0] [64, 64] 64
 and is taken by the next turn | 1 | auth | 2 | ask*65 | | 5 1 | \
-    | [2, 65, 0, 0, 0, 65, 0] [65, 66, 0, 65, 0] 64 1
+    | [2, 65, 0, 0, 0, 65, 0] [65, 65] 64 1
 dropped ones count among the 64 | 1 | auth | 1 | short*63 ask ask | | 5 1 | \
-    | [1, 64, 63, 0, 0, 1, 0] [64, 64, 0, 1, 0] 1
+    | [1, 64, 63, 0, 0, 1, 0] [64, 1] 1
 rejects alone are not recorded | 1 | auth | 2 | wrong*65 | | 5 1 | \
-    | [2, 65, 0, 0, 0, 65, 0] [65, 66, 0, 65, 0]
+    | [2, 65, 0, 0, 0, 65, 0] [65, 65]
 ";
 
-/// What a watcher is told: that a turn has begun, and the port that each datagram came from, its client,
-/// how it ended, and why it is rejected, if it is.
+/// What a watcher learns: that a turn has begun, and the port that each datagram came from, its
+/// client, how it ended, and why it is rejected, if it is.
 const WATCHED: &str = "
 each end, in the order of the datagrams | 1 | auth | 1 | ask short:1025 wrong:1026 half bare:1027 ask:1028 \
     | | 5 1 | | begin (1024, Some(0), Answered(Accept(0)), None) (1025, Some(0), Dropped(Short), None) \
     (1026, Some(0), Answered(Reject), Some(WrongPassword)) (1024, Some(0), Dropped(BadLength), None) \
     (1027, Some(0), Answered(Reject), Some(Malformed)) (1028, Some(0), Answered(LimitReject), None)
+peers of networks, and of no client | 1 | auth | 1 | ask@2001:db8:7::5 ask@2001:db8:8::5 ask@198.51.100.1 | | 5 1 | \
+    | begin (1024, Some(0), Answered(Accept(0)), None) (1024, None, Dropped(UnknownClient), None) \
+    (1024, None, Dropped(UnknownClient), None)
 an answer that could not be sent | 1 | auth | 1 | ask wrong | 0 1 | 5 1 | \
     | begin (1024, Some(0), Unsent(Accept(0)), None) (1024, Some(0), Unsent(Reject), Some(WrongPassword))
 a batch that is not recorded | 1 | auth | 1 | ask wrong short | | 5 1 | append 0 \

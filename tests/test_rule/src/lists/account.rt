@@ -83,7 +83,7 @@ impl Account {
         })
     }
 
-    /// The rules and the history where the books and the rule differ on so many events.
+    /// The rules and the history where the books and the rule differ on one of `events` events.
     fn difference(
         &mut self,
         alloc: Global,
@@ -103,7 +103,7 @@ impl Account {
         Ok(Some(self.told(alloc, rules)?))
     }
 
-    /// The same of the next event that is drawn.
+    /// Whether both books decide on the next event that is drawn as the rule does.
     fn agrees_on_next(
         &mut self,
         alloc: Global,
@@ -134,7 +134,7 @@ impl Account {
         Ok(decides && self.shows_as_the_rule(alloc, rules)?)
     }
 
-    /// Puts an event behind the others, with what it did.
+    /// Puts an event after the others, with what it did.
     fn note(&mut self, alloc: Global, event: &Event, did: Outcome) -> Result<(), NoMemory> {
         self.events.push(event.try_copy(alloc)?)?;
         let event = event.try_copy(alloc)?;

@@ -8,7 +8,7 @@ use rsl_wire::NoMemory;
 use std::alloc::Global;
 
 /// How many of the saved books had what each of these says.
-#[derive(Clone, Copy, Debug, PartialEq, Eq)]
+#[derive(Clone, Copy, Debug)]
 pub(crate) struct Held {
     /// A link that is in a bundle.
     pub bundled: u64,
@@ -59,7 +59,7 @@ impl Held {
     }
 }
 
-/// What is wrong with a book that is put back after so many events that are drawn, if anything is:
+/// What is wrong with a book that is put back after `events` events that are drawn, if anything is:
 /// it must be the same, be saved the same, and go on the same over as many events more.
 pub(crate) fn wrong_when_put_back(
     alloc: Global,
