@@ -98,7 +98,7 @@ start() {
 
 # A number that the status of a radlimitd has: held 1
 number() {
-    "$program" status "$folder/home-$2.toml" | sed -n "s/^$1 //p"
+    "$program" status "$folder/home-$2.toml" | awk -v word="$1" '$1 == word { print $2 }'
 }
 
 # Looks at what something is: shows WHAT EXPECTED FOUND

@@ -134,7 +134,7 @@ shows 'its Stop is recorded' 1 "$("$program" lines "$folder"/state/log-2-* | gre
 from_client 'a login after that' Access-Accept 'Class = ' auth "$name" "$pap" "$nas"
 
 shows 'what its accounts hold' 'places 4, held 2' "$("$program" status "$folder/radlimitd.toml" |
-    sed -n 's/^held/, held/; /places\|held/p' | tr -d '\n')"
+    awk '$1 == "places" { places = $2 } $1 == "held" { held = $2 } END { printf "places %s, held %s", places, held }')"
 "$program" stop "$folder/radlimitd.toml"
 status=0
 wait "$server" || status=$?
