@@ -5,8 +5,8 @@ use Rattle.rsl_accounts.specs.Configuration.{Configuration}
 use Rattle.rsl_accounts.specs.FileRead.{IsFileRead}
 use Rattle.rsl_accounts.specs.declared.file_fault.FileFault.{FileFault}
 use Rattle.rsl_accounts.specs.declared.file_fault.FileFault.TheVariants.{NoMemory}
-use Rattle.rsl_report.specs.declared.exit_status.ExitStatus.{ExitStatus}
-use Rattle.rsl_report.specs.declared.exit_status.ExitStatus.TheVariants.{WrongInput, NoMemory as no_memory_status}
+use Rattle.rsl_record.specs.declared.exit_status.ExitStatus.{ExitStatus}
+use Rattle.rsl_record.specs.declared.exit_status.ExitStatus.TheVariants.{WrongInput, NoMemory as no_memory_status}
 use Rattle.account_file.specs.declared.trial.Counts.{Counts}
 
 -- what is in a configuration

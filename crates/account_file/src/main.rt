@@ -9,7 +9,7 @@
 mod trial;
 
 use rsl_accounts::FileFault;
-use rsl_report::ExitStatus;
+use rsl_record::ExitStatus;
 use std::alloc::Global;
 use std::env::Args;
 use std::io::ErrorKind;

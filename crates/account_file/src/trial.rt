@@ -2,7 +2,7 @@ ghost use Rattle.std.specs.Prelude.{◌≡◌, ◌<◌, IfSome, length};
 ghost use Rattle.account_file.specs.Trial.{IsTrial, counts_in, status_of};
 
 use rsl_accounts::{Config, FileFault};
-use rsl_report::ExitStatus;
+use rsl_record::ExitStatus;
 use std::alloc::Global;
 use std::fmt;
 use std::fs::Files;

@@ -6,8 +6,7 @@
 use crate::bad_file::{BadFile, Wrong};
 use crate::fault::Fault;
 use rld_config::{Place, ServerFault, ServerFile, break_of, unknown_client};
-use rsl_accounts::{Config, ConfigFault};
-use rsl_text::{TextFault, read_file};
+use rsl_accounts::{Config, ConfigFault, TextFault, read_file};
 use std::alloc::Global;
 use std::fs::{self, Files};
 use std::os::unix::fs::PermissionsExt;

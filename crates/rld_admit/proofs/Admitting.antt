@@ -14,8 +14,8 @@ use Rattle.rsl_accounts.specs.Configuration.{Configuration, account_number}
 use Rattle.rsl_accounts.specs.declared.entry.Entry.{Entry}
 use Rattle.rsl_book.specs.Restored.{saved}
 use Rattle.rsl_book.specs.RuledBook.{RuledBook}
-use Rattle.rsl_saved.specs.Saved.{saved_book}
-use Rattle.rsl_saved.specs.declared.saved.SavedBook.{SavedBook}
+use Rattle.rsl_session.specs.Saved.{saved_book}
+use Rattle.rsl_session.specs.declared.saved.SavedBook.{SavedBook}
 use Rattle.rsl_session.specs.Book.{Book, new_book}
 use Rattle.rsl_shard.specs.Opening.{as_new}
 use Rattle.rsl_shard.specs.Restep.{BooksSeen, book_at, book_of_entry, new_books, new_books_seen}

@@ -14,9 +14,9 @@ use Rattle.rsl_event.specs.declared.event.Decision.{Decision}
 use Rattle.rsl_event.specs.declared.event.Key.{Key}
 use Rattle.rsl_event.specs.declared.nas.Nas.{Nas}
 use Rattle.rsl_event.specs.declared.nas.NasName.{NasName}
-use Rattle.rsl_saved.specs.Saved.{saved_book, saved_bundle, saved_link, saved_links}
-use Rattle.rsl_saved.specs.declared.saved.SavedBook.{SavedBook}
-use Rattle.rsl_saved.specs.declared.saved.SavedLink.{SavedLink}
+use Rattle.rsl_session.specs.Saved.{saved_book, saved_bundle, saved_link, saved_links}
+use Rattle.rsl_session.specs.declared.saved.SavedBook.{SavedBook}
+use Rattle.rsl_session.specs.declared.saved.SavedLink.{SavedLink}
 use Rattle.rsl_session.specs.Ask.{repeats}
 use Rattle.rsl_session.specs.Book.{Book, BookLink, bundles_in, places_in}
 use Rattle.rsl_session.specs.BookStep.{act_on, ask, come_to, step}

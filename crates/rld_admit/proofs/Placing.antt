@@ -9,11 +9,11 @@ use Rattle.std.proofs.lemmas.List.Sums.{sum_by-append, sum_by-cons}
 use Rattle.std.proofs.lemmas.Option.{get_or_from_slice_get, slice_get_within}
 use Rattle.rsl_accounts.specs.declared.rules.Rules.{Rules}
 use Rattle.rsl_event.specs.declared.nas.Nas.{Nas}
-use Rattle.rsl_saved.specs.Saved.{saved_book, saved_bundle, saved_holder, saved_link, saved_links}
-use Rattle.rsl_saved.specs.declared.saved.SavedBook.{SavedBook}
-use Rattle.rsl_saved.specs.declared.saved.SavedHolder.{SavedHolder}
-use Rattle.rsl_saved.specs.declared.saved.SavedHolder.TheVariants as saved
-use Rattle.rsl_saved.specs.declared.saved.SavedLink.{SavedLink}
+use Rattle.rsl_session.specs.Saved.{saved_book, saved_bundle, saved_holder, saved_link, saved_links}
+use Rattle.rsl_session.specs.declared.saved.SavedBook.{SavedBook}
+use Rattle.rsl_session.specs.declared.saved.SavedHolder.{SavedHolder}
+use Rattle.rsl_session.specs.declared.saved.SavedHolder.TheVariants as saved
+use Rattle.rsl_session.specs.declared.saved.SavedLink.{SavedLink}
 use Rattle.rsl_session.specs.Book.{BookLink, bundles_in}
 use Rattle.rsl_session.specs.Places.{each_bundle, is_bundle, places_of}
 use Rattle.rsl_session.specs.declared.bundle.Bundle.{Bundle}

@@ -11,8 +11,8 @@ use Rattle.rsl_book.specs.Restored.{misfit}
 use Rattle.rsl_event.specs.declared.event.Act.TheVariants.{Ask}
 use Rattle.rsl_event.specs.declared.event.Key.{Key}
 use Rattle.rsl_event.specs.declared.nas.Nas.{Nas}
-use Rattle.rsl_saved.specs.Saved.{saved_book}
-use Rattle.rsl_saved.specs.declared.saved.SavedBook.{SavedBook}
+use Rattle.rsl_session.specs.Saved.{saved_book}
+use Rattle.rsl_session.specs.declared.saved.SavedBook.{SavedBook}
 use Rattle.rsl_session.specs.Ask.{repeats}
 use Rattle.rsl_session.specs.Book.{Book, BookLink, places_in}
 use Rattle.rsl_session.specs.BookStep.{come_to, step}

@@ -4,7 +4,7 @@ ghost use Rattle.std.specs.Prelude.{◌≡◌, ℕ, ◌<◌, ◌++◌, IfOk, IfS
 ghost use Rattle.std.specs.Option.{option_and_then, option_map};
 ghost use Rattle.rsl_accounts.specs.Configuration.{account_number};
 ghost use Rattle.rsl_book.specs.Restored.{saved};
-ghost use Rattle.rsl_saved.specs.Saved.{saved_book};
+ghost use Rattle.rsl_session.specs.Saved.{saved_book};
 ghost use Rattle.rld_books.specs.Saved.{IsServerOf, book_in};
 ghost use Rattle.rld_spelling.specs.Tables.{table_of};
 ghost use Rattle.rld_admit.specs.Admitted.{AreAdmitted};
@@ -14,7 +14,7 @@ use crate::carry::{carry, new_saved};
 use crate::clients::next_numbers;
 use rld_books::{BlankBooks, ServerBooks, ServerFault};
 use rsl_accounts::Config;
-use rsl_saved::SavedBook;
+use rsl_session::SavedBook;
 use rsl_wire::NoMemory;
 use std::alloc::Global;
 

@@ -2,7 +2,7 @@
 
 ghost use Rattle.std.specs.Prelude.{◌≡◌, ◌≤◌, [], ◌∷◌, ◌++◌, IfOk, OnOk, Some};
 ghost use Rattle.rsl_accounts.specs.Limits.{RulesFit};
-ghost use Rattle.rsl_saved.specs.Saved.{saved_book, saved_link, saved_links};
+ghost use Rattle.rsl_session.specs.Saved.{saved_book, saved_link, saved_links};
 ghost use Rattle.rsl_session.specs.Book.{bundles_in, new_book};
 ghost use Rattle.rsl_session.specs.Places.{places_of};
 ghost use Rattle.rld_admit.specs.Carried.{
@@ -22,8 +22,7 @@ use crate::clients::number_in;
 use crate::place::Placed;
 use rsl_accounts::Rules;
 use rsl_event::Nas;
-use rsl_saved::{SavedBook, SavedHolder, SavedLink};
-use rsl_session::{KeptAsk, KeptStop, Session};
+use rsl_session::{KeptAsk, KeptStop, SavedBook, SavedHolder, SavedLink, Session};
 use rsl_wire::{NoMemory, Octets};
 use std::alloc::Global;
 
@@ -221,7 +220,7 @@ pub(crate) fn carry(
 }
 
 /// A new book.
-#[tactic(auto, unfolding(rsl_saved::specs::Saved::saved_book, rsl_saved::specs::Saved::saved_links, rsl_session::specs::Book::new_book))]
+#[tactic(auto, unfolding(rsl_session::specs::Saved::saved_book, rsl_session::specs::Saved::saved_links, rsl_session::specs::Book::new_book))]
 pub(crate) fn new_saved(alloc: Global) -> SavedBook
     ensures { saved_book result ≡ new_book }
 {

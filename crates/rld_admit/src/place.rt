@@ -3,19 +3,19 @@
 ghost use Rattle.std.specs.Prelude.{◌≡◌, ℕ, ◌+◌, ◌-◌, ◌≤◌, [], ◌∷◌, ◌++◌, count_by, if◌then◌else◌, length, OnOk};
 ghost use Rattle.std.specs.Int.{div_ceil};
 ghost use Rattle.rsl_accounts.specs.Limits.{RulesFit};
-ghost use Rattle.rsl_saved.specs.Saved.{saved_link, saved_links};
+ghost use Rattle.rsl_session.specs.Saved.{saved_link, saved_links};
 ghost use Rattle.rsl_session.specs.Book.{bundles_in};
 ghost use Rattle.rsl_session.specs.Places.{is_bundle, places_of};
 ghost use Rattle.rld_admit.specs.Carried.{placed};
 
 use rsl_accounts::Rules;
 use rsl_event::Nas;
-use rsl_saved::SavedLink;
+use rsl_session::SavedLink;
 use rsl_wire::{NoMemory, Octets};
 use std::alloc::Global;
 
 /// Whether a link is of the bundle of this id at an access server.
-#[tactic(auto, unfolding(rsl_saved::specs::Saved::saved_link, rsl_session::specs::Same::same_bundle))]
+#[tactic(auto, unfolding(rsl_session::specs::Saved::saved_link, rsl_session::specs::Same::same_bundle))]
 fn is_of_bundle(link: &SavedLink, nas: &Nas, id: &Octets) -> bool
     ensures { result ≡
         is_bundle (record { nas = nas.now; id = id.now }) (saved_link link.now).bundle }

@@ -13,9 +13,9 @@ use Rattle.rsl_accounts.specs.Configuration.{Configuration}
 use Rattle.rsl_accounts.specs.declared.rules.Rules.{Rules}
 use Rattle.rsl_book.specs.Restored.{misfit, saved}
 use Rattle.rsl_book.specs.RuledBook.{RuledBook}
-use Rattle.rsl_saved.specs.Saved.{saved_book, saved_link, saved_links}
-use Rattle.rsl_saved.specs.declared.saved.SavedBook.{SavedBook}
-use Rattle.rsl_saved.specs.declared.saved.SavedLink.{SavedLink}
+use Rattle.rsl_session.specs.Saved.{saved_book, saved_link, saved_links}
+use Rattle.rsl_session.specs.declared.saved.SavedBook.{SavedBook}
+use Rattle.rsl_session.specs.declared.saved.SavedLink.{SavedLink}
 use Rattle.rsl_session.specs.Book.{Book, BookLink, bundles_in, places_in}
 use Rattle.rsl_session.specs.declared.bundle.Bundle.{Bundle}
 use Rattle.rsl_session.specs.declared.kept.KeptAsk.{KeptAsk}

@@ -12,8 +12,8 @@ use Rattle.rsl_accounts.specs.declared.rules.Rules.{Rules}
 use Rattle.rsl_book.specs.Restored.{saved}
 use Rattle.rsl_book.specs.RuledBook.{RuledBook}
 use Rattle.rsl_event.specs.declared.event.Decision.TheVariants.{Done}
-use Rattle.rsl_saved.specs.Saved.{saved_book, saved_links}
-use Rattle.rsl_saved.specs.declared.saved.SavedBook.{SavedBook}
+use Rattle.rsl_session.specs.Saved.{saved_book, saved_links}
+use Rattle.rsl_session.specs.declared.saved.SavedBook.{SavedBook}
 use Rattle.rsl_session.specs.Book.{Book}
 use Rattle.rsl_shard.specs.Opening.{as_new}
 use Rattle.rsl_shard.specs.Restep.{BooksSeen, book_at, new_books, new_books_seen, restep}

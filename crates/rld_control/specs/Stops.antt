@@ -15,9 +15,9 @@ use Rattle.rsl_event.specs.declared.meaning.Meaning.TheVariants.{Own}
 use Rattle.rsl_event.specs.declared.meaning.Port.TheVariants.{Acct}
 use Rattle.rsl_event.specs.declared.nas.NasName.{NasName}
 use Rattle.rsl_event.specs.declared.nas.NasName.TheVariants.{Identifier, Address, Unnamed}
-use Rattle.rsl_saved.specs.declared.saved.SavedHolder.{SavedHolder}
-use Rattle.rsl_saved.specs.declared.saved.SavedHolder.TheVariants.{Reserved, Bound}
-use Rattle.rsl_saved.specs.declared.saved.SavedLink.{SavedLink}
+use Rattle.rsl_session.specs.declared.saved.SavedHolder.{SavedHolder}
+use Rattle.rsl_session.specs.declared.saved.SavedHolder.TheVariants.{Reserved, Bound}
+use Rattle.rsl_session.specs.declared.saved.SavedLink.{SavedLink}
 use Rattle.rld_control.specs.declared.named.NamedSession.{NamedSession}
 use Rattle.rld_control.specs.declared.stop.Stop.{Stop}
 

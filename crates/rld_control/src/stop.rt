@@ -16,7 +16,7 @@ use rsl_event::codes::{
     USER_NAME,
 };
 use rsl_event::{Act, Dropped, Event, Meaning, Nas, NasName, Port, Source, prepare};
-use rsl_saved::{SavedHolder, SavedLink};
+use rsl_session::{SavedHolder, SavedLink};
 use rsl_shard::Move;
 use rsl_wire::{Attr, BuildFault, NoMemory, Octets, build};
 use std::alloc::Global;

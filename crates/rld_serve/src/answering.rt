@@ -15,7 +15,7 @@ use rld_store::Store;
 use rld_text::{Holder, accounts_text, links_text, status_json, status_text};
 use rsl_accounts::Config;
 use rsl_port::{Clock, SystemClock};
-use rsl_saved::SavedLink;
+use rsl_session::SavedLink;
 use rsl_shard::Move;
 use std::io::ErrorKind;
 use std::os::unix::net::UnixStream;

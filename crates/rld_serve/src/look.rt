@@ -9,11 +9,10 @@ use rld_look::{
 use rld_spelling::Header;
 use rld_state::places_in;
 use rld_watch::{cell_of, counts_of};
-use rsl_accounts::Config;
+use rsl_accounts::{Config, read_file};
 use rsl_event::Port;
 use rsl_port::{Clock, SystemClock};
 use rsl_shard::Row;
-use rsl_text::read_file;
 use rsl_wire::NoMemory;
 use std::sync::atomic::Ordering;
 use std::sync::{Arc, Wait};

@@ -1,6 +1,5 @@
 use rld_networks::client_of;
-use rld_status::{STATUS_SERVER, status_answer};
-use rld_turn::Present;
+use rld_turn::{Present, STATUS_SERVER, status_answer};
 use rsl_event::Port;
 use std::alloc::Global;
 use std::net::SocketAddr;

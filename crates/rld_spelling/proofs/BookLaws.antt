@@ -6,8 +6,8 @@ use Rattle.rld_fields.specs.Numbers.{number, number_at}
 use Rattle.rld_fields.proofs.Callers.{tag_case, case_spelled, short_read, nothing_read, number_read, flag_read, both_read, seen_as_read, optional_read, list_read}
 use Rattle.rsl_event.specs.declared.event.Decision.{Decision}
 use Rattle.rsl_event.specs.declared.event.Decision.TheVariants as decisions
-use Rattle.rsl_saved.specs.declared.saved.SavedHolder.{SavedHolder}
-use Rattle.rsl_saved.specs.declared.saved.SavedHolder.TheVariants as holders
+use Rattle.rsl_session.specs.declared.saved.SavedHolder.{SavedHolder}
+use Rattle.rsl_session.specs.declared.saved.SavedHolder.TheVariants as holders
 use Rattle.rld_spelling.specs.Books.{DecisionFits, decision_at, decision_octets, decision_field, HolderFits, holder_at, holder_octets, holder_field}
 use Rattle.rld_spelling.specs.Books.{LinkFits, link_of, link_parts, link_as, link_at, link_octets, link_field, links_at, links_octets, links_field}
 use Rattle.rld_spelling.specs.Books.{KeptAskFits, kept_ask_of, kept_ask_parts, kept_ask_as, kept_ask_at, kept_ask_octets, kept_ask_field, asks_at, asks_octets, asks_field}

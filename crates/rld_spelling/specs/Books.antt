@@ -11,10 +11,10 @@ use Rattle.rsl_event.specs.declared.event.Key.{Key}
 use Rattle.rsl_event.specs.declared.nas.Nas.{Nas}
 use Rattle.rsl_session.specs.declared.kept.KeptAsk.{KeptAsk}
 use Rattle.rsl_session.specs.declared.kept.KeptStop.{KeptStop}
-use Rattle.rsl_saved.specs.declared.saved.SavedBook.{SavedBook}
-use Rattle.rsl_saved.specs.declared.saved.SavedHolder.{SavedHolder}
-use Rattle.rsl_saved.specs.declared.saved.SavedHolder.TheVariants as holders
-use Rattle.rsl_saved.specs.declared.saved.SavedLink.{SavedLink}
+use Rattle.rsl_session.specs.declared.saved.SavedBook.{SavedBook}
+use Rattle.rsl_session.specs.declared.saved.SavedHolder.{SavedHolder}
+use Rattle.rsl_session.specs.declared.saved.SavedHolder.TheVariants as holders
+use Rattle.rsl_session.specs.declared.saved.SavedLink.{SavedLink}
 use Rattle.rld_spelling.specs.Requests.{key_field, key_octets}
 use Rattle.rld_spelling.specs.Servers.{nas_field, nas_octets}
 

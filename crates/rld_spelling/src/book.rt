@@ -19,8 +19,7 @@ use crate::server::{
 };
 use rld_fields::{Cause, Fault, ReadFault, Reader, push_flag, push_number, push_short};
 use rsl_event::Decision;
-use rsl_saved::{SavedBook, SavedHolder, SavedLink};
-use rsl_session::{KeptAsk, KeptStop, Session};
+use rsl_session::{KeptAsk, KeptStop, SavedBook, SavedHolder, SavedLink, Session};
 use std::alloc::{AllocError, Global};
 
 /// The tags of decisions.

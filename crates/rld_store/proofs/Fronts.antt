@@ -5,8 +5,8 @@ use Rattle.std.proofs.lemmas.List.{length-map, map_more, take_all}
 use Rattle.std.proofs.lemmas.List.Concat.{flat_map-append}
 use Rattle.std.proofs.lemmas.List.Elements.{All-nil, All-push}
 use Rattle.rsl_accounts.specs.Configuration.{Configuration}
-use Rattle.rsl_saved.specs.Saved.{saved_book}
-use Rattle.rsl_saved.specs.declared.saved.SavedBook.{SavedBook}
+use Rattle.rsl_session.specs.Saved.{saved_book}
+use Rattle.rsl_session.specs.declared.saved.SavedBook.{SavedBook}
 use Rattle.rsl_shard.specs.Restep.{BooksSeen}
 use Rattle.rsl_shard.specs.declared.moved.Move.{Move}
 use Rattle.rld_books.specs.Saved.{IsServerOf, saved_server}

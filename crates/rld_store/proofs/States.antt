@@ -5,8 +5,8 @@ use Rattle.rld_fields.specs.Field.{Field, IsRead}
 use Rattle.rld_fields.specs.declared.fault.Fault.{Fault}
 use Rattle.rsl_accounts.specs.Configuration.{Configuration}
 use Rattle.rsl_accounts.specs.Limits.{IsConfiguration}
-use Rattle.rsl_saved.specs.Saved.{saved_book, saved_link, saved_links}
-use Rattle.rsl_saved.specs.declared.saved.SavedBook.{SavedBook}
+use Rattle.rsl_session.specs.Saved.{saved_book, saved_link, saved_links}
+use Rattle.rsl_session.specs.declared.saved.SavedBook.{SavedBook}
 use Rattle.rsl_session.specs.Book.{Book}
 use Rattle.rsl_shard.specs.Restep.{BooksSeen}
 use Rattle.rsl_shard.specs.declared.moved.Move.{Move}

@@ -3,7 +3,7 @@
 use Rattle.std.specs.Prelude.{◌≡◌, ◌⊎◌, ℕ, ◌<◌, List, ◌∷◌, ◌++◌, length, map}
 use Rattle.std.specs.List.{flat_map, AllByRecursion}
 use Rattle.rsl_accounts.specs.Configuration.{Configuration}
-use Rattle.rsl_saved.specs.Saved.{saved_links}
+use Rattle.rsl_session.specs.Saved.{saved_links}
 use Rattle.rsl_session.specs.Book.{Book}
 use Rattle.rsl_shard.specs.Restep.{BooksSeen}
 use Rattle.rsl_shard.specs.declared.moved.Move.{Move}

@@ -17,7 +17,7 @@ use rld_fields::push_number;
 use rld_log::{HEAD_LEN, Log, LogFault, record};
 use rld_spelling::{Counts, Header, push_book};
 use rsl_accounts::Config;
-use rsl_saved::SavedBook;
+use rsl_session::SavedBook;
 use std::alloc::Global;
 
 /// The longest payload of a frame.

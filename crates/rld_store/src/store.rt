@@ -13,7 +13,7 @@ ghost use Rattle.rld_store.specs.Opening.{IsWhy, LeavesAsItWas};
 ghost use Rattle.rld_store.specs.Standing.{EndsSo, StandsFor};
 ghost use Rattle.rld_store.specs.declared.store.End.TheVariants.{Settled as settled, Unsettled as unsettled};
 ghost use Rattle.rsl_accounts.specs.Configuration.{Configuration};
-ghost use Rattle.rsl_saved.specs.Saved.{saved_links};
+ghost use Rattle.rsl_session.specs.Saved.{saved_links};
 ghost use Rattle.rsl_shard.specs.Restep.{BooksSeen};
 ghost use Rattle.rsl_shard.specs.declared.moved.Move.{Move as OneMove};
 
@@ -26,7 +26,7 @@ use rld_books::ServerBooks;
 use rld_log::{Log, mend, record};
 use rld_spelling::{Counts, Header, SpellFault};
 use rsl_accounts::Config;
-use rsl_saved::SavedLink;
+use rsl_session::SavedLink;
 use rsl_shard::{Move, Row};
 use rsl_wire::NoMemory;
 use std::alloc::Global;

@@ -9,7 +9,7 @@ use crate::text::push_text;
 use rld_control::push_server;
 use rld_values::{push_dotted, push_hex, push_word};
 use rsl_event::NasName;
-use rsl_saved::{SavedHolder, SavedLink};
+use rsl_session::{SavedHolder, SavedLink};
 use rsl_wire::Octets;
 use std::alloc::{AllocError, Global};
 

@@ -7,7 +7,7 @@ use crate::words::{push_number_word, push_octets_word_if};
 use rld_control::{Form, push_server};
 use rld_values::push_word;
 use rsl_accounts::Config;
-use rsl_saved::{SavedHolder, SavedLink};
+use rsl_session::{SavedHolder, SavedLink};
 use std::alloc::{AllocError, Global};
 
 /// Whose links are printed, and when.

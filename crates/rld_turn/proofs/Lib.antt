@@ -6,3 +6,4 @@ pub mod Receiving
 pub mod Replying
 pub mod Serving
 pub mod Telling
+pub mod StatusWritten

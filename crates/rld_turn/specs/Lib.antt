@@ -10,3 +10,4 @@ pub mod Entered
 pub mod Ended
 pub mod Answered
 pub mod Ticked
+pub mod StatusAnswer

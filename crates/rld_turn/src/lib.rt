@@ -12,6 +12,10 @@
 //! A watcher learns how each datagram ended, with its cause or with what was answered, and the
 //! turn's numbers are those of what it has learned (`specs/Told.antt`).
 //!
+//! A Status-Server packet (RFC 5997) asks whether the server is there. `status_answer` gives exactly the
+//! octets that `specs/StatusAnswer.antt` says, and none for any other datagram; the books are not asked,
+//! and nothing is recorded.
+//!
 //! A store is such a recorder (`rld_store`). An answer with a decision is made of a `Recorded`, which
 //! only `Store::commit` makes.
 #![tactic(auto)]
@@ -28,6 +32,8 @@ mod present;
 mod receiver;
 mod request;
 mod room;
+mod status_reply;
+mod status_request;
 mod ticking;
 mod turner;
 mod unassigned;
@@ -40,5 +46,7 @@ pub use peer_port::{PeerDatagram, PeerPort};
 pub use present::Present;
 pub use receiver::{MAX_BATCH, Receiver};
 pub use rld_store::{RecordFault, Recorded, Recorder};
+pub use status_reply::status_answer;
+pub use status_request::STATUS_SERVER;
 pub use ticking::tick;
 pub use watch::{Ended, Unwatched, Watch};

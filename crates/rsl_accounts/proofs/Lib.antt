@@ -10,3 +10,4 @@ pub mod Parts
 pub mod Memory
 pub mod Texts
 pub mod Keys
+pub mod Consumed

@@ -10,3 +10,4 @@ pub mod TextSeen
 pub mod ConfigSeen
 pub mod File
 pub mod FileRead
+pub mod Read

@@ -4,7 +4,7 @@ ghost use Rattle.rsl_accounts.specs.FileRead.{IsFileRead, most_octets};
 
 use crate::config::Config;
 use crate::file_fault::FileFault;
-use rsl_text::{TextFault, read_text};
+use crate::{TextFault, read_text};
 use std::alloc::Global;
 use std::fs::{self, Files};
 use std::io::Read;
@@ -23,7 +23,7 @@ impl Config {
     }
 
     /// The configuration that an account file gives, whose octets come from a reader. They are read
-    /// by `rsl_text::read_text`, as a script's are.
+    /// by `crate::read_text`, as a script's are.
     ///
     /// The faults come in this order: `Unreadable` where a read fails or 33,554,432 reads have come
     /// to no end, and `TooLong` where there are over 16,777,216 octets, whichever comes first;

@@ -4,8 +4,9 @@
 //! A `Config` is read from an account file by `Config::read`, or made from its parts by
 //! `Config::make`. Each answers exactly what its definition says, `configuration_of_text` of
 //! `specs/File.antt` and `configuration_of` of `specs/Configuration.antt`, or that memory was
-//! refused. `Config::read_file` reads one from a file
-//! (`specs/FileRead.antt`). Every `Config` is within the limits of `specs/Limits.antt`. The order of the checks
+//! refused. `Config::read_file` reads one from a file (`specs/FileRead.antt`), and `read_text` the
+//! text of any file or stream: all octets that its reader gives, and no others, unless there are
+//! more than it may have (`specs/Read.antt`). Every `Config` is within the limits of `specs/Limits.antt`. The order of the checks
 //! stands in `specs/Walk.antt` and, for a file, in `specs/File.antt`, and the values that a field may
 //! have in `specs/Field.antt`.
 #![tactic(auto)]
@@ -25,6 +26,8 @@ mod settings;
 mod short;
 mod table;
 mod text;
+mod text_fault;
+mod text_file;
 mod walk;
 
 pub use address::address_of;
@@ -38,3 +41,5 @@ pub use rules::Rules;
 pub use secret::Secret;
 pub use settings::Settings;
 pub use text::Text;
+pub use text_fault::TextFault;
+pub use text_file::{read_file, read_text};

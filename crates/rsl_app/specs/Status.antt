@@ -1,14 +1,14 @@
 -- The exit status of the program, and what its faults say.
 use Rattle.std.specs.Prelude.{ℕ, ⊤, List, Result, Ok, Err}
-use Rattle.rsl_report.specs.declared.exit_status.ExitStatus.{ExitStatus}
-use Rattle.rsl_report.specs.declared.exit_status.ExitStatus.TheVariants.{Done, WrongInput}
+use Rattle.rsl_record.specs.declared.exit_status.ExitStatus.{ExitStatus}
+use Rattle.rsl_record.specs.declared.exit_status.ExitStatus.TheVariants.{Done, WrongInput}
 use Rattle.rsl_app.specs.declared.fault.Fault.{Fault}
 use Rattle.rsl_app.specs.declared.fault.Fault.TheVariants.{Usage, Replay, Serve}
 use Rattle.rsl_replay.specs.Fault.{status_of}
 use Rattle.rsl_replay.specs.Replay.{IsFaultOf}
-use Rattle.rsl_edges.specs.Fault.{status_of as status_of_server}
-use Rattle.rsl_edges.specs.declared.fault.ServeFault.{ServeFault}
-use Rattle.rsl_edges.specs.declared.fault.ServeFault.TheVariants.{Usage as server_usage}
+use Rattle.rsl_serve.specs.Fault.{status_of as status_of_server}
+use Rattle.rsl_serve.specs.declared.fault.ServeFault.{ServeFault}
+use Rattle.rsl_serve.specs.declared.fault.ServeFault.TheVariants.{Usage as server_usage}
 
 -- wrong arguments of a server are the program's
 abbrev pub fault_of_server : ServeFault → Fault

@@ -1,7 +1,7 @@
 ghost use Rattle.std.specs.Prelude.{◌≡◌};
 ghost use Rattle.std.specs.Process.{exit_status};
 ghost use Rattle.rsl_app.specs.Status.{status_after};
-ghost use Rattle.rsl_report.specs.ExitStatus.{number_of};
+ghost use Rattle.rsl_record.specs.ExitStatus.{number_of};
 
 use crate::fault::Fault;
 use std::io::Write;

@@ -1,6 +1,6 @@
-use rsl_edges::ServeFault;
+use rsl_record::ExitStatus;
 use rsl_replay::ReplayFault;
-use rsl_report::ExitStatus;
+use rsl_serve::ServeFault;
 use thiserror::Error;
 
 /// Why the program does not end well. It prints as the line for standard error.

@@ -6,8 +6,8 @@ use Rattle.rsl_session.specs.declared.bundle.Bundle.{Bundle}
 use Rattle.rsl_session.specs.Places.{places_of}
 use Rattle.rsl_session.specs.Book.{BookLink, bundles_in}
 use Rattle.rsl_session.proofs.Callers.{places_of-Some, places_of_alone, places_of_front}
-use Rattle.rsl_saved.specs.declared.saved.SavedLink.{SavedLink}
-use Rattle.rsl_saved.specs.Saved.{saved_link, saved_links}
+use Rattle.rsl_session.specs.declared.saved.SavedLink.{SavedLink}
+use Rattle.rsl_session.specs.Saved.{saved_link, saved_links}
 
 module _ {A B : Type 0} where
   pub saved_none : (f : A → B) (xs : List A) → [] ≡ map f (take 0 xs)

@@ -12,9 +12,9 @@ use Rattle.rsl_session.specs.Places.{places_of}
 use Rattle.rsl_session.specs.Book.{Book, BookLink, bundles_in, new_book, places_in}
 use Rattle.rsl_links.specs.declared.link.Holder.{Holder as LinkHolder}
 use Rattle.rsl_links.specs.Seen.{bundle_with, holder_at}
-use Rattle.rsl_saved.specs.declared.saved.SavedBook.{SavedBook}
-use Rattle.rsl_saved.specs.declared.saved.SavedLink.{SavedLink}
-use Rattle.rsl_saved.specs.Saved.{saved_book, saved_holder, saved_link, saved_links}
+use Rattle.rsl_session.specs.declared.saved.SavedBook.{SavedBook}
+use Rattle.rsl_session.specs.declared.saved.SavedLink.{SavedLink}
+use Rattle.rsl_session.specs.Saved.{saved_book, saved_holder, saved_link, saved_links}
 use Rattle.rsl_book.specs.RuledBook.{RuledBook}
 use Rattle.rsl_book.specs.Restored.{misfit, restored}
 use Rattle.rsl_book.specs.declared.restore_fault.RestoreFault.TheVariants.{TooManyAsks, TooManyStops, TooManyPlaces}

@@ -4,13 +4,12 @@ ghost use Rattle.std.specs.Prelude.{◌≡◌, IfOk};
 ghost use Rattle.rsl_event.specs.declared.nas.Nas.{Nas};
 ghost use Rattle.rsl_links.specs.Seen.{holder_at, link_seen, links_seen};
 ghost use Rattle.rsl_book.specs.Seen.{ask_seen, asks_seen, stop_seen, stops_seen};
-ghost use Rattle.rsl_saved.specs.Saved.{saved_holder, saved_link, saved_links};
+ghost use Rattle.rsl_session.specs.Saved.{saved_holder, saved_link, saved_links};
 
 use crate::kept::{DecidedAsk, EndedSession, Kept};
 use crate::ring::Ring;
 use rsl_links::{Holder, Link, LinkList, Servers};
-use rsl_saved::{SavedHolder, SavedLink};
-use rsl_session::{KeptAsk, KeptStop, Session};
+use rsl_session::{KeptAsk, KeptStop, SavedHolder, SavedLink, Session};
 use rsl_wire::{NoMemory, Octets};
 use std::alloc::Global;
 
@@ -26,7 +25,7 @@ fn saved_holder(alloc: Global, holder: &Holder) -> Result<SavedHolder, NoMemory>
 }
 
 /// A link, as it is saved.
-#[tactic(auto, unfolding(rsl_links::specs::Seen::link_seen, rsl_saved::specs::Saved::saved_link))]
+#[tactic(auto, unfolding(rsl_links::specs::Seen::link_seen, rsl_session::specs::Saved::saved_link))]
 fn saved_link(alloc: Global, servers: &Servers, link: &Link) -> Result<SavedLink, NoMemory>
     ensures { IfOk result (λ saved. saved_link saved ≡ link_seen servers.now link.now) }
 {
@@ -39,7 +38,7 @@ fn saved_link(alloc: Global, servers: &Servers, link: &Link) -> Result<SavedLink
 }
 
 /// The links, as they are saved. It fails only where memory is refused.
-#[tactic(auto, using(crate::proofs::OneByOne::stands_steps), unfolding(rsl_links::specs::Seen::links_seen, rsl_saved::specs::Saved::saved_links))]
+#[tactic(auto, using(crate::proofs::OneByOne::stands_steps), unfolding(rsl_links::specs::Seen::links_seen, rsl_session::specs::Saved::saved_links))]
 pub(crate) fn saved_links(
     alloc: Global,
     servers: &Servers,

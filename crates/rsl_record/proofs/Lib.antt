@@ -4,3 +4,4 @@ pub mod Counting
 pub mod Records
 pub mod Telling
 pub mod Walking
+pub mod TableLaws

@@ -8,3 +8,6 @@ pub mod Restep
 pub mod Segments
 pub mod Settled
 pub mod Walk
+pub mod ExitStatus
+pub mod Output
+pub mod Table

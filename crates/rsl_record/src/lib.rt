@@ -11,13 +11,21 @@
 //! `specs/Settled.antt` when a record is settled, and which fault is the first of one that isn't.
 //!
 //! Both walk over a `Chain`, which is where the lines so far have led (`specs/Chain.antt`).
+//!
+//! What a program says at its end is here too. `write_table` writes what each account holds as a table
+//! for an operator: the octets of `specs/Table.antt` and nothing else, over any writer, and it takes no
+//! memory. An `Output` is what a program prints, and `ExitStatus` how it ends (`specs/Output.antt`,
+//! `specs/ExitStatus.antt`).
 #![tactic(auto)]
 
 mod audit_fault;
 mod audit_walk;
 mod chain;
 mod close_fault;
+mod exit_status;
+mod fault;
 mod lines;
+mod output;
 mod positions;
 mod receipt;
 mod receipts;
@@ -25,9 +33,14 @@ mod record;
 mod same;
 mod segments;
 mod settlement;
+mod table;
 
 pub use audit_fault::AuditFault;
 pub use audit_walk::audit;
 pub use close_fault::CloseFault;
+pub use exit_status::ExitStatus;
+pub use fault::WriteFault;
+pub use output::Output;
 pub use receipt::{HasReceipts, Receipt};
 pub use settlement::settle;
+pub use table::{table_of, write_table};

@@ -1,12 +1,12 @@
 -- Why a script is not replayed.
 use Rattle.rsl_accounts.specs.declared.fault.ConfigFault.{ConfigFault}
 use Rattle.rsl_accounts.specs.declared.fault.ConfigFault.TheVariants.{NoMemory as config_no_memory}
-use Rattle.rsl_report.specs.declared.exit_status.ExitStatus.{ExitStatus}
-use Rattle.rsl_report.specs.declared.exit_status.ExitStatus.TheVariants.{WrongInput, InputOutput as input_output_status, NoMemory as no_memory_status}
+use Rattle.rsl_record.specs.declared.exit_status.ExitStatus.{ExitStatus}
+use Rattle.rsl_record.specs.declared.exit_status.ExitStatus.TheVariants.{WrongInput, InputOutput as input_output_status, NoMemory as no_memory_status}
 use Rattle.rsl_script.specs.declared.fault.ScriptFault.{ScriptFault}
 use Rattle.rsl_script.specs.declared.fault.ScriptFault.TheVariants.{Line as script_line, NoMemory as script_no_memory}
-use Rattle.rsl_text.specs.declared.fault.TextFault.{TextFault}
-use Rattle.rsl_text.specs.declared.fault.TextFault.TheVariants.{Unreadable as text_unreadable, TooLong as text_too_long, NoMemory as text_no_memory}
+use Rattle.rsl_accounts.specs.declared.text_fault.TextFault.{TextFault}
+use Rattle.rsl_accounts.specs.declared.text_fault.TextFault.TheVariants.{Unreadable as text_unreadable, TooLong as text_too_long, NoMemory as text_no_memory}
 use Rattle.rsl_replay.specs.declared.fault.ReplayFault.{ReplayFault}
 use Rattle.rsl_replay.specs.declared.fault.ReplayFault.TheVariants.{Line, TooLong, Config, InputOutput, NoMemory}
 

@@ -3,7 +3,7 @@
 use Rattle.std.specs.Prelude.{ℕ, ◌+◌, List, [], ◌∷◌}
 use Rattle.rsl_accounts.specs.Configuration.{Configuration}
 use Rattle.rsl_accounts.specs.declared.entry.Entry.{Entry}
-use Rattle.rsl_report.specs.Table.{table}
+use Rattle.rsl_record.specs.Table.{table}
 use Rattle.rsl_session.specs.BookOf.{book_of}
 use Rattle.rsl_session.specs.Rule.{past_of}
 use Rattle.rsl_shard.specs.Rows.{row_of}

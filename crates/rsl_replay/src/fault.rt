@@ -4,10 +4,9 @@ ghost use Rattle.rsl_replay.specs.declared.fault.ReplayFault.TheVariants.{
   NoMemory as no_memory,
 };
 
-use rsl_accounts::ConfigFault;
-use rsl_report::{ExitStatus, WriteFault};
+use rsl_accounts::{ConfigFault, TextFault};
+use rsl_record::{ExitStatus, WriteFault};
 use rsl_script::ScriptFault;
-use rsl_text::TextFault;
 use rsl_wire::NoMemory;
 use std::alloc::AllocError;
 use std::io;

@@ -1,17 +1,16 @@
 ghost use Rattle.std.specs.Prelude.{◌≢◌, ◌≤◌, ℕ, List, IfErr, IfOk, IfSome, OnOk, length};
 ghost use Rattle.std.specs.Io.KnownBytes.{Appends, Keeps};
 ghost use Rattle.rsl_replay.specs.Replay.{IsFaultOf, IsReplayed, most_octets};
-ghost use Rattle.rsl_report.specs.Output.{output_octets};
+ghost use Rattle.rsl_record.specs.Output.{output_octets};
 
 use crate::fault::ReplayFault;
 use crate::lines::lines_of;
 use crate::rows::rows_of;
 use crate::steps::steps_of;
-use rsl_accounts::Config;
-use rsl_report::{Output, table_of};
+use rsl_accounts::{Config, read_text};
+use rsl_record::{Output, table_of};
 use rsl_script::Script;
 use rsl_steps::run;
-use rsl_text::read_text;
 use std::alloc::Global;
 use std::io::{Read, Write};
 

@@ -5,12 +5,12 @@ use Rattle.std.proofs.lemmas.Option.{slice_get-get_or, slice_get_cases}
 use Rattle.rsl_accounts.specs.Configuration.{Configuration}
 use Rattle.rsl_accounts.specs.Limits.{IsConfiguration}
 use Rattle.rsl_accounts.specs.declared.entry.Entry.{Entry}
-use Rattle.rsl_receive.specs.declared.counts.Counts.{Counts}
-use Rattle.rsl_report.specs.Output.{output_octets}
-use Rattle.rsl_report.specs.Table.{table}
-use Rattle.rsl_report.specs.declared.output.Output.{Output}
-use Rattle.rsl_edges.specs.Output.{counts_line}
-use Rattle.rsl_edges.specs.declared.fault.ServeFault.{ServeFault}
+use Rattle.rsl_service.specs.declared.counts.Counts.{Counts}
+use Rattle.rsl_record.specs.Output.{output_octets}
+use Rattle.rsl_record.specs.Table.{table}
+use Rattle.rsl_record.specs.declared.output.Output.{Output}
+use Rattle.rsl_serve.specs.Output.{counts_line}
+use Rattle.rsl_serve.specs.declared.fault.ServeFault.{ServeFault}
 use Rattle.rsl_serve.specs.Served.{HasClosed, HasReceived, HasReported, HasServed, IsServed}
 use Rattle.rsl_service.specs.Closed.{IsClosed}
 use Rattle.rsl_service.specs.Receipts.{PassSeen, receipts_of}

@@ -1,1 +1,4 @@
 pub mod Served
+pub mod Fault
+pub mod Output
+pub mod Plan

@@ -2,10 +2,10 @@
 use Rattle.std.specs.Prelude.{◌≡◌, ℕ, List, [], ◌∷◌, ◌++◌, codes}
 use Rattle.rsl_accounts.specs.Configuration.{Configuration}
 use Rattle.rsl_accounts.specs.Limits.{IsConfiguration}
-use Rattle.rsl_receive.specs.Counted.{AddsUp}
-use Rattle.rsl_receive.specs.declared.counts.Counts.{Counts}
-use Rattle.rsl_report.specs.Table.{table}
-use Rattle.rsl_edges.specs.Output.{counts_line}
+use Rattle.rsl_service.specs.Counted.{AddsUp}
+use Rattle.rsl_service.specs.declared.counts.Counts.{Counts}
+use Rattle.rsl_record.specs.Table.{table}
+use Rattle.rsl_serve.specs.Output.{counts_line}
 use Rattle.rsl_service.specs.Closed.{IsClosed}
 use Rattle.rsl_service.specs.Report.{IsReport}
 use Rattle.rsl_record.specs.declared.receipt.Receipt.{Receipt}

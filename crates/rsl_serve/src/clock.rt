@@ -1,5 +1,5 @@
 use crate::shutdown::Shutdown;
-use rsl_receive::Pause;
+use rsl_service::Pause;
 use std::thread;
 use std::time::{self, Duration};
 

@@ -2,17 +2,27 @@
 //! thread of its own, over one service.
 //!
 //! `serve` does all of it and prints, once both receivers have taken their turns, what they did and
-//! what each account holds. What a datagram makes of the accounts is the business of `rsl_service`,
-//! what a receiver does that of `rsl_receive`, and arguments, file, sockets and what is printed that
-//! of `rsl_edges`.
+//! what each account holds. What a datagram makes of the accounts, and what a receiver does, is the
+//! business of `rsl_service`.
 //!
 //! The promise: what `serve` has printed after a success, and that its service was closed
-//! (`specs/Served.antt`).
+//! (`specs/Served.antt`). What the arguments ask for is exactly `specs/Plan.antt`, what is printed of
+//! the receivers `specs/Output.antt`, and the status with which each fault ends `specs/Fault.antt`. A
+//! socket is a port that counts its calls (`rsl_port`).
 #![tactic(auto)]
 
 mod clock;
+mod fault;
+mod output;
+mod plan;
 mod server;
 mod shutdown;
+mod udp_port;
 mod workers;
 
+pub use fault::ServeFault;
+pub use output::counts_of;
+pub use plan::Plan;
+pub use rsl_port::SystemClock;
 pub use server::serve;
+pub use udp_port::UdpPort;

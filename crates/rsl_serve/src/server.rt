@@ -1,19 +1,18 @@
 ghost use Rattle.std.specs.Prelude.{◌≡◌, ◌≢◌, ◌∷◌, ℕ, List, [], IfErr, IfOk, OnOk};
 ghost use Rattle.std.specs.Io.KnownBytes.{Appends, Keeps};
 ghost use Rattle.rsl_accounts.specs.Configuration.{Configuration};
-ghost use Rattle.rsl_receive.specs.Told.{no_numbers};
+ghost use Rattle.rsl_service.specs.Told.{no_numbers};
 ghost use Rattle.rsl_record.specs.declared.receipt.Receipt.{Receipt};
-ghost use Rattle.rsl_report.specs.Output.{output_octets};
+ghost use Rattle.rsl_record.specs.Output.{output_octets};
 ghost use Rattle.rsl_serve.specs.Served.{HasClosed, HasReceived, HasReported, HasServed, IsServed};
 ghost use Rattle.rsl_service.specs.Service.{IsLedgerOf};
 
 use crate::clock::RunTime;
 use crate::shutdown::Shutdown;
+use crate::{Plan, ServeFault, UdpPort, counts_of};
 use rsl_accounts::Config;
-use rsl_edges::{Plan, ServeFault, UdpPort, counts_of};
-use rsl_receive::Counts;
-use rsl_report::{Output, table_of};
-use rsl_service::{Blanks, Open, Pass, Service, Tally};
+use rsl_record::{Output, table_of};
+use rsl_service::{Blanks, Counts, Open, Pass, Service, Tally};
 use std::alloc::Global;
 use std::env::{self, Env};
 use std::fs::Files;

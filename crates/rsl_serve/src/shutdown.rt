@@ -1,8 +1,8 @@
 //! How the workers of a server end: what they tell each other, and a port that fails with the other.
 
-use rsl_edges::UdpPort;
+use crate::UdpPort;
 use rsl_event::Source;
-use rsl_receive::{DatagramPort, PortFault};
+use rsl_service::{DatagramPort, PortFault};
 use std::sync::atomic::{AtomicBool, AtomicU64, Ordering};
 use std::thread;
 use std::time::{self, Duration};

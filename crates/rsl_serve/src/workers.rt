@@ -1,14 +1,13 @@
 ghost use Rattle.std.specs.Prelude.{◌≡◌, IfOk};
-ghost use Rattle.rsl_receive.specs.Told.{no_numbers};
+ghost use Rattle.rsl_service.specs.Told.{no_numbers};
 ghost use Rattle.rsl_serve.specs.Served.{HasReceived};
 
 use crate::clock::EverySecond;
 use crate::server::{Finished, Passes, Server, Sockets};
 use crate::shutdown::PairedPort;
-use rsl_edges::{ServeFault, SystemClock, UdpPort};
+use crate::{ServeFault, SystemClock, UdpPort};
 use rsl_event::Port;
-use rsl_receive::{Counts, expire_loop, receive};
-use rsl_service::{Pass, Tally};
+use rsl_service::{Counts, Pass, Tally, expire_loop, receive};
 use std::sync::Wait;
 use std::thread::{self, Threads};
 use std::time;

@@ -5,3 +5,8 @@ pub mod Noting
 pub mod Reported
 pub mod Ruled
 pub mod Ruling
+pub mod Calling
+pub mod Keeping
+pub mod Refusing
+pub mod Serving
+pub mod Ticking

@@ -6,3 +6,9 @@ pub mod Receipts
 pub mod Report
 pub mod Service
 pub mod Shares
+pub mod Counted
+pub mod Served
+pub use Rattle.rsl_port.specs.Shown
+pub mod Ticked
+pub use Rattle.rsl_port.specs.Told
+pub mod Turned

@@ -17,3 +17,4 @@ pub mod BookLinks
 pub mod BookStep
 pub mod BookOf
 pub mod BookLaws
+pub mod Saved

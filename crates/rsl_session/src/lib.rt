@@ -6,7 +6,8 @@
 //! that they speak of. Read `specs/Past.antt` first and `specs/Rule.antt` last.
 //!
 //! Beside them stands the running book, which carries on what an account holds: `specs/Book.antt`
-//! and `specs/BookStep.antt`. The functions of [`laws`] join the two.
+//! and `specs/BookStep.antt`. The functions of [`laws`] join the two. A [`SavedBook`] is one as plain
+//! data: what is written of a book, and what it is put back from (`specs/Saved.antt`).
 #![tactic(auto)]
 
 mod bundle;
@@ -14,10 +15,12 @@ mod kept;
 pub mod laws;
 mod outcome;
 mod past_event;
+mod saved;
 mod session;
 
 pub use bundle::Bundle;
 pub use kept::{KEPT_ASKS, KEPT_STOPS, KeptAsk, KeptStop};
 pub use outcome::Outcome;
 pub use past_event::PastEvent;
+pub use saved::{SavedBook, SavedHolder, SavedLink};
 pub use session::Session;

@@ -1,5 +1,5 @@
 use rsl_book::Stored;
-use rsl_receive::Counts;
+use rsl_service::Counts;
 use rsl_shard::Row;
 use std::fmt;
 

@@ -7,8 +7,9 @@ use crate::served::{Seen, Served};
 use crate::stop::Stop;
 use crate::worker::Standing;
 use rsl_event::Port;
-use rsl_receive::{Coming, Counts, Datagram, MemoryPort, receive};
-use rsl_service::{Blanks, Open, Pass, Service, Tally};
+use rsl_service::{
+    Blanks, Coming, Counts, Datagram, MemoryPort, Open, Pass, Service, Tally, receive,
+};
 use rsl_steps::Step;
 use rsl_wire::Octets;
 use std::alloc::Global;

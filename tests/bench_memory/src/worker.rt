@@ -3,8 +3,7 @@
 use crate::page::Page;
 use crate::served::{Seen, Served, cut, is_mixed};
 use crate::stop::Stop;
-use rsl_receive::{Clock, Pause, expire_loop};
-use rsl_service::{Open, Service, Tally};
+use rsl_service::{Clock, Open, Pause, Service, Tally, expire_loop};
 use rsl_shard::{Row, Segment};
 use std::sync::Wait;
 

@@ -28,7 +28,7 @@ mod work;
 use events::Size;
 use record::record_of;
 use rsl_accounts::Config;
-use rsl_report::audit;
+use rsl_record::audit;
 use rsl_wire::NoMemory;
 use std::alloc::Global;
 use std::env::Args;

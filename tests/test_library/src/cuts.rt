@@ -8,7 +8,7 @@
 use crate::saved::{ask_of, link_of, stop_of};
 use crate::steps::config_and_steps;
 use rld_books::{CutBooks, ServerBooks};
-use rsl_saved::SavedBook;
+use rsl_session::SavedBook;
 use std::alloc::Global;
 use std::test::Fail;
 use test_rows::{Subject, check_rows};

@@ -1,7 +1,7 @@
-//! Tests of `rsl_report`.
+//! Tests of the reports of `rsl_record`.
 
 use rsl_accounts::Config;
-use rsl_report::{AuditFault, Output, WriteFault, table_of, write_table};
+use rsl_record::{AuditFault, Output, WriteFault, table_of, write_table};
 use rsl_shard::Row;
 use std::alloc::Global;
 use std::io;

@@ -5,7 +5,7 @@
 
 use crate::records::{config_of, segment_of};
 use rsl_accounts::Config;
-use rsl_report::audit;
+use rsl_record::audit;
 use std::alloc::Global;
 use std::test::Fail;
 use test_rows::{Subject, check_rows, printed};

@@ -2,7 +2,7 @@
 
 use rsl_accounts::Config;
 use rsl_event::Source;
-use rsl_receive::{Coming, Datagram};
+use rsl_service::{Coming, Datagram};
 use rsl_wire::Octets;
 use std::alloc::Global;
 use std::test::Fail;

@@ -15,8 +15,9 @@ use crate::datagrams::{coming_of, config_of, numbers_of, push_sent};
 use crate::workers::{Pauses, Steady};
 use rsl_accounts::Config;
 use rsl_event::Port;
-use rsl_receive::{Counts, MemoryPort, ReceiveFault, expire_loop, receive};
-use rsl_service::{Blanks, Open, Pass, Service, Tally};
+use rsl_service::{
+    Blanks, Counts, MemoryPort, Open, Pass, ReceiveFault, Service, Tally, expire_loop, receive,
+};
 use rsl_shard::{Move, Segment};
 use std::alloc::Global;
 use std::marker::Brand;

@@ -1,7 +1,7 @@
 //! The status and the text with which a server ends whose record is not settled. Nothing from
 //! outside brings a server to that.
 
-use rsl_edges::ServeFault;
+use rsl_serve::ServeFault;
 use rsl_service::CloseFault;
 use std::alloc::Global;
 use std::test::Fail;

@@ -1,6 +1,6 @@
 //! Sockets on ports that nobody had.
 
-use rsl_edges::UdpPort;
+use rsl_serve::UdpPort;
 use std::io;
 use std::net::{Net, UdpSocket};
 

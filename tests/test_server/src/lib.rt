@@ -1,4 +1,4 @@
-//! Tests of `rsl_receive` and `rsl_edges`: what receivers and the worker that makes ticks make of a
+//! Tests of the receivers of `rsl_service` and of `rsl_serve`: what receivers and the worker that makes ticks make of a
 //! service over a port of memory, as rows of text (`test_rows`); servers over sockets of this
 //! machine, and how a server ends. Expected values come from the session rule, worked by hand, and
 //! the octets from Python's hashlib; but the crowd's requests are made with `rsl_auth`.

@@ -1,6 +1,6 @@
 //! What the threads of a test share: the moment, and whether the client has ended.
 
-use rsl_receive::{Clock, Pause};
+use rsl_service::{Clock, Pause};
 use std::sync::atomic::{AtomicBool, AtomicU64, Ordering};
 use std::thread;
 use std::time::{self, Duration};

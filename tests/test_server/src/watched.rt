@@ -1,13 +1,13 @@
 //! Sockets of a server that fail once the client has ended, so that their receivers end.
 
 ghost use Rattle.std.specs.Prelude.{◌≡◌, ◌≤◌};
-ghost use Rattle.rsl_receive.specs.Told.{no_numbers};
+ghost use Rattle.rsl_service.specs.Told.{no_numbers};
 
 use crate::fresh::Fresh;
 use crate::scene::Scene;
-use rsl_edges::UdpPort;
 use rsl_event::Source;
-use rsl_receive::{DatagramPort, Numbers, PortFault};
+use rsl_serve::UdpPort;
+use rsl_service::{DatagramPort, Numbers, PortFault};
 
 /// The most turns in a row without a datagram, of a second each.
 const MOST_IDLE: u64 = 10;

@@ -1,6 +1,6 @@
 //! Clocks and pauses that report what they showed and said.
 
-use rsl_receive::{Clock, Pause};
+use rsl_service::{Clock, Pause};
 use std::alloc::Global;
 
 /// A clock that goes on by so much at each look, and keeps the moments that it showed.

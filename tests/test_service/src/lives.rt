@@ -14,8 +14,7 @@
 use crate::packets::{SOURCE, ask, config_of, on, stray};
 use rsl_accounts::Config;
 use rsl_event::{Decision, Port};
-use rsl_record::CloseFault;
-use rsl_report::audit;
+use rsl_record::{CloseFault, audit};
 use rsl_service::{Blanks, Open, Pass, Service, Tally};
 use rsl_shard::Segment;
 use std::alloc::Global;

@@ -5,7 +5,7 @@ use crate::draw::{COUNTS, Draw};
 use crate::lived::lived;
 use rld_fields::{ReadFault, push_number};
 use rld_spelling::{Era, Header, push_book, read_books};
-use rsl_saved::SavedBook;
+use rsl_session::SavedBook;
 use std::alloc::Global;
 use std::test::Fail;
 use test_rows::octets_of;

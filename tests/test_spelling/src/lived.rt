@@ -5,7 +5,7 @@ use rld_fields::push_number;
 use rld_spelling::{push_book, read_books};
 use rsl_accounts::Rules;
 use rsl_book::Book;
-use rsl_saved::SavedBook;
+use rsl_session::SavedBook;
 use std::alloc::Global;
 use std::test::Fail;
 

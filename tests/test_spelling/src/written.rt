@@ -1,8 +1,7 @@
 //! Books, moves and tables as texts, each in the layout of a derived `Debug`.
 
 use rld_spelling::{Era, EraAccount, EraClient, Header};
-use rsl_saved::{SavedBook, SavedHolder, SavedLink};
-use rsl_session::{KeptAsk, KeptStop, Session};
+use rsl_session::{KeptAsk, KeptStop, SavedBook, SavedHolder, SavedLink, Session};
 use rsl_shard::Move;
 use std::alloc::Global;
 use std::test::Fail;

@@ -9,7 +9,7 @@ use crate::server::{alive, ask, commit, pacing, stop_of};
 use rld_log::Ticks;
 use rld_start::{Started, start};
 use rsl_accounts::Config;
-use rsl_saved::{SavedHolder, SavedLink};
+use rsl_session::{SavedHolder, SavedLink};
 use rsl_shard::Move;
 use std::{fs, io};
 

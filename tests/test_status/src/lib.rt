@@ -1,4 +1,4 @@
-//! Tests of the public calls of `rld_status`: rows of text, as `test_rows` has them.
+//! Tests of `status_answer` of `rld_turn`: rows of text, as `test_rows` has them.
 #![tactic(auto)]
 
 #[cfg(test)]

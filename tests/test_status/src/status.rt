@@ -1,7 +1,7 @@
 //! What is answered to Status-Server packets. The first two are the examples of RFC 5997 section 7; the
 //! other packets, and the signed answers, were made with Python's hashlib and hmac.
 
-use rld_status::status_answer;
+use rld_turn::status_answer;
 use rsl_accounts::Config;
 use rsl_event::Port;
 use std::alloc::Global;

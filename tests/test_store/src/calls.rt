@@ -4,7 +4,7 @@ use crate::server::*;
 use rld_log::MemoryLog;
 use rld_store::{Opened, Store, StoreFault};
 use rsl_event::Decision;
-use rsl_saved::{SavedHolder, SavedLink};
+use rsl_session::{SavedHolder, SavedLink};
 use rsl_shard::Move;
 use std::process::Abort;
 use std::test::Fail;

@@ -3,16 +3,15 @@
 ghost use Rattle.std.specs.Prelude.{◌≡◌, ◌+◌, ◌<◌, ◌^◌, IfOk, map, sum_by};
 ghost use Rattle.rld_books.specs.Cut.{cut_ask, cut_book, cut_link, cut_server, cut_stop, earlier, late, late_in, late_in_server};
 ghost use Rattle.rld_books.specs.Saved.{IsServerOf};
-ghost use Rattle.rsl_saved.specs.Saved.{saved_book, saved_link, saved_links};
-ghost use Rattle.rsl_saved.specs.declared.saved.SavedLink.{SavedLink as OneLink};
+ghost use Rattle.rsl_session.specs.Saved.{saved_book, saved_link, saved_links};
+ghost use Rattle.rsl_session.specs.declared.saved.SavedLink.{SavedLink as OneLink};
 ghost use Rattle.rsl_session.specs.declared.kept.KeptAsk.{KeptAsk as OneAsk};
 ghost use Rattle.rsl_session.specs.declared.kept.KeptStop.{KeptStop as OneStop};
 
 use crate::fault::ServerFault;
 use crate::server_books::ServerBooks;
 use rsl_accounts::Config;
-use rsl_saved::{SavedBook, SavedLink};
-use rsl_session::{KeptAsk, KeptStop};
+use rsl_session::{KeptAsk, KeptStop, SavedBook, SavedLink};
 use std::alloc::Global;
 
 /// Books that were cut to a moment.

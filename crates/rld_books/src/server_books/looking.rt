@@ -5,12 +5,12 @@ ghost use Rattle.std.specs.Option.{option_map};
 ghost use Rattle.rld_books.specs.Clocks.{IsGreatestClock, clock_in};
 ghost use Rattle.rld_books.specs.Saved.{book_in, links_in, rows_in};
 ghost use Rattle.rsl_book.specs.Restored.{saved};
-ghost use Rattle.rsl_saved.specs.Saved.{saved_book, saved_links};
+ghost use Rattle.rsl_session.specs.Saved.{saved_book, saved_links};
 
 use crate::server_books::ServerBooks;
 use rsl_accounts::Config;
 use rsl_book::Book;
-use rsl_saved::{SavedBook, SavedLink};
+use rsl_session::{SavedBook, SavedLink};
 use rsl_shard::{Books, Row};
 use rsl_wire::NoMemory;
 use std::alloc::Global;

@@ -6,7 +6,7 @@ ghost use Rattle.rsl_event.specs.declared.nas.Nas.{Nas};
 ghost use Rattle.rsl_session.specs.Places.{places_of};
 ghost use Rattle.rsl_session.specs.Book.{bundles_in, new_book};
 ghost use Rattle.rsl_links.specs.Seen.{holder_at};
-ghost use Rattle.rsl_saved.specs.Saved.{saved_book, saved_holder, saved_link, saved_links};
+ghost use Rattle.rsl_session.specs.Saved.{saved_book, saved_holder, saved_link, saved_links};
 ghost use Rattle.rsl_book.specs.RuledBook.{IsWithinLimit};
 ghost use Rattle.rsl_book.specs.Restored.{misfit, restored, saved};
 
@@ -18,8 +18,7 @@ use crate::table::index_for;
 use rsl_accounts::Rules;
 use rsl_event::Nas;
 use rsl_links::Holder;
-use rsl_saved::{SavedBook, SavedHolder, SavedLink};
-use rsl_session::{KEPT_ASKS, KEPT_STOPS, KeptAsk, KeptStop};
+use rsl_session::{KEPT_ASKS, KEPT_STOPS, KeptAsk, KeptStop, SavedBook, SavedHolder, SavedLink};
 use rsl_wire::{NoMemory, Octets};
 use std::alloc::Global;
 

@@ -4,7 +4,7 @@ ghost use Rattle.std.specs.Prelude.{◌≡◌, ◌<◌, ◌↔◌, All, IfErr, I
 ghost use Rattle.std.specs.Option.{option_map};
 ghost use Rattle.rsl_book.specs.Restored.{saved};
 ghost use Rattle.rsl_book.specs.RuledBook.{IsWithinLimit};
-ghost use Rattle.rsl_saved.specs.Saved.{saved_book};
+ghost use Rattle.rsl_session.specs.Saved.{saved_book};
 ghost use Rattle.rsl_shard.specs.Opening.{as_new};
 ghost use Rattle.rsl_shard.specs.Restep.{AreBooks, book_of_entry, new_books};
 ghost use Rattle.rsl_shard.specs.Setup.{setup_of};
@@ -12,7 +12,7 @@ ghost use Rattle.rsl_shard.specs.Setup.{setup_of};
 use crate::books::Books;
 use rsl_accounts::{Config, Rules};
 use rsl_book::Book;
-use rsl_saved::SavedBook;
+use rsl_session::SavedBook;
 use rsl_wire::NoMemory;
 use std::alloc::Global;
 

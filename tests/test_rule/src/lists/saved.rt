@@ -3,7 +3,7 @@
 use super::draw::Draw;
 use rsl_accounts::Rules;
 use rsl_book::{Book, RestoreFault};
-use rsl_saved::SavedBook;
+use rsl_session::SavedBook;
 use rsl_wire::NoMemory;
 use std::alloc::Global;
 

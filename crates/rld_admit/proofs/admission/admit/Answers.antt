@@ -1,5 +1,5 @@
 use Rattle.std.proofs.Common.{map, ap, ◌∙◌, arith}
-use Rattle.rsl_saved.specs.Saved.{saved_book}
+use Rattle.rsl_session.specs.Saved.{saved_book}
 use Rattle.rld_admit.proofs.Admitting.{are_admitted}
 use Rattle.rld_admit.proofs.admission.admit.Goals as goal
 

@@ -1,6 +1,6 @@
 use Rattle.std.proofs.Common.{List, [], refl, ap, ◌∙◌}
-use Rattle.rsl_saved.specs.Saved.{saved_links}
-use Rattle.rsl_saved.specs.declared.saved.SavedLink.{SavedLink}
+use Rattle.rsl_session.specs.Saved.{saved_links}
+use Rattle.rsl_session.specs.declared.saved.SavedLink.{SavedLink}
 use Rattle.rld_admit.specs.Carried.{asks_on, links_on, placed, stops_on}
 use Rattle.rld_admit.specs.Numbers.{number_in}
 use Rattle.rld_admit.proofs.Placing.{book_made}

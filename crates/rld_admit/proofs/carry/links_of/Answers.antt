@@ -1,6 +1,6 @@
 use Rattle.std.proofs.Common.{List, ap, sym, ◌∙◌, arith}
-use Rattle.rsl_saved.specs.Saved.{saved_links}
-use Rattle.rsl_saved.specs.declared.saved.SavedLink.{SavedLink}
+use Rattle.rsl_session.specs.Saved.{saved_links}
+use Rattle.rsl_session.specs.declared.saved.SavedLink.{SavedLink}
 use Rattle.rsl_session.specs.Book.{bundles_in}
 use Rattle.rsl_session.specs.Places.{places_of}
 use Rattle.rld_admit.specs.Numbers.{number_in}

@@ -1,5 +1,5 @@
 use Rattle.std.proofs.Common.{◌≡◌, ◌≤◌, [], take}
-use Rattle.rsl_saved.specs.Saved.{saved_links}
+use Rattle.rsl_session.specs.Saved.{saved_links}
 use Rattle.rsl_session.specs.Book.{bundles_in}
 use Rattle.rsl_session.specs.Places.{places_of}
 use Rattle.rld_admit.specs.Carried.{links_on, placed}

@@ -1,6 +1,6 @@
 use Rattle.std.proofs.Common.{◌≡◌, ◌∷◌, [], List, Some, ap, sym, subst, ◌∙◌}
 use Rattle.std.specs.Prelude.{OnOk}
-use Rattle.rsl_saved.specs.Saved.{saved_link, saved_links}
+use Rattle.rsl_session.specs.Saved.{saved_link, saved_links}
 use Rattle.rsl_session.specs.Book.{BookLink}
 use Rattle.rld_admit.specs.Carried.{links_on, placed}
 use Rattle.rld_admit.specs.Numbers.{number_in}

@@ -1,5 +1,5 @@
 use Rattle.std.proofs.Common.{◌≡◌, ◌≤◌, cond, arith}
-use Rattle.rsl_saved.specs.Saved.{saved_link}
+use Rattle.rsl_session.specs.Saved.{saved_link}
 use Rattle.rsl_session.specs.Places.{is_bundle}
 use Rattle.rsl_session.specs.declared.bundle.Bundle.{Bundle}
 use Rattle.rld_admit.proofs.Placing.{at_most_one, counted_more, none_counted}

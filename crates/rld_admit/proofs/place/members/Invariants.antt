@@ -1,6 +1,6 @@
 use Rattle.std.proofs.Common.{◌≡◌, ◌≤◌, take}
 use Rattle.std.specs.Prelude.{count_by}
-use Rattle.rsl_saved.specs.Saved.{saved_links}
+use Rattle.rsl_session.specs.Saved.{saved_links}
 use Rattle.rsl_session.specs.Book.{bundles_in}
 use Rattle.rsl_session.specs.Places.{is_bundle}
 use Rattle.rld_admit.proofs.place.members.Given as goal

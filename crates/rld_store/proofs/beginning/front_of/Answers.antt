@@ -1,6 +1,6 @@
 use Rattle.std.proofs.Common.{arith, ◌∙◌, ◌++◌, ◌≡◌, List, ap, map, ℕ}
-use Rattle.rsl_saved.specs.Saved.{saved_book}
-use Rattle.rsl_saved.specs.declared.saved.SavedBook.{SavedBook}
+use Rattle.rsl_session.specs.Saved.{saved_book}
+use Rattle.rsl_session.specs.declared.saved.SavedBook.{SavedBook}
 use Rattle.rld_spelling.specs.Headers.{header_octets}
 use Rattle.rld_log.specs.Frames.{Fits}
 use Rattle.rld_store.proofs.Fronts.{front_size, is_snapshot}

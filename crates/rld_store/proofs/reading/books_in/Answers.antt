@@ -1,7 +1,7 @@
 use Rattle.std.proofs.Common.{◌≡◌, ◌∙◌, ℕ, List, Ok, Result, map, refl, sym, ap, subst}
 use Rattle.rld_fields.specs.declared.fault.Fault.{Fault}
-use Rattle.rsl_saved.specs.Saved.{saved_book}
-use Rattle.rsl_saved.specs.declared.saved.SavedBook.{SavedBook}
+use Rattle.rsl_session.specs.Saved.{saved_book}
+use Rattle.rsl_session.specs.declared.saved.SavedBook.{SavedBook}
 use Rattle.rld_spelling.specs.Books.{BookSeen, books_field, books_seen}
 use Rattle.rld_store.proofs.States.{put_back, read_is}
 use Rattle.rld_store.proofs.reading.books_in.Goals as goal

@@ -1,6 +1,6 @@
 use Rattle.std.proofs.Common.{◌≡◌, map, take}
 use Rattle.rsl_links.specs.Seen.{link_seen}
-use Rattle.rsl_saved.specs.Saved.{saved_link}
+use Rattle.rsl_session.specs.Saved.{saved_link}
 use Rattle.rsl_book.proofs.saving.saved_links.Given as goal
 
 abbrev pub invariant-loop-at : goal.invariant-loop-at

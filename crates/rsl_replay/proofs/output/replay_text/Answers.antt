@@ -5,7 +5,7 @@ use Rattle.rsl_replay.specs.Replay.{replay_boot}
 use Rattle.rsl_replay.specs.Report.{rows_after}
 use Rattle.rsl_replay.specs.Shards.{AreShardsAfter}
 use Rattle.rsl_replay.specs.Steps.{steps_of_lines}
-use Rattle.rsl_report.specs.Table.{table}
+use Rattle.rsl_record.specs.Table.{table}
 use Rattle.rsl_script.specs.Script.{contents}
 use Rattle.rsl_steps.specs.Run.{AreAnswers, steps_taken}
 use Rattle.rsl_steps.specs.declared.step.Step.{Step}

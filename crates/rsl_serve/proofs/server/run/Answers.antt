@@ -1,6 +1,6 @@
 use Rattle.std.proofs.Common.{IfOk, ap, subst}
 use Rattle.rsl_accounts.specs.Configuration.{Configuration}
-use Rattle.rsl_report.specs.Output.{output_octets}
+use Rattle.rsl_record.specs.Output.{output_octets}
 use Rattle.rsl_serve.specs.Served.{HasServed}
 use Rattle.rsl_service.specs.Service.{ServiceSeen}
 use Rattle.rsl_serve.proofs.Reported.{of_some_passes}

@@ -1,4 +1,4 @@
-use Rattle.rsl_report.specs.Output.{output_octets}
+use Rattle.rsl_record.specs.Output.{output_octets}
 use Rattle.rsl_serve.proofs.server.serve.Goals as goal
 
 pub returns-clause-served : goal.returns-clause-served

@@ -1,5 +1,5 @@
 use Rattle.std.proofs.Common.{map}
-use Rattle.rsl_saved.specs.Saved.{saved_book}
+use Rattle.rsl_session.specs.Saved.{saved_book}
 use Rattle.rld_admit.specs.Begun.{begun_in}
 use Rattle.rld_admit.proofs.Pushing.{shard_more}
 use Rattle.rld_admit.proofs.admission.Passage.all_books.Goals as goal

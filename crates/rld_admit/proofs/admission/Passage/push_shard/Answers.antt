@@ -1,6 +1,6 @@
 use Rattle.std.proofs.Common.{ℕ, ◌+◌, map, ap, ◌∙◌, arith}
 use Rattle.std.proofs.lemmas.List.{map_push}
-use Rattle.rsl_saved.specs.Saved.{saved_book}
+use Rattle.rsl_session.specs.Saved.{saved_book}
 use Rattle.rld_admit.proofs.Pushing.{all_begun, one_begun}
 use Rattle.rld_admit.proofs.admission.Passage.push_shard.Goals as goal
 

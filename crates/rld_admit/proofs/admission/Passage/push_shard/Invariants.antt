@@ -1,5 +1,5 @@
 use Rattle.std.proofs.Common.{◌-◌, map}
-use Rattle.rsl_saved.specs.Saved.{saved_book}
+use Rattle.rsl_session.specs.Saved.{saved_book}
 use Rattle.rld_admit.proofs.Pushing.{AreBegun}
 use Rattle.rld_admit.proofs.admission.Passage.push_shard.Given as goal
 

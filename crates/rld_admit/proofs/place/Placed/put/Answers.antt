@@ -1,6 +1,6 @@
 use Rattle.std.proofs.Common.{◌≡◌, ℕ, ◌+◌, ◌∷◌, ◌++◌, [], List, subst, ◌∙◌, arith}
-use Rattle.rsl_saved.specs.Saved.{saved_link, saved_links}
-use Rattle.rsl_saved.specs.declared.saved.SavedLink.{SavedLink}
+use Rattle.rsl_session.specs.Saved.{saved_link, saved_links}
+use Rattle.rsl_session.specs.declared.saved.SavedLink.{SavedLink}
 use Rattle.rsl_session.specs.Book.{bundles_in}
 use Rattle.rsl_session.specs.Places.{places_of}
 use Rattle.rld_admit.proofs.Placing.{put_counted, put_in, put_out}

@@ -1,7 +1,7 @@
 use Rattle.std.proofs.Common.{◌≡◌, ◌∙◌, List, map, sym, ap}
 use Rattle.std.proofs.lemmas.List.{with_items_is}
-use Rattle.rsl_saved.specs.Saved.{saved_book}
-use Rattle.rsl_saved.specs.declared.saved.SavedBook.{SavedBook}
+use Rattle.rsl_session.specs.Saved.{saved_book}
+use Rattle.rsl_session.specs.declared.saved.SavedBook.{SavedBook}
 use Rattle.rld_books.specs.Cut.{cut_book}
 use Rattle.rld_books.proofs.Cutting.{put_back_cut, same_count}
 use Rattle.rld_books.proofs.server_books.ServerBooks.cut.Goals as goal

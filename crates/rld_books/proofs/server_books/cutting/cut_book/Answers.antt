@@ -1,8 +1,8 @@
 use Rattle.std.proofs.Common.{◌≡◌, ◌∙◌, List, length, map, refl, sym, ap}
 use Rattle.std.proofs.lemmas.List.{length-map, with_items_is}
-use Rattle.rsl_saved.specs.Saved.{saved_links}
-use Rattle.rsl_saved.specs.declared.saved.SavedBook.{SavedBook}
-use Rattle.rsl_saved.specs.declared.saved.SavedLink.{SavedLink}
+use Rattle.rsl_session.specs.Saved.{saved_links}
+use Rattle.rsl_session.specs.declared.saved.SavedBook.{SavedBook}
+use Rattle.rsl_session.specs.declared.saved.SavedLink.{SavedLink}
 use Rattle.rld_books.specs.Cut.{cut_ask, cut_link, cut_stop}
 use Rattle.rld_books.proofs.Cutting.{book_cut, same_length}
 use Rattle.rld_books.proofs.server_books.cutting.cut_book.Goals as goal

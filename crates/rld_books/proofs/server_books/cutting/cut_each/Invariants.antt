@@ -1,5 +1,5 @@
 use Rattle.std.proofs.Common.{◌≡◌, ◌++◌, take, drop, map}
-use Rattle.rsl_saved.specs.Saved.{saved_book}
+use Rattle.rsl_session.specs.Saved.{saved_book}
 use Rattle.rld_books.specs.Cut.{cut_book}
 use Rattle.rld_books.proofs.server_books.cutting.cut_each.Given as goal
 

@@ -1,5 +1,5 @@
 use Rattle.std.proofs.Common.{◌≡◌, ◌++◌, take, drop, map}
-use Rattle.rsl_saved.specs.Saved.{saved_links}
+use Rattle.rsl_session.specs.Saved.{saved_links}
 use Rattle.rld_books.specs.Cut.{cut_link}
 use Rattle.rld_books.proofs.server_books.cutting.cut_links.Given as goal
 

@@ -1,5 +1,5 @@
 use Rattle.std.proofs.Common.{◌≡◌, ◌<◌, ◌^◌, map, sum_by, take}
-use Rattle.rsl_saved.specs.Saved.{saved_book}
+use Rattle.rsl_session.specs.Saved.{saved_book}
 use Rattle.rld_books.specs.Cut.{late_in}
 use Rattle.rld_books.proofs.server_books.cutting.late_in_all.Given as goal
 

@@ -1,6 +1,6 @@
 use Rattle.std.proofs.Common.{◌≡◌, ◌++◌, map}
 use Rattle.std.specs.List.{range_with_len}
-use Rattle.rsl_saved.specs.Saved.{saved_book}
+use Rattle.rsl_session.specs.Saved.{saved_book}
 use Rattle.rsl_shard.specs.Restep.{new_books_seen}
 use Rattle.rld_books.specs.Saved.{saved_server, seen_as_new}
 use Rattle.rld_books.proofs.server_books.saving.restored_shards.Given as goal

@@ -1,5 +1,5 @@
 use Rattle.std.proofs.Common.{◌≡◌, map, take}
-use Rattle.rsl_saved.specs.Saved.{saved_book}
+use Rattle.rsl_session.specs.Saved.{saved_book}
 use Rattle.rld_books.specs.Saved.{saved_server}
 use Rattle.rld_books.proofs.server_books.saving.saved_of.Given as goal
 

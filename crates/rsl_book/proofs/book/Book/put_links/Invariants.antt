@@ -1,5 +1,5 @@
 use Rattle.std.proofs.Common.{◌≡◌, take}
-use Rattle.rsl_saved.specs.Saved.{saved_links}
+use Rattle.rsl_session.specs.Saved.{saved_links}
 use Rattle.rsl_book.proofs.book.Book.put_links.Given as goal
 
 abbrev pub invariant-loop-link : goal.invariant-loop-link

@@ -1,4 +1,4 @@
-use Rattle.rsl_saved.specs.Saved.{saved_book}
+use Rattle.rsl_session.specs.Saved.{saved_book}
 use Rattle.rsl_book.proofs.Insides.{same_book}
 use Rattle.rsl_book.proofs.book.Book.save.Goals as goal
 

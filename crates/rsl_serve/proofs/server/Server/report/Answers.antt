@@ -1,6 +1,6 @@
 use Rattle.std.proofs.Common.{List, ap, ◌∙◌}
 use Rattle.rsl_accounts.specs.Configuration.{Configuration}
-use Rattle.rsl_report.specs.Table.{table}
+use Rattle.rsl_record.specs.Table.{table}
 use Rattle.rsl_serve.proofs.Reported.{has_reported}
 use Rattle.rsl_serve.proofs.server.Server.report.Goals as goal
 use Rattle.rsl_shard.specs.declared.row.Row.{Row}

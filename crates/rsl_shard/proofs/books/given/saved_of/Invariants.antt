@@ -1,6 +1,6 @@
 use Rattle.std.proofs.Common.{◌≡◌, map, take}
 use Rattle.rsl_book.specs.Restored.{saved}
-use Rattle.rsl_saved.specs.Saved.{saved_book}
+use Rattle.rsl_session.specs.Saved.{saved_book}
 use Rattle.rsl_shard.proofs.books.given.saved_of.Given as goal
 
 abbrev pub invariant-loop-book : goal.invariant-loop-book

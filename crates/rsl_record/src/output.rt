@@ -1,0 +1,29 @@
+ghost use Rattle.std.specs.Prelude.{OnOk};
+ghost use Rattle.std.specs.Io.KnownBytes.{Appends};
+ghost use Rattle.rsl_record.specs.Output.{output_octets};
+
+use crate::fault::WriteFault;
+use std::io::Write;
+
+/// What a program prints once all was done: its lines, and then a report.
+#[derive(Drop)]
+pub struct Output {
+    /// What was answered, or what the receivers did. Each line ends in a line feed.
+    pub lines: String,
+    /// The octets of the report: what each account holds.
+    pub report: Vec<u8>,
+}
+
+impl Output {
+    /// Writes the lines and the report, and has the writer pass them on. `WriteFault` comes where
+    /// the writer fails; what it took before may have been written.
+    pub fn write<W: Write>(&self, writer: &mut W) -> Result<(), WriteFault>
+        ensures { OnOk result
+            (Appends (W.contents writer.old) (W.contents writer.new) (output_octets self.now)) }
+    {
+        writer.write_all(self.lines.as_bytes())?;
+        writer.write_all(self.report.as_slice())?;
+        writer.flush()?;
+        Ok(())
+    }
+}

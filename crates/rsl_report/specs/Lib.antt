@@ -1,3 +1,0 @@
-pub mod ExitStatus
-pub mod Output
-pub mod Table
