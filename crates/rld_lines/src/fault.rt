@@ -1,4 +1,5 @@
 use rld_start::Wrong;
+use rld_store::StoreFault;
 use rsl_wire::NoMemory;
 use std::alloc::{AllocError, AllocFailed};
 use std::io;
@@ -14,6 +15,21 @@ pub enum LinesFault {
     Table(Wrong),
     /// The log is damaged.
     Log(Wrong),
+}
+
+impl From<Wrong> for LinesFault {
+    fn from(wrong: Wrong) -> LinesFault {
+        LinesFault::Log(wrong)
+    }
+}
+
+impl From<StoreFault> for LinesFault {
+    fn from(fault: StoreFault) -> LinesFault {
+        match Wrong::of(fault) {
+            Some(wrong) => LinesFault::Log(wrong),
+            None => LinesFault::NoMemory,
+        }
+    }
 }
 
 impl From<AllocError> for LinesFault {

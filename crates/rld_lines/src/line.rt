@@ -12,7 +12,7 @@ use rld_values::{push_decimal, push_escaped};
 use rsl_accounts::Config;
 use rsl_event::Decision;
 use rsl_shard::Move;
-use std::alloc::{AllocError, Global};
+use std::alloc::AllocError;
 
 /// The moment of a move.
 fn moment_of(moved: &Move) -> u64
@@ -26,7 +26,6 @@ fn moment_of(moved: &Move) -> u64
 
 /// Writes the front of a line: the file, the move's number in its era, its moment, and the move.
 pub(crate) fn push_front(
-    alloc: Global,
     out: &mut Vec<u8>,
     file: &str,
     config: &Config,
@@ -39,19 +38,15 @@ pub(crate) fn push_front(
 {
     push_escaped(out, file.as_bytes())?;
     out.push(32)?;
-    push_decimal(alloc, out, number)?;
+    push_decimal(out, number)?;
     out.push(32)?;
-    push_decimal(alloc, out, moment_of(moved))?;
+    push_decimal(out, moment_of(moved))?;
     out.push(32)?;
-    push_move(alloc, out, config, moved)
+    push_move(out, config, moved)
 }
 
 /// Writes the end of a line: the decision.
-pub(crate) fn push_end(
-    alloc: Global,
-    out: &mut Vec<u8>,
-    decision: Decision,
-) -> Result<(), AllocError>
+pub(crate) fn push_end(out: &mut Vec<u8>, decision: Decision) -> Result<(), AllocError>
     ensures { OnOk result (out.new.items ≡ out.old.items
         ++ (codes " -> " ++ (decision_text decision ++ 10 ∷ []))) }
 {
@@ -59,7 +54,7 @@ pub(crate) fn push_end(
     match decision {
         Decision::Accept(number) => {
             out.extend_from_slice(b"accept ")?;
-            push_decimal(alloc, out, number)?;
+            push_decimal(out, number)?;
         }
         Decision::LimitReject => out.extend_from_slice(b"reject limit")?,
         Decision::Done => out.extend_from_slice(b"done")?,

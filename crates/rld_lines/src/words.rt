@@ -25,7 +25,7 @@ use rsl_accounts::Config;
 use rsl_event::{Act, Key, Nas, NasName, Note, Source};
 use rsl_shard::Move;
 use rsl_wire::Octets;
-use std::alloc::{AllocError, Global};
+use std::alloc::AllocError;
 
 /// Writes a space, a key and `=`.
 fn push_key(out: &mut Vec<u8>, key: &str) -> Result<(), AllocError>
@@ -38,16 +38,11 @@ fn push_key(out: &mut Vec<u8>, key: &str) -> Result<(), AllocError>
 }
 
 /// Writes a word whose value is a number.
-fn push_number_word(
-    alloc: Global,
-    out: &mut Vec<u8>,
-    key: &str,
-    number: u64,
-) -> Result<(), AllocError>
+fn push_number_word(out: &mut Vec<u8>, key: &str, number: u64) -> Result<(), AllocError>
     ensures { OnOk result (out.new.items ≡ out.old.items ++ word key.now (decimal number)) }
 {
     push_key(out, key)?;
-    push_decimal(alloc, out, number)
+    push_decimal(out, number)
 }
 
 /// Writes a word whose value is octets.
@@ -78,24 +73,24 @@ fn push_name(out: &mut Vec<u8>, name: &NasName) -> Result<(), AllocError>
 }
 
 /// Writes the words of an access server.
-fn push_nas(alloc: Global, out: &mut Vec<u8>, config: &Config, nas: &Nas) -> Result<(), AllocError>
+fn push_nas(out: &mut Vec<u8>, config: &Config, nas: &Nas) -> Result<(), AllocError>
     requires { nas.now.client < length config.now.clients }
     ensures { OnOk result (out.new.items ≡ out.old.items ++ nas_words config.now nas.now) }
 {
     push_key(out, "client")?;
-    push_dotted(alloc, out, config.client_at(nas.client).address)?;
+    push_dotted(out, config.client_at(nas.client).address)?;
     push_name(out, &nas.name)
 }
 
 /// Writes the word of where a request came from.
 #[tactic(auto, unfolding(crate::specs::Lines::source_word))]
-fn push_source(alloc: Global, out: &mut Vec<u8>, source: Source) -> Result<(), AllocError>
+fn push_source(out: &mut Vec<u8>, source: Source) -> Result<(), AllocError>
     ensures { OnOk result (out.new.items ≡ out.old.items ++ source_word source) }
 {
     push_key(out, "source")?;
-    push_dotted(alloc, out, source.address)?;
+    push_dotted(out, source.address)?;
     out.push(58)?;
-    push_decimal(alloc, out, u64::from(source.port))
+    push_decimal(out, u64::from(source.port))
 }
 
 /// Writes the word of a Request Authenticator.
@@ -109,11 +104,11 @@ fn push_authenticator(out: &mut Vec<u8>, authenticator: &[u8]) -> Result<(), All
 
 /// Writes the words by which an Access-Request is known.
 #[tactic(auto, unfolding(crate::specs::Lines::key_words))]
-fn push_request(alloc: Global, out: &mut Vec<u8>, key: &Key) -> Result<(), AllocError>
+fn push_request(out: &mut Vec<u8>, key: &Key) -> Result<(), AllocError>
     ensures { OnOk result (out.new.items ≡ out.old.items ++ key_words key.now) }
 {
-    push_source(alloc, out, key.source)?;
-    push_number_word(alloc, out, "id", u64::from(key.id))?;
+    push_source(out, key.source)?;
+    push_number_word(out, "id", u64::from(key.id))?;
     push_authenticator(out, &key.authenticator)?;
     Ok(())
 }
@@ -137,11 +132,11 @@ fn push_bundle(out: &mut Vec<u8>, bundle: &Option<Octets>) -> Result<(), AllocEr
 }
 
 /// Writes the word of an accept number, if there is one.
-fn push_class(alloc: Global, out: &mut Vec<u8>, class: Option<u64>) -> Result<(), AllocError>
+fn push_class(out: &mut Vec<u8>, class: Option<u64>) -> Result<(), AllocError>
     ensures { OnOk result (out.new.items ≡ out.old.items ++ word_if (codes "class") decimal class) }
 {
     match class {
-        Some(class) => push_number_word(alloc, out, "class", class),
+        Some(class) => push_number_word(out, "class", class),
         None => Ok(()),
     }
 }
@@ -149,7 +144,6 @@ fn push_class(alloc: Global, out: &mut Vec<u8>, class: Option<u64>) -> Result<()
 /// Writes an ask, from its word on.
 #[tactic(auto, unfolding(crate::specs::Lines::ask_text))]
 fn push_ask(
-    alloc: Global,
     out: &mut Vec<u8>,
     config: &Config,
     account: u32,
@@ -163,14 +157,13 @@ fn push_ask(
 {
     out.extend_from_slice(b"ask")?;
     push_account(out, config, account)?;
-    push_nas(alloc, out, config, nas)?;
-    push_request(alloc, out, key)?;
+    push_nas(out, config, nas)?;
+    push_request(out, key)?;
     Ok(())
 }
 
 /// Writes an account's own move, from its word on.
 fn push_act(
-    alloc: Global,
     out: &mut Vec<u8>,
     config: &Config,
     account: u32,
@@ -181,7 +174,7 @@ fn push_act(
     ensures { OnOk result (out.new.items ≡ out.old.items ++ act_text config.now account act.now) }
 {
     match act {
-        Act::Ask { key, nas } => push_ask(alloc, out, config, account, key, nas),
+        Act::Ask { key, nas } => push_ask(out, config, account, key, nas),
         Act::Alive {
             nas,
             session,
@@ -190,15 +183,15 @@ fn push_act(
         } => {
             out.extend_from_slice(b"alive")?;
             push_account(out, config, account)?;
-            push_nas(alloc, out, config, nas)?;
+            push_nas(out, config, nas)?;
             push_octets_word(out, "session", session.as_slice())?;
             push_bundle(out, bundle)?;
-            push_class(alloc, out, *class)
+            push_class(out, *class)
         }
         Act::Stop { nas, session } => {
             out.extend_from_slice(b"stop")?;
             push_account(out, config, account)?;
-            push_nas(alloc, out, config, nas)?;
+            push_nas(out, config, nas)?;
             push_octets_word(out, "session", session.as_slice())
         }
         Act::Sweep { .. } | Act::Tick => unreachable!(),
@@ -206,44 +199,34 @@ fn push_act(
 }
 
 /// Writes the words of a stray packet.
-fn push_note(
-    alloc: Global,
-    out: &mut Vec<u8>,
-    config: &Config,
-    note: &Note,
-) -> Result<(), AllocError>
+fn push_note(out: &mut Vec<u8>, config: &Config, note: &Note) -> Result<(), AllocError>
     requires { note.now.nas.client < length config.now.clients }
     ensures { OnOk result (out.new.items ≡ out.old.items ++ note_words config.now note.now) }
 {
-    push_nas(alloc, out, config, &note.nas)?;
-    push_number_word(alloc, out, "status", u64::from(note.status))?;
+    push_nas(out, config, &note.nas)?;
+    push_number_word(out, "status", u64::from(note.status))?;
     push_octets_word(out, "name", note.name.as_slice())?;
     push_octets_word(out, "session", note.session.as_slice())
 }
 
 /// Writes a move, from its word on.
 #[tactic(auto, unfolding(crate::specs::Lines::move_text))]
-pub(crate) fn push_move(
-    alloc: Global,
-    out: &mut Vec<u8>,
-    config: &Config,
-    moved: &Move,
-) -> Result<(), AllocError>
+pub(crate) fn push_move(out: &mut Vec<u8>, config: &Config, moved: &Move) -> Result<(), AllocError>
     requires { MoveFits (counts_of config.now) moved.now }
     ensures { OnOk result (out.new.items ≡ out.old.items ++ move_text config.now moved.now) }
 {
     match moved {
         Move::Own { account, event } => {
-            push_act(alloc, out, config, *account, event.moment, &event.act)
+            push_act(out, config, *account, event.moment, &event.act)
         }
         Move::Sweep { nas, .. } => {
             out.extend_from_slice(b"restart")?;
-            push_nas(alloc, out, config, nas)
+            push_nas(out, config, nas)
         }
         Move::Tick { .. } => out.extend_from_slice(b"tick"),
         Move::Stray { note, .. } => {
             out.extend_from_slice(b"stray")?;
-            push_note(alloc, out, config, note)
+            push_note(out, config, note)
         }
     }
 }

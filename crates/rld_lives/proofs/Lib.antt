@@ -4,4 +4,6 @@ pub mod History
 pub mod Lasting
 pub mod Leaving
 pub mod Obeying
+pub mod Openings
 pub mod Planning
+pub mod Within

@@ -1,4 +1,5 @@
 pub mod Counted
+pub mod Eras
 pub mod Leaving
 pub mod Life
 pub mod Lives

@@ -1,52 +1,77 @@
 -- Lives over a log: each opens what a crash left of the one before it, and answers its batches.
-use Rattle.std.specs.Prelude.{◌≡◌, ◌⊎◌, ℕ, ◌≤◌, List, [], ◌∷◌, ◌++◌, length, map, slice_get, take, drop, Some}
-use Rattle.std.specs.List.{flat_map}
+use Rattle.std.specs.Prelude.{◌≡◌, ◌⊎◌, ℕ, List, [], ◌∷◌, ◌++◌, map, slice_get, Option, Some, None, Result, Ok, Err, IsErr}
+use Rattle.std.specs.List.{flat_map, AllByRecursion}
 use Rattle.rsl_event.specs.declared.event.Decision.{Decision}
 use Rattle.rsl_shard.specs.Restep.{BooksSeen}
 use Rattle.rsl_shard.specs.declared.line.Line.{Line}
 use Rattle.rsl_shard.specs.declared.moved.Move.{Move}
 use Rattle.rld_books.specs.Server.{decisions_of, journal_of, replay}
+use Rattle.rld_store.specs.Recorded.{RecordedSeen}
+use Rattle.rld_store.specs.declared.fault.RecordFault.{RecordFault}
+use Rattle.rld_store.specs.declared.fault.RecordFault.TheVariants.{Failed, Ended}
 
 -- the moves of batches, one batch after another
 abbrev pub joined : List (List Move) → List Move
 joined batches = flat_map (λ (batch : List Move). batch) batches
 
--- the decisions on batches, one batch after another: those of the journal at that point
-abbrev pub answers_by : List BooksSeen → (batches : List (List Move)) → List (List Decision)
-answers_by server [] = []
-answers_by server (batch ∷ batches) =
-    decisions_of server batch ∷ answers_by (replay server batch) batches
+-- what came of a batch: the decisions on its moves, or that it was not recorded
+abbrev pub Outcome : Type 0
+Outcome = Result RecordedSeen RecordFault
 
--- the moves of the next batch, whole, or none
-abbrev pub IsNext : (more : List Move) → (batches : List (List Move)) → Type 0
-IsNext more [] = more ≡ []
-IsNext more (batch ∷ batches) = (more ≡ []) ⊎ (more ≡ batch)
+-- What came of batches, one after another, by the books from these on. One that was recorded has the
+-- decisions of the books, which then make its moves. One that was not leaves the books as they are,
+-- and the next is tried, unless nothing more can be recorded.
+abbrev pub AreOutcomes : (server : List BooksSeen) → (batches : List (List Move))
+    → (outcomes : List Outcome) → Type 0
+AreOutcomes server [] outcomes = outcomes ≡ []
+AreOutcomes server (batch ∷ batches) [] = ⊥
+AreOutcomes server (batch ∷ batches) (Ok answer ∷ outcomes) =
+    (answer.decisions ≡ decisions_of server batch) × AreOutcomes (replay server batch) batches outcomes
+AreOutcomes server (batch ∷ batches) (Err Failed ∷ outcomes) = AreOutcomes server batches outcomes
+AreOutcomes server (batch ∷ batches) (Err Ended ∷ outcomes) = outcomes ≡ []
 
--- The first of some batches are answered, by the books from these on.
-pub record AreAnswersTo (server : List BooksSeen) (batches : List (List Move))
-    (answers : List (List Decision)) : Type 0 where
-  pub few : length answers ≤ length batches
-  pub are : answers ≡ answers_by server (take (length answers) batches)
+-- the moves of the batches that were recorded, one batch after another
+abbrev pub recorded : (batches : List (List Move)) → (outcomes : List Outcome) → List Move
+recorded [] outcomes = []
+recorded (batch ∷ batches) [] = []
+recorded (batch ∷ batches) (Ok answer ∷ outcomes) = batch ++ recorded batches outcomes
+recorded (batch ∷ batches) (Err fault ∷ outcomes) = recorded batches outcomes
 
--- A life after a history, of which the first life began with these books: the first batches are
--- answered, by the books after all moves before them, and the history that the life leaves has the
--- moves of these, and perhaps those of the next one, which was not answered.
+-- the moves of a batch that was not recorded, as none was after it, whole; or none
+abbrev pub MayBeLeft : (moves : List Move) → (batches : List (List Move))
+    → (outcomes : List Outcome) → Type 0
+MayBeLeft moves [] outcomes = moves ≡ []
+MayBeLeft moves (batch ∷ batches) [] = moves ≡ []
+MayBeLeft moves (batch ∷ batches) (Ok answer ∷ outcomes) = MayBeLeft moves batches outcomes
+MayBeLeft moves (batch ∷ batches) (Err fault ∷ outcomes) =
+    ((moves ≡ batch) × AllByRecursion (λ (outcome : Outcome). IsErr outcome) outcomes)
+    ⊎ MayBeLeft moves batches outcomes
+
+-- A life after a history, of which the first life began with these books: its batches come out by the
+-- books after all moves before them, and the history that it leaves has the moves of those that were
+-- recorded, and perhaps those of one after them that was not.
 pub record IsLife (begun : List BooksSeen) (history : List Move) (batches : List (List Move))
-    (answers : List (List Decision)) (left : List Move) : Type 0 where
-  pub answered : AreAnswersTo (replay begun history) batches answers
+    (outcomes : List Outcome) (left : List Move) : Type 0 where
+  pub came_out : AreOutcomes (replay begun history) batches outcomes
   pub more : List Move
-  pub next : IsNext more (drop (length answers) batches)
-  pub left_is : left ≡ (history ++ joined (take (length answers) batches)) ++ more
+  pub may_be_left : MayBeLeft more batches outcomes
+  pub left_is : left ≡ (history ++ recorded batches outcomes) ++ more
+
+-- the same of a life that may not have begun: then it tells nothing, and leaves the history
+abbrev pub IsLifeTold : (begun : List BooksSeen) → (history : List Move)
+    → (batches : List (List Move)) → (told : Option (List Outcome)) → (left : List Move) → Type 0
+IsLifeTold begun history batches None left = left ≡ history
+IsLifeTold begun history batches (Some outcomes) left = IsLife begun history batches outcomes left
 
 -- lives one after another, each after the history that the one before it left
 unfoldable pub AreLives : (begun : List BooksSeen) → (history : List Move)
-    → (plans : List (List (List Move))) → (told : List (List (List Decision)))
+    → (plans : List (List (List Move))) → (told : List (Option (List Outcome)))
     → (left : List Move) → Type 0
 AreLives begun history [] [] left = left ≡ history
-AreLives begun history (batches ∷ plans) (answers ∷ told) left =
-    (mid : List Move) × IsLife begun history batches answers mid
+AreLives begun history (batches ∷ plans) (one ∷ told) left =
+    (mid : List Move) × IsLifeTold begun history batches one mid
     × AreLives begun mid plans told left
-AreLives begun history [] (answers ∷ told) left = ⊥
+AreLives begun history [] (one ∷ told) left = ⊥
 AreLives begun history (batches ∷ plans) [] left = ⊥
 
 -- the journal of a history has the moves of a batch, in their order, with these decisions
@@ -64,10 +89,10 @@ pub record Stands (begun : List BooksSeen) (history batch : List Move) (answer :
 abbrev pub WhatIsAnsweredStands : Type 0
 WhatIsAnsweredStands =
     (begun : List BooksSeen) (history left : List Move) (plans : List (List (List Move)))
-    (told : List (List (List Decision)))
+    (told : List (Option (List Outcome)))
     → AreLives begun history plans told left
-    → (life n : ℕ) (batches : List (List Move)) (answers : List (List Decision))
-    (batch : List Move) (answer : List Decision)
-    → slice_get plans life ≡ Some batches → slice_get told life ≡ Some answers
-    → slice_get batches n ≡ Some batch → slice_get answers n ≡ Some answer
-    → Stands begun left batch answer
+    → (life n : ℕ) (batches : List (List Move)) (outcomes : List Outcome)
+    (batch : List Move) (answer : RecordedSeen)
+    → slice_get plans life ≡ Some batches → slice_get told life ≡ Some (Some outcomes)
+    → slice_get batches n ≡ Some batch → slice_get outcomes n ≡ Some (Ok answer)
+    → Stands begun left batch answer.decisions

@@ -1,6 +1,6 @@
 -- Lives of a server. The moves of all lives are one history, which the log keeps; each decision, book
 -- and number of places is the session rule's over the account's own events in that history.
-use Rattle.std.specs.Prelude.{◌≡◌, ℕ, ◌%◌, ◌≤◌, List, ◌++◌, length, slice_get, take, Option, Some, None}
+use Rattle.std.specs.Prelude.{◌≡◌, ℕ, ◌≤◌, List, ◌++◌, slice_get, take, Some}
 use Rattle.std.specs.List.{flat_map}
 use Rattle.rsl_accounts.specs.Configuration.{Configuration}
 use Rattle.rsl_accounts.specs.Limits.{IsConfiguration}

@@ -2,6 +2,7 @@
 //! calls laws of the crates below, on which its proof rests.
 
 ghost use Rattle.rld_lives.specs.Counted.{AnsweredLivesObeyTheRule};
+ghost use Rattle.rld_lives.specs.Eras.{ErasOpenWithinLimits, ErasStayWithinLimits};
 ghost use Rattle.rld_lives.specs.Life.{WhatIsAnsweredStands};
 ghost use Rattle.rld_lives.specs.Lives.{LivesObeyTheRule, RestartsChangeNothing};
 ghost use Rattle.rld_lives.specs.Shards.{ShardsHaveTheirLines};
@@ -42,4 +43,23 @@ pub fn answered_lives_obey_the_rule()
     ensures { AnsweredLivesObeyTheRule }
 {
     lives_obey_the_rule();
+}
+
+/// The count holds in every era that opened within limits: each account goes on with the book that it
+/// began with, by its own events alone, and its places never exceed its limit.
+pub fn eras_stay_within_limits()
+    ensures { ErasStayWithinLimits }
+{
+    rsl_session::laws::steps_stay_within_the_limit();
+}
+
+/// Every era opens within limits: with new books, with what was admitted of other books, or with books
+/// that were so, cut to a moment.
+pub fn eras_open_within_limits()
+    ensures { ErasOpenWithinLimits }
+{
+    lives_obey_the_rule();
+    rsl_session::laws::books_stay_within_the_limit();
+    rld_admit::laws::places_stay_within_the_limit();
+    rld_books::laws::cut_books_fit();
 }

@@ -3,10 +3,11 @@
 //!
 //! `specs/Life.antt` says what a life answers and leaves, `specs/Leaving.antt` what a crash leaves of
 //! it, `specs/Lives.antt` what holds of the history of all lives, `specs/Counted.antt` that this holds
-//! of what lives have answered, and `specs/Shards.antt` which moves of the log are a shard's.
+//! of what lives have answered, `specs/Eras.antt` what holds in every era, and `specs/Shards.antt` which
+//! moves of the log are a shard's.
 #![tactic(auto)]
 
 pub mod laws;
 mod living;
 
-pub use living::{Lived, Plan, live, lives};
+pub use living::{Lived, Outcome, Plan, live, lives};

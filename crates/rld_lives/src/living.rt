@@ -1,10 +1,11 @@
 //! Lives over a log: what they answer, and what they leave.
 
-ghost use Rattle.std.specs.Prelude.{◌≡◌, ℕ, List, [], IfOk, IsTrue};
+ghost use Rattle.std.specs.Prelude.{◌≡◌, ℕ, List, [], IfOk, OnErr, IsTrue, Some};
 ghost use Rattle.std.specs.Prelude.{All};
+ghost use Rattle.std.specs.Option.{option_map};
 ghost use Rattle.rld_books.specs.Server.{replay};
 ghost use Rattle.rld_lives.specs.Leaving.{HaveLived, LeavesLife, batches_of};
-ghost use Rattle.rld_lives.specs.Life.{AreAnswersTo};
+ghost use Rattle.rld_lives.specs.Life.{AreOutcomes, Outcome as OneOutcome};
 ghost use Rattle.rld_lives.specs.Planned.{plans_of, told_of};
 ghost use Rattle.rld_store.specs.Premises.{Only, Premise};
 ghost use Rattle.rld_store.specs.Generations.{HasHistory};
@@ -12,27 +13,32 @@ ghost use Rattle.rld_store.specs.Standing.{StandsFor};
 ghost use Rattle.rsl_accounts.specs.Configuration.{Configuration};
 ghost use Rattle.rsl_shard.specs.Restep.{BooksSeen};
 ghost use Rattle.rsl_shard.specs.declared.moved.Move.{Move as OneMove};
+ghost use Rattle.std.specs.Global.{Vec as OneVec};
 
 use rld_log::{Crash, Ending, Log};
-use rld_store::{Opened, Recorded, Refused, Store};
+use rld_store::{Opened, RecordFault, Recorded, Refused, Store};
 use rsl_accounts::Config;
 use rsl_shard::Move;
+use rsl_wire::NoMemory;
 use std::alloc::Global;
+
+/// What came of a batch: the decisions on its moves, or that it was not recorded.
+pub type Outcome = Result<Recorded, RecordFault>;
 
 /// What a life is to answer, and how it ends.
 #[derive(Drop)]
 pub struct Plan {
     /// The batches, one after another.
     pub batches: Vec<Vec<Move>>,
-    /// How it ends, after the last of them or where one could not be recorded.
+    /// How it ends, after the last of them or where nothing more could be recorded.
     pub ending: Ending,
 }
 
 /// What lives have answered and left.
 #[derive(Drop)]
 pub struct Lived<L: Crash> {
-    /// For each life the decisions on the batches that it answered.
-    pub told: Vec<Vec<Recorded>>,
+    /// For each life what came of its batches, if it began.
+    pub told: Vec<Option<Vec<Outcome>>>,
     /// The log, as the last of them left it.
     pub log: L,
 }
@@ -40,65 +46,77 @@ pub struct Lived<L: Crash> {
 /// What a life has answered and left.
 #[derive(Drop)]
 struct OneLife<L: Log> {
-    answers: Vec<Recorded>,
+    told: Option<Vec<Outcome>>,
     log: L,
 }
 
-/// A life: answers batches one after another, until one cannot be recorded, and gives the decisions
-/// on those that it answered. Where memory for these is refused it answers none.
-pub fn live<L: Log>(alloc: Global, store: &mut Store<L>, batches: Vec<Vec<Move>>) -> Vec<Recorded>
+/// A life: records batches one after another, and gives what came of each. It goes on after one that
+/// was not recorded, unless nothing more can be recorded.
+///
+/// It fails only where memory for the outcomes is refused, before the first batch.
+pub fn live<L: Log>(
+    alloc: Global,
+    store: &mut Store<L>,
+    batches: Vec<Vec<Move>>,
+) -> Result<Vec<Outcome>, NoMemory>
     ensures told { IsTrue (L.tells store.new.log) → IsTrue (L.tells store.old.log) }
-    ensures answers { AreAnswersTo store.old.books (batches_of batches.items) result.items }
+    ensures outcomes { IfOk result (λ outcomes.
+        AreOutcomes store.old.books (batches_of batches.items) outcomes.items) }
+    ensures err { OnErr result (store.new ≡ store.old) }
 
-    // A crash leaves what was answered, and perhaps the batch after it, whole.
-    ensures lived { IsTrue (L.tells store.new.log) →
+    // A crash leaves what was recorded, and perhaps a batch after it that was not, whole.
+    ensures lived { IfOk result (λ outcomes. IsTrue (L.tells store.new.log) →
         (config : Configuration) (opening : List BooksSeen) (history : List OneMove) →
         StandsFor config opening store.old.counts L.tears store.old.end (L.seen store.old.log) (L.may_leave store.old.log)
         store.old.whole store.old.books history [] →
-        LeavesLife config opening L.tears history (batches_of batches.items) result.items (L.may_leave store.new.log) }
+        LeavesLife config opening L.tears history (batches_of batches.items) (Some outcomes.items)
+        (L.may_leave store.new.log)) }
 {
-    let Ok(mut answers) = Vec::with_capacity(alloc, batches.len()) else {
-        return Vec::new(alloc);
-    };
+    let mut outcomes = Vec::with_capacity(alloc, batches.len())?;
     for batch in batches {
         match store.commit(alloc, batch) {
-            Ok(recorded) => answers.push_reserved(recorded),
-            Err(_) => return answers,
+            Ok(recorded) => outcomes.push_reserved(Ok(recorded)),
+            Err(fault) => match RecordFault::from(fault) {
+                RecordFault::Failed => outcomes.push_reserved(Err(RecordFault::Failed)),
+                RecordFault::Ended => {
+                    outcomes.push_reserved(Err(RecordFault::Ended));
+                    return Ok(outcomes);
+                }
+            },
         }
     }
-    answers
+    Ok(outcomes)
 }
 
-/// A life over a log that the one before it left. Where the log cannot be opened nothing is answered.
+/// A life over a log that the one before it left. Where the log cannot be opened, or memory is
+/// refused, it does not begin.
 fn live_over<L: Log>(alloc: Global, config: &Config, log: L, batches: Vec<Vec<Move>>) -> OneLife<L>
     ensures told { IsTrue (L.tells result.log) → IsTrue (L.tells log) }
     ensures lived { IsTrue (L.tells result.log) → Only (L.seen log) (L.may_leave log) →
         (opening : List BooksSeen) (history : List OneMove) →
         HasHistory config.now opening history (L.seen log) →
-        LeavesLife config.now opening L.tears history (batches_of batches.items) result.answers.items
+        LeavesLife config.now opening L.tears history (batches_of batches.items)
+        (option_map (λ (outcomes : OneVec OneOutcome). outcomes.items) result.told)
         (L.may_leave result.log) }
 {
     match Store::open(alloc, config, log) {
         Ok(opened) => {
             let Opened { mut store, .. } = opened;
-            let answers = live(alloc, &mut store, batches);
+            let told = live(alloc, &mut store, batches).ok();
             OneLife {
-                answers,
+                told,
                 log: store.into_log(),
             }
         }
         Err(refused) => {
             let Refused { log, .. } = refused;
-            OneLife {
-                answers: Vec::new(alloc),
-                log,
-            }
+            OneLife { told: None, log }
         }
     }
 }
 
 /// Lives one after another, each over what the one before it left, and each ended by a crash of the
-/// kind that its plan says. The log is handed back where memory for the answers is refused.
+/// kind that its plan says. The log is handed back where memory for what they tell is refused.
 ///
 /// The premises: the log tells what it holds, and of a loss of power, that no torn write of a frame
 /// passes for one.
@@ -126,11 +144,11 @@ pub fn lives<L: Crash>(
     for plan in plans {
         let Plan { batches, ending } = plan;
         let OneLife {
-            answers,
+            told: one,
             log: mut left,
         } = live_over(alloc, config, log, batches);
         left.restart(ending);
-        told.push_reserved(answers);
+        told.push_reserved(one);
         log = left;
     }
     Ok(Lived { told, log })

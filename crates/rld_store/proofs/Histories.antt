@@ -60,6 +60,8 @@ left_as_it_was _ old new old_outcomes new_outcomes other same fewer = (same, few
 pub why_refused : (counts : Counts) (file : List ℕ) (payloads : List (List ℕ)) (fault : StoreFault) → HasPayloads file payloads → IsWhyUnread counts payloads fault → IsWhy counts file fault
 why_refused counts file payloads faults.Unbegun has why = record { payloads = payloads; has = has; few = why }
 why_refused counts file payloads (faults.Malformed malformed) has why = (payloads, (has, why))
+why_refused counts file payloads (faults.Misfit offset fault) has why = (payloads, (has, why))
+why_refused counts file payloads (faults.Foreign offset) has why = (payloads, (has, why))
 why_refused counts file payloads (faults.Damaged damage) has why = absurd why
 why_refused counts file payloads (faults.Log fault) has why = absurd why
 why_refused counts file payloads _ has why = tt

@@ -1,25 +1,28 @@
 -- The moves of a generation, made batch by batch.
-use Rattle.std.proofs.Common.{◌≡◌, ◌⊎◌, inl, inr, Bor, Some, ℕ, suc, ◌+◌, ◌<◌, List, [], ◌∷◌, ◌++◌, drop, get_or, length, map, refl, sym, ap, subst, ◌∙◌, arith, length-append}
+use Rattle.std.proofs.Common.{◌≡◌, Bor, Some, ℕ, ◌+◌, ◌-◌, ◌<◌, List, [], ◌∷◌, ◌++◌, drop, get_or, length, map, take, refl, sym, ap, subst, ◌∙◌, arith, append_assoc, length-append}
 use Rattle.std.specs.Prelude.{slice_get}
 use Rattle.std.specs.List.{AllByRecursion}
 use Rattle.std.specs.Option.{option_map}
-use Rattle.std.proofs.lemmas.List.{drop_more, get_or_default, nil_from_length}
+use Rattle.std.proofs.lemmas.List.{drop_more, get_or_default, nil_from_length, take-append-drop, take_more}
 use Rattle.std.proofs.lemmas.Option.{get_or_from_slice_get, slice_get-map, slice_get_read, slice_get_within}
 use Rattle.rsl_accounts.specs.Configuration.{Configuration}
 use Rattle.rsl_shard.specs.Restep.{BooksSeen}
 use Rattle.rsl_shard.specs.declared.moved.Move.{Move}
 use Rattle.rld_books.specs.Saved.{IsServerOf}
 use Rattle.rld_books.specs.Server.{replay, server_after}
+use Rattle.rld_log.specs.Frames.{Fits, frames}
 use Rattle.rld_spelling.specs.Headers.{header_at, header_field, header_octets}
-use Rattle.rld_spelling.specs.Books.{books_field}
 use Rattle.rld_spelling.specs.Moves.{moves_field}
 use Rattle.rld_spelling.specs.declared.header.Header.{Header}
 use Rattle.rld_spelling.specs.declared.moves.Counts.{Counts}
 use Rattle.rld_store.specs.Generations.{AreBatches, IsGeneration, IsSnapshot, counts_of, moves_in}
-use Rattle.rld_store.specs.Opening.{IsFirstFault, IsFound, IsFoundIn, IsMalformed, IsWhyNone, IsWhyNot, IsWhyUnread}
+use Rattle.rld_store.specs.Opening.{AreParts, IsAt, IsBatchAt, IsFirstFault, IsFound, IsFoundIn, IsMalformed, IsWhyNoBooks, IsWhyNoMoves, IsWhyNoParts, IsWhyUnread}
+use Rattle.rld_store.specs.declared.fault.Malformed.{Malformed}
 use Rattle.rld_store.specs.declared.fault.StoreFault.{StoreFault}
 use Rattle.rld_store.specs.declared.fault.StoreFault.TheVariants as faults
-use Rattle.rld_store.proofs.Batches.{replay_first, replay_more, replay_none}
+use Rattle.rld_store.specs.declared.frames.Parts.{Parts}
+use Rattle.rld_store.proofs.Batches.{replay_first, replay_more, replay_none, size_more}
+use Rattle.rld_store.proofs.Fronts.{front_size}
 
 -- ---- one batch
 
@@ -95,6 +98,31 @@ pub at_drop : (payloads : List (List ℕ)) (at : ℕ) (payload : List ℕ) → s
 at_drop payloads at payload is =
     drop_more payloads at payload (slice_get_within payloads at payload is) ∙ ap (λ (p : List ℕ). p ∷ drop (at + 1) payloads) (get_or_from_slice_get payloads at payload payload is)
 
+-- ---- where a payload stands
+
+end_of : (before payloads : List (List ℕ)) (at : ℕ) (payload : List ℕ) (whole end : ℕ) → Fits payload → whole ≡ length (frames (before ++ take at payloads)) → end ≡ whole + (20 + length payload)
+    → end ≡ length (frames ((before ++ take at payloads) ++ payload ∷ []))
+end_of before payloads at payload whole end fits so ends =
+    omega (arith, so, ends, size_more (before ++ take at payloads) payload fits)
+
+-- with one payload more
+pub end_more : (before payloads : List (List ℕ)) (at : ℕ) (payload : List ℕ) (whole end : ℕ) → slice_get payloads at ≡ Some payload → Fits payload → whole ≡ length (frames (before ++ take at payloads)) → end ≡ whole + (20 + length payload)
+    → end ≡ length (frames (before ++ take (at + 1) payloads))
+end_more before payloads at payload whole end is fits so ends =
+    end_of before payloads at payload whole end fits so ends
+    ∙ ap (λ (l : List (List ℕ)). length (frames l)) (append_assoc before (take at payloads) (payload ∷ [])
+    ∙ ap (λ (p : List ℕ). before ++ (take at payloads ++ p ∷ [])) (sym (get_or_from_slice_get payloads at payload payload is))
+    ∙ ap (λ (l : List (List ℕ)). before ++ l) (sym (take_more payloads at payload (slice_get_within payloads at payload is))))
+
+pub is_at : (before payloads : List (List ℕ)) (at : ℕ) (payload : List ℕ) (whole end : ℕ) → slice_get payloads at ≡ Some payload → Fits payload → whole ≡ length (frames (before ++ take at payloads)) → end ≡ whole + (20 + length payload)
+    → IsAt (before ++ payloads) (before ++ take at payloads) payload end
+is_at before payloads at payload whole end is fits so ends = record {
+  rest = drop (at + 1) payloads;
+  there = ap (λ (l : List (List ℕ)). before ++ l) (sym (take-append-drop at payloads) ∙ ap (λ (l : List (List ℕ)). take at payloads ++ l) (at_drop payloads at payload is))
+      ∙ sym (append_assoc before (take at payloads) (payload ∷ drop (at + 1) payloads));
+  end_is = end_of before payloads at payload whole end fits so ends;
+}
+
 -- ---- a whole generation
 
 pub found_in : (config : Configuration) (payloads batches : List (List ℕ)) (first second : List ℕ) (found : Header) (begun_books books : List BooksSeen) (count : ℕ)
@@ -116,44 +144,70 @@ found_in config payloads batches first second found begun_books books count part
       count_is = counted moves have;
     }
 
--- ---- why it was not read
+pub parts_are : (payloads : List (List ℕ)) (header snapshot : List ℕ) (parts : Parts) → payloads ≡ header ∷ snapshot ∷ map (λ (payload : Bor (List ℕ)). payload.now) parts.batches.now
+    → parts.header.payload.now ≡ header → parts.snapshot.payload.now ≡ snapshot → Fits parts.header.payload.now → Fits parts.snapshot.payload.now
+    → parts.header.end ≡ 0 + (20 + length parts.header.payload.now) → parts.snapshot.end ≡ parts.header.end + (20 + length parts.snapshot.payload.now) → AreParts payloads parts
+parts_are payloads header snapshot parts is one two short_header short_snapshot front whole =
+    let none : length (frames []) ≡ 0 = refl in
+    let batches : List (List ℕ) = map (λ (payload : Bor (List ℕ)). payload.now) parts.batches.now in
+    record {
+      are = is ∙ ap (λ (o : List ℕ). o ∷ snapshot ∷ batches) (sym one) ∙ ap (λ (o : List ℕ). parts.header.payload.now ∷ o ∷ batches) (sym two);
+      header_end = omega (arith, none, front, size_more [] parts.header.payload.now short_header);
+      snapshot_end = front_size parts.header.payload.now parts.snapshot.payload.now parts.header.end parts.snapshot.end short_header short_snapshot front whole;
+    }
 
-module _ (counts : Counts) (payloads batches : List (List ℕ)) (first second : List ℕ) (parts : payloads ≡ first ∷ second ∷ batches) where
-  there : (frame other : ℕ) (payload : List ℕ) → frame ≡ other → slice_get (first ∷ second ∷ batches) other ≡ Some payload → slice_get payloads frame ≡ Some payload
-  there frame other payload is at = ap (slice_get payloads) is ∙ ap (λ (l : List (List ℕ)). slice_get l other) parts ∙ at
+-- ---- why a generation was not read
 
-  pub header_why : (fault : StoreFault) → IsWhyNot header_at 0 first fault → IsWhyUnread counts payloads fault
-  header_why (faults.Malformed malformed) why = record { payload = first; there = there malformed.frame 0 first why.frame_is refl; spells_nothing = inl why }
-  header_why faults.Unbegun why = absurd why
-  header_why (faults.Damaged damage) why = absurd why
-  header_why (faults.Log fault) why = absurd why
-  header_why _ why = tt
+module _ (counts : Counts) (header snapshot : List ℕ) (payloads : List (List ℕ)) (at : ℕ) (payload : List ℕ) (whole end : ℕ) where
+  pub moves_why : (fault : StoreFault) → slice_get payloads at ≡ Some payload → Fits payload → whole ≡ length (frames (header ∷ snapshot ∷ take at payloads)) → end ≡ whole + (20 + length payload)
+      → IsWhyNoMoves counts end payload fault → IsWhyUnread counts (header ∷ snapshot ∷ payloads) fault
+  moves_why (faults.Malformed malformed) is fits so ends why = record {
+    before = header ∷ snapshot ∷ take at payloads;
+    payload = payload;
+    end = end;
+    at = is_at (header ∷ snapshot ∷ []) payloads at payload whole end is fits so ends;
+    spells_nothing = why;
+  }
+  moves_why faults.NoMemory is fits so ends why = tt
+  moves_why _ is fits so ends why = absurd why
 
-  pub books_why : (fault : StoreFault) → IsWhyNot (books_field counts.clients).read 1 second fault → IsWhyUnread counts payloads fault
-  books_why (faults.Malformed malformed) why = record { payload = second; there = there malformed.frame 1 second why.frame_is refl; spells_nothing = inr (inl why) }
-  books_why faults.Unbegun why = absurd why
-  books_why (faults.Damaged damage) why = absurd why
-  books_why (faults.Log fault) why = absurd why
-  books_why _ why = tt
+  pub foreign_why : (offset : ℕ) (fault : StoreFault) → slice_get payloads at ≡ Some payload → Fits payload → whole ≡ length (frames (header ∷ snapshot ∷ take at payloads)) → end ≡ whole + (20 + length payload)
+      → offset ≡ end - length payload → fault ≡ faults.Foreign offset → IsWhyUnread counts (header ∷ snapshot ∷ payloads) fault
+  foreign_why offset fault is fits so ends begins same =
+      let foreign : IsBatchAt (header ∷ snapshot ∷ payloads) offset = record {
+        before = header ∷ snapshot ∷ take at payloads;
+        later = omega arith;
+        begins = record { payload = payload; end = end; at = is_at (header ∷ snapshot ∷ []) payloads at payload whole end is fits so ends; offset_is = begins };
+      } in
+      subst (IsWhyUnread counts (header ∷ snapshot ∷ payloads)) (sym same) foreign
 
-  pub batches_why : (fault : StoreFault) → IsWhyNone counts batches fault → IsWhyUnread counts payloads fault
-  batches_why (faults.Malformed malformed) why =
-      let two : why.0 + 2 ≡ suc (suc why.0) = omega arith in
-      record {
-        payload = why.1.0;
-        there = there malformed.frame (suc (suc why.0)) why.1.0 (why.1.1.1.frame_is ∙ two) why.1.1.0;
-        spells_nothing = inr (inr (why.0, why.1.1.1));
-      }
-  batches_why faults.Unbegun why = absurd why
-  batches_why (faults.Damaged damage) why = absurd why
-  batches_why (faults.Log fault) why = absurd why
-  batches_why _ why = tt
+pub parts_why : (counts : Counts) (payloads : List (List ℕ)) (fault : StoreFault) → IsWhyNoParts payloads fault → IsWhyUnread counts payloads fault
+parts_why counts payloads faults.Unbegun why = why
+parts_why counts payloads faults.TooLong why = tt
+parts_why counts payloads _ why = absurd why
 
--- one of the batches was not read
-pub none_why : (counts : Counts) (payloads : List (List ℕ)) (payload : List ℕ) (at : ℕ) (fault : StoreFault) → slice_get payloads at ≡ Some payload
-    → IsWhyNot (moves_field counts).read (at + 2) payload fault → IsWhyNone counts payloads fault
-none_why counts payloads payload at (faults.Malformed malformed) is why = (at, (payload, (is, why)))
-none_why counts payloads payload at faults.Unbegun is why = absurd why
-none_why counts payloads payload at (faults.Damaged damage) is why = absurd why
-none_why counts payloads payload at (faults.Log fault) is why = absurd why
-none_why counts payloads payload at _ is why = tt
+module _ (counts : Counts) (payloads : List (List ℕ)) (parts : Parts) (are : AreParts payloads parts) where
+  pub header_why : (malformed : Malformed) → IsFirstFault header_at parts.header.end parts.header.payload.now malformed → IsMalformed counts payloads malformed
+  header_why malformed why = record {
+    before = [];
+    payload = parts.header.payload.now;
+    end = parts.header.end;
+    at = record { rest = parts.snapshot.payload.now ∷ map (λ (payload : Bor (List ℕ)). payload.now) parts.batches.now; there = are.are; end_is = are.header_end };
+    spells_nothing = why;
+  }
+
+  snapshot_at : IsAt payloads (parts.header.payload.now ∷ []) parts.snapshot.payload.now parts.snapshot.end
+  snapshot_at = record { rest = map (λ (payload : Bor (List ℕ)). payload.now) parts.batches.now; there = are.are; end_is = are.snapshot_end }
+
+  pub books_why : (fault : StoreFault) → IsWhyNoBooks counts.clients parts.snapshot.end parts.snapshot.payload.now fault → IsWhyUnread counts payloads fault
+  books_why (faults.Malformed malformed) why = record {
+    before = parts.header.payload.now ∷ [];
+    payload = parts.snapshot.payload.now;
+    end = parts.snapshot.end;
+    at = snapshot_at;
+    spells_nothing = why;
+  }
+  books_why (faults.Misfit offset fault) why =
+      (parts.header.payload.now, record { payload = parts.snapshot.payload.now; end = parts.snapshot.end; at = snapshot_at; offset_is = why })
+  books_why faults.NoMemory why = tt
+  books_why _ why = absurd why

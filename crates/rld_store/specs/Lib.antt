@@ -3,5 +3,6 @@ pub mod Generations
 pub mod Laws
 pub mod Opening
 pub mod Premises
+pub mod Recorded
 pub mod Standing
 pub mod Stored

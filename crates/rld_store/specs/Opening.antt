@@ -1,5 +1,6 @@
 -- What the opening of a log finds, and why it may be refused.
-use Rattle.std.specs.Prelude.{◌≡◌, ◌⊎◌, ℕ, ◌+◌, ◌-◌, ◌<◌, List, length, slice_get, Some, Err}
+use Rattle.std.specs.Prelude.{◌≡◌, ℕ, ◌-◌, ◌<◌, ◌≤◌, List, [], ◌∷◌, ◌++◌, length, map, Err}
+use Rattle.std.specs.Borrow.{Bor}
 use Rattle.rsl_accounts.specs.Configuration.{Configuration}
 use Rattle.rsl_shard.specs.Restep.{BooksSeen}
 use Rattle.rsl_shard.specs.declared.moved.Move.{Move}
@@ -8,7 +9,7 @@ use Rattle.rld_books.specs.Server.{replay}
 use Rattle.rld_fields.specs.Field.{Reading}
 use Rattle.rld_fields.specs.Lists.{all_of}
 use Rattle.rld_fields.specs.declared.fault.Fault.{Fault}
-use Rattle.rld_log.specs.Frames.{HasPayloads, IsDamagedAt}
+use Rattle.rld_log.specs.Frames.{HasPayloads, IsDamagedAt, frames}
 use Rattle.rld_log.specs.Log.{NoMore}
 use Rattle.rld_log.specs.declared.log.Ending.{Ending}
 use Rattle.rld_spelling.specs.Books.{books_field}
@@ -20,6 +21,7 @@ use Rattle.rld_store.specs.Generations.{IsGeneration, IsUnbegun, counts_of}
 use Rattle.rld_store.specs.declared.fault.Malformed.{Malformed}
 use Rattle.rld_store.specs.declared.fault.StoreFault.{StoreFault}
 use Rattle.rld_store.specs.declared.fault.StoreFault.TheVariants as faults
+use Rattle.rld_store.specs.declared.frames.Parts.{Parts}
 
 -- what was found in a generation: its header, the books after its moves, and how many moves those are
 pub record IsFound (begun : List BooksSeen) (moves : List Move) (header found_header : Header)
@@ -36,58 +38,114 @@ IsFoundIn config payloads found_header books count =
     → IsServerOf config begun → IsGeneration (counts_of config) header begun moves payloads
     → IsFound begun moves header found_header books count
 
--- the payload of this frame, read so, has this as its first fault
-pub record IsFirstFault {A : Type 0} (read : List ℕ → Reading A) (frame : ℕ) (payload : List ℕ)
+-- the whole frames of a log: their payloads, and their length
+pub record HasFrames (file : List ℕ) (payloads : List (List ℕ)) (whole : ℕ) : Type 0 where
+  pub has : HasPayloads file payloads
+  pub size : whole ≡ length (frames payloads)
+
+-- the parts of a generation of these payloads, and where the first two end
+pub record AreParts (payloads : List (List ℕ)) (parts : Parts) : Type 0 where
+  pub are : payloads ≡ parts.header.payload.now ∷ parts.snapshot.payload.now
+      ∷ map (λ (payload : Bor (List ℕ)). payload.now) parts.batches.now
+  pub header_end : parts.header.end ≡ length (frames (parts.header.payload.now ∷ []))
+  pub snapshot_end : parts.snapshot.end
+      ≡ length (frames (parts.header.payload.now ∷ parts.snapshot.payload.now ∷ []))
+
+-- why payloads have no parts: there is no snapshot
+abbrev pub IsWhyNoParts : (payloads : List (List ℕ)) → StoreFault → Type 0
+IsWhyNoParts payloads faults.Unbegun = length payloads < 2
+IsWhyNoParts payloads faults.TooLong = Unit {0}
+IsWhyNoParts payloads _ = ⊥
+
+-- a payload that ends at this octet of the log, read so, has this as its first fault
+pub record IsFirstFault {A : Type 0} (read : List ℕ → Reading A) (end : ℕ) (payload : List ℕ)
     (malformed : Malformed) : Type 0 where
   pub fault : Fault
   pub read_is : all_of (read payload) ≡ Err fault
-  pub frame_is : malformed.frame ≡ frame
-  pub offset_is : malformed.offset ≡ length payload - fault.left
+  pub offset_is : malformed.offset ≡ end - fault.left
   pub cause_is : malformed.cause ≡ fault.cause
 
--- why the payload of a frame, read so, gave nothing
-abbrev pub IsWhyNot : {A : Type 0} → (read : List ℕ → Reading A) → (frame : ℕ) → (payload : List ℕ)
-    → StoreFault → Type 0
-IsWhyNot read frame payload (faults.Malformed malformed) = IsFirstFault read frame payload malformed
-IsWhyNot read frame payload faults.Unbegun = ⊥
-IsWhyNot read frame payload (faults.Damaged damage) = ⊥
-IsWhyNot read frame payload (faults.Log fault) = ⊥
-IsWhyNot read frame payload _ = Unit {0}
+-- why a payload that ends at this octet has no books
+abbrev pub IsWhyNoBooks : (clients : ℕ) → (end : ℕ) → (payload : List ℕ) → StoreFault → Type 0
+IsWhyNoBooks clients end payload faults.NoMemory = Unit {0}
+IsWhyNoBooks clients end payload (faults.Malformed malformed) =
+    IsFirstFault (books_field clients).read end payload malformed
+IsWhyNoBooks clients end payload (faults.Misfit offset fault) = offset ≡ end - length payload
+IsWhyNoBooks clients end payload _ = ⊥
 
--- why a payload of batches, whose frames follow two others, gave nothing
-abbrev pub IsWhyNone : Counts → (payloads : List (List ℕ)) → StoreFault → Type 0
-IsWhyNone counts payloads (faults.Malformed malformed) =
-    (batch : ℕ) × ((payload : List ℕ) × ((slice_get payloads batch ≡ Some payload)
-    × IsFirstFault (moves_field counts).read (batch + 2) payload malformed))
-IsWhyNone counts payloads faults.Unbegun = ⊥
-IsWhyNone counts payloads (faults.Damaged damage) = ⊥
-IsWhyNone counts payloads (faults.Log fault) = ⊥
-IsWhyNone counts payloads _ = Unit {0}
+-- why a payload that ends at this octet has no moves
+abbrev pub IsWhyNoMoves : Counts → (end : ℕ) → (payload : List ℕ) → StoreFault → Type 0
+IsWhyNoMoves counts end payload faults.NoMemory = Unit {0}
+IsWhyNoMoves counts end payload (faults.Malformed malformed) =
+    IsFirstFault (moves_field counts).read end payload malformed
+IsWhyNoMoves counts end payload _ = ⊥
 
--- a payload of a frame that spells nothing which can stand there: the first has a header, the second
--- a snapshot, each other a batch
+-- why the frames of a log are not read: it is damaged
+abbrev pub IsWhyNoFrames : (file : List ℕ) → StoreFault → Type 0
+IsWhyNoFrames file (faults.Damaged damage) = IsDamagedAt file damage.offset
+IsWhyNoFrames file faults.NoMemory = Unit {0}
+IsWhyNoFrames file faults.TooLong = Unit {0}
+IsWhyNoFrames file _ = ⊥
+
+-- a payload stands after these among those of a log, and ends at this octet of it
+pub record IsAt (payloads before : List (List ℕ)) (payload : List ℕ) (end : ℕ) : Type 0 where
+  pub rest : List (List ℕ)
+  pub there : payloads ≡ before ++ payload ∷ rest
+  pub end_is : end ≡ length (frames (before ++ payload ∷ []))
+
+-- the payload after these begins at this octet of the log
+pub record BeginsAt (payloads before : List (List ℕ)) (offset : ℕ) : Type 0 where
+  pub payload : List ℕ
+  pub end : ℕ
+  pub at : IsAt payloads before payload end
+  pub offset_is : offset ≡ end - length payload
+
+-- a payload after these spells nothing that can stand there: the first has a header, the second a
+-- snapshot, each other a batch
+abbrev pub SpellsNothing : Counts → (before : List (List ℕ)) → (end : ℕ) → (payload : List ℕ)
+    → Malformed → Type 0
+SpellsNothing counts [] = IsFirstFault header_at
+SpellsNothing counts (header ∷ []) = IsFirstFault (books_field counts.clients).read
+SpellsNothing counts (header ∷ snapshot ∷ batches) = IsFirstFault (moves_field counts).read
+
 pub record IsMalformed (counts : Counts) (payloads : List (List ℕ)) (malformed : Malformed)
     : Type 0 where
+  pub before : List (List ℕ)
   pub payload : List ℕ
-  pub there : slice_get payloads malformed.frame ≡ Some payload
-  pub spells_nothing : IsFirstFault header_at 0 payload malformed
-      ⊎ IsFirstFault (books_field counts.clients).read 1 payload malformed
-      ⊎ ((batch : ℕ) × IsFirstFault (moves_field counts).read (batch + 2) payload malformed)
+  pub end : ℕ
+  pub at : IsAt payloads before payload end
+  pub spells_nothing : SpellsNothing counts before end payload malformed
 
--- why payloads are not read: there is no snapshot, or one is malformed
+-- a batch begins at this octet of the log
+pub record IsBatchAt (payloads : List (List ℕ)) (offset : ℕ) : Type 0 where
+  pub before : List (List ℕ)
+  pub later : 2 ≤ length before
+  pub begins : BeginsAt payloads before offset
+
+-- why payloads are not read: there is no snapshot, one is malformed, or what one spells is of other
+-- accounts
 abbrev pub IsWhyUnread : Counts → (payloads : List (List ℕ)) → StoreFault → Type 0
 IsWhyUnread counts payloads faults.Unbegun = length payloads < 2
 IsWhyUnread counts payloads (faults.Malformed malformed) = IsMalformed counts payloads malformed
-IsWhyUnread counts payloads (faults.Damaged damage) = ⊥
-IsWhyUnread counts payloads (faults.Log fault) = ⊥
-IsWhyUnread counts payloads _ = Unit {0}
+IsWhyUnread counts payloads (faults.Misfit offset fault) =
+    (header : List ℕ) × BeginsAt payloads (header ∷ []) offset
+IsWhyUnread counts payloads (faults.Foreign offset) = IsBatchAt payloads offset
+IsWhyUnread counts payloads faults.NoMemory = Unit {0}
+IsWhyUnread counts payloads faults.TooLong = Unit {0}
+IsWhyUnread counts payloads _ = ⊥
 
--- why a log is refused: damage is there, the snapshot is not whole, or a payload is malformed
+-- why a log is refused: damage is there, the snapshot is not whole, or a payload is malformed or of
+-- other accounts
 abbrev pub IsWhy : Counts → (file : List ℕ) → StoreFault → Type 0
 IsWhy counts file (faults.Damaged damage) = IsDamagedAt file damage.offset
 IsWhy counts file faults.Unbegun = IsUnbegun file
 IsWhy counts file (faults.Malformed malformed) =
     (payloads : List (List ℕ)) × (HasPayloads file payloads × IsMalformed counts payloads malformed)
+IsWhy counts file (faults.Misfit offset fault) =
+    (payloads : List (List ℕ)) × (HasPayloads file payloads
+    × ((header : List ℕ) × BeginsAt payloads (header ∷ []) offset))
+IsWhy counts file (faults.Foreign offset) =
+    (payloads : List (List ℕ)) × (HasPayloads file payloads × IsBatchAt payloads offset)
 IsWhy counts file _ = Unit {0}
 
 -- a fault of no call of the log

@@ -24,7 +24,7 @@ use std::alloc::Global;
 const MAX_PAYLOAD: usize = 4_294_967_295;
 
 /// How many accounts and clients there are.
-pub(crate) fn counts_in(config: &Config) -> Counts
+pub fn counts_in(config: &Config) -> Counts
     ensures { result ≡ counts_of config.now }
 {
     Counts {

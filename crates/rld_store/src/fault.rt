@@ -1,5 +1,5 @@
 ghost use Rattle.std.specs.Prelude.{◌≡◌};
-ghost use Rattle.rld_store.specs.declared.fault.StoreFault.TheVariants.{Damaged as damaged, Log as log_failed, NoMemory as no_memory};
+ghost use Rattle.rld_store.specs.declared.fault.StoreFault.TheVariants.{Damaged as damaged, Log as log_failed, Malformed as malformed, NoMemory as no_memory};
 
 use rld_books::ServerFault;
 use rld_fields::Cause;
@@ -11,11 +11,9 @@ use thiserror::Error;
 
 /// The payload of a whole frame spells nothing that can stand there.
 #[derive(Clone, Copy, Debug, PartialEq, Eq, Error)]
-#[error("frame {frame}, octet {offset}: {cause}")]
+#[error("{offset}: {cause}")]
 pub struct Malformed {
-    /// The number of the frame: 0 has the header, 1 the snapshot, each other a batch.
-    pub frame: usize,
-    /// Where the fault stands in the payload, in octets from its front.
+    /// Where the fault stands, in octets from the front of the log.
     pub offset: usize,
     /// What is wrong.
     pub cause: Cause,
@@ -41,11 +39,19 @@ pub enum StoreFault {
     #[error("{0}")]
     Malformed(Malformed),
     /// The snapshot is not of the configuration's accounts.
-    #[error("{0}")]
-    Misfit(ServerFault),
+    #[error("{offset}: {fault}")]
+    Misfit {
+        /// Where the snapshot begins, in octets from the front of the log.
+        offset: usize,
+        /// What does not fit.
+        fault: ServerFault,
+    },
     /// A move is of no account of the configuration.
-    #[error("a move of no account")]
-    Foreign,
+    #[error("{offset}: a move of no account")]
+    Foreign {
+        /// Where its batch begins, in octets from the front of the log.
+        offset: usize,
+    },
     /// The log that a generation was to begin in is not empty.
     #[error("not empty")]
     Occupied,
@@ -107,6 +113,14 @@ impl From<LogFault> for StoreFault {
 
     fn from(fault: LogFault) -> StoreFault {
         StoreFault::Log(fault)
+    }
+}
+
+impl From<Malformed> for StoreFault {
+    ghost from_gives = { λ bad fault. fault ≡ malformed bad };
+
+    fn from(bad: Malformed) -> StoreFault {
+        StoreFault::Malformed(bad)
     }
 }
 

@@ -11,17 +11,23 @@
 //! stands for). What is taken on trust of a file and of MD5 is in `specs/Premises.antt`.
 #![tactic(auto)]
 
+mod basis;
 mod beginning;
 mod fault;
+mod frames;
 pub mod laws;
 mod opening;
+mod part;
 mod reading;
 mod recorded;
 mod recorder;
 mod store;
 mod stored;
 
+pub use beginning::counts_in;
 pub use fault::{Malformed, RecordFault, Refused, StoreFault};
+pub use frames::{Frames, Parts};
+pub use part::Part;
 pub use recorded::Recorded;
 pub use recorder::Recorder;
 pub use store::{End, Opened, Store};

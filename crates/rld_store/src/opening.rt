@@ -9,8 +9,9 @@ ghost use Rattle.rld_store.specs.Generations.{counts_of};
 ghost use Rattle.rld_store.specs.Opening.{IsFoundIn, IsOfNoLog, IsWhy, LeavesAsItWas};
 
 use crate::fault::StoreFault;
+use crate::frames::Frames;
 use crate::reading::{Reading, read_generation};
-use rld_log::{Log, ReadFault, mend, payloads, whole_len};
+use rld_log::{Log, mend};
 use rsl_accounts::Config;
 use std::alloc::Global;
 
@@ -34,17 +35,12 @@ fn generation_in(alloc: Global, config: &Config, octets: &[u8]) -> Result<Restor
     ensures why { IfErr result (IsWhy (counts_of config.now) octets.now) }
     ensures unlogged { IfErr result IsOfNoLog }
 {
-    let whole = whole_len(octets)?;
-    let found = match payloads(alloc, octets) {
-        Ok(found) => found,
-        Err(ReadFault::NoMemory) => return Err(StoreFault::NoMemory),
-        Err(ReadFault::Damaged(damage)) => return Err(StoreFault::Damaged(damage)),
-    };
-    let reading = read_generation(alloc, config, &found)?;
-    let torn = octets.len() - whole;
+    let found = Frames::of(alloc, octets)?;
+    let reading = read_generation(alloc, config, &found.payloads)?;
+    let torn = octets.len() - found.whole;
     Ok(Restored {
         reading,
-        whole,
+        whole: found.whole,
         torn,
     })
 }

@@ -1,37 +1,57 @@
+use crate::basis::Basis;
 use rsl_event::Decision;
 use std::marker::Model;
 
 /// The decisions on a batch that is recorded, in the order of its moves. `Store::commit` alone makes
 /// one, so what is answered from it is on the disk.
 ///
-/// A contract sees the decisions.
+/// A contract sees the batch and the books that there were before it too. The decisions are theirs.
 #[derive(Drop)]
 pub struct Recorded {
+    basis: Basis,
     decisions: Vec<Decision>,
 }
 
 impl Model for Recorded {
-    ghost use Rattle.std.specs.Prelude.{List};
-    ghost use Rattle.rsl_event.specs.declared.event.Decision.{Decision};
+    ghost use Rattle.rld_store.specs.Recorded.{AreDecided, RecordedSeen};
 
-    ghost Value = { List Decision };
+    ghost Value = { RecordedSeen };
 
-    ghost view = { λ inside. inside.decisions.items };
+    ghost view = { λ inside. record {
+      batch = inside.basis.batch;
+      before = inside.basis.before;
+      decisions = inside.decisions.items;
+    } };
+
+    ghost invariant = { λ inside. AreDecided (record {
+      batch = inside.basis.batch;
+      before = inside.basis.before;
+      decisions = inside.decisions.items;
+    }) };
 }
 
 impl Recorded {
     ghost use Rattle.std.specs.Prelude.{◌≡◌};
+    ghost use Rattle.rld_books.specs.Server.{AreTakenIn, decisions_of};
+    ghost use Rattle.rld_store.specs.Recorded.{AreDecided};
 
-    /// The decisions of a batch that was recorded.
-    pub(crate) fn new(decisions: Vec<Decision>) -> Recorded
-        ensures { result ≡ decisions.items }
+    /// The decisions on a batch that was recorded.
+    pub(crate) fn new(basis: Basis, decisions: Vec<Decision>) -> Recorded
+        requires taken { AreTakenIn basis.before basis.batch }
+        requires decided { decisions.items ≡ decisions_of basis.before basis.batch }
+        ensures { result ≡ record {
+          batch = basis.batch;
+          before = basis.before;
+          decisions = decisions.items;
+        } }
     {
-        Recorded { decisions }
+        Recorded { basis, decisions }
     }
 
     /// The decisions, in the order of the batch's moves.
     pub fn decisions(&self) -> &[Decision]
-        ensures { result.now ≡ self.now }
+        ensures same { result.now ≡ self.now.decisions }
+        ensures decided { AreDecided self.now }
     {
         self.decisions.as_slice()
     }

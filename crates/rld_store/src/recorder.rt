@@ -5,11 +5,13 @@ use std::alloc::Global;
 
 /// What records a batch of moves, and decides on them.
 ///
-/// A contract sees the books and the histories that it stands for, as long as `tells` is true. A store
-/// that is owned tells them; one that others use too, behind a lock, tells nothing.
+/// What it gives of a batch is a `Recorded` of this very batch. A contract sees the books and the
+/// histories that it stands for too, as long as `tells` is true. A store that is owned tells them; one
+/// that others use too, in a lock, does not.
 pub trait Recorder {
     ghost use Rattle.std.specs.Prelude.{◌≡◌, Bool, true, false, List, [], ◌++◌, length, IfOk, OnOk, OnErr};
     ghost use Rattle.rld_books.specs.Server.{decisions_of, replay};
+    ghost use Rattle.rld_store.specs.Recorded.{AreDecided};
     ghost use Rattle.rsl_accounts.specs.Configuration.{Configuration};
     ghost use Rattle.rsl_shard.specs.Restep.{BooksSeen};
     ghost use Rattle.rsl_shard.specs.declared.moved.Move.{Move as OneMove};
@@ -27,10 +29,13 @@ pub trait Recorder {
     /// Records a batch whole, and decides on each of its moves by the books at that point of the
     /// batch. Where it fails nothing may be answered, and the books are as they were.
     fn record(&mut self, alloc: Global, batch: Vec<Move>) -> Result<Recorded, RecordFault>
-        ensures count { IfOk result (λ recorded. length recorded ≡ length batch.items) }
+        ensures count { IfOk result (λ recorded. length recorded.decisions ≡ length batch.items) }
+        ensures batch { IfOk result (λ recorded. recorded.batch ≡ batch.items) }
+        ensures decided { IfOk result AreDecided }
         ensures telling { tells self.new ≡ true → tells self.old ≡ true }
         ensures decisions { tells self.new ≡ true → IfOk result (λ recorded.
-            recorded ≡ decisions_of (books self.old) batch.items) }
+            recorded.decisions ≡ decisions_of (books self.old) batch.items) }
+        ensures before { tells self.new ≡ true → IfOk result (λ recorded. recorded.before ≡ books self.old) }
         ensures books { tells self.new ≡ true →
             OnOk result (books self.new ≡ replay (books self.old) batch.items) }
         ensures same { tells self.new ≡ true → OnErr result (books self.new ≡ books self.old) }

@@ -10,6 +10,7 @@ ghost use Rattle.rld_log.specs.declared.log.Ending.{Ending as OneEnding};
 ghost use Rattle.rld_spelling.specs.Moves.{MoveFits, moves_field};
 ghost use Rattle.rld_store.specs.Generations.{HasHistory, IsUnbegun, StandForHistory, counts_of};
 ghost use Rattle.rld_store.specs.Opening.{IsWhy, LeavesAsItWas};
+ghost use Rattle.rld_store.specs.Recorded.{AreDecided};
 ghost use Rattle.rld_store.specs.Standing.{EndsSo, StandsFor};
 ghost use Rattle.rld_store.specs.declared.store.End.TheVariants.{Settled as settled, Unsettled as unsettled};
 ghost use Rattle.rsl_accounts.specs.Configuration.{Configuration};
@@ -17,6 +18,7 @@ ghost use Rattle.rsl_session.specs.Saved.{saved_links};
 ghost use Rattle.rsl_shard.specs.Restep.{BooksSeen};
 ghost use Rattle.rsl_shard.specs.declared.moved.Move.{Move as OneMove};
 
+use crate::basis::Basis;
 use crate::beginning::{begin_log, counts_in, whole_with};
 use crate::fault::{Refused, StoreFault};
 use crate::opening::{Restored, restore};
@@ -304,7 +306,11 @@ impl<L: Log> Store<L> {
         ensures counts { self.new.counts ≡ self.old.counts }
 
         // The decisions are those of the books at that point, and the books make the moves.
-        ensures decisions { IfOk result (λ recorded. recorded ≡ decisions_of self.old.books batch.items) }
+        ensures batch { IfOk result (λ recorded. recorded.batch ≡ batch.items) }
+        ensures before { IfOk result (λ recorded. recorded.before ≡ self.old.books) }
+        ensures decided { IfOk result AreDecided }
+        ensures decisions { IfOk result (λ recorded.
+            recorded.decisions ≡ decisions_of self.old.books batch.items) }
         ensures books { OnOk result (self.new.books ≡ replay self.old.books batch.items) }
         ensures taken { OnOk result (AreTakenIn self.old.books batch.items) }
         ensures err { OnErr result (self.new.books ≡ self.old.books) }
@@ -335,7 +341,8 @@ impl<L: Log> Store<L> {
         let (payload, whole) = self.payload_of(alloc, &batch)?;
         self.settle()?;
         self.add(alloc, &payload, whole)?;
-        Ok(Recorded::new(self.books.make_all(batch, decisions)))
+        let basis = Basis::of(&batch, &self.books);
+        Ok(Recorded::new(basis, self.books.make_all(batch, decisions)))
     }
 
     // ---- how a generation follows another

@@ -4,22 +4,40 @@ use Rattle.rsl_event.specs.declared.event.Decision.{Decision}
 use Rattle.rsl_shard.specs.Restep.{BooksSeen}
 use Rattle.rsl_shard.specs.declared.moved.Move.{Move}
 use Rattle.rld_books.specs.Server.{decisions_of, replay}
+use Rattle.rld_store.specs.Recorded.{AreDecided, RecordedSeen}
 use Rattle.rld_turn.specs.declared.ends.Ending.{Ending}
 use Rattle.rld_turn.specs.declared.ends.Ending.TheVariants as endings
 use Rattle.rld_turn.specs.declared.outcome.Outcome.{Outcome}
 use Rattle.rld_turn.specs.declared.outcome.Outcome.TheVariants as outcomes
 
+-- what was recorded, if it was
+abbrev pub recorded_in : Outcome → Option RecordedSeen
+recorded_in outcomes.Nothing = None
+recorded_in (outcomes.Recorded recorded) = Some recorded
+recorded_in outcomes.Failed = None
+recorded_in outcomes.Ended = None
+
 -- the decisions on it, if it is recorded
 abbrev pub decisions_in : Outcome → Option (List Decision)
 decisions_in outcomes.Nothing = None
-decisions_in (outcomes.Recorded decisions) = Some decisions
+decisions_in (outcomes.Recorded recorded) = Some recorded.decisions
 decisions_in outcomes.Failed = None
 decisions_in outcomes.Ended = None
 
 -- whether it is recorded
-abbrev pub is_recorded : Option (List Decision) → Bool
+abbrev pub is_recorded : {A : Type 0} → Option A → Bool
 is_recorded None = false
-is_recorded (Some decisions) = true
+is_recorded (Some recorded) = true
+
+-- what was recorded is this very batch, decided by the books that there were before it
+abbrev pub IsOf : (batch : List Move) → Option RecordedSeen → Type 0
+IsOf batch None = Unit {0}
+IsOf batch (Some recorded) = (recorded.batch ≡ batch) × AreDecided recorded
+
+-- those books, if it is recorded
+abbrev pub books_before : Option RecordedSeen → List BooksSeen
+books_before None = []
+books_before (Some recorded) = recorded.before
 
 -- the moves that were recorded of it: all or none
 abbrev pub made : (recorded : Bool) → (batch : List Move) → List Move
@@ -47,7 +65,7 @@ ending_by outcome endings.Down = endings.Down
 ending_by outcome endings.Ended = endings.Ended
 ending_by outcomes.Ended endings.Open = endings.Ended
 ending_by outcomes.Nothing endings.Open = endings.Open
-ending_by (outcomes.Recorded decisions) endings.Open = endings.Open
+ending_by (outcomes.Recorded recorded) endings.Open = endings.Open
 ending_by outcomes.Failed endings.Open = endings.Open
 
 -- whether a turn ended because a call that takes a datagram failed

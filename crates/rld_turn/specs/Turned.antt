@@ -12,9 +12,10 @@ use Rattle.rsl_shard.specs.Restep.{BooksSeen}
 use Rattle.rsl_shard.specs.declared.moved.Move.{Move}
 use Rattle.rsl_wire.specs.Packet.{Fields, packet_of}
 use Rattle.rld_books.specs.Server.{replay}
+use Rattle.rld_store.specs.Recorded.{RecordedSeen}
 use Rattle.rld_turn.specs.Moves.{decided, move_of}
 use Rattle.rld_turn.specs.Present.{ServiceSeen, meaning_of, origin_of, source_of}
-use Rattle.rld_turn.specs.Recorded.{made}
+use Rattle.rld_turn.specs.Recorded.{IsOf, books_before, is_recorded, made}
 use Rattle.rld_turn.specs.Told.{AreNumbersOf, HasTold, IsSentAs, Told, told_of}
 use Rattle.rld_turn.specs.declared.ends.End.{End}
 use Rattle.rld_turn.specs.declared.ends.End.TheVariants as ends
@@ -126,5 +127,26 @@ pub record HasTurned (service : ServiceSeen) (port : Port) (ends : Ends) (old ne
   pub history : (config : Configuration) (opening : List BooksSeen) (moves : List Move)
       → stood config opening moves → stands config opening (moves ++ made recorded batch)
   pub turned : Turned service port moment recorded old.books told taken batch sent
+  pub numbers : AreNumbersOf told
+      ends.dropped ends.refused ends.unrecorded ends.answered ends.unsent
+
+-- A turn by what it gives as recorded, whatever its recorder is: the clock is read once, and what was
+-- taken since ended so, as the watcher has learned. What was recorded is the batch with the moves of
+-- these datagrams, in their order. One with a move is answered only if it is, by the books that there
+-- were before the batch and the moves before its own.
+pub record IsDecidedBy (service : ServiceSeen) (port : Port) (ends : Ends)
+    (recorded : Option RecordedSeen) (old new : State) : Type 0 where
+  pub taken : List PeerDatagram
+  pub batch : List Move
+  pub sent : List PeerDatagram
+  pub told : List Told
+  pub moment : ℕ
+  pub more_taken : new.taken ≡ old.taken ++ taken
+  pub more_sent : new.sent ≡ old.sent ++ sent
+  pub more_shown : HasShown (moment ∷ []) old.shown new.shown
+  pub more_told : HasTold told old.told new.told
+  pub whole : IsOf batch recorded
+  pub turned : Turned service port moment (is_recorded recorded) (books_before recorded)
+      told taken batch sent
   pub numbers : AreNumbersOf told
       ends.dropped ends.refused ends.unrecorded ends.answered ends.unsent

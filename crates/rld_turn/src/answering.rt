@@ -247,8 +247,8 @@ fn hand_over<P: PeerPort>(datagrams: &mut P, reply: &[u8], to: SocketAddr, said:
 
 /// The decision at a place of a batch that is recorded.
 fn decision_at(recorded: &Recorded, place: usize) -> Decision
-    requires { place < length recorded.now }
-    ensures { result ≡ decision_at recorded.now place }
+    requires { place < length recorded.now.decisions }
+    ensures { result ≡ decision_at recorded.now.decisions place }
 {
     recorded.decisions()[place]
 }

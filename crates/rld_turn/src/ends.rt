@@ -1,6 +1,7 @@
 ghost use Rattle.std.specs.Prelude.{◌≡◌, ◌+◌, ◌<◌, ◌^◌};
 ghost use Rattle.rld_turn.specs.Counted.{counted_end, ends_of, no_ends};
 
+use rld_store::Recorded;
 use rsl_event::{Dropped, Said};
 
 /// How a datagram ended.
@@ -45,12 +46,14 @@ pub enum Ending {
 }
 
 /// What a turn did.
-#[derive(Clone, Copy)]
+#[derive(Drop)]
 pub struct Turn {
     /// How its datagrams ended.
     pub ends: Ends,
     /// What comes after it.
     pub ending: Ending,
+    /// The decisions on the moves of its datagrams, if they were recorded.
+    pub recorded: Option<Recorded>,
 }
 
 impl Ends {

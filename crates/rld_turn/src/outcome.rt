@@ -1,5 +1,5 @@
 ghost use Rattle.std.specs.Prelude.{◌≡◌, ◌++◌, List, true};
-ghost use Rattle.rld_turn.specs.Recorded.{HasCount, HasDecided, IsRecordedAs, decisions_in, ending_by, is_recorded, made};
+ghost use Rattle.rld_turn.specs.Recorded.{HasCount, IsOf, IsRecordedAs, decisions_in, ending_by, is_recorded, made, recorded_in};
 ghost use Rattle.rsl_accounts.specs.Configuration.{Configuration};
 ghost use Rattle.rsl_shard.specs.Restep.{BooksSeen};
 ghost use Rattle.rsl_shard.specs.declared.moved.Move.{Move as OneMove};
@@ -32,11 +32,22 @@ impl Outcome {
             _ => taking,
         }
     }
+
+    /// What was recorded.
+    pub(crate) fn into_recorded(self) -> Option<Recorded>
+        ensures { result ≡ recorded_in self }
+    {
+        match self {
+            Outcome::Recorded(recorded) => Some(recorded),
+            Outcome::Nothing | Outcome::Failed | Outcome::Ended => None,
+        }
+    }
 }
 
 /// Records a batch, if it has a move.
 pub(crate) fn record<R: Recorder>(alloc: Global, recorder: &mut R, batch: Vec<Move>) -> Outcome
     ensures count { HasCount (decisions_in result) batch.items }
+    ensures batch { IsOf batch.items (recorded_in result) }
     ensures telling { R.tells recorder.new ≡ true → R.tells recorder.old ≡ true }
     ensures recorded { R.tells recorder.new ≡ true → IsRecordedAs result batch.items
         (R.books recorder.old) (R.books recorder.new) }

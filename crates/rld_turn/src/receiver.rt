@@ -4,7 +4,7 @@ ghost use Rattle.std.specs.VecDeque.{deque_capacity};
 ghost use Rattle.rld_turn.specs.Counted.{ends_of};
 ghost use Rattle.rld_turn.specs.Present.{service_of};
 ghost use Rattle.rld_turn.specs.Recorded.{is_down};
-ghost use Rattle.rld_turn.specs.Turned.{HasTurned, state_of};
+ghost use Rattle.rld_turn.specs.Turned.{HasTurned, IsDecidedBy, state_of};
 
 use crate::ends::Turn;
 use crate::outcome::record;
@@ -85,6 +85,13 @@ impl Receiver {
             (state_of (P.taken datagrams.old) (P.sent datagrams.old) (C.shown clock.old) (W.told watch.old) (R.books recorder.old))
             (state_of (P.taken datagrams.new) (P.sent datagrams.new) (C.shown clock.new) (W.told watch.new) (R.books recorder.new))
             (R.stands recorder.old) (R.stands recorder.new) }
+
+        // Whatever the recorder is: what is answered with a decision has its move in the batch that
+        // the turn gives as recorded, and the decision is the one on that move.
+        ensures decided { P.tells datagrams.new ≡ true →
+            IsDecidedBy (service_of present.now) self.old.port result.ends result.recorded
+            (state_of (P.taken datagrams.old) (P.sent datagrams.old) (C.shown clock.old) (W.told watch.old) (R.books recorder.old))
+            (state_of (P.taken datagrams.new) (P.sent datagrams.new) (C.shown clock.new) (W.told watch.new) (R.books recorder.new)) }
         ensures room { P.tells datagrams.new ≡ true →
             min (P.room datagrams.old) 4096 ≤ P.room datagrams.new }
         ensures down { P.tells datagrams.new ≡ true → P.is_down datagrams.new ≡ is_down result.ending }
@@ -110,6 +117,7 @@ impl Receiver {
         Turn {
             ends,
             ending: outcome.ending(taking),
+            recorded: outcome.into_recorded(),
         }
     }
 }

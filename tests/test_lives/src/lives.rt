@@ -2,10 +2,10 @@
 //! ends, beside one run of the same packets without a crash.
 
 use crate::undisturbed::{Run, batch_len, batches_of, config_of, run_of};
-use rld_lives::{Lived, Plan, lives};
+use rld_lives::{Lived, Outcome, Plan, lives};
 use rld_log::{Ending, Life, MemoryLog};
 use rld_spelling::Header;
-use rld_store::{Opened, Recorded, Store};
+use rld_store::{Opened, Store};
 use rsl_accounts::Config;
 use rsl_shard::{Line, Row};
 use std::alloc::Global;
@@ -15,6 +15,9 @@ use std::test::Fail;
 /// A life that answers all makes 27 calls of the disk: three open the log, and two record each of twelve
 /// batches. So from none to all of them succeed.
 const CALLS: u64 = 28; // quick: 7
+
+/// How many batches the moves of the run are in.
+const BATCHES: usize = 12;
 
 /// How many octets a loss of power keeps of what was not synced.
 const KEPT: [usize; 6] = [0, 1, 19, 20, 27, 1000];
@@ -59,28 +62,65 @@ fn begun(alloc: Global, config: &Config) -> Result<MemoryLog, Fail> {
 }
 
 /// How many moves are answered, where each decision is that of its line.
-fn answered(lines: &[Line], answers: &[Recorded]) -> Result<usize, Fail> {
+fn answered(lines: &[Line], outcomes: &[Outcome]) -> Result<usize, Fail> {
     let mut count: usize = 0;
-    for recorded in answers {
-        for decision in recorded.decisions() {
-            if lines.get(count).map(|line| line.decision) != Some(*decision) {
-                return Err("another decision")?;
+    for outcome in outcomes {
+        if let Ok(recorded) = outcome {
+            for decision in recorded.decisions() {
+                if lines.get(count).map(|line| line.decision) != Some(*decision) {
+                    return Err("another decision")?;
+                }
+                count = count.saturating_add(1);
             }
-            count = count.saturating_add(1);
         }
     }
     Ok(count)
 }
 
+/// How many batches are recorded.
+fn recorded_of(outcomes: &[Outcome]) -> usize {
+    outcomes.iter().filter(|outcome| outcome.is_ok()).count()
+}
+
 /// That a life, which had these lines to answer, answered as they say, and left `left` of their
 /// moves in the log: those that it answered, with the batch after them or without.
-fn check_life(lines: &[Line], answers: &[Recorded], left: usize) -> Result<(), Fail> {
-    let done = answered(lines, answers)?;
-    let next = done.saturating_add(batch_len(answers.len()));
+fn check_life(lines: &[Line], outcomes: &[Outcome], left: usize) -> Result<(), Fail> {
+    let done = answered(lines, outcomes)?;
+    let next = done.saturating_add(batch_len(recorded_of(outcomes)));
     if left == done || left == next.min(lines.len()) {
         Ok(())
     } else {
         Err("an answer is lost")?
+    }
+}
+
+/// What a life told of its batches: nothing where it did not begin.
+fn told_by(lived: &Lived<MemoryLog>, index: usize) -> Result<&[Outcome], Fail> {
+    match lived.told.get(index) {
+        Some(Some(outcomes)) => Ok(outcomes.as_slice()),
+        Some(None) => Ok(&[]),
+        None => Err("a life that tells nothing")?,
+    }
+}
+
+/// That a life told of the batch with this index that it was not recorded, and of each other one what
+/// a life told that was not to answer that batch.
+fn check_gone_on(told: &[Outcome], without: &[Outcome], index: usize) -> Result<(), Fail> {
+    if told.get(index).map(|outcome| outcome.is_ok()) != Some(false) {
+        return Err("a batch that was recorded")?;
+    }
+    let others = told[..index].iter().chain(told[index + 1..].iter());
+    if told.len() != without.len() + 1 || !others.zip(without.iter()).all(are_same) {
+        return Err("another outcome")?;
+    }
+    Ok(())
+}
+
+/// Whether two batches were recorded, with the same decisions.
+fn are_same((one, other): (&Outcome, &Outcome)) -> bool {
+    match (one, other) {
+        (Ok(one), Ok(other)) => one.decisions() == other.decisions(),
+        _ => false,
     }
 }
 
@@ -143,11 +183,33 @@ impl Server {
         froms: &[usize],
         ending: Ending,
     ) -> Result<Lived<MemoryLog>, Fail> {
-        let plans = self.plans(alloc, froms, ending)?;
+        self.lived_as(alloc, octets, short, self.plans(alloc, froms, ending)?)
+    }
+
+    /// What lives answer and leave that have these plans.
+    fn lived_as(
+        &self,
+        alloc: Global,
+        octets: &[u8],
+        short: &[Life],
+        plans: Vec<Plan>,
+    ) -> Result<Lived<MemoryLog>, Fail> {
         match lives(alloc, &self.config, log_of(alloc, octets, short)?, plans) {
             Ok(lived) => Ok(lived),
             Err(_) => Err("no memory")?,
         }
+    }
+
+    /// What a life answers and leaves that has all batches to answer but this one.
+    fn lived_without(&self, alloc: Global, index: usize) -> Result<Lived<MemoryLog>, Fail> {
+        let mut batches = batches_of(alloc, &self.run.lines)?;
+        let _left_out = batches.remove(index);
+        let mut plans = Vec::new(alloc);
+        plans.push(Plan {
+            batches,
+            ending: Ending::Kill,
+        })?;
+        self.lived_as(alloc, &self.begun, &[], plans)
     }
 
     /// That each of such lives answered as the run did, and left what it answered in the log, with the
@@ -160,11 +222,10 @@ impl Server {
     ) -> Result<usize, Fail> {
         let stands = self.moves_in(alloc, lived.log.octets())?;
         for index in 0..froms.len() {
-            let (Some(from), Some(answers)) = (froms.get(index), lived.told.get(index)) else {
-                return Err("a life that tells nothing")?;
-            };
+            let from = *froms.get(index).unwrap_or(&stands);
             let next = *froms.get(index.saturating_add(1)).unwrap_or(&stands);
-            check_life(self.lines_from(*from), answers, next.saturating_sub(*from))?;
+            let told = told_by(lived, index)?;
+            check_life(self.lines_from(from), told, next.saturating_sub(from))?;
         }
         Ok(stands)
     }
@@ -185,10 +246,7 @@ impl Server {
     /// How many batches a life answers whose log goes so.
     fn answered_with(&self, alloc: Global, short: Life) -> Result<u64, Fail> {
         let lived = self.lived(alloc, &self.begun, &[short], &[0], Ending::Kill)?;
-        match lived.told.first() {
-            Some(answers) => Ok(answers.len() as u64),
-            None => Err("a life that tells nothing")?,
-        }
+        Ok(recorded_of(told_by(&lived, 0)?) as u64)
     }
 
     /// Three lives over the moves of the run, each from where the log of the one before it stands; the
@@ -242,6 +300,30 @@ fn fail_each_call<R: Abort + AllocGlobal>(rt: &R, server: &Server) -> Result<(),
     for calls in 0..CALLS {
         let answered = server.answered_with(rt.alloc(), short(calls, 0))?;
         assert_eq!(rt; answered, calls.saturating_sub(3) / 2);
+    }
+    Ok(())
+}
+
+/// The append of each batch but the last fails in turn, and no call after it: the life goes on, and
+/// answers and leaves what one does that was never to answer that batch.
+#[test]
+fn a_life_goes_on_after_an_append_that_failed(rt: HostRuntime) -> Result<(), Fail> {
+    let server = Server::new(rt.alloc())?;
+    fail_each_append(&rt, &server)
+}
+
+fn fail_each_append<R: Abort + AllocGlobal>(rt: &R, server: &Server) -> Result<(), Fail> {
+    let alloc = rt.alloc();
+    for index in 0..BATCHES - 1 {
+        let once = Life {
+            calls: 3 + 2 * index as u64,
+            failing: 1,
+            kept: 0,
+        };
+        let lived = server.lived(alloc, &server.begun, &[once], &[0], Ending::Kill)?;
+        let without = server.lived_without(alloc, index)?;
+        check_gone_on(told_by(&lived, 0)?, told_by(&without, 0)?, index)?;
+        assert!(rt; lived.log.octets() == without.log.octets());
     }
     Ok(())
 }

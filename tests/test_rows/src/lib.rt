@@ -23,7 +23,7 @@ mod octets;
 mod rows;
 mod texts;
 
-pub use numbers::{length, number, octet, port_number, short_number};
+pub use numbers::{length, number, numbers_of, octet, port_number, short_number};
 pub use octets::{Hex, front, octets_of};
 pub use rows::{Subject, check_rows};
 pub use texts::{Plain, printed, push_printed, replaced, shown};

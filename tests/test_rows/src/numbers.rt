@@ -1,5 +1,6 @@
 //! The numbers that decimal digits write: each fails where a text is no number of its kind.
 
+use std::alloc::Global;
 use std::test::Fail;
 
 /// A number of at most 64 bits.
@@ -25,4 +26,13 @@ pub fn port_number(digits: &str) -> Result<u16, Fail> {
 /// A length, or a place in a text.
 pub fn length(digits: &str) -> Result<usize, Fail> {
     Ok(digits.parse::<usize>()?)
+}
+
+/// The numbers of words.
+pub fn numbers_of(alloc: Global, words: &str) -> Result<Vec<u64>, Fail> {
+    let mut numbers = Vec::new(alloc);
+    for word in words.split_ascii_whitespace() {
+        numbers.push(number(word)?)?;
+    }
+    Ok(numbers)
 }

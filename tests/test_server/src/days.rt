@@ -11,7 +11,7 @@
 //! what the account then holds; and each line of the closed service's journals, as shard, moment and
 //! decision.
 
-use crate::datagrams::{coming_of, config_of, numbers_of, push_sent};
+use crate::datagrams::{coming_of, push_sent};
 use crate::workers::{Pauses, Steady};
 use rsl_accounts::Config;
 use rsl_event::Port;
@@ -23,7 +23,8 @@ use std::alloc::Global;
 use std::marker::Brand;
 use std::sync::Wait;
 use std::test::Fail;
-use test_rows::{Plain, Subject, check_rows, number, push_printed};
+use test_rows::{Plain, Subject, check_rows, number, numbers_of, push_printed};
+use test_timelines::config_of;
 
 /// The days of rows.
 #[derive(Clone, Copy)]

@@ -9,7 +9,6 @@
 //! rejects and Accounting-Responses were sent, and how many octets the longest has; how many moves were
 //! made; and the places that the account holds. All come at moment 0, to two shards.
 
-use crate::datagrams::config_of;
 use crate::days::{port_of, push_counts};
 use crate::workers::Steady;
 use rsl_accounts::Config;
@@ -22,6 +21,7 @@ use std::marker::Brand;
 use std::sync::Wait;
 use std::test::Fail;
 use test_rows::{Subject, check_rows, front, length, octets_of, push_printed};
+use test_timelines::config_of;
 
 /// Where all datagrams come from.
 const CLIENT: Source = Source {

@@ -42,18 +42,14 @@ fn fault_of(alloc: Global, octets: &[u8]) -> Result<Option<StoreFault>, Fail> {
     }
 }
 
-/// That a payload of this frame has a fault at this octet.
-fn malformed(frame: usize, offset: usize, cause: Cause) -> StoreFault {
-    StoreFault::Malformed(Malformed {
-        frame,
-        offset,
-        cause,
-    })
+/// That a payload has a fault at this octet of the log.
+fn malformed(offset: usize, cause: Cause) -> StoreFault {
+    StoreFault::Malformed(Malformed { offset, cause })
 }
 
-/// That an account cannot have its book.
-fn misfit(fault: RestoreFault) -> StoreFault {
-    StoreFault::Misfit(ServerFault::Misfit(fault))
+/// That the snapshot, which begins at octet 61, is of other accounts.
+fn misfit(fault: ServerFault) -> StoreFault {
+    StoreFault::Misfit { offset: 61, fault }
 }
 
 #[test]
@@ -84,26 +80,34 @@ fn damage_is_named_by_its_offset(rt: HostRuntime) -> Result<(), Fail> {
 #[test]
 fn payloads_that_spell_nothing(rt: HostRuntime) -> Result<(), Fail> {
     let alloc = rt.alloc();
+    // the payload of the header begins at octet 20, that of the snapshot at 61, the batches at 94 and 115
     let rows = [
         (
-            ["02 01 01 01 00*16 00", NEW, "00"],
-            malformed(0, 0, Cause::OtherFormat),
+            ["02 01 01 01 00*16 00", NEW, "00", "00"],
+            malformed(20, Cause::OtherFormat),
         ),
         (
-            ["01 02 01 01 00*16 00", NEW, "00"],
-            malformed(0, 1, Cause::OtherRule),
+            ["01 02 01 01 00*16 00", NEW, "00", "00"],
+            malformed(21, Cause::OtherRule),
         ),
         (
-            ["01 01 01 01 00*16 00 00", NEW, "00"],
-            malformed(0, 21, Cause::Trailing),
+            ["01 01 01 01 00*16 00 00", NEW, "00", "00"],
+            malformed(41, Cause::Trailing),
         ),
-        ([HEAD, "02 00*11", "00"], malformed(1, 12, Cause::CutShort)),
+        (
+            [HEAD, "02 00*11", "00", "00"],
+            malformed(73, Cause::CutShort),
+        ),
         // a batch of a move of the third account
         (
-            [HEAD, NEW, "01 03 07 02 00 02 00"],
-            malformed(2, 3, Cause::NoAccount),
+            [HEAD, NEW, "01 03 07 02 00 02 00", "00"],
+            malformed(97, Cause::NoAccount),
         ),
-        ([HEAD, NEW, "01 09"], malformed(2, 1, Cause::UnknownTag)),
+        ([HEAD, NEW, "01 09", "00"], malformed(95, Cause::UnknownTag)),
+        (
+            [HEAD, NEW, "00", "01 09"],
+            malformed(116, Cause::UnknownTag),
+        ),
     ];
     for (payloads, fault) in rows {
         let octets = frames(alloc, &payloads)?;
@@ -115,14 +119,14 @@ fn payloads_that_spell_nothing(rt: HostRuntime) -> Result<(), Fail> {
 #[test]
 fn snapshots_of_other_accounts(rt: HostRuntime) -> Result<(), Fail> {
     let alloc = rt.alloc();
-    let count = StoreFault::Misfit(ServerFault::WrongCount);
+    let count = misfit(ServerFault::WrongCount);
     for (snapshot, fault) in [
         ("01 00*6", count),
         ("03 00*18", count),
         // the first account has one place, and two links at different access servers
         (
             "02 09 03 00 02 00 02 00 01 00 09 00 02 00 02 00 09 00 00 00*6",
-            misfit(RestoreFault::TooManyPlaces),
+            misfit(ServerFault::Misfit(RestoreFault::TooManyPlaces)),
         ),
     ] {
         let octets = frames(alloc, &[HEAD, snapshot])?;

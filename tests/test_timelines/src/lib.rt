@@ -11,11 +11,13 @@
 //! - `tick MOMENT`
 //!
 //! What stands after ` -> ` tells what is expected of the event, and is not read here. It is for
-//! test crates alone.
+//! test crates alone, as are the datagrams of one account and the answers to them, as words.
 #![tactic(auto)]
 
+mod datagrams;
 mod written;
 
+pub use datagrams::{config_of, digits_of, reply_of};
 use rsl_accounts::Rules;
 use rsl_event::{Act, Event, Key, Nas, NasName, Source};
 use rsl_wire::Octets;

@@ -1,6 +1,5 @@
 //! What is counted of turns, at a receiver's place of a board.
 
-use crate::coming::config_of;
 use crate::disk::store_of;
 use crate::turns::{Scene, port_of, scene_of, served};
 use rld_counts::{AcctEnd, AuthEnd, Cell, Counts, End};
@@ -15,6 +14,7 @@ use std::sync::Wait;
 use std::test::Fail;
 use std::time::Clock;
 use test_rows::{Subject, check_rows, short_number};
+use test_timelines::config_of;
 
 /// The counts of the turns of rows.
 #[derive(Clone, Copy)]

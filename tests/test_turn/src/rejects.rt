@@ -3,11 +3,11 @@
 //! A row has a name and the octets of a request of the client. It tells the kind of its meaning, and why
 //! it is rejected, if it is.
 
-use crate::coming::config_of;
 use rsl_event::{Detail, MeaningKind, Port, Source, prepare_in_detail};
 use std::alloc::Global;
 use std::test::Fail;
 use test_rows::{Subject, check_rows, octets_of};
+use test_timelines::config_of;
 
 /// The requests of rows.
 #[derive(Clone, Copy)]

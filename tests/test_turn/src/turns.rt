@@ -11,7 +11,7 @@
 //! decision.
 
 use crate::clock::clock_of;
-use crate::coming::{coming_of, config_of, networks_of, numbers_of, push_sent};
+use crate::coming::{coming_of, networks_of, push_sent};
 use crate::disk::{batches_of, left_by, push_moves, store_of};
 use crate::notes::Notes;
 use rld_log::MemoryLog;
@@ -22,7 +22,8 @@ use rsl_event::Port;
 use rsl_shard::Move;
 use std::alloc::Global;
 use std::test::Fail;
-use test_rows::{Plain, Subject, check_rows, number, push_printed};
+use test_rows::{Plain, Subject, check_rows, number, numbers_of, push_printed};
+use test_timelines::config_of;
 
 /// The turns of rows.
 #[derive(Clone, Copy)]

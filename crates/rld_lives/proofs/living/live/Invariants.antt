@@ -1,4 +1,4 @@
-use Rattle.std.proofs.Common.{◌≡◌, ◌+◌, ◌≤◌, List, [], IsTrue, drop, length, vec_len}
+use Rattle.std.proofs.Common.{◌≡◌, ◌+◌, ◌≤◌, ◌++◌, List, [], IsTrue, length, vec_len}
 use Rattle.std.specs.Vec.{vec_capacity}
 use Rattle.std.specs.Vec.Iter.{into_iter_items, into_iter_len}
 use Rattle.rsl_accounts.specs.Configuration.{Configuration}
@@ -6,7 +6,8 @@ use Rattle.rsl_shard.specs.Restep.{BooksSeen}
 use Rattle.rsl_shard.specs.declared.moved.Move.{Move}
 use Rattle.rld_store.specs.Standing.{StandsFor}
 use Rattle.rld_lives.specs.Leaving.{batches_of}
-use Rattle.rld_lives.proofs.Lasting.{HasAnswered, so_far}
+use Rattle.rld_lives.specs.Life.{AreOutcomes, Outcome}
+use Rattle.rld_lives.proofs.Leaving.{GoesOn}
 use Rattle.rld_lives.proofs.living.live.Given as goal
 
 abbrev pub invariant-loop-batch : goal.invariant-loop-batch
@@ -14,12 +15,12 @@ invariant-loop-batch g l = record {
   can_next : (goal.iterator-loop-batch g).can_next l.batch-iterator;
   is_finite : (goal.iterator-loop-batch g).is_finite l.batch-iterator;
   len : into_iter_len l.batch-iterator ≡ length (into_iter_items l.batch-iterator);
-  room : vec_len l.answers + length (into_iter_items l.batch-iterator) ≤ vec_capacity l.answers;
+  room : vec_len l.outcomes + length (into_iter_items l.batch-iterator) ≤ vec_capacity l.outcomes;
   told : IsTrue (g.L.Log.tells l.store.log) → IsTrue (g.L.Log.tells l.fn.store.log);
-  left : drop (length l.answers.items) (batches_of l.fn.batches.items) ≡ batches_of (into_iter_items l.batch-iterator);
-  answered : HasAnswered l.fn.store.books (batches_of l.fn.batches.items) l.answers.items l.store.books;
-  stood : IsTrue (g.L.Log.tells l.store.log) → (config : Configuration) (opening : List BooksSeen) (history : List Move)
+  out : (later : List Outcome) → AreOutcomes l.store.books (batches_of (into_iter_items l.batch-iterator)) later
+      → AreOutcomes l.fn.store.books (batches_of l.fn.batches.items) (l.outcomes.items ++ later);
+  goes : IsTrue (g.L.Log.tells l.store.log) → (config : Configuration) (opening : List BooksSeen) (history : List Move)
       → StandsFor config opening l.fn.store.counts g.L.Log.tears l.fn.store.end (g.L.Log.seen l.fn.store.log) (g.L.Log.may_leave l.fn.store.log) l.fn.store.whole l.fn.store.books history []
-      → StandsFor config opening l.store.counts g.L.Log.tears l.store.end (g.L.Log.seen l.store.log) (g.L.Log.may_leave l.store.log) l.store.whole l.store.books
-      (so_far history (batches_of l.fn.batches.items) l.answers.items) [];
+      → GoesOn config opening l.store.counts g.L.Log.tears l.store.end (g.L.Log.seen l.store.log) (g.L.Log.may_leave l.store.log) l.store.whole l.store.books history
+      (batches_of l.fn.batches.items) l.outcomes.items (batches_of (into_iter_items l.batch-iterator));
 }

@@ -1,6 +1,12 @@
-use Rattle.std.proofs.Common.{ℕ, List, Bor, drop, map}
+use Rattle.std.proofs.Common.{◌≡◌, ℕ, List, Bor, ◌++◌, drop, length, map, take}
+use Rattle.rld_log.specs.Frames.{frames}
 use Rattle.rld_store.proofs.Replaying.{HasReplayed}
 use Rattle.rld_store.proofs.reading.replay_each.Given as goal
 
 abbrev pub invariant-loop-index : goal.invariant-loop-index
-invariant-loop-index l = HasReplayed l.counts l.initial.books (map (λ (payload : Bor (List ℕ)). payload.now) l.payloads) (drop l.index (map (λ (payload : Bor (List ℕ)). payload.now) l.payloads)) l.books l.count
+invariant-loop-index l =
+    let all : List (List ℕ) = map (λ (payload : Bor (List ℕ)). payload.now) l.payloads in
+    record {
+      replayed : HasReplayed l.counts l.initial.books all (drop l.index all) l.books l.count;
+      ended : (before : List (List ℕ)) → l.whole ≡ length (frames before) → l.end ≡ length (frames (before ++ take l.index all));
+    }

@@ -1,10 +1,13 @@
 use Rattle.std.proofs.Common.{List, [], ◌++◌, ap, subst, sym, ◌∙◌}
-use Rattle.std.specs.Prelude.{Option}
+use Rattle.std.specs.Prelude.{Bool, Option}
 use Rattle.rld_turn.proofs.Failing.{same_down}
 use Rattle.rld_turn.proofs.Entering.{can_end}
 use Rattle.rld_turn.specs.Present.{service_of}
-use Rattle.rld_turn.specs.Recorded.{decisions_in, is_down, is_recorded}
+use Rattle.rld_turn.proofs.Deciding.{has_decided, same_recorded}
+use Rattle.rld_store.specs.Recorded.{RecordedSeen}
+use Rattle.rld_turn.specs.Recorded.{books_before, decisions_in, is_down, is_recorded, recorded_in}
 use Rattle.rld_turn.specs.Told.{HasTold, Told}
+use Rattle.rld_turn.specs.Turned.{IsDecidedBy, Turned, state_of}
 use Rattle.rld_turn.specs.declared.peer_port.PeerDatagram.{PeerDatagram}
 use Rattle.rld_turn.proofs.receiver.Receiver.turn.Goals as goal
 
@@ -48,3 +51,41 @@ returns-clause-turned g c = λ told recorder_told.
       turned = answered.turned;
       numbers = answered.numbers;
     }
+
+pub returns-clause-decided : goal.returns-clause-decided
+returns-clause-decided g c = λ told.
+    let service = service_of c.args.present.now in
+    let outcome = c.record-outcome.result in
+    let before = books_before (recorded_in outcome) in
+    let gathered = c.gather-taking.ensures.gathered in
+    let moves = c.gather-taking.new.batch.items in
+    let mid = c.answer_each-ends.ensures.telling told in
+    let answered = c.answer_each-ends.ensures.answered told (record {
+      moment = c.now-moment.result;
+      begun = before;
+      taken = gathered.taken;
+      moves = moves;
+      entered = gathered.entered;
+      decided = has_decided outcome moves c.record-outcome.ensures.batch;
+    }) in
+    subst
+    (λ (r : Option RecordedSeen).
+    IsDecidedBy service c.args.self.now.port c.answer_each-ends.result r
+    (state_of (g.P.PeerPort.taken c.args.datagrams.now) (g.P.PeerPort.sent c.args.datagrams.now) (g.C.Clock.shown c.args.clock.now) (g.W.Watch.told c.args.watch.now) (g.R.Recorder.books c.args.recorder.now))
+    (state_of (g.P.PeerPort.taken c.answer_each-ends.new.datagrams) (g.P.PeerPort.sent c.answer_each-ends.new.datagrams) (g.C.Clock.shown c.now-moment.new.self) (g.W.Watch.told c.answer_each-ends.new.watch) (g.R.Recorder.books c.record-outcome.new.recorder)))
+    (sym c.into_recorded.ensures) (record {
+      taken = gathered.taken;
+      batch = moves;
+      sent = answered.sent;
+      told = answered.told;
+      moment = c.now-moment.result;
+      more_taken = c.answer_each-ends.ensures.taken told ∙ gathered.told mid;
+      more_sent = answered.more_sent ∙ ap (λ (t : List PeerDatagram). t ++ answered.sent) (c.gather-taking.ensures.sent mid);
+      more_shown = c.now-moment.ensures.shown;
+      more_told = subst (λ (t : Option (List Told)). HasTold answered.told t (g.W.Watch.told c.answer_each-ends.new.watch)) c.begin.ensures.told answered.more_told;
+      whole = c.record-outcome.ensures.batch;
+      turned =
+          subst (λ (b : Bool). Turned service c.args.self.now.port c.now-moment.result b before answered.told gathered.taken moves answered.sent)
+          (same_recorded outcome) answered.turned;
+      numbers = answered.numbers;
+    })

@@ -4,13 +4,13 @@ use Rattle.rsl_session.specs.Saved.{saved_book}
 use Rattle.rsl_session.specs.declared.saved.SavedBook.{SavedBook}
 use Rattle.rld_spelling.specs.Books.{BookSeen, books_field, books_seen}
 use Rattle.rld_store.proofs.States.{put_back, read_is}
-use Rattle.rld_store.proofs.reading.books_in.Goals as goal
+use Rattle.rld_store.proofs.part.Part.books.Goals as goal
 
-pub returns-in-Ok-restore-clause-found : goal.returns-in-Ok-restore-clause-found
-returns-in-Ok-restore-clause-found c = λ begun is of.
+pub returns-in-Ok-restore-clause-only : goal.returns-in-Ok-restore-clause-only
+returns-in-Ok-restore-clause-only c = λ begun is of.
     let one : Result (List BookSeen) Fault = Ok of.books in
     let two : Result (List BookSeen) Fault = Ok (books_seen c.in-Ok.saved.items) in
     let only : one ≡ two = c.in-Ok.ensures.only of.books (subst (λ (n : ℕ). (books_field n).Fits of.books) (sym c.clients.ensures.number) of.fit)
     (of.spelled ∙ ap (λ (n : ℕ). (books_field n).spell of.books) (sym c.clients.ensures.number)) in
-    put_back c.args.config.now begun c.in-Ok-restore.books c.in-Ok.saved.items c.args.payload.now is of (read_is (books_seen c.in-Ok.saved.items) of.books one two refl refl only)
+    put_back c.args.config.now begun c.in-Ok-restore.books c.in-Ok.saved.items c.args.self.payload.now is of (read_is (books_seen c.in-Ok.saved.items) of.books one two refl refl only)
     c.in-Ok-restore.ensures.server (c.in-Ok-restore.ensures.saved ∙ ap (λ (l : List SavedBook). map saved_book l) c.deref.ensures.value)

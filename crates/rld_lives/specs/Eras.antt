@@ -1,0 +1,79 @@
+-- The count over every era, whatever books it opened with. In the first era the rule finds all by
+-- looking back (`specs/Lives.antt`). An era that follows opens with books of the one before it, and what
+-- came before them is not looked back at: there each account goes on with the book that it began with.
+use Rattle.std.specs.Prelude.{◌≡◌, ℕ, List, slice_get, take, Option, Some}
+use Rattle.rsl_accounts.specs.Configuration.{Configuration}
+use Rattle.rsl_accounts.specs.Limits.{IsConfiguration}
+use Rattle.rsl_accounts.specs.declared.entry.Entry.{Entry}
+use Rattle.rsl_accounts.specs.declared.rules.Rules.{Rules}
+use Rattle.rsl_book.specs.RuledBook.{IsWithinLimit, RuledBook}
+use Rattle.rsl_event.specs.declared.event.Event.{Event}
+use Rattle.rsl_session.specs.BookStep.{book_after, step}
+use Rattle.rsl_shard.specs.Moves.{own_in}
+use Rattle.rsl_shard.specs.Restep.{BooksSeen}
+use Rattle.rsl_shard.specs.declared.line.Line.{Line}
+use Rattle.rsl_shard.specs.declared.moved.Move.{Move}
+use Rattle.rsl_shard.specs.declared.moved.Move.TheVariants.{Own}
+use Rattle.rld_admit.specs.Admitted.{AreAdmitted}
+use Rattle.rld_books.specs.Cut.{cut_server}
+use Rattle.rld_books.specs.Saved.{book_in}
+use Rattle.rld_books.specs.Server.{journal_of, new_server, replay}
+use Rattle.rld_spelling.specs.Eras.{EraSeen}
+use Rattle.rld_spelling.specs.Tables.{table_of}
+
+-- a book that is found, of an account with these rules, which has no more places than they allow
+pub record IsFoundWithin (rules : Rules) (found : Option RuledBook) : Type 0 where
+  pub ruled : RuledBook
+  pub there : found ≡ Some ruled
+  pub ruled_by : ruled.rules ≡ rules
+  pub within : IsWithinLimit ruled
+
+-- each account has a book under its own rules, and no more places than these allow
+pub record AreWithinLimits (config : Configuration) (server : List BooksSeen) : Type 0 where
+  pub each : (account : ℕ) (entry : Entry) → slice_get config.accounts account ≡ Some entry
+      → IsFoundWithin entry.rules (book_in server account)
+
+-- what an account's own events among lines make of the book that it began with
+abbrev pub after_own : (account : ℕ) → (begun : RuledBook) → List Line → RuledBook
+after_own account begun lines = record {
+  rules = begun.rules;
+  book = book_after begun.rules begun.book (own_in account lines);
+}
+
+-- What the journal of an era and its books say of an account that began with a book.
+pub record GoesOnWithin (account : ℕ) (begun : RuledBook) (lines : List Line)
+    (server : List BooksSeen) : Type 0 where
+  -- each event of its own has the decision of its book at that point
+  pub decided : (n : ℕ) (line : Line) (event : Event) → slice_get lines n ≡ Some line
+      → line.moved ≡ Own account event
+      → line.decision ≡ (step begun.rules (after_own account begun (take n lines)).book event).1
+  -- its book is what its own events have made of the one that it began with
+  pub there : book_in server account ≡ Some (after_own account begun lines)
+  -- and its places never exceed its limit
+  pub never_more : (n : ℕ) → IsWithinLimit (after_own account begun (take n lines))
+
+-- what the moves of an era that opened with these books leave within limits
+pub record StaysWithinLimits (config : Configuration) (opening : List BooksSeen)
+    (moves : List Move) : Type 0 where
+  pub each : (account : ℕ) (entry : Entry) (begun : RuledBook)
+      → slice_get config.accounts account ≡ Some entry → book_in opening account ≡ Some begun
+      → GoesOnWithin account begun (journal_of opening moves) (replay opening moves)
+  pub after : AreWithinLimits config (replay opening moves)
+
+-- The count holds in every era that opened within limits, whatever its moves.
+abbrev pub ErasStayWithinLimits : Type 0
+ErasStayWithinLimits =
+    (config : Configuration) (opening : List BooksSeen) (moves : List Move)
+    → IsConfiguration config → AreWithinLimits config opening
+    → StaysWithinLimits config opening moves
+
+-- Every era opens within limits: the first with new books, one with another account file with what is
+-- admitted of whatever books, and one that a rebase begins with books that were so, cut to a moment.
+pub record ErasOpenWithinLimits : Type 0 where
+  pub new : (config : Configuration) → IsConfiguration config
+      → AreWithinLimits config (new_server config)
+  pub admitted : (boot : ℕ) (old : EraSeen) (config : Configuration)
+      (books opening : List BooksSeen) → IsConfiguration config
+      → AreAdmitted old books (table_of boot config) opening → AreWithinLimits config opening
+  pub cut : (now : ℕ) (config : Configuration) (books : List BooksSeen)
+      → AreWithinLimits config books → AreWithinLimits config (cut_server now books)

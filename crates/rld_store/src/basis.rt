@@ -1,0 +1,31 @@
+ghost use Rattle.std.specs.Prelude.{◌≡◌, List};
+ghost use Rattle.rsl_shard.specs.Restep.{BooksSeen};
+ghost use Rattle.rsl_shard.specs.declared.moved.Move.{Move as OneMove};
+
+use rld_books::ServerBooks;
+use rsl_shard::Move;
+use std::marker::Model;
+
+/// What the decisions on a batch were made of: the batch, and the books that there were before it.
+///
+/// Contracts alone read it: it has no octets, and making one does nothing.
+#[derive(Drop)]
+pub(crate) struct Basis {
+    ghost batch: { List OneMove },
+    ghost before: { List BooksSeen },
+}
+
+impl Model for Basis {
+    ghost use Rattle.std.specs.Borrow.{ftrue};
+
+    ghost also_owns = { λ _. ftrue };
+}
+
+impl Basis {
+    /// This batch, and these books.
+    pub(crate) fn of(_batch: &Vec<Move>, _before: &ServerBooks) -> Basis
+        ensures { (result.batch ≡ _batch.now.items) × (result.before ≡ _before.now) }
+    {
+        Basis {}
+    }
+}
