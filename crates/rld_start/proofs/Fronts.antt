@@ -1,8 +1,16 @@
 -- Two frames at the front of octets.
-use Rattle.std.proofs.Common.{◌≡◌, ℕ, List, ◌++◌, length, drop, sym, ap, ◌∙◌}
-use Rattle.rld_log.specs.Frames.{Fits, NoFrame, digest, frame}
+use Rattle.std.proofs.Common.{◌≡◌, inl, ℕ, ◌<◌, List, [], ◌∷◌, ◌++◌, Bor, append-nil, append_assoc, arith, length, drop, map, refl, sym, ap, subst, ◌∙◌}
+use Rattle.std.specs.List.{AllByRecursion}
+use Rattle.rld_log.specs.Frames.{Fits, HasPayloads, NoFrame, digest, first, frame, frames}
+use Rattle.rld_log.specs.declared.fault.Damage.{Damage}
 use Rattle.rld_log.proofs.Callers.{Parts, frame_shape, parts_of}
-use Rattle.rld_start.specs.Firsts.{HasTwo}
+use Rattle.rld_spelling.specs.Headers.{header_field, header_octets}
+use Rattle.rld_spelling.specs.declared.header.Header.{Header}
+use Rattle.rld_start.specs.Firsts.{HasTwo, IsBegun, IsSpoilt}
+use Rattle.rld_store.specs.Opening.{AreParts, IsWhyNoFrames}
+use Rattle.rld_store.specs.declared.fault.StoreFault.{StoreFault}
+use Rattle.rld_store.specs.declared.fault.StoreFault.TheVariants.{Damaged}
+use Rattle.rld_store.specs.declared.frames.Parts.{Parts as TwoAndRest}
 
 -- behind one frame at the front stands one rest
 pub same_rest : (octets p x q y : List ℕ) → Fits p → Fits q → octets ≡ frame p ++ x → octets ≡ frame q ++ y → x ≡ y
@@ -13,8 +21,45 @@ same_rest octets p x q y some other is also =
     sym a.rest_is ∙ ap (λ (k : ℕ). drop k (drop 16 (drop 4 octets))) n ∙ b.rest_is
 
 -- one frame at the front, and no second
-pub no_two : (octets first rest : List ℕ) → Fits first → octets ≡ frame first ++ rest → NoFrame rest
+pub no_two : (octets one rest : List ℕ) → Fits one → octets ≡ frame one ++ rest → NoFrame rest
     → (header snapshot : List ℕ) → HasTwo octets header snapshot → ⊥
-no_two octets first rest fits is none header snapshot two =
+no_two octets one rest fits is none header snapshot two =
     none snapshot two.rest two.snapshot_fits
-    (same_rest octets first rest header (frame snapshot ++ two.rest) fits two.header_fits is two.is)
+    (same_rest octets one rest header (frame snapshot ++ two.rest) fits two.header_fits is two.is)
+
+-- fewer than two payloads are no two frames
+pub few_are_no_two : (octets : List ℕ) (payloads : List (List ℕ)) → HasPayloads octets payloads → length payloads < 2
+    → (header snapshot : List ℕ) → HasTwo octets header snapshot → ⊥
+few_are_no_two octets [] has few header snapshot two =
+    has.torn (first has.tail header (frame snapshot ++ two.rest) two.header_fits (sym has.parts ∙ two.is))
+few_are_no_two octets (payload ∷ []) has few header snapshot two =
+    no_two octets payload has.tail has.fit.0 (has.parts ∙ ap (λ (o : List ℕ). o ++ has.tail) (append-nil (frame payload)))
+    (λ next rest fits is. has.torn (first has.tail next rest fits is)) header snapshot two
+few_are_no_two octets (payload ∷ next ∷ payloads) has few header snapshot two = absurd (omega (arith, few))
+
+-- the parts of a generation stand at the front, two frames first
+pub parts_are_begun : (octets : List ℕ) (payloads : List (List ℕ)) (parts : TwoAndRest) (header : Header) → HasPayloads octets payloads
+    → AreParts payloads parts → parts.header.payload.now ≡ header_octets header → header_field.Fits header → IsBegun octets header
+parts_are_begun octets payloads parts header has are spelled fits =
+    let one : List ℕ = header_octets header in
+    let two : List ℕ = parts.snapshot.payload.now in
+    let more : List (List ℕ) = map (λ (payload : Bor (List ℕ)). payload.now) parts.batches.now in
+    let is : payloads ≡ one ∷ two ∷ more = are.are ∙ ap (λ (o : List ℕ). o ∷ two ∷ more) spelled in
+    let fit : AllByRecursion Fits (one ∷ two ∷ more) = subst (AllByRecursion Fits) is has.fit in
+    record {
+      snapshot = two;
+      two = record {
+        rest = frames more ++ has.tail;
+        header_fits = fit.0;
+        snapshot_fits = fit.1.0;
+        is = has.parts ∙ ap (λ (l : List (List ℕ)). frames l ++ has.tail) is
+            ∙ append_assoc (frame one) (frame two ++ frames more) has.tail
+            ∙ ap (λ (o : List ℕ). frame one ++ o) (append_assoc (frame two) (frames more) has.tail);
+      };
+      fits = fits;
+    }
+
+-- where the frames of a log are not read since it is damaged, one is spoilt
+pub spoilt_by : (octets : List ℕ) (fault : StoreFault) (damage : Damage) → IsWhyNoFrames octets fault → fault ≡ Damaged damage
+    → IsSpoilt octets damage.offset
+spoilt_by octets fault damage why is = inl (subst (IsWhyNoFrames octets) is why)

@@ -9,3 +9,4 @@ pub mod NextHeaders
 pub mod Numbers
 pub mod Rebased
 pub mod Status
+pub mod Wrongs

@@ -4,8 +4,7 @@ ghost use Rattle.std.specs.Prelude.{◌≡◌, ◌+◌, ◌<◌, ◌^◌, ◌↔
 ghost use Rattle.std.specs.Option.{option_map};
 ghost use Rattle.rld_admit.specs.Admitted.{AreAdmitted};
 ghost use Rattle.rld_books.specs.Saved.{IsServerOf, rows_in};
-ghost use Rattle.rld_spelling.specs.Eras.{era_octets};
-ghost use Rattle.rld_spelling.specs.Tables.{client_row, table_of};
+ghost use Rattle.rld_spelling.specs.Tables.{account_row, client_row, table_of};
 ghost use Rattle.rld_start.specs.Counted.{sessions_in as counted};
 ghost use Rattle.rld_start.specs.NextHeaders.{generation_named};
 ghost use Rattle.rld_start.specs.Numbers.{era_of, greatest_by};
@@ -21,14 +20,13 @@ use crate::reopening::{EraTable, Former, reopen};
 use crate::starting::Started;
 use crate::table::config_in;
 use crate::wrong::{Cause, Wrong};
-use rld_admit::{admit, era_file, is_era_file, table_of};
+use rld_admit::{admit, era_file};
 use rld_books::{BlankBooks, ServerBooks, ServerFault};
 use rld_folder::{FileName, Folder, Generation, Synced};
 use rld_log::Pacing;
-use rld_spelling::{Era, EraClient, Header};
+use rld_spelling::Header;
 use rld_store::Opened;
-use rsl_accounts::Config;
-use rsl_wire::NoMemory;
+use rsl_accounts::{Client, Config, Entry};
 use std::alloc::Global;
 use std::fs::{File, Files};
 
@@ -186,37 +184,57 @@ fn sync_begun<R: Files<File = File>>(
 
 /// Whether an era goes on where another configuration takes the place of one: whether both have the
 /// same names, rules, addresses and shards, in the same order. Passwords, secrets and reply attributes
-/// may differ. It fails only where memory is refused.
-pub fn is_same_era(alloc: Global, old: &Config, new: &Config, boot: u64) -> Result<bool, NoMemory>
-    ensures { IfOk result (λ same. IsTrue same ↔
-        (era_octets (table_of boot old.now) ≡ era_octets (table_of boot new.now))) }
+/// may differ. No table is made for that, as it is asked while receivers rest. The files of two eras are
+/// the same just where their tables are, since each is read as it is spelled
+/// (`rld_spelling::laws::eras_are_read`).
+pub fn is_same_era(old: &Config, new: &Config) -> bool
+    ensures { (boot : ℕ) → IsTrue result ↔ (table_of boot old.now ≡ table_of boot new.now) }
 {
-    let octets = era_file(alloc, old, boot)?;
-    is_era_file(alloc, new, boot, octets.as_slice())
+    old.shards() == new.shards() && has_same_clients(old, new) && has_same_accounts(old, new)
 }
 
-/// Whether a configuration has the clients of another one, each under its number. It fails only where
-/// memory is refused.
-pub fn has_same_clients(alloc: Global, old: &Config, new: &Config) -> Result<bool, NoMemory>
-    ensures { IfOk result (λ same. IsTrue same ↔
-        (map client_row old.now.clients ≡ map client_row new.now.clients)) }
+/// Whether a configuration has the clients of another one, each under its number.
+#[tactic(auto, using(crate::proofs::Alike::row_steps))]
+pub fn has_same_clients(old: &Config, new: &Config) -> bool
+    ensures { IsTrue result ↔ (map client_row old.now.clients ≡ map client_row new.now.clients) }
 {
-    let old = clients_of(alloc, old)?;
-    let new = clients_of(alloc, new)?;
-    Ok(are_same(old.as_slice(), new.as_slice()))
+    if old.clients() != new.clients() {
+        return false;
+    }
+    for number in 0..old.clients() {
+        if !is_same_client(old.client_at(number), new.client_at(number)) {
+            return false;
+        }
+    }
+    true
 }
 
-/// The clients of a configuration, by their addresses.
-fn clients_of(alloc: Global, config: &Config) -> Result<Vec<EraClient>, NoMemory>
-    ensures { IfOk result (λ clients. clients.items ≡ map client_row config.now.clients) }
+/// Whether a configuration has the accounts of another one, each under its number and by its rules.
+#[tactic(auto, using(crate::proofs::Alike::row_steps))]
+fn has_same_accounts(old: &Config, new: &Config) -> bool
+    ensures { IsTrue result ↔ (map account_row old.now.accounts ≡ map account_row new.now.accounts) }
 {
-    let Era { clients, .. } = table_of(alloc, config, 0)?;
-    Ok(clients)
+    if old.accounts() != new.accounts() {
+        return false;
+    }
+    for number in 0..old.accounts() {
+        if !is_same_account(old.entry(number), new.entry(number)) {
+            return false;
+        }
+    }
+    true
 }
 
-/// Whether these are the same clients.
-fn are_same(old: &[EraClient], new: &[EraClient]) -> bool
-    ensures { IsTrue result ↔ (old.now ≡ new.now) }
+/// Whether two clients have one address.
+fn is_same_client(old: &Client, new: &Client) -> bool
+    ensures { IsTrue result ↔ (client_row old.now ≡ client_row new.now) }
 {
-    old == new
+    old.address == new.address
+}
+
+/// Whether two accounts have one name and the same rules.
+fn is_same_account(old: &Entry, new: &Entry) -> bool
+    ensures { IsTrue result ↔ (account_row old.now ≡ account_row new.now) }
+{
+    old.rules == new.rules && old.name.as_bytes() == new.name.as_bytes()
 }

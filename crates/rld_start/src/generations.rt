@@ -9,18 +9,33 @@ use rld_admit::era_file;
 use rld_books::BlankBooks;
 use rld_config::Archive;
 use rld_folder::{Folder, FolderFault, Generation, Removed, Synced, logless_eras, older_logs};
-use rld_log::FileLog;
+use rld_log::{FileLog, Log, PacedLog, Pacing};
 use rsl_accounts::Config;
 use std::alloc::Global;
 use std::fs::{File, Files};
 
 /// A log in which a generation can begin.
 #[derive(Drop)]
-pub struct NextLog {
+pub struct NextLog<L> {
     /// The generation, whose number no log of the folder had.
     pub generation: Generation,
     /// Its log, which is empty.
-    pub log: FileLog,
+    pub log: L,
+}
+
+impl<L: Log> NextLog<L> {
+    /// The same log, synced as the pacing says.
+    pub fn paced(self, pacing: Pacing<'_>) -> NextLog<PacedLog<'_, L>>
+        ensures generation { result.generation ≡ self.generation }
+        ensures log { result.log.log ≡ self.log }
+        ensures pace { result.log.pace ≡ pacing.entry.pace }
+    {
+        let NextLog { generation, log } = self;
+        NextLog {
+            generation,
+            log: PacedLog::new(log, pacing),
+        }
+    }
 }
 
 /// The logs of a server that runs: that of its next generation, and those that no start needs any more.
@@ -37,7 +52,7 @@ pub trait Generations {
     /// cannot be listed, `Unopened` where the log cannot be made; where its name cannot be synced
     /// `Unsynced`, and then it is removed again, as far as it can be: an empty log is no generation. In
     /// each case a start goes on from the generation that there was.
-    fn next_log(&self, alloc: Global, era: u64) -> Result<NextLog, StartFault>
+    fn next_log(&self, alloc: Global, era: u64) -> Result<NextLog<FileLog>, StartFault>
         ensures { IfOk result (λ next. next.generation.era ≡ era) };
 
     /// Makes the files of an era that follows, with the table of this configuration and boot number: the
@@ -47,7 +62,12 @@ pub trait Generations {
     /// `NoNumber` where no number is left. The other faults are the folder's, as of `next_log`, and
     /// `NoMemory` where memory is refused. In each case, and until something stands in the log, a start
     /// goes on from the generation that there was.
-    fn next_era(&self, alloc: Global, config: &Config, boot: u64) -> Result<NextEra, StartFault>
+    fn next_era(
+        &self,
+        alloc: Global,
+        config: &Config,
+        boot: u64,
+    ) -> Result<NextEra<FileLog>, StartFault>
         ensures first { IfOk result (λ next.
             (next.header.generation ≡ 1) × (next.header.lines ≡ 0)) }
         ensures table { IfOk result (λ next.
@@ -146,7 +166,7 @@ impl<'a, R: Files<File = File>> FolderGenerations<'a, R> {
 }
 
 impl<R: Files<File = File>> Generations for FolderGenerations<'_, R> {
-    fn next_log(&self, alloc: Global, era: u64) -> Result<NextLog, StartFault> {
+    fn next_log(&self, alloc: Global, era: u64) -> Result<NextLog<FileLog>, StartFault> {
         let names = self.folder.files(&(self.files, alloc))?;
         let Some(number) = next_generation(names.as_slice(), era) else {
             return Err(StartFault::NoNumber);
@@ -162,7 +182,12 @@ impl<R: Files<File = File>> Generations for FolderGenerations<'_, R> {
         }
     }
 
-    fn next_era(&self, alloc: Global, config: &Config, boot: u64) -> Result<NextEra, StartFault> {
+    fn next_era(
+        &self,
+        alloc: Global,
+        config: &Config,
+        boot: u64,
+    ) -> Result<NextEra<FileLog>, StartFault> {
         let table = era_file(alloc, config, boot)?;
         let names = self.folder.files(&(self.files, alloc))?;
         let blanks = BlankBooks::new(alloc, config)?;

@@ -12,7 +12,7 @@ use crate::refused::fault_of;
 use md5::{Digest, Md5};
 use rld_books::{BlankBooks, ServerBooks};
 use rld_folder::{FileName, Folder, Generation};
-use rld_log::{FileLog, PacedLog, Pacing};
+use rld_log::{FileLog, Log, PacedLog, Pacing};
 use rld_spelling::Header;
 use rld_store::Store;
 use rsl_accounts::Config;
@@ -24,13 +24,34 @@ pub(crate) const FIRST: u64 = 1;
 
 /// An era whose table is on the disk, and an empty log in which its first generation can begin.
 #[derive(Drop)]
-pub struct NextEra {
+pub struct NextEra<L> {
     /// The header of that generation.
     pub header: Header,
     /// Its log, which is empty.
-    pub log: FileLog,
+    pub log: L,
     /// Blank books of its accounts, if they were made.
     pub blanks: BlankBooks,
+}
+
+impl<L: Log> NextEra<L> {
+    /// The same era, whose log is synced as the pacing says.
+    pub fn paced(self, pacing: Pacing<'_>) -> NextEra<PacedLog<'_, L>>
+        ensures header { result.header ≡ self.header }
+        ensures log { result.log.log ≡ self.log }
+        ensures pace { result.log.pace ≡ pacing.entry.pace }
+        ensures blanks { result.blanks ≡ self.blanks }
+    {
+        let NextEra {
+            header,
+            log,
+            blanks,
+        } = self;
+        NextEra {
+            header,
+            log: PacedLog::new(log, pacing),
+            blanks,
+        }
+    }
 }
 
 /// An era that was begun: its table and its first generation are on the disk.
@@ -52,7 +73,7 @@ pub(crate) fn make_era<R: Files<File = File>>(
     names: &[FileName],
     table: &[u8],
     blanks: BlankBooks,
-) -> Result<NextEra, StartFault>
+) -> Result<NextEra<FileLog>, StartFault>
     ensures era { IfOk result (λ next. next.header.era ≡ greatest_by era_of names.now + 1) }
     ensures first { IfOk result (λ next.
         (next.header.generation ≡ 1) × (next.header.lines ≡ 0)) }

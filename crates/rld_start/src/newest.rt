@@ -5,14 +5,16 @@ ghost use Rattle.rld_start.specs.Firsts.{IsFirst};
 ghost use Rattle.rld_start.specs.Founds.{IsLookAt, IsNewestBegun, generation_in};
 ghost use Rattle.rld_start.specs.Numbers.{IsFirstOrNone};
 
-use crate::fault::{StartFault, log_fault};
+use crate::fault::StartFault;
 use crate::files::open_log;
-use crate::first::First;
+use crate::first::{First, unspoilt_frames};
 use crate::new_era::FIRST;
+use crate::refused::log_refused;
 use crate::wrong::{Cause, Wrong};
 use rld_folder::{FileName, Folder, Generation, newest_generation};
 use rld_log::{FileLog, Log};
 use rld_spelling::Header;
+use rld_store::StoreFault;
 use std::alloc::Global;
 use std::fs::{File, Files};
 
@@ -104,29 +106,24 @@ fn look_at<R: Files<File = File>>(
     ensures { IfOk result (IsLookAt generation) }
 {
     let mut log = open_log(files, alloc, folder, generation)?;
-    match first_in(alloc, generation, &mut log)? {
-        First::Begun(header) => Ok(Look::Begun(Begun {
+    match first_in(alloc, &mut log) {
+        Ok(First::Begun(header)) => Ok(Look::Begun(Begun {
             generation,
             header,
             log,
         })),
-        First::Unbegun => Ok(Look::Unbegun(Unbegun { generation })),
+        Ok(First::Unbegun) => Ok(Look::Unbegun(Unbegun { generation })),
+        Err(fault) => Err(log_refused(generation, fault)),
     }
 }
 
 /// What stands at the front of a log.
-fn first_in<L: Log>(alloc: Global, generation: Generation, log: &mut L) -> Result<First, StartFault>
+fn first_in<L: Log>(alloc: Global, log: &mut L) -> Result<First, StoreFault>
     ensures { IsTrue (L.tells log.new) → IfOk result (IsFirst (L.seen log.old)) }
 {
-    let file = FileName::Log(generation);
-    let octets = match log.read(alloc) {
-        Ok(octets) => octets,
-        Err(fault) => return Err(log_fault(file, fault)),
-    };
-    match First::of(octets.as_slice()) {
-        Ok(first) => Ok(first),
-        Err(wrong) => Err(StartFault::bad(file, wrong)),
-    }
+    let octets = log.read(alloc)?;
+    let found = unspoilt_frames(alloc, &octets)?;
+    First::of(&found.payloads)
 }
 
 /// Whether a file is no log, or that of the first generation of an era.

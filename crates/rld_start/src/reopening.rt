@@ -12,7 +12,7 @@ use crate::fault::StartFault;
 use crate::files::read_era;
 use crate::header::check_header;
 use crate::newest::Begun;
-use crate::refused::fault_of;
+use crate::refused::log_refused;
 use crate::table::boot_of;
 use rld_admit::is_era_file;
 use rld_folder::{FileName, Folder, Generation};
@@ -114,6 +114,6 @@ fn open_store<L: Log + Drop>(
 {
     match Store::open(alloc, config, log) {
         Ok(opened) => Ok(opened),
-        Err(refused) => Err(fault_of(alloc, generation, refused)),
+        Err(refused) => Err(log_refused(generation, refused.fault)),
     }
 }

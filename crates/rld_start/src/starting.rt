@@ -19,7 +19,7 @@ use crate::header::next_header;
 use crate::new_era::{NewEra, begin_era};
 use crate::newest::{Begun, Newest, generation_in, newest_begun};
 use crate::number::next_generation;
-use crate::refused::fault_of;
+use crate::refused::log_refused;
 use crate::reopening::{EraTable, Former, read_table, reopen};
 use rld_admit::{era_file, is_era_file};
 use rld_books::ServerBooks;
@@ -295,6 +295,6 @@ fn renew<'a, R: Files<File = File>>(
     let log = create_log(files, alloc, folder, generation)?;
     match store.roll(alloc, header, PacedLog::new(log, pacing)) {
         Ok(_older) => Ok(()),
-        Err(refused) => Err(fault_of(alloc, generation, refused)),
+        Err(refused) => Err(log_refused(generation, refused.fault)),
     }
 }

@@ -1,10 +1,10 @@
 ghost use Rattle.std.specs.Prelude.{◌≡◌};
-ghost use Rattle.rld_start.specs.declared.wrong.Cause.TheVariants.{Damaged as damaged};
 
 use rld_books::ServerFault;
 use rld_fields as fields;
 use rld_folder::FileName;
-use rld_log::Damage;
+use rld_log::HEAD_LEN;
+use rld_store::StoreFault;
 use std::fmt;
 use thiserror::Error;
 
@@ -51,14 +51,26 @@ pub struct Wrong {
     pub cause: Cause,
 }
 
-impl From<Damage> for Wrong {
-    ghost from_gives = { λ damage wrong. (wrong.offset ≡ damage.offset) × (wrong.cause ≡ damaged) };
+impl Wrong {
+    ghost use Rattle.rld_start.specs.Wrongs.{wrong_of};
 
-    fn from(damage: Damage) -> Wrong {
-        Wrong {
-            offset: damage.offset,
-            cause: Cause::Damaged,
-        }
+    /// What is wrong with a log that a store has refused for what it has.
+    pub fn of(fault: StoreFault) -> Option<Wrong>
+        ensures { result ≡ wrong_of fault }
+    {
+        let (offset, cause) = match fault {
+            StoreFault::Damaged(damage) => (damage.offset, Cause::Damaged),
+            StoreFault::Unbegun => (HEAD_LEN, Cause::Alone),
+            StoreFault::Malformed(bad) => (bad.offset, Cause::Malformed(bad.cause)),
+            StoreFault::Misfit { offset, fault } => (offset, Cause::Misfit(fault)),
+            StoreFault::Foreign { offset } => (offset, Cause::Foreign),
+            StoreFault::NoMemory
+            | StoreFault::Log(_)
+            | StoreFault::Occupied
+            | StoreFault::Unfit
+            | StoreFault::TooLong => return None,
+        };
+        Some(Wrong { offset, cause })
     }
 }
 

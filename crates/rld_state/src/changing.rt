@@ -15,7 +15,7 @@ use crate::rolled::{NotBegun, RollFault};
 use crate::state::ServerState;
 use rld_books::BlankBooks;
 use rld_folder::Synced;
-use rld_log::{FileLog, Log, PacedLog, Pacing};
+use rld_log::Log;
 use rld_spelling::Header;
 use rld_start::{Generations, NextEra, StartFault, admitted_books, generation_named, sessions_in};
 use rld_store::Store;
@@ -25,9 +25,9 @@ use std::sync::Arc;
 
 /// An era that was begun: its log is on the disk.
 #[derive(Drop)]
-pub(crate) struct Opening<'p> {
+pub(crate) struct Opening<L: Log> {
     /// The books that it opens with, and the log of its first generation.
-    pub(crate) store: Store<PacedLog<'p, FileLog>>,
+    pub(crate) store: Store<L>,
     /// The header of that generation.
     pub(crate) header: Header,
     /// What shows that the log is on the disk.
@@ -39,14 +39,14 @@ pub(crate) struct Opening<'p> {
 /// An era that goes on, and what is left of the former one. That takes some time to drop: let it be done
 /// where nobody waits.
 #[derive(Drop)]
-pub struct Entered<'p> {
+pub struct Entered<L: Log> {
     /// How it follows the former one.
     pub change: EraChange,
     /// The store of the former one.
-    pub former: Store<PacedLog<'p, FileLog>>,
+    pub former: Store<L>,
 }
 
-impl<'p> ServerState<Store<PacedLog<'p, FileLog>>> {
+impl<L: Log + Drop> ServerState<Store<L>> {
     /// Begins the era of other accounts, whose files were made, with what is admitted of the books. Its
     /// log is synced to the disk, whatever the pacing, before anything is recorded in it.
     ///
@@ -58,9 +58,8 @@ impl<'p> ServerState<Store<PacedLog<'p, FileLog>>> {
         alloc: Global,
         generations: &G,
         config: Arc<Config>,
-        next: NextEra,
-        pacing: Pacing<'p>,
-    ) -> Result<Entered<'p>, NotBegun>
+        next: NextEra<L>,
+    ) -> Result<Entered<L>, NotBegun>
         ensures gone { IfErr result (IsGone (generation_named next.header)) }
         ensures config { OnOk result (self.new.config ≡ config) }
         ensures header { OnOk result (self.new.header ≡ next.header) }
@@ -71,8 +70,15 @@ impl<'p> ServerState<Store<PacedLog<'p, FileLog>>> {
             (table_of after (arc_value config)) self.new.recorder.books) }
         ensures eras { IfOk result (λ entered. (entered.change.former ≡ self.old.header.era)
             × (entered.change.era ≡ next.header.era)) }
+        ensures former { IfOk result (λ entered. entered.former ≡ self.old.recorder) }
         ensures ended { self.new.has_ended ≡ (self.old.has_ended || is_over result) }
         ensures failed { self.new.has_failed ≡ self.old.has_failed }
+
+        // The store stands for a history of no moves after its books.
+        ensures stands { IsTrue (L.tells self.new.recorder.log) → Only (L.seen next.log) (L.may_leave next.log) →
+            OnOk result (StandsFor (arc_value config) self.new.recorder.books self.new.recorder.counts L.tears
+            self.new.recorder.end (L.seen self.new.recorder.log) (L.may_leave self.new.recorder.log)
+            self.new.recorder.whole self.new.recorder.books [] []) }
 
         // Where it fails the present era stays, with its accounts, its log and its count.
         ensures same { OnErr result (self.new.recorder ≡ self.old.recorder) }
@@ -84,7 +90,7 @@ impl<'p> ServerState<Store<PacedLog<'p, FileLog>>> {
             return Err(NotBegun::Ended);
         }
         let generation = generation_named(&next.header);
-        match self.opening(alloc, generations, &*config, next, pacing) {
+        match self.opening(alloc, generations, &*config, next) {
             Ok(opening) => {
                 let change = opening.change;
                 let former = self.enter(opening, config);
@@ -104,9 +110,8 @@ impl<'p> ServerState<Store<PacedLog<'p, FileLog>>> {
         alloc: Global,
         generations: &G,
         config: &Config,
-        next: NextEra,
-        pacing: Pacing<'p>,
-    ) -> Result<Opening<'p>, RollFault>
+        next: NextEra<L>,
+    ) -> Result<Opening<L>, RollFault>
         ensures header { IfOk result (λ opening. opening.header ≡ next.header) }
         ensures server { IfOk result (λ opening. IsServerOf config.now opening.store.books) }
         ensures admitted { IfOk result (λ opening. (boot after : ℕ) →
@@ -117,6 +122,10 @@ impl<'p> ServerState<Store<PacedLog<'p, FileLog>>> {
         ensures eras { IfOk result (λ opening. (opening.change.former ≡ self.now.header.era)
             × (opening.change.era ≡ next.header.era)) }
         ensures going_on { IsErrOf result RollFault.Ended → ⊥ }
+        ensures stands { IfOk result (λ opening. IsTrue (L.tells opening.store.log) →
+            Only (L.seen next.log) (L.may_leave next.log) →
+            StandsFor config.now opening.store.books opening.store.counts L.tears opening.store.end
+            (L.seen opening.store.log) (L.may_leave opening.store.log) opening.store.whole opening.store.books [] []) }
     {
         let held = sessions_in(self.recorder().rows(alloc)?.as_slice());
         let former = self.header();
@@ -125,7 +134,6 @@ impl<'p> ServerState<Store<PacedLog<'p, FileLog>>> {
             log,
             blanks,
         } = next;
-        let log = PacedLog::new(log, pacing);
         let store = self.admit(alloc, config, header, blanks, log)?;
         let sessions = sessions_in(store.rows(alloc)?.as_slice());
         let synced = generations.sync(alloc, generation_named(&header))?;
@@ -145,7 +153,8 @@ impl<'p> ServerState<Store<PacedLog<'p, FileLog>>> {
 
 impl<L: Log + Drop> ServerState<Store<L>> {
     /// What is admitted of the books to other accounts, as a store that begins the generation of this
-    /// header in an empty log, in the blank books that were made for them. What stands in the log where it fails is to be removed.
+    /// header in an empty log, in the blank books that were made for them. What stands in the log where it
+    /// fails is to be removed.
     fn admit(
         &self,
         alloc: Global,

@@ -1,5 +1,4 @@
 use crate::rolled::{NotBegun, RollFault};
-use rsl_wire::NoMemory;
 use std::alloc::{AllocError, AllocFailed};
 use std::fmt;
 use thiserror::Error;
@@ -73,12 +72,6 @@ impl From<AllocError> for ReloadFault {
 
 impl<T: Drop> From<AllocFailed<T>> for ReloadFault {
     fn from(_refused: AllocFailed<T>) -> ReloadFault {
-        ReloadFault::NoMemory
-    }
-}
-
-impl From<NoMemory> for ReloadFault {
-    fn from(_refused: NoMemory) -> ReloadFault {
         ReloadFault::NoMemory
     }
 }

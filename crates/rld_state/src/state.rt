@@ -2,10 +2,10 @@ ghost use Rattle.std.specs.Prelude.{◌≡◌, ℕ, true, length, Err, IfErr, If
 ghost use Rattle.std.specs.Arc.{arc_value};
 ghost use Rattle.rld_books.specs.Server.{decisions_of, replay};
 ghost use Rattle.rld_state.specs.Keeping.{IsGone, ends, is_ended, is_failed, is_over, moves_after};
-ghost use Rattle.rld_spelling.specs.Eras.{era_octets};
 ghost use Rattle.rld_spelling.specs.Tables.{table_of};
 ghost use Rattle.rld_start.specs.NextHeaders.{generation_named, header_after};
 ghost use Rattle.rld_store.specs.Premises.{Only};
+ghost use Rattle.rld_store.specs.Recorded.{AreDecided};
 ghost use Rattle.rld_store.specs.Standing.{StandsFor};
 ghost use Rattle.rld_store.specs.declared.fault.RecordFault.TheVariants.{Ended as over, Failed as failed};
 ghost use Rattle.rsl_accounts.specs.Configuration.{Configuration};
@@ -15,13 +15,12 @@ ghost use Rattle.rsl_shard.specs.declared.moved.Move.{Move as OneMove};
 use crate::changing::Opening;
 use crate::rolled::{NotBegun, RollFault};
 use rld_folder::{FolderFault, Generation, Removed};
-use rld_log::{FileLog, Log, PacedLog, Pacing};
+use rld_log::Log;
 use rld_spelling::Header;
 use rld_start::{Generations, NextLog, StartFault, is_same_era, next_header};
 use rld_store::{RecordFault, Recorded, Recorder, Store};
 use rsl_accounts::Config;
 use rsl_shard::Move;
-use rsl_wire::NoMemory;
 use std::alloc::{AllocError, Global};
 use std::mem;
 use std::sync::Arc;
@@ -69,7 +68,9 @@ impl<S: Recorder> ServerState<S> {
         era: u64,
         batch: Vec<Move>,
     ) -> Result<Recorded, RecordFault>
-        ensures count { IfOk result (λ recorded. length recorded ≡ length batch.items) }
+        ensures count { IfOk result (λ recorded. length recorded.decisions ≡ length batch.items) }
+        ensures batch { IfOk result (λ recorded. recorded.batch ≡ batch.items) }
+        ensures decided { IfOk result AreDecided }
         ensures given_up { self.old.has_ended ≡ true → (result ≡ Err over) × (self.new ≡ self.old) }
         ensures other_era { (era ≡ self.old.header.era → ⊥) → self.old.has_ended ≡ false →
             (result ≡ Err failed) × (self.new ≡ record self.old { has_failed = true }) }
@@ -82,7 +83,9 @@ impl<S: Recorder> ServerState<S> {
         // What the recorder promises of a batch.
         ensures telling { S.tells self.new.recorder ≡ true → S.tells self.old.recorder ≡ true }
         ensures decisions { S.tells self.new.recorder ≡ true → IfOk result (λ recorded.
-            recorded ≡ decisions_of (S.books self.old.recorder) batch.items) }
+            recorded.decisions ≡ decisions_of (S.books self.old.recorder) batch.items) }
+        ensures before { S.tells self.new.recorder ≡ true →
+            IfOk result (λ recorded. recorded.before ≡ S.books self.old.recorder) }
         ensures books { S.tells self.new.recorder ≡ true → OnOk result
             (S.books self.new.recorder ≡ replay (S.books self.old.recorder) batch.items) }
         ensures same { S.tells self.new.recorder ≡ true →
@@ -185,21 +188,19 @@ impl<S: Recorder> ServerState<S> {
         }
     }
 
-    /// Goes on by other accounts in the present era, if it has their table with this boot number, and
-    /// gives whether it has. It fails only where memory is refused; then, and where it has not, all is as
-    /// before.
-    pub fn go_on(&mut self, alloc: Global, boot: u64, config: Arc<Config>) -> Result<bool, NoMemory>
-        ensures same { IfOk result (λ goes_on. IsTrue goes_on ↔
-            (era_octets (table_of boot (arc_value self.old.config))
-            ≡ era_octets (table_of boot (arc_value config)))) }
-        ensures config { result ≡ Ok true → self.new ≡ record self.old { config = config } }
-        ensures kept { (result ≡ Ok true → ⊥) → self.new ≡ self.old }
+    /// Goes on by other accounts in the present era, if it has their table, and gives whether it has; where
+    /// it has not, all is as before. Nothing is copied or made for it, since receivers rest meanwhile.
+    pub fn go_on(&mut self, config: Arc<Config>) -> bool
+        ensures same { (boot : ℕ) → IsTrue result ↔
+            (table_of boot (arc_value self.old.config) ≡ table_of boot (arc_value config)) }
+        ensures config { result ≡ true → self.new ≡ record self.old { config = config } }
+        ensures kept { result ≡ false → self.new ≡ self.old }
     {
-        let goes_on = is_same_era(alloc, &*self.config, &*config, boot)?;
+        let goes_on = is_same_era(&*self.config, &*config);
         if goes_on {
             self.config = config;
         }
-        Ok(goes_on)
+        goes_on
     }
 
     /// The recorder, to look at.
@@ -221,17 +222,70 @@ impl<S: Recorder> ServerState<S> {
 }
 
 impl<L: Log + Drop> ServerState<Store<L>> {
-    /// Goes on in the generation of this number, in an empty log: its header counts the moves of the
-    /// present one, and it has none yet. The present one's log is handed out.
-    fn begin(&mut self, alloc: Global, number: u64, log: L) -> Result<L, RollFault>
-        ensures header { OnOk result
-            (self.new.header ≡ header_after self.old.header number self.old.moves) }
+    /// Goes on in the generation of a log that was made for it: its header counts the moves of the
+    /// present one, and it has none yet.
+    ///
+    /// Where that fails the log is removed before anything more is recorded, since its snapshot may
+    /// stand there whole, and a start would go on from it: then the present generation goes on. `Ended`
+    /// comes where the log cannot be removed for good, and where nothing more could be recorded before:
+    /// then nothing more is recorded. A log of another era is `Former`, and removed too. The log of the
+    /// former generation is handed out.
+    pub fn roll<G: Generations>(
+        &mut self,
+        alloc: Global,
+        generations: &G,
+        next: NextLog<L>,
+    ) -> Result<L, NotBegun>
+        ensures gone { IfErr result (IsGone next.generation) }
+        ensures header { OnOk result (self.new.header
+            ≡ header_after self.old.header next.generation.number self.old.moves) }
+        ensures era { OnOk result (next.generation.era ≡ self.old.header.era) }
+        ensures moves { OnOk result (self.new.moves ≡ 0) }
+        ensures config { self.new.config ≡ self.old.config }
+        ensures ended { self.new.has_ended ≡ (self.old.has_ended || is_over result) }
+        ensures failed { self.new.has_failed ≡ self.old.has_failed }
+        ensures books { self.new.recorder.books ≡ self.old.recorder.books }
+        ensures older { IfOk result (λ older. older ≡ self.old.recorder.log) }
+
+        // The store stands for the same history, by the next log alone.
+        ensures stands { IsTrue (L.tells self.new.recorder.log) → Only (L.seen next.log) (L.may_leave next.log) →
+            (config : Configuration) (opening : List BooksSeen) (history unanswered : List OneMove) →
+            StandsFor config opening self.old.recorder.counts L.tears self.old.recorder.end (L.seen self.old.recorder.log)
+            (L.may_leave self.old.recorder.log) self.old.recorder.whole self.old.recorder.books history unanswered →
+            OnOk result (StandsFor config opening self.new.recorder.counts L.tears self.new.recorder.end (L.seen self.new.recorder.log)
+            (L.may_leave self.new.recorder.log) self.new.recorder.whole self.new.recorder.books history []) }
+
+        // Where it fails the present generation stays, with its log and its count.
+        ensures same { OnErr result (self.new.recorder ≡ self.old.recorder) }
+        ensures same_header { OnErr result (self.new.header ≡ self.old.header) }
+        ensures same_moves { OnErr result (self.new.moves ≡ self.old.moves) }
+    {
+        if self.has_ended() {
+            return Err(NotBegun::Ended);
+        }
+        let NextLog { generation, log } = next;
+        match self.begin_in(alloc, generation, log) {
+            Ok(older) => Ok(older),
+            Err(fault) => {
+                let removed = generations.remove(alloc, generation);
+                Err(self.pass_over(generation, fault, removed))
+            }
+        }
+    }
+
+    /// Goes on in this generation, in an empty log, if it is one of the present era. The log of the
+    /// former one is handed out.
+    fn begin_in(&mut self, alloc: Global, generation: Generation, log: L) -> Result<L, RollFault>
+        ensures header { OnOk result (self.new.header
+            ≡ header_after self.old.header generation.number self.old.moves) }
+        ensures era { OnOk result (generation.era ≡ self.old.header.era) }
         ensures moves { OnOk result (self.new.moves ≡ 0) }
         ensures config { self.new.config ≡ self.old.config }
         ensures ended { self.new.has_ended ≡ self.old.has_ended }
         ensures failed { self.new.has_failed ≡ self.old.has_failed }
         ensures going_on { IsErrOf result RollFault.Ended → ⊥ }
         ensures err { OnErr result (self.new ≡ self.old) }
+        ensures older { IfOk result (λ older. older ≡ self.old.recorder.log) }
 
         // The store stands for the same history, by the next log alone.
         ensures books { self.new.recorder.books ≡ self.old.recorder.books }
@@ -242,7 +296,10 @@ impl<L: Log + Drop> ServerState<Store<L>> {
             OnOk result (StandsFor config opening self.new.recorder.counts L.tears self.new.recorder.end (L.seen self.new.recorder.log)
             (L.may_leave self.new.recorder.log) self.new.recorder.whole self.new.recorder.books history []) }
     {
-        let Some(header) = next_header(&self.header, number, self.moves) else {
+        if generation.era != self.header.era {
+            return Err(RollFault::Former);
+        }
+        let Some(header) = next_header(&self.header, generation.number, self.moves) else {
             return Err(RollFault::Start(StartFault::NoNumber));
         };
         match self.recorder.roll(alloc, header, log) {
@@ -254,89 +311,17 @@ impl<L: Log + Drop> ServerState<Store<L>> {
             Err(refused) => Err(RollFault::Store(refused.fault)),
         }
     }
-}
-
-impl<'p> ServerState<Store<PacedLog<'p, FileLog>>> {
-    /// Goes on in the generation of a log that was made for it, which is synced as the pacing says: its
-    /// header counts the moves of the present one, and it has none yet.
-    ///
-    /// Where that fails the log is removed before anything more is recorded, since its snapshot may
-    /// stand there whole, and a start would go on from it: then the present generation goes on. `Ended`
-    /// comes where the log cannot be removed for good, and where nothing more could be recorded before:
-    /// then nothing more is recorded. A log of another era is `Former`, and removed too.
-    pub fn roll<G: Generations>(
-        &mut self,
-        alloc: Global,
-        generations: &G,
-        next: NextLog,
-        pacing: Pacing<'p>,
-    ) -> Result<(), NotBegun>
-        ensures gone { IfErr result (IsGone next.generation) }
-        ensures header { OnOk result (self.new.header
-            ≡ header_after self.old.header next.generation.number self.old.moves) }
-        ensures era { OnOk result (next.generation.era ≡ self.old.header.era) }
-        ensures moves { OnOk result (self.new.moves ≡ 0) }
-        ensures config { self.new.config ≡ self.old.config }
-        ensures ended { self.new.has_ended ≡ (self.old.has_ended || is_over result) }
-        ensures failed { self.new.has_failed ≡ self.old.has_failed }
-        ensures books { self.new.recorder.books ≡ self.old.recorder.books }
-
-        // Where it fails the present generation stays, with its log and its count.
-        ensures same { OnErr result (self.new.recorder ≡ self.old.recorder) }
-        ensures same_header { OnErr result (self.new.header ≡ self.old.header) }
-        ensures same_moves { OnErr result (self.new.moves ≡ self.old.moves) }
-    {
-        if self.has_ended() {
-            return Err(NotBegun::Ended);
-        }
-        let NextLog { generation, log } = next;
-        match self.begin_in(alloc, generation, PacedLog::new(log, pacing)) {
-            Ok(()) => Ok(()),
-            Err(fault) => {
-                let removed = generations.remove(alloc, generation);
-                Err(self.pass_over(generation, fault, removed))
-            }
-        }
-    }
-
-    /// Goes on in this generation, in an empty log, if it is one of the present era.
-    fn begin_in(
-        &mut self,
-        alloc: Global,
-        generation: Generation,
-        log: PacedLog<'p, FileLog>,
-    ) -> Result<(), RollFault>
-        ensures header { OnOk result (self.new.header
-            ≡ header_after self.old.header generation.number self.old.moves) }
-        ensures era { OnOk result (generation.era ≡ self.old.header.era) }
-        ensures moves { OnOk result (self.new.moves ≡ 0) }
-        ensures config { self.new.config ≡ self.old.config }
-        ensures ended { self.new.has_ended ≡ self.old.has_ended }
-        ensures failed { self.new.has_failed ≡ self.old.has_failed }
-        ensures going_on { IsErrOf result RollFault.Ended → ⊥ }
-        ensures books { self.new.recorder.books ≡ self.old.recorder.books }
-        ensures err { OnErr result (self.new ≡ self.old) }
-    {
-        if generation.era != self.header.era {
-            return Err(RollFault::Former);
-        }
-        let _older = self.begin(alloc, generation.number, log)?;
-        Ok(())
-    }
 
     /// Goes on in an era that was begun, by its accounts, and hands out the store of the former one.
-    pub(crate) fn enter(
-        &mut self,
-        opening: Opening<'p>,
-        config: Arc<Config>,
-    ) -> Store<PacedLog<'p, FileLog>>
+    pub(crate) fn enter(&mut self, opening: Opening<L>, config: Arc<Config>) -> Store<L>
         requires { opening.synced.generation ≡ generation_named opening.header }
-        ensures recorder { self.new.recorder ≡ opening.entry.store }
+        ensures recorder { self.new.recorder ≡ opening.store }
         ensures config { self.new.config ≡ config }
-        ensures header { self.new.header ≡ opening.entry.header }
+        ensures header { self.new.header ≡ opening.header }
         ensures moves { self.new.moves ≡ 0 }
         ensures ended { self.new.has_ended ≡ self.old.has_ended }
         ensures failed { self.new.has_failed ≡ self.old.has_failed }
+        ensures former { result ≡ self.old.recorder }
     {
         let Opening { store, header, .. } = opening;
         self.config = config;

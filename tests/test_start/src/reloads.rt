@@ -6,7 +6,7 @@ use crate::rolls::list;
 use crate::server::pacing;
 use rld_config::Archive;
 use rld_folder::{Folder, Generation};
-use rld_log::{PacedLog, Ticks};
+use rld_log::Ticks;
 use rld_start::{
     FolderGenerations, Generations, NextEra, Started, admitted_books, generation_named,
     has_same_clients, is_same_era, sessions_in,
@@ -35,12 +35,8 @@ pub fn reloads(rt: &HostRuntime) -> io::Result<()> {
 fn say_same(rt: &HostRuntime, name: &str) -> io::Result<()> {
     let old = accounts(rt, "before")?;
     let new = accounts(rt, name)?;
-    let (Ok(era), Ok(clients)) = (
-        is_same_era(rt.alloc(), &old, &new, 1000),
-        has_same_clients(rt.alloc(), &old, &new),
-    ) else {
-        return Err(io::Error::from(ErrorKind::OutOfMemory));
-    };
+    let era = is_same_era(&old, &new);
+    let clients = has_same_clients(&old, &new);
     println!(rt; "{name}: the same era {era}, the same clients {clients}")
 }
 
@@ -73,16 +69,15 @@ fn begin_era(rt: &HostRuntime, running: Started<'_>, old: &Config, new: &Config)
     let Ok(next) = generations.next_era(rt.alloc(), new, boot) else {
         return println!(rt; "no era");
     };
+    let ticks = Ticks::new();
     let NextEra {
         header,
         log,
         blanks,
-    } = next;
+    } = next.paced(pacing(&ticks));
     let Ok(books) = admitted_books(rt.alloc(), old, former, store.books(), new, blanks) else {
         return println!(rt; "no books");
     };
-    let ticks = Ticks::new();
-    let log = PacedLog::new(log, pacing(&ticks));
     let Ok(store) = Store::begin_with(rt.alloc(), new, header, books, log) else {
         return println!(rt; "no store");
     };

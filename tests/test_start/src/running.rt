@@ -70,7 +70,7 @@ impl<'a> Running<'a> {
             Ok(next) => next,
             Err(fault) => return println!(rt; "no next log: {fault}"),
         };
-        let NextLog { generation, log } = next;
+        let NextLog { generation, log } = next.paced(self.pacing);
         let number = generation.number;
         fs::write(
             rt,
@@ -80,10 +80,7 @@ impl<'a> Running<'a> {
         let Some(header) = next_header(&self.header, number, moves) else {
             return println!(rt; "no header");
         };
-        match self
-            .store
-            .roll(rt.alloc(), header, PacedLog::new(log, self.pacing))
-        {
+        match self.store.roll(rt.alloc(), header, log) {
             Ok(_older) => {
                 self.header = header;
                 println!(rt;

@@ -1,34 +1,14 @@
-//! Where the frames of a file stand.
+//! A frame whose length is spoilt.
 
-ghost use Rattle.std.specs.Prelude.{◌≡◌, ◌≤◌, ◌↔◌, ℕ, List, IsTrue, length};
+ghost use Rattle.std.specs.Prelude.{◌≡◌, ◌↔◌, ℕ, List, IsTrue};
 ghost use Rattle.md5.specs.Md5.{Holds, md5};
 ghost use Rattle.rld_start.specs.Lengths.{HasFront, HasSpoiltLength};
 
 use md5::{Digest, Md5};
-use rld_log::{HEAD_LEN, first_frame};
+use rld_log::HEAD_LEN;
 
 /// How many octets of a frame's head are its length.
 const LENGTH_LEN: usize = 4;
-
-/// The octets after the frame at the front, if there is one; else all of them.
-fn behind_frame(octets: &[u8]) -> &[u8]
-    ensures { length result.now ≤ length octets.now }
-{
-    match first_frame(octets) {
-        Some((_, after)) => after,
-        None => octets,
-    }
-}
-
-/// How many octets stand before the payload of the frame with this number. In a file that has fewer whole
-/// frames, it is how many octets those and a head have.
-pub(crate) fn payload_offset(octets: &[u8], frame: usize) -> usize {
-    let mut left = octets;
-    for _ in 0..frame {
-        left = behind_frame(left);
-    }
-    (octets.len() - left.len()).saturating_add(HEAD_LEN)
-}
 
 /// Whether a digest is that of what a hasher was given.
 fn is_digest_of(hasher: &Md5, sum: &[u8]) -> bool

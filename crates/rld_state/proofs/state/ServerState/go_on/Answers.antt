@@ -1,0 +1,24 @@
+use Rattle.std.proofs.Common.{rules, ◌≡◌, ℕ, Bool, subst}
+use Rattle.std.specs.Prelude.{◌↔◌, IsTrue}
+use Rattle.std.specs.Arc.{arc_value}
+use Rattle.rld_spelling.specs.Tables.{table_of}
+use Rattle.rsl_accounts.specs.Configuration.{Configuration}
+use Rattle.rld_state.proofs.state.ServerState.go_on.Goals as goal
+
+-- what is asked of two configurations is asked of what these are
+asked_of : (one other a b : Configuration) (same : Bool) → one ≡ a → other ≡ b
+    → ((boot : ℕ) → IsTrue same ↔ (table_of boot one ≡ table_of boot other))
+    → (boot : ℕ) → IsTrue same ↔ (table_of boot a ≡ table_of boot b)
+asked_of one other a b same this that is boot =
+    subst (λ (x : Configuration). IsTrue same ↔ (table_of boot x ≡ table_of boot b)) this
+    (subst (λ (y : Configuration). IsTrue same ↔ (table_of boot one ≡ table_of boot y)) that (is boot))
+
+pub returns-then-goes_on-clause-same : goal.returns-then-goes_on-clause-same
+returns-then-goes_on-clause-same g c =
+    asked_of c.deref.result.now c.deref-2.result.now (arc_value c.args.self.now.config) (arc_value c.args.config) c.is_same_era-goes_on.result
+    (search rules) (search rules) c.is_same_era-goes_on.ensures
+
+pub returns-else-goes_on-clause-same : goal.returns-else-goes_on-clause-same
+returns-else-goes_on-clause-same g c =
+    asked_of c.deref.result.now c.deref-2.result.now (arc_value c.args.self.now.config) (arc_value c.args.config) c.is_same_era-goes_on.result
+    (search rules) (search rules) c.is_same_era-goes_on.ensures
