@@ -13,7 +13,7 @@ ghost use Rattle.rld_values.specs.Read.{octets_of_word};
 
 use crate::words::parted;
 use rld_values::{
-    push_dotted, push_escaped, push_hex, push_word, read_escaped, read_hex, read_word,
+    push_dotted, push_escaped, push_hex, push_text, push_word, read_escaped, read_hex, read_word,
 };
 use rsl_accounts::address_of;
 use rsl_event::NasName;
@@ -142,7 +142,6 @@ fn at_server(
 /// Writes the words of an account and of an access server at a client with this address. It fails only
 /// where memory is refused.
 pub fn push_server(
-    alloc: Global,
     out: &mut Vec<u8>,
     account: &[u8],
     client: [u8; 4],
@@ -152,7 +151,7 @@ pub fn push_server(
 {
     push_word(out, account)?;
     out.push(32)?;
-    push_dotted(alloc, out, client)?;
+    push_dotted(out, client)?;
     out.push(32)?;
     push_nas(out, nas)
 }
@@ -163,14 +162,14 @@ fn push_nas(out: &mut Vec<u8>, nas: &NasName) -> Result<(), AllocError>
 {
     match nas {
         NasName::Identifier(name) => {
-            out.extend_from_slice(b"nas=")?;
+            push_text(out, "nas=")?;
             push_escaped(out, name.as_slice())
         }
         NasName::Address(address) => {
-            out.extend_from_slice(b"nas-address=")?;
+            push_text(out, "nas-address=")?;
             push_hex(out, address.as_slice())
         }
-        NasName::Unnamed => out.extend_from_slice(b"unnamed"),
+        NasName::Unnamed => push_text(out, "unnamed"),
     }
 }
 

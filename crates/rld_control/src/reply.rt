@@ -1,4 +1,7 @@
-ghost use Rattle.rld_control.specs.Reply.{IsReply};
+ghost use Rattle.std.specs.Prelude.{◌≡◌, ◌++◌, OnOk};
+ghost use Rattle.rld_control.specs.Reply.{IsReply, reply_octets};
+
+use std::alloc::AllocError;
 
 /// How an answer of a running server ends, and what stands before that.
 #[derive(Clone, Copy)]
@@ -25,6 +28,24 @@ impl Reply<'_> {
         match rest.strip_suffix(b"\n") {
             Some(text) => Reply::Refused(text),
             None => Reply::Broken,
+        }
+    }
+
+    /// Writes the answer; nothing for one that was cut off. It fails only where memory is refused.
+    pub fn write(&self, out: &mut Vec<u8>) -> Result<(), AllocError>
+        ensures { OnOk result (out.new.items ≡ out.old.items ++ reply_octets self.now) }
+    {
+        match self {
+            Reply::Done(lines) => {
+                out.extend_from_slice(lines)?;
+                out.extend_from_slice(b"ok\n")
+            }
+            Reply::Refused(text) => {
+                out.extend_from_slice(b"error ")?;
+                out.extend_from_slice(text)?;
+                out.extend_from_slice(b"\n")
+            }
+            Reply::Broken => Ok(()),
         }
     }
 }

@@ -1,9 +1,13 @@
 -- What is shown of accounts.
-use Rattle.std.specs.Prelude.{ℕ, List, [], ◌∷◌, slice_get, option_map, Option}
-use Rattle.std.specs.List.{filter_map}
+use Rattle.std.specs.Prelude.{◌≡◌, ℕ, ◌-◌, ◌*◌, ◌/◌, ◌==◌, nat_lt, List, [], ◌∷◌, length, take, slice_get, option_map, Option, if◌then◌else◌}
+use Rattle.std.specs.List.{filter, filter_map}
+use Rattle.std.specs.List.Sorted.{IsPermutation, IsSorted}
+use Rattle.std.specs.Ordering.{nat_cmp, ordering_then}
+use Rattle.std.specs.declared.cmp.Ordering.{Ordering}
 use Rattle.rsl_accounts.specs.Configuration.{Configuration}
 use Rattle.rsl_shard.specs.declared.row.Row.{Row}
 use Rattle.rld_look.specs.Totals.{plus}
+use Rattle.rld_look.specs.declared.accounts.TheConstants.{MOST_FULLEST}
 use Rattle.rld_look.specs.declared.look.AccountLook.{AccountLook}
 
 -- what is shown of the account whose row it is: its name, and the row; nothing of a row of no account
@@ -14,6 +18,20 @@ look_of config row =
 -- what is shown of the accounts of some rows, in the order of the rows
 abbrev pub looks_of : Configuration → List Row → List AccountLook
 looks_of config rows = filter_map (look_of config) rows
+
+-- how much of its places an account has free, in millionths; all where it has none
+abbrev pub free : Row → ℕ
+free row = if row.places == 0 then 1000000 else 1000000 - row.held * 1000000 / row.places
+
+-- the account with less free is before the other, and of two with as much the first one in the file
+abbrev pub by_fullness : Row → Row → Ordering
+by_fullness one two = ordering_then (nat_cmp (free one) (free two)) (nat_cmp one.account two.account)
+
+-- what is shown of the first accounts in that order, by the rows that are of accounts
+abbrev pub AreFullest : Configuration → List Row → List AccountLook → Type 0
+AreFullest config rows looks =
+    (sorted : List Row) × IsPermutation (filter (λ row. nat_lt row.account (length config.accounts)) rows) sorted
+    × IsSorted by_fullness sorted × (looks ≡ looks_of config (take MOST_FULLEST sorted))
 
 -- how many places are held by rows, after those that were found before
 abbrev pub held_after : (held : ℕ) → List Row → ℕ

@@ -1,5 +1,5 @@
 -- What all accounts hold.
-use Rattle.std.specs.Prelude.{ℕ, ◌+◌, ◌-◌, ◌^◌, min, List, [], ◌∷◌}
+use Rattle.std.specs.Prelude.{ℕ, ◌+◌, ◌-◌, ◌^◌, min, nat_le, List, [], ◌∷◌, if◌then◌else◌}
 use Rattle.rsl_shard.specs.declared.row.Row.{Row}
 use Rattle.rld_look.specs.declared.look.AccountLook.{AccountLook}
 use Rattle.rld_look.specs.declared.totals.Totals.{Totals}
@@ -17,6 +17,7 @@ no_totals = record {
   live = 0;
   stale = 0;
   over = 0;
+  full = 0;
 }
 
 -- with what one account more holds
@@ -29,6 +30,7 @@ with_row totals row = record {
   live = plus totals.live row.live;
   stale = plus totals.stale row.stale;
   over = plus totals.over row.over;
+  full = plus totals.full (if nat_le row.places row.held then 1 else 0);
 }
 
 -- after those that were found before

@@ -1,12 +1,20 @@
 ghost use Rattle.std.specs.Prelude.{◌≡◌, IfOk};
 ghost use Rattle.std.specs.List.Sorted.{IsNonDecreasingBy, IsPermutation};
-ghost use Rattle.rld_look.specs.Accounts.{held_in, look_of, looks_of};
+ghost use Rattle.rld_look.specs.Accounts.{AreFullest, free, held_in, look_of, looks_of};
 
 use crate::look::AccountLook;
 use rsl_accounts::Config;
 use rsl_shard::Row;
 use rsl_wire::NoMemory;
 use std::alloc::Global;
+
+/// How many of the fullest accounts are shown at most.
+pub const MOST_FULLEST: usize = 50;
+
+const _: () = prove!(MOST_FULLEST == 50);
+
+/// All places of an account, in millionths.
+const ALL: u64 = 1_000_000;
 
 /// What each account holds, in file order, by the rows of all shards. A row of no account is passed
 /// over. It fails only where memory is refused.
@@ -21,6 +29,33 @@ pub fn account_looks(
     let mut looks = looks_of(alloc, config, rows)?;
     looks.sort_unstable_by_key(|look| look.row.account);
     Ok(looks)
+}
+
+/// What the fullest accounts hold, at most `MOST_FULLEST` of them, by the rows of all shards: first the
+/// account with the smallest part of its places free, and of two with as much the first one in the file. A
+/// row of no account is passed over. It fails only where memory is refused.
+pub fn fullest_looks(
+    alloc: Global,
+    config: &Config,
+    mut rows: Vec<Row>,
+) -> Result<Vec<AccountLook>, NoMemory>
+    ensures { IfOk result (λ looks. AreFullest config.now rows.items looks.items) }
+{
+    rows.retain(|row| row.account < config.accounts());
+    rows.sort_by_cached_key(|row| (free(row), row.account))?;
+    rows.truncate(MOST_FULLEST);
+    let looks = looks_of(alloc, config, rows.as_slice())?;
+    Ok(looks)
+}
+
+/// How much of its places an account has free, in millionths; all where it has none.
+fn free(row: &Row) -> u64
+    ensures { result ≡ free row.now }
+{
+    match u64::from(row.places) {
+        0 => ALL,
+        places => ALL.saturating_sub(u64::from(row.held) * ALL / places),
+    }
 }
 
 /// What the account of each row holds, in the order of the rows. It fails only where memory is refused.

@@ -2,9 +2,10 @@
 //! for whoever prints it; and refusals, the datagrams that were not served, with what an operator
 //! learns of each.
 //!
-//! The promise: totals are those of the accounts that are shown (`specs/Totals.antt`), and a minute
-//! of the history has what came since it began (`specs/History.antt`). Which ends are refusals, and
-//! what an operator learns of one, is said in `specs/Refusal.antt`.
+//! The promise: totals are those of all accounts (`specs/Totals.antt`), the fullest accounts are the first ones
+//! in the order of `specs/Accounts.antt`, and a minute of the history has what came since it began
+//! (`specs/History.antt`). Which ends are refusals, and what an operator learns of one, is said in
+//! `specs/Refusal.antt`.
 #![tactic(auto)]
 
 mod accounts;
@@ -22,7 +23,7 @@ mod refusals;
 mod socket_table;
 mod totals;
 
-pub use accounts::{account_looks, held_in};
+pub use accounts::{MOST_FULLEST, account_looks, fullest_looks, held_in};
 pub use backlog::{Backlog, MOST_LINES, Noted, Taken};
 pub use build::{Build, Proof};
 pub use clients::client_looks;

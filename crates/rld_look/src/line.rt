@@ -7,10 +7,10 @@ ghost use Rattle.rld_look.specs.Line.{account_words, acct_left_out, asker_words,
 use crate::priority::{Priority, Sink, name_of, port_of};
 use crate::refusal::Refusal;
 use rld_counts::{AcctEnd, AuthEnd, Counts, End};
-use rld_values::{push_decimal, push_dotted, push_escaped, push_hex};
+use rld_values::{push_decimal, push_dotted, push_escaped, push_hex, push_text};
 use rsl_event::{NasName, Source};
 use rsl_wire::Octets;
-use std::alloc::{AllocError, Global};
+use std::alloc::AllocError;
 
 /// How many places an account has, and how many it holds.
 #[derive(Clone, Copy)]
@@ -28,7 +28,6 @@ impl Refusal {
     #[tactic(auto, unfolding(crate::specs::Line::line_of))]
     pub fn write_line(
         &self,
-        alloc: Global,
         out: &mut Vec<u8>,
         sink: Sink,
         places: Option<Places>,
@@ -36,33 +35,21 @@ impl Refusal {
         ensures { OnOk result (out.new.items ≡ out.old.items ++ line_of sink self.now places) }
     {
         push_front(out, sink, self.end)?;
-        push_source(alloc, out, self.source)?;
+        push_source(out, self.source)?;
         push_asker(out, self)?;
         push_cause(out, self.end)?;
-        push_held(alloc, out, places)
+        push_held(out, places)
     }
 }
 
 /// Writes a line for each cause of which some were left out, with their number. It fails only where
 /// memory is refused; a part of the lines may then have been written.
 #[tactic(auto, unfolding(crate::specs::Line::left_out_lines))]
-pub fn write_left_out(
-    alloc: Global,
-    out: &mut Vec<u8>,
-    sink: Sink,
-    left_out: &Counts,
-) -> Result<(), AllocError>
+pub fn write_left_out(out: &mut Vec<u8>, sink: Sink, left_out: &Counts) -> Result<(), AllocError>
     ensures { OnOk result (out.new.items ≡ out.old.items ++ left_out_lines sink left_out.now) }
 {
-    push_auth(alloc, out, sink, left_out, &AuthEnd::all())?;
-    push_acct(alloc, out, sink, left_out, &AcctEnd::all())
-}
-
-/// Writes a text.
-fn push_text(out: &mut Vec<u8>, text: &str) -> Result<(), AllocError>
-    ensures { OnOk result (out.new.items ≡ out.old.items ++ text.now) }
-{
-    out.extend_from_slice(text.as_bytes())
+    push_auth(out, sink, left_out, &AuthEnd::all())?;
+    push_acct(out, sink, left_out, &AcctEnd::all())
 }
 
 /// Writes how a line begins: its mark, and the port.
@@ -77,13 +64,13 @@ fn push_front(out: &mut Vec<u8>, sink: Sink, end: End) -> Result<(), AllocError>
 
 /// Writes where a datagram came from.
 #[tactic(auto, unfolding(crate::specs::Line::source_words))]
-fn push_source(alloc: Global, out: &mut Vec<u8>, source: Source) -> Result<(), AllocError>
+fn push_source(out: &mut Vec<u8>, source: Source) -> Result<(), AllocError>
     ensures { OnOk result (out.new.items ≡ out.old.items ++ source_words source) }
 {
     push_text(out, " client=")?;
-    push_dotted(alloc, out, source.address)?;
+    push_dotted(out, source.address)?;
     push_text(out, ":")?;
-    push_decimal(alloc, out, u64::from(source.port))
+    push_decimal(out, u64::from(source.port))
 }
 
 /// Writes who asks, as far as it is known: the access server, and the account.
@@ -135,21 +122,20 @@ fn push_cause(out: &mut Vec<u8>, end: End) -> Result<(), AllocError>
 }
 
 /// Writes how many places are held of all, if they are known, and ends the line.
-fn push_held(alloc: Global, out: &mut Vec<u8>, places: Option<Places>) -> Result<(), AllocError>
+fn push_held(out: &mut Vec<u8>, places: Option<Places>) -> Result<(), AllocError>
     ensures { OnOk result (out.new.items ≡ out.old.items ++ held_words places) }
 {
     if let Some(places) = places {
         push_text(out, " held=")?;
-        push_decimal(alloc, out, u64::from(places.held))?;
+        push_decimal(out, u64::from(places.held))?;
         push_text(out, "/")?;
-        push_decimal(alloc, out, u64::from(places.all))?;
+        push_decimal(out, u64::from(places.all))?;
     }
     push_text(out, "\n")
 }
 
 /// Writes how many were left out of these causes of the authentication port.
 fn push_auth(
-    alloc: Global,
     out: &mut Vec<u8>,
     sink: Sink,
     left_out: &Counts,
@@ -160,14 +146,13 @@ fn push_auth(
 {
     for end in ends {
         let end = End::Auth(*end);
-        push_if_any(alloc, out, sink, end, left_out.count(end))?;
+        push_if_any(out, sink, end, left_out.count(end))?;
     }
     Ok(())
 }
 
 /// Writes how many were left out of these causes of the accounting port.
 fn push_acct(
-    alloc: Global,
     out: &mut Vec<u8>,
     sink: Sink,
     left_out: &Counts,
@@ -178,41 +163,29 @@ fn push_acct(
 {
     for end in ends {
         let end = End::Acct(*end);
-        push_if_any(alloc, out, sink, end, left_out.count(end))?;
+        push_if_any(out, sink, end, left_out.count(end))?;
     }
     Ok(())
 }
 
 /// Writes how many were left out of a cause, if any were.
-fn push_if_any(
-    alloc: Global,
-    out: &mut Vec<u8>,
-    sink: Sink,
-    end: End,
-    number: u64,
-) -> Result<(), AllocError>
+fn push_if_any(out: &mut Vec<u8>, sink: Sink, end: End, number: u64) -> Result<(), AllocError>
     ensures { OnOk result
         (out.new.items ≡ out.old.items ++ left_out_if_any sink end number) }
 {
     if number == 0 {
         Ok(())
     } else {
-        push_left_out(alloc, out, sink, end, number)
+        push_left_out(out, sink, end, number)
     }
 }
 
 /// Writes how many were left out of a cause.
 #[tactic(auto, unfolding(crate::specs::Line::left_out_line))]
-fn push_left_out(
-    alloc: Global,
-    out: &mut Vec<u8>,
-    sink: Sink,
-    end: End,
-    number: u64,
-) -> Result<(), AllocError>
+fn push_left_out(out: &mut Vec<u8>, sink: Sink, end: End, number: u64) -> Result<(), AllocError>
     ensures { OnOk result (out.new.items ≡ out.old.items ++ left_out_line sink end number) }
 {
-    push_number(alloc, out, sink, end, number)?;
+    push_number(out, sink, end, number)?;
     push_more(out, end)?;
     push_cause(out, end)?;
     push_text(out, "\n")
@@ -229,15 +202,9 @@ fn push_more(out: &mut Vec<u8>, end: End) -> Result<(), AllocError>
 
 /// Writes how a line begins that has the number of a cause: its mark, and the number.
 #[tactic(auto, unfolding(crate::specs::Line::number_words))]
-fn push_number(
-    alloc: Global,
-    out: &mut Vec<u8>,
-    sink: Sink,
-    end: End,
-    number: u64,
-) -> Result<(), AllocError>
+fn push_number(out: &mut Vec<u8>, sink: Sink, end: End, number: u64) -> Result<(), AllocError>
     ensures { OnOk result (out.new.items ≡ out.old.items ++ number_words sink end number) }
 {
     push_text(out, Priority::of(end).mark(sink))?;
-    push_decimal(alloc, out, number)
+    push_decimal(out, number)
 }

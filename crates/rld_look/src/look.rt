@@ -1,6 +1,3 @@
-ghost use Rattle.std.specs.Prelude.{◌≡◌};
-ghost use Rattle.rld_look.specs.Totals.{totals_of};
-
 use crate::build::Build;
 use crate::refusal::Refusal;
 use crate::totals::Totals;
@@ -35,6 +32,10 @@ pub struct Look {
     pub auth_times: Histogram,
     /// How long the answers of the accounting port took.
     pub acct_times: Histogram,
+    /// What all accounts hold.
+    pub totals: Totals,
+    /// The accounts that hold most of their places, the fullest first: at most `MOST_FULLEST`.
+    pub fullest: Vec<AccountLook>,
     /// What each account holds, in file order.
     pub accounts: Vec<AccountLook>,
     /// The last whole minutes, at most 60, the oldest first.
@@ -99,13 +100,4 @@ pub enum Recording {
     Recorded,
     /// A batch was not recorded lately: the disk is full or fails, or memory is refused.
     Failing,
-}
-
-impl Look {
-    /// What all accounts hold.
-    pub fn totals(&self) -> Totals
-        ensures { result ≡ totals_of self.entry.now.accounts.items }
-    {
-        Totals::of(self.accounts.as_slice())
-    }
 }

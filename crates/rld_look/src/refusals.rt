@@ -24,7 +24,7 @@ impl Refusals {
         }
         Ok(Refusals {
             backlogs,
-            lately: Mutex::new(Lately::new(alloc)),
+            lately: Mutex::new(Lately::new(alloc)?),
         })
     }
 
@@ -58,10 +58,9 @@ impl Refusals {
         all.take(alloc)
     }
 
-    /// Keeps a refusal whose line is written, to be looked at. Where memory is refused it is not
-    /// kept.
+    /// Keeps a refusal whose line is written, to be looked at.
     pub fn keep<R: Wait>(&self, rt: &R, refusal: Refusal) {
-        let _ = self.lately.lock(rt).push(refusal);
+        self.lately.lock(rt).push(refusal);
     }
 
     /// The last refusals that were kept, at most 64, the oldest first. It fails only where memory

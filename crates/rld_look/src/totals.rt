@@ -1,7 +1,8 @@
 ghost use Rattle.std.specs.Prelude.{◌≡◌};
+ghost use Rattle.rld_look.specs.Accounts.{looks_of};
 ghost use Rattle.rld_look.specs.Totals.{no_totals, totals_of, with_row};
 
-use crate::look::AccountLook;
+use rsl_accounts::Config;
 use rsl_shard::Row;
 
 /// What all accounts hold, each number at most 2^64 - 1.
@@ -21,11 +22,13 @@ pub struct Totals {
     pub stale: u64,
     /// How many of their alives were over.
     pub over: u64,
+    /// How many accounts have no free place.
+    pub full: u64,
 }
 
 impl Totals {
     /// The totals of no account: each number is 0.
-    pub(crate) fn new() -> Totals
+    pub fn new() -> Totals
         ensures { result ≡ no_totals }
     {
         Totals {
@@ -36,16 +39,20 @@ impl Totals {
             live: 0,
             stale: 0,
             over: 0,
+            full: 0,
         }
     }
 
-    /// The totals of all of these accounts.
-    pub(crate) fn of(accounts: &[AccountLook]) -> Totals
-        ensures { result ≡ totals_of accounts.now }
+    /// The totals of the accounts whose rows these are. A row of no account is passed over.
+    #[tactic(auto, using(crate::proofs::Showing::total_steps))]
+    pub fn of(config: &Config, rows: &[Row]) -> Totals
+        ensures { result ≡ totals_of (looks_of config.now rows.now) }
     {
         let mut totals = Totals::new();
-        for account in accounts {
-            totals = totals.with(&account.row);
+        for row in rows {
+            if row.account < config.accounts() {
+                totals = totals.with(row);
+            }
         }
         totals
     }
@@ -62,6 +69,7 @@ impl Totals {
             live: self.live.saturating_add(u64::from(row.live)),
             stale: self.stale.saturating_add(u64::from(row.stale)),
             over: self.over.saturating_add(row.over),
+            full: self.full.saturating_add(u64::from(row.places <= row.held)),
         }
     }
 }

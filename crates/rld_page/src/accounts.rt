@@ -1,55 +1,16 @@
 //! The accounts that hold most of their places.
 
-ghost use Rattle.std.specs.Prelude.{◌≡◌};
-
 use crate::figures::{share, write_grouped, write_width};
 use crate::html::Html;
 use rld_look::{AccountLook, Look};
-use rsl_shard::Row;
-use std::alloc::{AllocError, Global};
-
-/// How many accounts the page shows.
-const SHOWN: usize = 50;
-
-/// How full an account is that has none of its places free.
-const FULL: u64 = 1_000_000;
-
-/// Where an account stands among all: first by how much of its places is free, in millionths, then by
-/// its place in the file.
-#[derive(Clone, Copy, PartialEq, Eq, PartialOrd, Ord)]
-struct Rank {
-    free: u64,
-    number: usize,
-}
-
-impl Rank {
-    /// The rank of the account with the number `number`.
-    fn of(number: usize, row: &Row) -> Rank {
-        Rank {
-            free: FULL.saturating_sub(fullness(row)),
-            number,
-        }
-    }
-}
-
-/// How much of its places an account holds, in millionths.
-fn fullness(row: &Row) -> u64 {
-    if row.places == 0 {
-        return 0;
-    }
-    u64::from(row.held) * FULL / u64::from(row.places)
-}
+use std::alloc::AllocError;
 
 /// Writes the accounts that hold most of their places, the fullest first.
-pub(crate) fn write_accounts(
-    html: &mut Html,
-    alloc: Global,
-    look: &Look,
-) -> Result<(), AllocError> {
+pub(crate) fn write_accounts(html: &mut Html, look: &Look) -> Result<(), AllocError> {
     html.markup(
         "<section class=\"most\"><div class=\"top\"><h2>Fullest accounts</h2><p class=\"soft\">",
     )?;
-    write_grouped(html, look.accounts.len() as u64)?;
+    write_grouped(html, look.totals.accounts)?;
     html.markup(
         " in all</p></div>\n<div class=\"wide\"><table><thead><tr><th scope=\"col\">Account</th><th scope=\"col\"><span class=\"more\">Share</span></th>",
     )?;
@@ -62,25 +23,10 @@ pub(crate) fn write_accounts(
     html.markup(
         "<th scope=\"col\" class=\"n more\">Reserved</th><th scope=\"col\" class=\"n more\">Over</th></tr></thead><tbody>\n",
     )?;
-    let accounts = look.accounts.as_slice();
-    for rank in ranks(alloc, accounts)?.iter().take(SHOWN) {
-        if let Some(account) = accounts.get(rank.number) {
-            write_account(html, account)?;
-        }
+    for account in look.fullest.as_slice() {
+        write_account(html, account)?;
     }
     html.markup("</tbody></table></div></section>\n")
-}
-
-/// The ranks of all accounts, the fullest account's first.
-fn ranks(alloc: Global, accounts: &[AccountLook]) -> Result<Vec<Rank>, AllocError> {
-    let mut ranks = Vec::with_capacity(alloc, accounts.len())?;
-    let mut number = 0usize;
-    for account in accounts {
-        ranks.push(Rank::of(number, &account.row))?;
-        number = number.saturating_add(1);
-    }
-    ranks.sort()?;
-    Ok(ranks)
 }
 
 /// Writes the row of an account.

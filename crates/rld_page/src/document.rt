@@ -35,7 +35,7 @@ fn behind_type(alloc: Global, look: &Look) -> Result<Vec<u8>, AllocError> {
     html.markup("<main>\n")?;
     write_numbers(&mut html, look)?;
     write_charts(&mut html, look)?;
-    write_accounts(&mut html, alloc, look)?;
+    write_accounts(&mut html, look)?;
     write_causes(&mut html, &look.counts)?;
     write_refused(&mut html, look.refusals.as_slice())?;
     write_sockets(&mut html, look.sockets.as_slice())?;
@@ -52,10 +52,9 @@ fn write_head(html: &mut Html, look: &Look) -> Result<(), AllocError> {
     if look.recording == Recording::Failing {
         html.markup("Not recording! ")?;
     }
-    let totals = look.totals();
-    write_grouped(html, totals.held)?;
+    write_grouped(html, look.totals.held)?;
     html.markup(" of ")?;
-    write_grouped(html, totals.places)?;
+    write_grouped(html, look.totals.places)?;
     html.markup(" held · radlimitd</title>\n<style>")?;
     html.markup(STYLE)?;
     html.markup("</style>\n</head>\n<body>\n")

@@ -96,16 +96,10 @@ pub(crate) fn write_moment(html: &mut Html, second: u64) -> Result<(), AllocErro
 
 /// Writes the hour and the minute of the day of a second since 1970.
 pub(crate) fn write_clock(html: &mut Html, second: u64) -> Result<(), AllocError> {
-    let minute = second / 60 % 1_440;
-    write_two(html, minute / 60)?;
-    html.markup(":")?;
-    write_two(html, minute % 60)
-}
-
-/// Writes two digits.
-fn write_two(html: &mut Html, number: u64) -> Result<(), AllocError> {
-    html.digit((number / 10 % 10) as u8)?;
-    html.digit((number % 10) as u8)
+    match HttpDate::from_unix_secs(second % 86_400) {
+        Ok(date) => html.text(&date.to_bytes()[17..22]),
+        Err(_) => unreachable!(),
+    }
 }
 
 /// Writes thousandths as a width in per cent, for a style.

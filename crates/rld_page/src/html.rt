@@ -6,14 +6,13 @@ ghost use Rattle.std.specs.List.{flat_map, list_all};
 ghost use Rattle.rld_page.specs.Html.{html_octet, is_no_markup};
 ghost use Rattle.rld_values.specs.Values.{dotted, word};
 
-use rld_values::{push_dotted, push_word};
+use rld_values::{push_decimal, push_dotted, push_text, push_word};
 use std::alloc::{AllocError, Global};
 
 /// A text of HTML that is being written. Only three things get into it: markup, which is a literal of
 /// this program; numbers; and octets that are escaped.
 #[derive(Drop)]
 pub(crate) struct Html {
-    alloc: Global,
     out: Vec<u8>,
 }
 
@@ -23,7 +22,6 @@ impl Html {
         ensures { result.out.items ≡ [] }
     {
         Html {
-            alloc,
             out: Vec::new(alloc),
         }
     }
@@ -32,23 +30,21 @@ impl Html {
     pub(crate) fn into_octets(self) -> Vec<u8>
         ensures { result.items ≡ self.out.items }
     {
-        let Html { out, .. } = self;
-        out
+        self.out
     }
 
     /// Writes markup. It is `'static`, so no name of an account or a datagram's octets can be handed in.
     pub(crate) fn markup(&mut self, markup: &'static str) -> Result<(), AllocError>
         ensures { OnOk result (self.new.out.items ≡ self.old.out.items ++ markup.now) }
     {
-        self.out.extend_from_slice(markup.as_bytes())
+        push_text(&mut self.out, markup)
     }
 
     /// Writes a number in decimal digits.
     pub(crate) fn number(&mut self, number: u64) -> Result<(), AllocError>
         ensures { OnOk result (self.new.out.items ≡ self.old.out.items ++ decimal number) }
     {
-        let text = format!(in self.alloc; "{number}")?;
-        self.out.extend_from_slice(text.as_bytes())
+        push_decimal(&mut self.out, number)
     }
 
     /// Writes a decimal digit.
@@ -85,7 +81,7 @@ impl Html {
     pub(crate) fn address(&mut self, address: [u8; 4]) -> Result<(), AllocError>
         ensures { OnOk result (self.new.out.items ≡ self.old.out.items ++ dotted address) }
     {
-        push_dotted(self.alloc, &mut self.out, address)
+        push_dotted(&mut self.out, address)
     }
 
     /// Writes an octet of text.

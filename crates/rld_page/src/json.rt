@@ -2,10 +2,10 @@
 
 ghost use Rattle.std.specs.Prelude.{◌≡◌, ◌/◌, ◌%◌, ◌<◌, ◌++◌, ◌∷◌, [], IfOk, OnOk, codes};
 ghost use Rattle.std.specs.List.{flat_map};
-ghost use Rattle.std.specs.Fmt.{decimal};
 ghost use Rattle.rld_page.specs.Json.{account_json, accounts_json, hex_digit, json_octet, links_json, list_json, member_json, more_json, name_json, row_json};
 
 use rld_look::{AccountLook, Look};
+use rld_values::{push_decimal, push_text};
 use rsl_shard::Row;
 use std::alloc::{AllocError, Global};
 
@@ -19,51 +19,51 @@ pub fn accounts_json(alloc: Global, look: &Look) -> Result<Vec<u8>, AllocError>
 {
     let mut out = Vec::new(alloc);
     push_text(&mut out, "{\"now\":")?;
-    push_decimal(alloc, &mut out, look.now)?;
+    push_decimal(&mut out, look.now)?;
     push_text(&mut out, ",\"accounts\":[")?;
-    push_list(alloc, &mut out, look.accounts.as_slice())?;
+    push_list(&mut out, look.accounts.as_slice())?;
     push_text(&mut out, "]}\n")?;
     Ok(out)
 }
 
 /// Writes the accounts, with a comma between two.
-fn push_list(alloc: Global, out: &mut Vec<u8>, accounts: &[AccountLook]) -> Result<(), AllocError>
+fn push_list(out: &mut Vec<u8>, accounts: &[AccountLook]) -> Result<(), AllocError>
     ensures { OnOk result (out.new.items ≡ out.old.items ++ list_json accounts.now) }
 {
     match accounts {
         [] => Ok(()),
         [first, others @ ..] => {
-            push_account(alloc, out, first)?;
-            push_more(alloc, out, others)
+            push_account(out, first)?;
+            push_more(out, others)
         }
     }
 }
 
 /// Writes the accounts after the first one.
-fn push_more(alloc: Global, out: &mut Vec<u8>, accounts: &[AccountLook]) -> Result<(), AllocError>
+fn push_more(out: &mut Vec<u8>, accounts: &[AccountLook]) -> Result<(), AllocError>
     ensures { OnOk result (out.new.items ≡ out.old.items ++ flat_map more_json accounts.now) }
 {
     for account in accounts {
-        push_next(alloc, out, account)?;
+        push_next(out, account)?;
     }
     Ok(())
 }
 
 /// Writes an account after another one.
-fn push_next(alloc: Global, out: &mut Vec<u8>, account: &AccountLook) -> Result<(), AllocError>
+fn push_next(out: &mut Vec<u8>, account: &AccountLook) -> Result<(), AllocError>
     ensures { OnOk result (out.new.items ≡ out.old.items ++ more_json account.now) }
 {
     push_text(out, ",")?;
-    push_account(alloc, out, account)
+    push_account(out, account)
 }
 
 /// Writes an account.
 #[tactic(auto, unfolding(crate::specs::Json::account_json))]
-fn push_account(alloc: Global, out: &mut Vec<u8>, account: &AccountLook) -> Result<(), AllocError>
+fn push_account(out: &mut Vec<u8>, account: &AccountLook) -> Result<(), AllocError>
     ensures { OnOk result (out.new.items ≡ out.old.items ++ account_json account.now) }
 {
     push_name(out, account.name.as_bytes())?;
-    push_row(alloc, out, &account.row)
+    push_row(out, &account.row)
 }
 
 /// Writes how an account begins, with its name.
@@ -79,35 +79,35 @@ fn push_name(out: &mut Vec<u8>, name: &[u8]) -> Result<(), AllocError>
 
 /// Writes what an account holds.
 #[tactic(auto, unfolding(crate::specs::Json::row_json))]
-fn push_row(alloc: Global, out: &mut Vec<u8>, row: &Row) -> Result<(), AllocError>
+fn push_row(out: &mut Vec<u8>, row: &Row) -> Result<(), AllocError>
     ensures { OnOk result (out.new.items ≡ out.old.items ++ row_json row.now) }
 {
-    push_member(alloc, out, "places", u64::from(row.places))?;
-    push_member(alloc, out, "held", u64::from(row.held))?;
-    push_member(alloc, out, "reserved", u64::from(row.reserved))?;
-    push_links(alloc, out, row)
+    push_member(out, "places", u64::from(row.places))?;
+    push_member(out, "held", u64::from(row.held))?;
+    push_member(out, "reserved", u64::from(row.reserved))?;
+    push_links(out, row)
 }
 
 /// Writes how an account's links are, and the end of its object.
 #[tactic(auto, unfolding(crate::specs::Json::links_json))]
-fn push_links(alloc: Global, out: &mut Vec<u8>, row: &Row) -> Result<(), AllocError>
+fn push_links(out: &mut Vec<u8>, row: &Row) -> Result<(), AllocError>
     ensures { OnOk result (out.new.items ≡ out.old.items ++ links_json row.now) }
 {
-    push_member(alloc, out, "live", u64::from(row.live))?;
-    push_member(alloc, out, "stale", u64::from(row.stale))?;
-    push_member(alloc, out, "over", row.over)?;
+    push_member(out, "live", u64::from(row.live))?;
+    push_member(out, "stale", u64::from(row.stale))?;
+    push_member(out, "over", row.over)?;
     push_text(out, "}")
 }
 
 /// Writes a member that is a number.
 #[tactic(auto, unfolding(crate::specs::Json::member_json))]
-fn push_member(alloc: Global, out: &mut Vec<u8>, name: &str, number: u64) -> Result<(), AllocError>
+fn push_member(out: &mut Vec<u8>, name: &str, number: u64) -> Result<(), AllocError>
     ensures { OnOk result (out.new.items ≡ out.old.items ++ member_json name.now number) }
 {
     push_text(out, ",\"")?;
     push_text(out, name)?;
     push_text(out, "\":")?;
-    push_decimal(alloc, out, number)
+    push_decimal(out, number)
 }
 
 /// Writes what stands between the quotes of a string.
@@ -151,19 +151,4 @@ fn hex_digit(digit: u8) -> u8
     ensures { result ≡ hex_digit digit }
 {
     if digit < 10 { 48 + digit } else { 55 + digit }
-}
-
-/// Writes a text.
-fn push_text(out: &mut Vec<u8>, text: &str) -> Result<(), AllocError>
-    ensures { OnOk result (out.new.items ≡ out.old.items ++ text.now) }
-{
-    out.extend_from_slice(text.as_bytes())
-}
-
-/// Writes a number.
-fn push_decimal(alloc: Global, out: &mut Vec<u8>, number: u64) -> Result<(), AllocError>
-    ensures { OnOk result (out.new.items ≡ out.old.items ++ decimal number) }
-{
-    let text = format!(in alloc; "{number}")?;
-    out.extend_from_slice(text.as_bytes())
 }

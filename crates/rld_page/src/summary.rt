@@ -29,7 +29,7 @@ pub(crate) fn write_state(html: &mut Html, look: &Look) -> Result<(), AllocError
 /// Writes the numbers that are looked at first.
 pub(crate) fn write_numbers(html: &mut Html, look: &Look) -> Result<(), AllocError> {
     html.markup("<section class=\"numbers\" aria-label=\"Summary\"><dl>\n")?;
-    write_places(html, &look.totals())?;
+    write_places(html, &look.totals)?;
     let minute = look.minutes.last();
     write_rate(html, "Logins", minute.map(|minute| minute.accepts))?;
     write_rate(html, "Rejects", minute.map(rejects))?;

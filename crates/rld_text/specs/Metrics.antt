@@ -1,5 +1,5 @@
 -- The metrics of a running server.
-use Rattle.std.specs.Prelude.{ℕ, ◌+◌, ◌^◌, nat_le, List, [], ◌∷◌, ◌++◌, codes, sum, take, if◌then◌else◌}
+use Rattle.std.specs.Prelude.{ℕ, ◌+◌, ◌^◌, List, [], ◌∷◌, ◌++◌, codes, sum, take}
 use Rattle.std.specs.Fmt.{decimal}
 use Rattle.std.specs.List.{flat_map, range_with_len}
 use Rattle.rld_counts.specs.Counts.{count_in}
@@ -9,9 +9,8 @@ use Rattle.rld_counts.specs.Tally.{kept}
 use Rattle.rld_counts.specs.declared.acct_end.AcctEnd.{AcctEnd}
 use Rattle.rld_counts.specs.declared.auth_end.AuthEnd.{AuthEnd}
 use Rattle.rld_counts.specs.declared.end.End.TheVariants.{Auth, Acct}
-use Rattle.rld_look.specs.Totals.{plus, totals_of}
+use Rattle.rld_look.specs.Totals.{plus}
 use Rattle.rld_look.specs.declared.build.Build.{Build}
-use Rattle.rld_look.specs.declared.look.AccountLook.{AccountLook}
 use Rattle.rld_look.specs.declared.look.ClientLook.{ClientLook}
 use Rattle.rld_look.specs.declared.look.Look.{Look}
 use Rattle.rld_look.specs.declared.look.Recording.{Recording}
@@ -119,19 +118,13 @@ sample kind name help number =
 abbrev pub gauge : (name help : List ℕ) → (number : ℕ) → List ℕ
 gauge = sample (codes "gauge")
 
--- `number`, and one more for each account of a list that has no free place
-abbrev pub full_after : ℕ → List AccountLook → ℕ
-full_after number [] = number
-full_after number (account ∷ accounts) =
-    full_after (if nat_le account.row.places account.row.held then plus number 1 else number) accounts
-
 -- what all accounts hold, and how many have no free place
-unfoldable pub holdings : Totals → (full : ℕ) → List ℕ
-holdings totals full =
+unfoldable pub holdings : Totals → List ℕ
+holdings totals =
     gauge (codes "radlimitd_places") (codes "Places of all accounts.") totals.places
     ++ (gauge (codes "radlimitd_places_held") (codes "Places that are held.") totals.held
     ++ (gauge (codes "radlimitd_accounts") (codes "Accounts that there are.") totals.accounts
-    ++ gauge (codes "radlimitd_accounts_full") (codes "Accounts that have no free place.") full))
+    ++ gauge (codes "radlimitd_accounts_full") (codes "Accounts that have no free place.") totals.full))
 
 -- 1 where batches are being recorded, else 0
 abbrev pub recording_of : Recording → ℕ
@@ -165,7 +158,7 @@ at_sockets waiting dropped =
 
 unfoldable pub numbers_text : Look → List ℕ
 numbers_text look =
-    holdings (totals_of look.accounts.items) (full_after 0 look.accounts.items)
+    holdings look.totals
     ++ (writing look.era look.generation look.start (recording_of look.recording)
     ++ at_sockets (waiting_after 0 look.sockets.items) (dropped_after 0 look.sockets.items))
 

@@ -8,7 +8,6 @@ use Rattle.rld_counts.specs.Ends.{acct_ends, acct_name, auth_ends, auth_name}
 use Rattle.rld_counts.specs.declared.acct_end.AcctEnd.{AcctEnd}
 use Rattle.rld_counts.specs.declared.auth_end.AuthEnd.{AuthEnd}
 use Rattle.rld_counts.specs.declared.end.End.TheVariants.{Auth, Acct}
-use Rattle.rld_look.specs.Totals.{totals_of}
 use Rattle.rld_look.specs.declared.build.Build.{Build}
 use Rattle.rld_look.specs.declared.look.Look.{Look}
 use Rattle.rld_look.specs.declared.look.Recording.{Recording}
@@ -16,7 +15,7 @@ use Rattle.rld_look.specs.declared.look.Recording.TheVariants.{Recorded, Failing
 use Rattle.rld_look.specs.declared.totals.Totals.{Totals}
 use Rattle.rld_text.specs.Build.{build_line, proof_word}
 use Rattle.rld_text.specs.Json.{json_string, member_front, number_member, string_member}
-use Rattle.rld_text.specs.Metrics.{dropped_after, full_after, waiting_after}
+use Rattle.rld_text.specs.Metrics.{dropped_after, waiting_after}
 use Rattle.rld_text.specs.Words.{number_line}
 
 abbrev pub recording_line : Recording → List ℕ
@@ -40,7 +39,7 @@ number_lines look =
     number_line (codes "since") look.start
     ++ number_line (codes "era") look.era
     ++ number_line (codes "generation") look.generation
-    ++ totals_lines (totals_of look.accounts.items)
+    ++ totals_lines look.totals
     ++ number_line (codes "moves") look.moves
     ++ number_line (codes "memory") look.memory
 
@@ -79,8 +78,8 @@ unfoldable pub numbers_members : Look → List ℕ
 numbers_members look =
     number_member (codes "era") look.era
     ++ (number_member (codes "generation") look.generation
-    ++ (totals_members (totals_of look.accounts.items)
-    ++ (number_member (codes "full") (full_after 0 look.accounts.items)
+    ++ (totals_members look.totals
+    ++ (number_member (codes "full") look.totals.full
     ++ (number_member (codes "moves") look.moves ++ number_member (codes "memory") look.memory))))
 
 -- how many datagrams of a port ended so

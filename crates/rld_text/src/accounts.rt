@@ -2,11 +2,10 @@ ghost use Rattle.std.specs.Prelude.{◌≡◌, ◌++◌, IfOk, OnOk};
 ghost use Rattle.rld_text.specs.Accounts.{account_line, account_object, account_text, accounts_text, is_selected, row_members, row_words, text_if_selected};
 
 use crate::json::{push_number_member, push_string};
-use crate::text::push_text;
 use crate::words::push_number_word;
-use rld_control::{Form, Selection};
+use rld_control::{Form, Reply, Selection};
 use rld_look::AccountLook;
-use rld_values::push_word;
+use rld_values::{push_text, push_word};
 use rsl_shard::Row;
 use std::alloc::{AllocError, Global};
 
@@ -22,15 +21,14 @@ pub fn accounts_text(
 {
     let mut text = Vec::new(alloc);
     for account in accounts {
-        push_if_selected(alloc, &mut text, form, selection, account)?;
+        push_if_selected(&mut text, form, selection, account)?;
     }
-    push_text(&mut text, "ok\n")?;
+    Reply::Done(b"").write(&mut text)?;
     Ok(text)
 }
 
 /// Writes an account, if it is one of a selection.
 fn push_if_selected(
-    alloc: Global,
     out: &mut Vec<u8>,
     form: Form,
     selection: Selection,
@@ -40,7 +38,7 @@ fn push_if_selected(
         ≡ out.old.items ++ text_if_selected form selection account.now) }
 {
     if is_selected(selection, account) {
-        push_account(alloc, out, form, account)
+        push_account(out, form, account)
     } else {
         Ok(())
     }
@@ -58,60 +56,55 @@ fn is_selected(selection: Selection, account: &AccountLook) -> bool
 }
 
 /// Writes an account.
-fn push_account(
-    alloc: Global,
-    out: &mut Vec<u8>,
-    form: Form,
-    account: &AccountLook,
-) -> Result<(), AllocError>
+fn push_account(out: &mut Vec<u8>, form: Form, account: &AccountLook) -> Result<(), AllocError>
     ensures { OnOk result (out.new.items ≡ out.old.items ++ account_text form account.now) }
 {
     match form {
-        Form::Lines => push_line(alloc, out, account),
-        Form::Json => push_object(alloc, out, account),
+        Form::Lines => push_line(out, account),
+        Form::Json => push_object(out, account),
     }
 }
 
 /// Writes the line of an account.
-fn push_line(alloc: Global, out: &mut Vec<u8>, account: &AccountLook) -> Result<(), AllocError>
+fn push_line(out: &mut Vec<u8>, account: &AccountLook) -> Result<(), AllocError>
     ensures { OnOk result (out.new.items ≡ out.old.items ++ account_line account.now) }
 {
     push_word(out, account.name.as_bytes())?;
-    push_row(alloc, out, &account.row)?;
+    push_row(out, &account.row)?;
     out.push(10)?;
     Ok(())
 }
 
 /// Writes what an account holds.
-fn push_row(alloc: Global, out: &mut Vec<u8>, row: &Row) -> Result<(), AllocError>
+fn push_row(out: &mut Vec<u8>, row: &Row) -> Result<(), AllocError>
     ensures { OnOk result (out.new.items ≡ out.old.items ++ row_words row.now) }
 {
-    push_number_word(alloc, out, "places", u64::from(row.places))?;
-    push_number_word(alloc, out, "held", u64::from(row.held))?;
-    push_number_word(alloc, out, "reserved", u64::from(row.reserved))?;
-    push_number_word(alloc, out, "live", u64::from(row.live))?;
-    push_number_word(alloc, out, "stale", u64::from(row.stale))?;
-    push_number_word(alloc, out, "over", row.over)
+    push_number_word(out, "places", u64::from(row.places))?;
+    push_number_word(out, "held", u64::from(row.held))?;
+    push_number_word(out, "reserved", u64::from(row.reserved))?;
+    push_number_word(out, "live", u64::from(row.live))?;
+    push_number_word(out, "stale", u64::from(row.stale))?;
+    push_number_word(out, "over", row.over)
 }
 
 /// Writes the object of an account.
-fn push_object(alloc: Global, out: &mut Vec<u8>, account: &AccountLook) -> Result<(), AllocError>
+fn push_object(out: &mut Vec<u8>, account: &AccountLook) -> Result<(), AllocError>
     ensures { OnOk result (out.new.items ≡ out.old.items ++ account_object account.now) }
 {
     push_text(out, "{\"name\":")?;
     push_string(out, account.name.as_bytes())?;
-    push_members(alloc, out, &account.row)?;
+    push_members(out, &account.row)?;
     push_text(out, "}\n")
 }
 
 /// Writes what an account holds as members of its object.
-fn push_members(alloc: Global, out: &mut Vec<u8>, row: &Row) -> Result<(), AllocError>
+fn push_members(out: &mut Vec<u8>, row: &Row) -> Result<(), AllocError>
     ensures { OnOk result (out.new.items ≡ out.old.items ++ row_members row.now) }
 {
-    push_number_member(alloc, out, "places", u64::from(row.places))?;
-    push_number_member(alloc, out, "held", u64::from(row.held))?;
-    push_number_member(alloc, out, "reserved", u64::from(row.reserved))?;
-    push_number_member(alloc, out, "live", u64::from(row.live))?;
-    push_number_member(alloc, out, "stale", u64::from(row.stale))?;
-    push_number_member(alloc, out, "over", row.over)
+    push_number_member(out, "places", u64::from(row.places))?;
+    push_number_member(out, "held", u64::from(row.held))?;
+    push_number_member(out, "reserved", u64::from(row.reserved))?;
+    push_number_member(out, "live", u64::from(row.live))?;
+    push_number_member(out, "stale", u64::from(row.stale))?;
+    push_number_member(out, "over", row.over)
 }

@@ -2,9 +2,9 @@ ghost use Rattle.std.specs.Prelude.{◌≡◌, ◌++◌, OnOk};
 ghost use Rattle.rld_text.specs.Build.{build_line, proof_text, proof_word};
 ghost use Rattle.rld_text.specs.Metrics.{build_head, build_sample, build_text};
 
-use crate::text::{Head, push_head, push_label, push_text};
+use crate::text::{Head, push_head, push_label};
 use rld_look::{Build, Proof};
-use rld_values::push_hex;
+use rld_values::{push_hex, push_text};
 use std::alloc::AllocError;
 
 /// Writes a line of a build: its version, and whether it is proved.

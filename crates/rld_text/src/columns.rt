@@ -1,5 +1,4 @@
-use crate::text::push_text;
-use rld_values::push_decimal;
+use rld_values::{push_decimal, push_text};
 use std::alloc::{AllocError, Global};
 
 /// How many columns a line has.
@@ -30,7 +29,7 @@ impl Columns {
             return Ok(());
         }
         let mut number = Vec::new(alloc);
-        push_decimal(alloc, &mut number, count)?;
+        push_decimal(&mut number, count)?;
         let len = word.len().saturating_add(number.len()).saturating_add(3);
         if self.column.saturating_add(len) > WIDTH {
             push_text(out, "\n    ")?;

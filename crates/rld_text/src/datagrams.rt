@@ -1,12 +1,11 @@
 ghost use Rattle.std.specs.Prelude.{◌≡◌, ◌++◌, OnOk};
 ghost use Rattle.std.specs.List.{flat_map};
-ghost use Rattle.rld_counts.specs.Ends.{acct_ends, auth_ends};
 ghost use Rattle.rld_text.specs.Metrics.{acct_lines, all_front, auth_lines, client_front, client_lines, clients_head, datagrams_head, datagrams_line, ends_lines, ends_text};
 
-use crate::text::{Head, push_decimal, push_head, push_label, push_octets, push_text};
+use crate::text::{Head, push_head, push_label};
 use rld_counts::{AcctEnd, AuthEnd, Counts, End};
 use rld_look::{ClientLook, Look};
-use rld_values::push_dotted;
+use rld_values::{push_decimal, push_dotted, push_text};
 use std::alloc::{AllocError, Global};
 
 /// Writes how all datagrams ended, and those of each client.
@@ -19,7 +18,7 @@ pub(crate) fn push_ends_text(
     ensures { OnOk result (out.new.items ≡ out.old.items ++ ends_text look.entry.now) }
 {
     push_datagrams_head(out)?;
-    push_all(alloc, out, &look.counts)?;
+    push_all(out, &look.counts)?;
     push_clients_head(out)?;
     push_clients(alloc, out, look.clients.as_slice())
 }
@@ -55,10 +54,10 @@ fn push_clients_head(out: &mut Vec<u8>) -> Result<(), AllocError>
 }
 
 /// Writes how the datagrams of all clients ended, and those of none.
-fn push_all(alloc: Global, out: &mut Vec<u8>, counts: &Counts) -> Result<(), AllocError>
+fn push_all(out: &mut Vec<u8>, counts: &Counts) -> Result<(), AllocError>
     ensures { OnOk result (out.new.items ≡ out.old.items ++ ends_lines all_front counts.now) }
 {
-    push_ends(alloc, out, b"radlimitd_datagrams_total{", counts)
+    push_ends(out, b"radlimitd_datagrams_total{", counts)
 }
 
 /// Writes how the datagrams of each client ended.
@@ -76,51 +75,32 @@ fn push_client(alloc: Global, out: &mut Vec<u8>, client: &ClientLook) -> Result<
     ensures { OnOk result (out.new.items ≡ out.old.items ++ client_lines client.now) }
 {
     let mut front = Vec::new(alloc);
-    push_client_front(alloc, &mut front, client.address)?;
-    push_ends(alloc, out, front.as_slice(), &client.counts)
+    push_client_front(&mut front, client.address)?;
+    push_ends(out, front.as_slice(), &client.counts)
 }
 
 /// Writes how the lines of a client begin.
 #[tactic(auto, unfolding(crate::specs::Metrics::client_front))]
-fn push_client_front(alloc: Global, out: &mut Vec<u8>, address: [u8; 4]) -> Result<(), AllocError>
+fn push_client_front(out: &mut Vec<u8>, address: [u8; 4]) -> Result<(), AllocError>
     ensures { OnOk result (out.new.items ≡ out.old.items ++ client_front address) }
 {
     push_text(out, "radlimitd_client_datagrams_total{client=\"")?;
-    push_dotted(alloc, out, address)?;
+    push_dotted(out, address)?;
     push_text(out, "\",")?;
     Ok(())
 }
 
 /// Writes how datagrams ended.
 #[tactic(auto, unfolding(crate::specs::Metrics::ends_lines))]
-fn push_ends(
-    alloc: Global,
-    out: &mut Vec<u8>,
-    front: &[u8],
-    counts: &Counts,
-) -> Result<(), AllocError>
+fn push_ends(out: &mut Vec<u8>, front: &[u8], counts: &Counts) -> Result<(), AllocError>
     ensures { OnOk result (out.new.items ≡ out.old.items ++ ends_lines front.now counts.now) }
 {
-    push_auth(alloc, out, front, counts)?;
-    push_acct(alloc, out, front, counts)
-}
-
-/// Writes how the datagrams of the authentication port ended.
-fn push_auth(
-    alloc: Global,
-    out: &mut Vec<u8>,
-    front: &[u8],
-    counts: &Counts,
-) -> Result<(), AllocError>
-    ensures { OnOk result (out.new.items
-        ≡ out.old.items ++ auth_lines front.now counts.now auth_ends) }
-{
-    push_auth_ends(alloc, out, front, counts, &AuthEnd::all())
+    push_auth(out, front, counts, &AuthEnd::all())?;
+    push_acct(out, front, counts, &AcctEnd::all())
 }
 
 /// Writes how many datagrams of the authentication port ended in these ways.
-fn push_auth_ends(
-    alloc: Global,
+fn push_auth(
     out: &mut Vec<u8>,
     front: &[u8],
     counts: &Counts,
@@ -131,27 +111,13 @@ fn push_auth_ends(
 {
     for end in ends {
         let number = counts.count(End::Auth(*end));
-        push_line(alloc, out, front, "auth", end.name(), number)?;
+        push_line(out, front, "auth", end.name(), number)?;
     }
     Ok(())
 }
 
-/// Writes how the datagrams of the accounting port ended.
-fn push_acct(
-    alloc: Global,
-    out: &mut Vec<u8>,
-    front: &[u8],
-    counts: &Counts,
-) -> Result<(), AllocError>
-    ensures { OnOk result (out.new.items
-        ≡ out.old.items ++ acct_lines front.now counts.now acct_ends) }
-{
-    push_acct_ends(alloc, out, front, counts, &AcctEnd::all())
-}
-
 /// Writes how many datagrams of the accounting port ended in these ways.
-fn push_acct_ends(
-    alloc: Global,
+fn push_acct(
     out: &mut Vec<u8>,
     front: &[u8],
     counts: &Counts,
@@ -162,7 +128,7 @@ fn push_acct_ends(
 {
     for end in ends {
         let number = counts.count(End::Acct(*end));
-        push_line(alloc, out, front, "acct", end.name(), number)?;
+        push_line(out, front, "acct", end.name(), number)?;
     }
     Ok(())
 }
@@ -170,7 +136,6 @@ fn push_acct_ends(
 /// Writes how many datagrams of a port ended so.
 #[tactic(auto, unfolding(crate::specs::Metrics::datagrams_line))]
 fn push_line(
-    alloc: Global,
     out: &mut Vec<u8>,
     front: &[u8],
     port: &str,
@@ -180,11 +145,11 @@ fn push_line(
     ensures { OnOk result (out.new.items
         ≡ out.old.items ++ datagrams_line front.now port.now end.now number) }
 {
-    push_octets(out, front)?;
+    out.extend_from_slice(front)?;
     push_label(out, "port", port)?;
     push_text(out, ",")?;
     push_label(out, "end", end)?;
     push_text(out, "} ")?;
-    push_decimal(alloc, out, number)?;
+    push_decimal(out, number)?;
     push_text(out, "\n")
 }

@@ -1,80 +1,61 @@
 ghost use Rattle.std.specs.Prelude.{◌≡◌, ◌++◌, OnOk, codes};
 ghost use Rattle.rld_text.specs.Metrics.{at_sockets, gauge, holdings, numbers_text, recording_of, sample, writing};
 
-use crate::sums::{dropped, full_accounts, waiting};
-use crate::text::{Head, push_decimal, push_head, push_text};
+use crate::sums::{dropped, waiting};
+use crate::text::{Head, push_head};
 use rld_look::{Look, Recording, Totals};
-use std::alloc::{AllocError, Global};
+use rld_values::{push_decimal, push_text};
+use std::alloc::AllocError;
 
 /// Writes a number by itself: its name, its kind and what it is for stand in the head.
 #[tactic(auto, unfolding(crate::specs::Metrics::sample))]
-fn push_sample(
-    alloc: Global,
-    out: &mut Vec<u8>,
-    head: &Head<'_>,
-    number: u64,
-) -> Result<(), AllocError>
+fn push_sample(out: &mut Vec<u8>, head: &Head<'_>, number: u64) -> Result<(), AllocError>
     ensures { OnOk result (out.new.items
         ≡ out.old.items ++ sample head.now.kind.now head.now.name.now head.now.help.now number) }
 {
     push_head(out, head)?;
     push_text(out, head.name)?;
     push_text(out, " ")?;
-    push_decimal(alloc, out, number)?;
+    push_decimal(out, number)?;
     push_text(out, "\n")
 }
 
 /// Writes a number that may go up and down.
-fn push_gauge(
-    alloc: Global,
-    out: &mut Vec<u8>,
-    name: &str,
-    help: &str,
-    number: u64,
-) -> Result<(), AllocError>
+fn push_gauge(out: &mut Vec<u8>, name: &str, help: &str, number: u64) -> Result<(), AllocError>
     ensures { OnOk result (out.new.items ≡ out.old.items ++ gauge name.now help.now number) }
 {
     let kind = "gauge";
-    push_sample(alloc, out, &Head { name, kind, help }, number)
+    push_sample(out, &Head { name, kind, help }, number)
 }
 
 /// Writes what all accounts hold, and how many of them have no free place.
 #[tactic(auto, unfolding(crate::specs::Metrics::holdings))]
-fn push_holdings(
-    alloc: Global,
-    out: &mut Vec<u8>,
-    totals: &Totals,
-    full: u64,
-) -> Result<(), AllocError>
-    ensures { OnOk result (out.new.items ≡ out.old.items ++ holdings totals.now full) }
+fn push_holdings(out: &mut Vec<u8>, totals: &Totals) -> Result<(), AllocError>
+    ensures { OnOk result (out.new.items ≡ out.old.items ++ holdings totals.now) }
 {
     push_gauge(
-        alloc,
         out,
         "radlimitd_places",
         "Places of all accounts.",
         totals.places,
     )?;
     push_gauge(
-        alloc,
         out,
         "radlimitd_places_held",
         "Places that are held.",
         totals.held,
     )?;
     push_gauge(
-        alloc,
         out,
         "radlimitd_accounts",
         "Accounts that there are.",
         totals.accounts,
     )?;
     push_gauge(
-        alloc,
         out,
         "radlimitd_accounts_full",
         "Accounts that have no free place.",
-        full,
+        totals.full,
     )?;
     Ok(())
 }
@@ -92,7 +73,6 @@ fn recording_of(recording: Recording) -> u64
 /// Writes what the server writes, and since when.
 #[tactic(auto, unfolding(crate::specs::Metrics::writing))]
 fn push_writing(
-    alloc: Global,
     out: &mut Vec<u8>,
     era: u64,
     generation: u64,
@@ -102,23 +82,20 @@ fn push_writing(
     ensures { OnOk result (out.new.items
         ≡ out.old.items ++ writing era generation start recording) }
 {
-    push_gauge(alloc, out, "radlimitd_era", "Number of the era.", era)?;
+    push_gauge(out, "radlimitd_era", "Number of the era.", era)?;
     push_gauge(
-        alloc,
         out,
         "radlimitd_generation",
         "Number of the generation.",
         generation,
     )?;
     push_gauge(
-        alloc,
         out,
         "radlimitd_start_time_seconds",
         "When the server started, in seconds since 1970.",
         start,
     )?;
     push_gauge(
-        alloc,
         out,
         "radlimitd_recording",
         "1 where batches are being recorded, else 0.",
@@ -129,33 +106,26 @@ fn push_writing(
 
 /// Writes what waits at the sockets, and what the system dropped there.
 #[tactic(auto, unfolding(crate::specs::Metrics::at_sockets))]
-fn push_at_sockets(
-    alloc: Global,
-    out: &mut Vec<u8>,
-    waiting: u64,
-    dropped: u64,
-) -> Result<(), AllocError>
+fn push_at_sockets(out: &mut Vec<u8>, waiting: u64, dropped: u64) -> Result<(), AllocError>
     ensures { OnOk result (out.new.items ≡ out.old.items ++ at_sockets waiting dropped) }
 {
     push_gauge(
-        alloc,
         out,
         "radlimitd_sockets_waiting_octets",
         "Octets that wait in the room of the UDP sockets.",
         waiting,
     )?;
-    push_dropped(alloc, out, dropped)?;
+    push_dropped(out, dropped)?;
     Ok(())
 }
 
 /// Writes how many datagrams the system dropped.
-fn push_dropped(alloc: Global, out: &mut Vec<u8>, dropped: u64) -> Result<(), AllocError>
+fn push_dropped(out: &mut Vec<u8>, dropped: u64) -> Result<(), AllocError>
     ensures { OnOk result (out.new.items ≡ out.old.items ++ sample (codes "counter")
         (codes "radlimitd_sockets_dropped_total")
         (codes "Datagrams that the system dropped at the UDP sockets for want of room.") dropped) }
 {
     push_sample(
-        alloc,
         out,
         &Head {
             name: "radlimitd_sockets_dropped_total",
@@ -168,19 +138,17 @@ fn push_dropped(alloc: Global, out: &mut Vec<u8>, dropped: u64) -> Result<(), Al
 
 /// Writes the numbers of the whole server.
 #[tactic(auto, unfolding(crate::specs::Metrics::numbers_text))]
-pub(crate) fn push_numbers(alloc: Global, out: &mut Vec<u8>, look: &Look) -> Result<(), AllocError>
+pub(crate) fn push_numbers(out: &mut Vec<u8>, look: &Look) -> Result<(), AllocError>
     ensures { OnOk result (out.new.items ≡ out.old.items ++ numbers_text look.entry.now) }
 {
-    let accounts = look.accounts.as_slice();
     let sockets = look.sockets.as_slice();
-    push_holdings(alloc, out, &look.totals(), full_accounts(accounts))?;
+    push_holdings(out, &look.totals)?;
     push_writing(
-        alloc,
         out,
         look.era,
         look.generation,
         look.start,
         recording_of(look.recording),
     )?;
-    push_at_sockets(alloc, out, waiting(sockets), dropped(sockets))
+    push_at_sockets(out, waiting(sockets), dropped(sockets))
 }

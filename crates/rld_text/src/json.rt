@@ -4,9 +4,8 @@ ghost use Rattle.std.specs.Prelude.{◌≡◌, ◌++◌, OnOk};
 ghost use Rattle.std.specs.List.{flat_map};
 ghost use Rattle.rld_text.specs.Json.{json_octet, json_string, member_front, number_member, string_member};
 
-use crate::text::{push_decimal, push_text};
-use rld_values::push_hex;
-use std::alloc::{AllocError, Global};
+use rld_values::{push_decimal, push_hex, push_text};
+use std::alloc::AllocError;
 
 /// Writes an octet of a string.
 fn push_octet(out: &mut Vec<u8>, octet: u8) -> Result<(), AllocError>
@@ -66,7 +65,6 @@ pub(crate) fn push_member_front(out: &mut Vec<u8>, name: &str) -> Result<(), All
 /// Writes a member that is a number.
 #[tactic(auto, unfolding(crate::specs::Json::number_member))]
 pub(crate) fn push_number_member(
-    alloc: Global,
     out: &mut Vec<u8>,
     name: &str,
     number: u64,
@@ -74,7 +72,7 @@ pub(crate) fn push_number_member(
     ensures { OnOk result (out.new.items ≡ out.old.items ++ number_member name.now number) }
 {
     push_member_front(out, name)?;
-    push_decimal(alloc, out, number)
+    push_decimal(out, number)
 }
 
 /// Writes a member that is a string.

@@ -14,8 +14,6 @@ mod accounts;
 mod build;
 mod columns;
 mod datagrams;
-mod date;
-mod fullest;
 mod gauges;
 mod json;
 mod link_objects;

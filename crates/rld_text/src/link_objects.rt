@@ -5,9 +5,8 @@ ghost use Rattle.rld_text.specs.Links.{bound_member, bundle_member, free_member,
 
 use crate::json::{push_number_member, push_string, push_string_member};
 use crate::links::Holder;
-use crate::text::push_text;
 use rld_control::push_server;
-use rld_values::{push_dotted, push_hex, push_word};
+use rld_values::{push_dotted, push_hex, push_text, push_word};
 use rsl_event::NasName;
 use rsl_session::{SavedHolder, SavedLink};
 use rsl_wire::Octets;
@@ -29,10 +28,10 @@ pub(crate) fn push_link_object(
     let age = holder.moment.saturating_sub(link.touched);
     let account = holder.name.as_bytes();
     let mut server = Vec::new(alloc);
-    push_server(alloc, &mut server, account, client.address, &link.nas.name)?;
-    push_server_members(alloc, out, account, client.address, &link.nas.name)?;
+    push_server(&mut server, account, client.address, &link.nas.name)?;
+    push_server_members(out, account, client.address, &link.nas.name)?;
     push_holder(out, holder.live, age, &link.holder)?;
-    push_number_member(alloc, out, "age", age)?;
+    push_number_member(out, "age", age)?;
     push_bundle(out, &link.bundle)?;
     push_free(alloc, out, server.as_slice(), &link.holder)?;
     push_text(out, "}\n")
@@ -41,7 +40,6 @@ pub(crate) fn push_link_object(
 /// Writes whose link it is.
 #[tactic(auto, unfolding(crate::specs::Links::server_members))]
 fn push_server_members(
-    alloc: Global,
     out: &mut Vec<u8>,
     account: &[u8],
     client: [u8; 4],
@@ -52,7 +50,7 @@ fn push_server_members(
     push_text(out, "{\"account\":")?;
     push_string(out, account)?;
     push_text(out, ",\"client\":\"")?;
-    push_dotted(alloc, out, client)?;
+    push_dotted(out, client)?;
     push_text(out, "\"")?;
     push_nas(out, nas)?;
     Ok(())

@@ -2,10 +2,9 @@ ghost use Rattle.std.specs.Prelude.{◌≡◌, ◌<◌, ◌++◌, length, IfOk, 
 ghost use Rattle.rld_text.specs.Links.{bound_state, holder_words, link_line, link_text, links_text, text_if_known};
 
 use crate::link_objects::push_link_object;
-use crate::text::push_text;
 use crate::words::{push_number_word, push_octets_word_if};
-use rld_control::{Form, push_server};
-use rld_values::push_word;
+use rld_control::{Form, Reply, push_server};
+use rld_values::{push_text, push_word};
 use rsl_accounts::Config;
 use rsl_session::{SavedHolder, SavedLink};
 use std::alloc::{AllocError, Global};
@@ -38,7 +37,7 @@ pub fn links_text(
     for link in links {
         push_if_known(alloc, &mut text, form, holder, link)?;
     }
-    push_text(&mut text, "ok\n")?;
+    Reply::Done(b"").write(&mut text)?;
     Ok(text)
 }
 
@@ -73,33 +72,22 @@ fn push_link(
         holder.now.name.now holder.now.live holder.now.moment link.now) }
 {
     match form {
-        Form::Lines => push_line(alloc, out, holder, link),
+        Form::Lines => push_line(out, holder, link),
         Form::Json => push_link_object(alloc, out, holder, link),
     }
 }
 
 /// Writes the line of a link.
-fn push_line(
-    alloc: Global,
-    out: &mut Vec<u8>,
-    holder: &Holder<'_>,
-    link: &SavedLink,
-) -> Result<(), AllocError>
+fn push_line(out: &mut Vec<u8>, holder: &Holder<'_>, link: &SavedLink) -> Result<(), AllocError>
     requires { link.now.nas.client < length holder.now.config.now.clients }
     ensures { OnOk result (out.new.items ≡ out.old.items ++ link_line holder.now.config.now
         holder.now.name.now holder.now.live holder.now.moment link.now) }
 {
     let client = holder.config.client_at(link.nas.client);
     let age = holder.moment.saturating_sub(link.touched);
-    push_server(
-        alloc,
-        out,
-        holder.name.as_bytes(),
-        client.address,
-        &link.nas.name,
-    )?;
+    push_server(out, holder.name.as_bytes(), client.address, &link.nas.name)?;
     push_holder(out, holder.live, age, &link.holder)?;
-    push_number_word(alloc, out, "age", age)?;
+    push_number_word(out, "age", age)?;
     push_octets_word_if(out, "bundle", &link.bundle)?;
     push_text(out, "\n")
 }

@@ -17,6 +17,6 @@ pub fn push_metrics(alloc: Global, out: &mut Vec<u8>, look: &Look) -> Result<(),
 {
     push_build_text(out, &look.build)?;
     push_ends_text(alloc, out, look)?;
-    push_times_text(alloc, out, look)?;
-    push_numbers(alloc, out, look)
+    push_times_text(out, look)?;
+    push_numbers(out, look)
 }

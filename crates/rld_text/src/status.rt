@@ -3,9 +3,10 @@ ghost use Rattle.rld_text.specs.Status.{IsStatus, number_lines, recording_line, 
 
 use crate::build::push_build_line;
 use crate::recent::{recent_text, start_text};
-use crate::text::push_text;
 use crate::words::push_number_line;
+use rld_control::Reply;
 use rld_look::{Look, Recording, Totals};
+use rld_values::push_text;
 use std::alloc::{AllocError, Global};
 
 /// What a server says of itself: who it is and whether it records, numbers, a line each, then what has
@@ -21,7 +22,7 @@ pub fn status_text(alloc: Global, look: &Look) -> Result<Vec<u8>, AllocError>
     push_recording(&mut text, look.recording)?;
     push_numbers(alloc, &mut text, look)?;
     text.extend_from_slice(recent.as_slice())?;
-    push_text(&mut text, "ok\n")?;
+    Reply::Done(b"").write(&mut text)?;
     Ok(text)
 }
 
@@ -45,7 +46,7 @@ fn push_numbers(alloc: Global, out: &mut Vec<u8>, look: &Look) -> Result<(), All
     push_number_line(alloc, out, "since", look.start)?;
     push_number_line(alloc, out, "era", look.era)?;
     push_number_line(alloc, out, "generation", look.generation)?;
-    push_totals(alloc, out, &look.totals())?;
+    push_totals(alloc, out, &look.totals)?;
     push_number_line(alloc, out, "moves", look.moves)?;
     push_number_line(alloc, out, "memory", look.memory)
 }

@@ -6,10 +6,11 @@ ghost use Rattle.rld_text.specs.Status.{acct_members, auth_members, end_member, 
 
 use crate::build::push_proof_word;
 use crate::json::{push_member_front, push_number_member, push_text_string};
-use crate::sums::{dropped, full_accounts, waiting};
-use crate::text::{push_decimal, push_text};
+use crate::sums::{dropped, waiting};
+use rld_control::Reply;
 use rld_counts::{AcctEnd, AuthEnd, Counts, End};
 use rld_look::{Build, Look, Recording, Totals};
+use rld_values::{push_decimal, push_text};
 use std::alloc::{AllocError, Global};
 
 /// The object, and that it is all. It fails only where memory is refused.
@@ -19,26 +20,19 @@ pub fn status_json(alloc: Global, look: &Look) -> Result<Vec<u8>, AllocError>
 {
     let sockets = look.sockets.as_slice();
     let mut text = Vec::new(alloc);
-    push_who(
-        alloc,
-        &mut text,
-        &look.build,
-        look.start,
-        look.now,
-        look.recording,
-    )?;
-    push_numbers(alloc, &mut text, look)?;
-    push_auth(alloc, &mut text, &look.counts, &AuthEnd::all())?;
-    push_acct(alloc, &mut text, &look.counts, &AcctEnd::all())?;
-    push_sockets(alloc, &mut text, waiting(sockets), dropped(sockets))?;
-    push_text(&mut text, "}\nok\n")?;
+    push_who(&mut text, &look.build, look.start, look.now, look.recording)?;
+    push_numbers(&mut text, look)?;
+    push_auth(&mut text, &look.counts, &AuthEnd::all())?;
+    push_acct(&mut text, &look.counts, &AcctEnd::all())?;
+    push_sockets(&mut text, waiting(sockets), dropped(sockets))?;
+    push_text(&mut text, "}\n")?;
+    Reply::Done(b"").write(&mut text)?;
     Ok(text)
 }
 
 /// Writes who it is, since when, the second in which it was looked at, and whether batches are recorded.
 #[tactic(auto, unfolding(crate::specs::Status::who_members))]
 fn push_who(
-    alloc: Global,
     out: &mut Vec<u8>,
     build: &Build,
     start: u64,
@@ -53,8 +47,8 @@ fn push_who(
     push_text(out, ",\"proved\":\"")?;
     push_proof_word(out, &build.proof)?;
     push_text(out, "\"")?;
-    push_number_member(alloc, out, "start", start)?;
-    push_number_member(alloc, out, "now", now)?;
+    push_number_member(out, "start", start)?;
+    push_number_member(out, "now", now)?;
     push_member_front(out, "recording")?;
     push_recording(out, recording)?;
     Ok(())
@@ -72,84 +66,55 @@ fn push_recording(out: &mut Vec<u8>, recording: Recording) -> Result<(), AllocEr
 
 /// Writes the numbers.
 #[tactic(auto, unfolding(crate::specs::Status::numbers_members))]
-fn push_numbers(alloc: Global, out: &mut Vec<u8>, look: &Look) -> Result<(), AllocError>
+fn push_numbers(out: &mut Vec<u8>, look: &Look) -> Result<(), AllocError>
     ensures { OnOk result (out.new.items ≡ out.old.items ++ numbers_members look.entry.now) }
 {
-    let full = full_accounts(look.accounts.as_slice());
-    push_number_member(alloc, out, "era", look.era)?;
-    push_number_member(alloc, out, "generation", look.generation)?;
-    push_totals(alloc, out, &look.totals())?;
-    push_number_member(alloc, out, "full", full)?;
-    push_number_member(alloc, out, "moves", look.moves)?;
-    push_number_member(alloc, out, "memory", look.memory)
+    push_number_member(out, "era", look.era)?;
+    push_number_member(out, "generation", look.generation)?;
+    push_totals(out, &look.totals)?;
+    push_number_member(out, "full", look.totals.full)?;
+    push_number_member(out, "moves", look.moves)?;
+    push_number_member(out, "memory", look.memory)
 }
 
 /// Writes what all accounts hold.
 #[tactic(auto, unfolding(crate::specs::Status::totals_members))]
-fn push_totals(alloc: Global, out: &mut Vec<u8>, totals: &Totals) -> Result<(), AllocError>
+fn push_totals(out: &mut Vec<u8>, totals: &Totals) -> Result<(), AllocError>
     ensures { OnOk result (out.new.items ≡ out.old.items ++ totals_members totals.now) }
 {
-    push_number_member(alloc, out, "accounts", totals.accounts)?;
-    push_number_member(alloc, out, "places", totals.places)?;
-    push_number_member(alloc, out, "held", totals.held)?;
-    push_number_member(alloc, out, "reserved", totals.reserved)?;
-    push_number_member(alloc, out, "live", totals.live)?;
-    push_number_member(alloc, out, "stale", totals.stale)?;
-    push_number_member(alloc, out, "over", totals.over)?;
+    push_number_member(out, "accounts", totals.accounts)?;
+    push_number_member(out, "places", totals.places)?;
+    push_number_member(out, "held", totals.held)?;
+    push_number_member(out, "reserved", totals.reserved)?;
+    push_number_member(out, "live", totals.live)?;
+    push_number_member(out, "stale", totals.stale)?;
+    push_number_member(out, "over", totals.over)?;
     Ok(())
 }
 
 /// Writes how many datagrams of the authentication port ended in these ways.
-fn push_auth(
-    alloc: Global,
-    out: &mut Vec<u8>,
-    counts: &Counts,
-    ends: &[AuthEnd],
-) -> Result<(), AllocError>
+fn push_auth(out: &mut Vec<u8>, counts: &Counts, ends: &[AuthEnd]) -> Result<(), AllocError>
     ensures { OnOk result (out.new.items ≡ out.old.items ++ auth_members counts.now ends.now) }
 {
     for end in ends {
-        push_end(
-            alloc,
-            out,
-            "auth",
-            end.name(),
-            counts.count(End::Auth(*end)),
-        )?;
+        push_end(out, "auth", end.name(), counts.count(End::Auth(*end)))?;
     }
     Ok(())
 }
 
 /// Writes the same of the accounting port.
-fn push_acct(
-    alloc: Global,
-    out: &mut Vec<u8>,
-    counts: &Counts,
-    ends: &[AcctEnd],
-) -> Result<(), AllocError>
+fn push_acct(out: &mut Vec<u8>, counts: &Counts, ends: &[AcctEnd]) -> Result<(), AllocError>
     ensures { OnOk result (out.new.items ≡ out.old.items ++ acct_members counts.now ends.now) }
 {
     for end in ends {
-        push_end(
-            alloc,
-            out,
-            "acct",
-            end.name(),
-            counts.count(End::Acct(*end)),
-        )?;
+        push_end(out, "acct", end.name(), counts.count(End::Acct(*end)))?;
     }
     Ok(())
 }
 
 /// Writes how many datagrams of a port ended so.
 #[tactic(auto, unfolding(crate::specs::Status::end_member))]
-fn push_end(
-    alloc: Global,
-    out: &mut Vec<u8>,
-    port: &str,
-    end: &str,
-    number: u64,
-) -> Result<(), AllocError>
+fn push_end(out: &mut Vec<u8>, port: &str, end: &str, number: u64) -> Result<(), AllocError>
     ensures { OnOk result (out.new.items ≡ out.old.items ++ end_member port.now end.now number) }
 {
     push_text(out, ",\"")?;
@@ -157,20 +122,15 @@ fn push_end(
     push_text(out, "_")?;
     push_text(out, end)?;
     push_text(out, "\":")?;
-    push_decimal(alloc, out, number)
+    push_decimal(out, number)
 }
 
 /// Writes what waits at the sockets, and what the system dropped there.
 #[tactic(auto, unfolding(crate::specs::Status::socket_members))]
-fn push_sockets(
-    alloc: Global,
-    out: &mut Vec<u8>,
-    waiting: u64,
-    dropped: u64,
-) -> Result<(), AllocError>
+fn push_sockets(out: &mut Vec<u8>, waiting: u64, dropped: u64) -> Result<(), AllocError>
     ensures { OnOk result (out.new.items ≡ out.old.items ++ socket_members waiting dropped) }
 {
-    push_number_member(alloc, out, "sockets_waiting_octets", waiting)?;
-    push_number_member(alloc, out, "sockets_dropped", dropped)?;
+    push_number_member(out, "sockets_waiting_octets", waiting)?;
+    push_number_member(out, "sockets_dropped", dropped)?;
     Ok(())
 }

@@ -1,11 +1,11 @@
 //! The parts of the text format.
 
 ghost use Rattle.std.specs.Prelude.{◌≡◌, ◌+◌, ◌%◌, ◌∷◌, ◌++◌, [], OnOk};
-ghost use Rattle.std.specs.Fmt.{decimal};
 ghost use Rattle.std.specs.List.{flat_map};
 ghost use Rattle.rld_text.specs.Text.{escaped_octet, head_of, label, seconds, six_digits};
 
-use std::alloc::{AllocError, Global};
+use rld_values::{push_decimal, push_text};
+use std::alloc::AllocError;
 
 /// What a metric is.
 #[derive(Clone, Copy)]
@@ -16,28 +16,6 @@ pub(crate) struct Head<'a> {
     pub(crate) kind: &'a str,
     /// What it is for.
     pub(crate) help: &'a str,
-}
-
-/// Writes octets.
-pub(crate) fn push_octets(out: &mut Vec<u8>, octets: &[u8]) -> Result<(), AllocError>
-    ensures { OnOk result (out.new.items ≡ out.old.items ++ octets.now) }
-{
-    out.extend_from_slice(octets)
-}
-
-/// Writes a text.
-pub(crate) fn push_text(out: &mut Vec<u8>, text: &str) -> Result<(), AllocError>
-    ensures { OnOk result (out.new.items ≡ out.old.items ++ text.now) }
-{
-    out.extend_from_slice(text.as_bytes())
-}
-
-/// Writes a number.
-pub(crate) fn push_decimal(alloc: Global, out: &mut Vec<u8>, number: u64) -> Result<(), AllocError>
-    ensures { OnOk result (out.new.items ≡ out.old.items ++ decimal number) }
-{
-    let text = format!(in alloc; "{number}")?;
-    out.extend_from_slice(text.as_bytes())
 }
 
 /// Writes an octet of a label's value.
@@ -116,10 +94,10 @@ fn push_six_digits(out: &mut Vec<u8>, number: u64) -> Result<(), AllocError>
 
 /// Writes microseconds as seconds, with six places.
 #[tactic(auto, unfolding(crate::specs::Text::seconds))]
-pub(crate) fn push_seconds(alloc: Global, out: &mut Vec<u8>, micros: u64) -> Result<(), AllocError>
+pub(crate) fn push_seconds(out: &mut Vec<u8>, micros: u64) -> Result<(), AllocError>
     ensures { OnOk result (out.new.items ≡ out.old.items ++ seconds micros) }
 {
-    push_decimal(alloc, out, micros / 1_000_000)?;
+    push_decimal(out, micros / 1_000_000)?;
     out.push(46)?;
     push_six_digits(out, micros % 1_000_000)
 }

@@ -2,24 +2,18 @@ ghost use Rattle.std.specs.Prelude.{◌≡◌, ◌≤◌, ◌++◌, OnOk};
 ghost use Rattle.std.specs.Fmt.{decimal};
 ghost use Rattle.rld_text.specs.Words.{left, number_line, number_word, octets_word_if, right, spaces_to};
 
-use crate::text::push_text;
-use rld_values::{push_decimal, push_escaped};
+use rld_values::{push_decimal, push_escaped, push_text};
 use rsl_wire::Octets;
 use std::alloc::{AllocError, Global};
 
 /// Writes a space, a key, `=` and a number.
-pub(crate) fn push_number_word(
-    alloc: Global,
-    out: &mut Vec<u8>,
-    key: &str,
-    number: u64,
-) -> Result<(), AllocError>
+pub(crate) fn push_number_word(out: &mut Vec<u8>, key: &str, number: u64) -> Result<(), AllocError>
     ensures { OnOk result (out.new.items ≡ out.old.items ++ number_word key.now number) }
 {
     out.push(32)?;
     push_text(out, key)?;
     out.push(61)?;
-    push_decimal(alloc, out, number)
+    push_decimal(out, number)
 }
 
 /// Writes a space, a key, `=` and octets, if there are any.
@@ -63,7 +57,7 @@ fn push_right(alloc: Global, out: &mut Vec<u8>, number: u64) -> Result<(), Alloc
     ensures { OnOk result (out.new.items ≡ out.old.items ++ right (decimal number)) }
 {
     let mut digits = Vec::new(alloc);
-    push_decimal(alloc, &mut digits, number)?;
+    push_decimal(&mut digits, number)?;
     push_spaces(out, 11, digits.as_slice())?;
     out.extend_from_slice(digits.as_slice())
 }

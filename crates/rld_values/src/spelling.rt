@@ -2,9 +2,10 @@
 
 ghost use Rattle.std.specs.Prelude.{◌≡◌, ◌++◌, ◌∷◌, ◌<◌, [], OnOk};
 ghost use Rattle.std.specs.Fmt.{decimal};
-ghost use Rattle.rld_values.specs.Values.{dotted, dotted_pair, escaped, escaped_octet, hex, hex_digit, hex_octet, is_between, is_letter_or_digit, is_mark, is_plain, word};
+ghost use Rattle.rld_values.specs.Values.{dotted, dotted_pair, escaped, escaped_octet, hex, hex_digit, hex_octet, is_between, is_plain, word};
 
-use std::alloc::{AllocError, Global};
+use itoa::Buffer;
+use std::alloc::AllocError;
 
 /// The hexadecimal digit of a number below 16.
 fn hex_digit(number: u8) -> u8
@@ -44,30 +45,14 @@ pub(crate) fn is_between(first: u8, last: u8, octet: u8) -> bool
     first <= octet && octet <= last
 }
 
-/// Whether an octet is a letter or a digit.
-fn is_letter_or_digit(octet: u8) -> bool
-    ensures { result ≡ is_letter_or_digit octet }
-{
-    is_between(48, 57, octet) || is_between(65, 90, octet) || is_between(97, 122, octet)
-}
-
-/// Whether an octet is a mark that stands for itself.
-fn is_mark(octet: u8) -> bool
-    ensures { result ≡ is_mark octet }
-{
-    is_between(43, 47, octet)
-        || octet == 37
-        || octet == 58
-        || octet == 61
-        || octet == 64
-        || octet == 95
-}
-
-/// Whether an octet stands for itself.
+/// Whether an octet stands for itself: a letter, a digit or one of `%+,-./:=@_`.
 fn is_plain(octet: u8) -> bool
     ensures { result ≡ is_plain octet }
 {
-    is_letter_or_digit(octet) || is_mark(octet)
+    matches!(
+        octet,
+        b'0'..=b'9' | b'A'..=b'Z' | b'a'..=b'z' | 43..=47 | b'%' | b':' | b'=' | b'@' | b'_'
+    )
 }
 
 /// Writes an octet as it is, or as a backslash, an `x` and its two digits.
@@ -104,29 +89,36 @@ pub fn push_word(out: &mut Vec<u8>, octets: &[u8]) -> Result<(), AllocError>
     }
 }
 
-/// Writes a number. It fails only where memory is refused.
-pub fn push_decimal(alloc: Global, out: &mut Vec<u8>, number: u64) -> Result<(), AllocError>
-    ensures { OnOk result (out.new.items ≡ out.old.items ++ decimal number) }
+/// Writes a text. It fails only where memory is refused.
+pub fn push_text(out: &mut Vec<u8>, text: &str) -> Result<(), AllocError>
+    ensures { OnOk result (out.new.items ≡ out.old.items ++ text.now) }
 {
-    let text = format!(in alloc; "{number}")?;
     out.extend_from_slice(text.as_bytes())
 }
 
+/// Writes a number. It fails only where memory is refused.
+pub fn push_decimal(out: &mut Vec<u8>, number: u64) -> Result<(), AllocError>
+    ensures { OnOk result (out.new.items ≡ out.old.items ++ decimal number) }
+{
+    let mut buffer = Buffer::new();
+    push_text(out, buffer.format(number))
+}
+
 /// Writes two numbers with a dot between them.
-fn push_pair(alloc: Global, out: &mut Vec<u8>, some: u8, other: u8) -> Result<(), AllocError>
+fn push_pair(out: &mut Vec<u8>, some: u8, other: u8) -> Result<(), AllocError>
     ensures { OnOk result (out.new.items ≡ out.old.items ++ dotted_pair some other) }
 {
-    push_decimal(alloc, out, u64::from(some))?;
+    push_decimal(out, u64::from(some))?;
     out.push(46)?;
-    push_decimal(alloc, out, u64::from(other))
+    push_decimal(out, u64::from(other))
 }
 
 /// Writes an IPv4 address as four numbers with dots between them. It fails only where memory is refused.
 #[tactic(auto, unfolding(crate::specs::Values::dotted))]
-pub fn push_dotted(alloc: Global, out: &mut Vec<u8>, address: [u8; 4]) -> Result<(), AllocError>
+pub fn push_dotted(out: &mut Vec<u8>, address: [u8; 4]) -> Result<(), AllocError>
     ensures { OnOk result (out.new.items ≡ out.old.items ++ dotted address) }
 {
-    push_pair(alloc, out, address[0], address[1])?;
+    push_pair(out, address[0], address[1])?;
     out.push(46)?;
-    push_pair(alloc, out, address[2], address[3])
+    push_pair(out, address[2], address[3])
 }

@@ -2,6 +2,7 @@
 
 use crate::http_connection::{HttpConnection, Turn};
 use crate::page_service::PageService;
+use circular_buffer::HeapCircularBuffer;
 use mio::unix::SourceFd;
 use mio::{Events, Interest, Poll, Token};
 use rld_look::Shown;
@@ -26,7 +27,7 @@ const SOCKET: Token = Token(0);
 pub(crate) struct Connections {
     alloc: Global,
     keys: RandomState,
-    open: Vec<HttpConnection>,
+    open: HeapCircularBuffer<HttpConnection>,
     poll: Poll,
     events: Events,
     has_more: bool,
@@ -48,7 +49,7 @@ impl Connections {
         Ok(Connections {
             alloc,
             keys,
-            open: Vec::with_capacity(alloc, MOST_OPEN)?,
+            open: HeapCircularBuffer::with_capacity(alloc, MOST_OPEN)?,
             poll,
             events: Events::with_capacity(alloc, MOST_OPEN)?,
             has_more: true,
@@ -58,7 +59,7 @@ impl Connections {
     /// Waits until something can be done, for at most a second.
     pub(crate) fn wait(&mut self, now: u64) -> io::Result<()> {
         let mut wait = WAIT_MILLIS;
-        if let Some(oldest) = self.open.first() {
+        if let Some(oldest) = self.open.front() {
             wait = wait.min(oldest.left(now));
         }
         if self.has_more {
@@ -81,7 +82,8 @@ impl Connections {
         self.has_more = true;
     }
 
-    /// Takes in a connection. Where the system refuses it, it is closed.
+    /// Takes in a connection, in place of the oldest one where all room is taken. Where the system refuses
+    /// it, it is closed.
     fn take_in(&mut self, stream: TcpStream, now: u64) {
         let Ok(connection) = HttpConnection::new(self.alloc, self.keys, stream, now) else {
             return;
@@ -95,48 +97,36 @@ impl Connections {
         if registered.is_err() {
             return;
         }
-        if self.open.len() >= MOST_OPEN {
-            self.open.remove(0);
-        }
-        let _ = self.open.push(connection);
+        let _oldest = self.open.push_back(connection);
     }
 
     /// Gives each connection a turn, and closes those that are done with or have had their time.
     pub(crate) fn serve<S: Shown>(&mut self, service: &mut PageService, server: &S, now: u64) {
-        let count = self.open.len();
-        for behind in 0..count {
-            let at = count - 1 - behind;
-            match self.turn(at, service, server, now) {
+        for _ in 0..self.open.len() {
+            let Some(mut connection) = self.open.pop_front() else {
+                return;
+            };
+            match turn(&mut connection, service, server, now) {
                 Turn::Waits => {}
                 Turn::GoesOn => self.has_more = true,
-                Turn::Leaves => self.see_out(at),
+                Turn::Leaves => continue,
             }
+            let _none = self.open.push_back(connection);
         }
     }
+}
 
-    /// A turn of a connection.
-    fn turn<S: Shown>(
-        &mut self,
-        at: usize,
-        service: &mut PageService,
-        server: &S,
-        now: u64,
-    ) -> Turn {
-        let Some(connection) = self.open.get_mut(at) else {
-            return Turn::Waits;
-        };
-        if connection.left(now) == 0 {
-            return Turn::Leaves;
-        }
-        service.look_at(server, now);
-        service.turn_to(connection.place());
-        connection.take_turn(service)
+/// A turn of a connection.
+fn turn<S: Shown>(
+    connection: &mut HttpConnection,
+    service: &mut PageService,
+    server: &S,
+    now: u64,
+) -> Turn {
+    if connection.left(now) == 0 {
+        return Turn::Leaves;
     }
-
-    /// Closes a connection.
-    fn see_out(&mut self, at: usize) {
-        if at < self.open.len() {
-            self.open.remove(at);
-        }
-    }
+    service.look_at(server, now);
+    service.turn_to(connection.place());
+    connection.take_turn(service)
 }

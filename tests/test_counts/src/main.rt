@@ -3,11 +3,8 @@
 #![tactic(auto)]
 
 use rld_counts::{AcctEnd, AuthEnd, Cell, ClientCounts, Counts, End, Ended, Histogram};
-use rld_look::{AccountLook, Build, ClientLook, Look, Proof, Recording, SocketLook};
+use rld_look::{Build, ClientLook, Look, Proof, Recording, SocketLook, Totals};
 use rld_text::push_metrics;
-use rsl_accounts::Text;
-use rsl_shard::Row;
-use std::alloc::{AllocError, Global};
 use std::io::{self, Write};
 
 /// How many clients there are.
@@ -148,7 +145,18 @@ fn print_metrics(
         ]?,
         auth_times,
         acct_times,
-        accounts: accounts(alloc)?,
+        totals: Totals {
+            accounts: 3,
+            places: 4_002,
+            held: 17,
+            reserved: 0,
+            live: 17,
+            stale: 0,
+            over: 0,
+            full: 2,
+        },
+        fullest: Vec::new(alloc),
+        accounts: Vec::new(alloc),
         minutes: Vec::new(alloc),
         sockets: vec![in alloc; socket(1812, 0, 3), socket(1813, 512, 4)]?,
         refusals: Vec::new(alloc),
@@ -173,24 +181,4 @@ fn socket(port: u16, waiting: u64, dropped: u64) -> SocketLook {
         waiting,
         dropped,
     }
-}
-
-/// Three accounts, of which two have no free place.
-fn accounts(alloc: Global) -> Result<Vec<AccountLook>, AllocError> {
-    let mut accounts = Vec::new(alloc);
-    for (places, held) in [(4_000u32, 15u32), (2, 2), (0, 0)] {
-        accounts.push(AccountLook {
-            name: Text::from(String::new(alloc)),
-            row: Row {
-                account: 0,
-                places,
-                held,
-                reserved: 0,
-                live: held,
-                stale: 0,
-                over: 0,
-            },
-        })?;
-    }
-    Ok(accounts)
 }

@@ -2,7 +2,7 @@
 
 use rld_counts::{AcctEnd, AuthEnd, Counts, End, Histogram};
 use rld_look::{
-    AccountLook, Build, ClientLook, Look, Minute, Proof, Recording, Refusal, SocketLook,
+    AccountLook, Build, ClientLook, Look, Minute, Proof, Recording, Refusal, SocketLook, Totals,
 };
 use rsl_accounts::Text;
 use rsl_event::{NasName, Source};
@@ -12,6 +12,25 @@ use std::alloc::Global;
 
 /// Second 1,764,182,907 since 1970: 2025-11-26 18:48:27 UTC.
 const NOW: u64 = 1_764_182_907;
+
+/// The names of accounts: one that is markup, one with quotes, one beyond ASCII, and some others.
+const NAMES: [&str; 10] = [
+    "nemo",
+    "<script>alert(1)</script>",
+    "\"quoted\" & 'so'",
+    "müller@example.net",
+    "back\\slash",
+    "line\nfeed",
+    "anna",
+    "otto",
+    "greta@a-rather-long-realm.example.net",
+    "last",
+];
+
+/// The places that each account holds, and those that it has.
+const HELD: [u32; 10] = [2, 1, 3, 4, 0, 1, 17, 0, 180, 0];
+
+const PLACES: [u32; 10] = [2, 2, 4, 4, 0, 10, 2_000, 1, 200, 3];
 
 /// A look at a server that has just started, whose batches are not recorded.
 pub(crate) fn idle(alloc: Global) -> Result<Look, NoMemory> {
@@ -31,6 +50,8 @@ pub(crate) fn idle(alloc: Global) -> Result<Look, NoMemory> {
         clients: Vec::new(alloc),
         auth_times: Histogram::new(),
         acct_times: Histogram::new(),
+        totals: Totals::new(),
+        fullest: Vec::new(alloc),
         accounts: Vec::new(alloc),
         minutes: Vec::new(alloc),
         sockets: Vec::new(alloc),
@@ -51,7 +72,13 @@ pub(crate) fn worked(alloc: Global) -> Result<Look, NoMemory> {
         address: [192, 0, 2, 7],
         counts: counts(),
     })?;
-    add_accounts(alloc, &mut look.accounts)?;
+    look.totals = totals();
+    for number in 0..NAMES.len() {
+        look.accounts.push(account(alloc, number)?)?;
+    }
+    for number in [0, 3, 8, 2, 1, 5, 6, 4, 7, 9] {
+        look.fullest.push(account(alloc, number)?)?;
+    }
     add_minutes(&mut look.minutes)?;
     look.sockets.push(socket(1812, 0, 0))?;
     look.sockets.push(socket(1813, 2_304, 17))?;
@@ -91,38 +118,38 @@ fn counts() -> Counts {
     counts
 }
 
-/// Adds accounts: one with a name that is markup, one with quotes, one beyond ASCII, and some others.
-fn add_accounts(alloc: Global, accounts: &mut Vec<AccountLook>) -> Result<(), NoMemory> {
-    let names = [
-        "nemo",
-        "<script>alert(1)</script>",
-        "\"quoted\" & 'so'",
-        "müller@example.net",
-        "back\\slash",
-        "line\nfeed",
-        "anna",
-        "otto",
-        "greta@a-rather-long-realm.example.net",
-        "last",
-    ];
-    let held = [2u32, 1, 3, 4, 0, 1, 17, 0, 180, 0];
-    let places = [2u32, 2, 4, 4, 0, 10, 2_000, 1, 200, 3];
-    for number in 0..10usize {
-        let row = Row {
-            account: number as u32,
-            places: places[number],
-            held: held[number],
-            reserved: held[number] / 4,
-            live: held[number] - held[number] / 4,
-            stale: 0,
-            over: (number as u64) * 1_001,
-        };
-        accounts.push(AccountLook {
-            name: Text::from_str(alloc, names[number])?,
-            row,
-        })?;
+/// An account.
+fn account(alloc: Global, number: usize) -> Result<AccountLook, NoMemory> {
+    Ok(AccountLook {
+        name: Text::from_str(alloc, NAMES[number])?,
+        row: row(number),
+    })
+}
+
+/// What an account holds.
+fn row(number: usize) -> Row {
+    let held = HELD[number];
+    Row {
+        account: number as u32,
+        places: PLACES[number],
+        held,
+        reserved: held / 4,
+        live: held - held / 4,
+        stale: 0,
+        over: (number as u64) * 1_001,
     }
-    Ok(())
+}
+
+/// What all accounts hold.
+fn totals() -> Totals {
+    let mut totals = Totals::new();
+    for number in 0..NAMES.len() {
+        let row = row(number);
+        totals.accounts += 1;
+        totals.places += u64::from(row.places);
+        totals.held += u64::from(row.held);
+    }
+    totals
 }
 
 /// Adds the minutes of some three quarters of an hour.

@@ -1,6 +1,6 @@
 use Rattle.std.proofs.Common.{◌≡◌, ◌++◌, take}
 use Rattle.rld_text.specs.Metrics.{acct_lines}
-use Rattle.rld_text.proofs.datagrams.push_acct_ends.Given as goal
+use Rattle.rld_text.proofs.datagrams.push_acct.Given as goal
 
 -- the lines of the ends that were looked at
 abbrev pub invariant-loop-end : goal.invariant-loop-end
