@@ -6,7 +6,7 @@ ghost use Rattle.std.specs.Arc.{arc_value};
 use crate::accounts::Accounts;
 use crate::ask_fault::AskFault;
 use crate::server::Server;
-use rld_control::{Command, Form, NamedSession, Selection, Stop};
+use rld_control::{Command, Form, NamedSession, Reply, Selection, Stop};
 use rld_edges::Operator;
 use rld_log::{FileLog, PacedLog};
 use rld_start::Generations;
@@ -69,14 +69,16 @@ where
             Command::Reload => self.reload(),
             Command::Stop => {
                 self.shutdown.end();
-                self.told("ok\n")
+                self.told(Reply::Done(b""))
             }
         }
     }
 
-    /// A text, as an answer.
-    pub(crate) fn told(&self, text: &str) -> Result<Vec<u8>, AskFault> {
-        Ok(Vec::from_slice(self.alloc, text.as_bytes())?)
+    /// The octets of an answer.
+    pub(crate) fn told(&self, reply: Reply<'_>) -> Result<Vec<u8>, AskFault> {
+        let mut octets = Vec::new(self.alloc);
+        reply.write(&mut octets)?;
+        Ok(octets)
     }
 
     /// What the server is and does.
@@ -140,9 +142,9 @@ where
     /// bound to the session nothing is recorded.
     fn free(&self, named: &NamedSession) -> Result<Vec<u8>, AskFault> {
         if self.record_stop(named)? {
-            self.told("freed\nok\n")
+            self.told(Reply::Done(b"freed\n"))
         } else {
-            self.told("no such session\nok\n")
+            self.told(Reply::Done(b"no such session\n"))
         }
     }
 

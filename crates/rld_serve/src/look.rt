@@ -4,7 +4,8 @@ use crate::server::Server;
 use rld_config::books_octets;
 use rld_counts::{Cell, Counts};
 use rld_look::{
-    Look, Minute, Places, Recording, SocketLook, account_looks, client_looks, held_in, socket_in,
+    Look, Minute, Places, Recording, SocketLook, Totals, account_looks, client_looks,
+    fullest_looks, held_in, socket_in,
 };
 use rld_spelling::Header;
 use rld_state::places_in;
@@ -71,7 +72,9 @@ impl<'a, G, A, R: time::Clock + Wait> Server<'a, G, A, R> {
             clients: client_looks(self.alloc, &*config, &auth, &acct)?,
             auth_times: auth.times(),
             acct_times: acct.times(),
+            totals: Totals::of(&*config, rows.as_slice()),
             accounts: account_looks(self.alloc, &*config, rows.as_slice())?,
+            fullest: fullest_looks(self.alloc, &*config, rows)?,
             minutes: self.minutes()?,
             refusals: self.refusals.lately(self.rt, self.alloc)?,
             sockets: self.socket_looks()?,

@@ -6,6 +6,7 @@ use crate::accounts::{Accounts, AccountsFault};
 use crate::ask_fault::AskFault;
 use crate::current::Current;
 use crate::server::Server;
+use rld_control::Reply;
 use rld_counts::ClientCounts;
 use rld_log::{FileLog, PacedLog};
 use rld_start::{Generations, NextEra, has_same_clients, is_same_era};
@@ -23,7 +24,7 @@ struct Change {
     /// Another handle of these, for the era.
     held: Arc<Config>,
     /// The files of the era that they begin, if the present one does not go on.
-    next: Option<NextEra>,
+    next: Option<NextEra<FileLog>>,
     /// Counts for their clients, if these are others.
     counts: Option<Vec<ClientCounts>>,
 }
@@ -53,8 +54,8 @@ where
         match self.change_accounts(config) {
             Ok(reloaded) => {
                 self.tell(Told::Accounts(reloaded));
-                let text = format!(in self.alloc; "{reloaded}\nok\n")?;
-                self.told(text.as_str())
+                let lines = format!(in self.alloc; "{reloaded}\n")?;
+                self.told(Reply::Done(lines.as_bytes()))
             }
             Err(fault) => self.refusal(&fault),
         }
@@ -62,33 +63,34 @@ where
 
     /// The answer that says why something is not done.
     fn refusal<T: fmt::Display>(&self, why: &T) -> Result<Vec<u8>, AskFault> {
-        let text = format!(in self.alloc; "error {why}\n")?;
-        self.told(text.as_str())
+        let why = format!(in self.alloc; "{why}")?;
+        self.told(Reply::Refused(why.as_bytes()))
     }
 
-    /// Goes on by other accounts. What is left of a former era is dropped once the receivers go on.
+    /// Goes on by other accounts. What is left of the former ones and of a former era is dropped once the
+    /// receivers go on: a handle of the accounts is held until then.
     fn change_accounts(&self, config: Config) -> Result<Reloaded, ReloadFault> {
-        let change = self.change_to(config)?;
+        let accounts = self.state.lock(self.rt).config()?;
+        let change = self.change_to(&*accounts, config)?;
         let Changed { reloaded, former } = self.do_change(change)?;
         drop(former);
+        drop(accounts);
         Ok(reloaded)
     }
 
-    /// Makes ready what a change to other accounts wants.
-    fn change_to(&self, config: Config) -> Result<Change, ReloadFault>
+    /// Makes ready what a change from these accounts to other ones wants.
+    fn change_to(&self, former: &Config, config: Config) -> Result<Change, ReloadFault>
         ensures { IfOk result (λ change. IfSome change.counts
             (λ each. length each.items ≡ length self.now.board.places.items)) }
     {
-        let former = self.state.lock(self.rt).config()?;
         let config = Arc::new(self.alloc, config)?;
         let held = Arc::try_clone(&config)?;
-        let counts = if has_same_clients(self.alloc, &*former, &*config)? {
+        let counts = if has_same_clients(former, &*config) {
             None
         } else {
             Some(self.board.counts_for(self.alloc, config.clients())?)
         };
-        let boot = self.plan.boot;
-        let next = if is_same_era(self.alloc, &*former, &*config, boot)? {
+        let next = if is_same_era(former, &*config) {
             None
         } else {
             Some(self.next_era(&*config)?)
@@ -102,7 +104,7 @@ where
     }
 
     /// Makes the files of the era that these accounts begin.
-    fn next_era(&self, config: &Config) -> Result<NextEra, RollFault> {
+    fn next_era(&self, config: &Config) -> Result<NextEra<FileLog>, RollFault> {
         Ok(
             self.generations
                 .next_era(self.alloc, config, self.plan.boot)?,
@@ -135,21 +137,21 @@ where
     fn go_on_by(
         &self,
         config: Arc<Config>,
-        next: Option<NextEra>,
+        next: Option<NextEra<FileLog>>,
     ) -> Result<Changed<'a>, ReloadFault> {
         let mut state = self.state.lock(self.rt);
         let Some(next) = next else {
             let era = state.header().era;
-            if state.go_on(self.alloc, self.plan.boot, config)? {
-                return Ok(Changed {
-                    reloaded: Reloaded::GoesOn(era),
-                    former: None,
-                });
+            if !state.go_on(config) {
+                return Err(ReloadFault::Changed);
             }
-            return Err(ReloadFault::Changed);
+            return Ok(Changed {
+                reloaded: Reloaded::GoesOn(era),
+                former: None,
+            });
         };
-        let pacing = self.plan.pacing;
-        let entered = state.begin_era(self.alloc, self.generations, config, next, pacing)?;
+        let next = next.paced(self.plan.pacing);
+        let entered = state.begin_era(self.alloc, self.generations, config, next)?;
         Ok(Changed {
             reloaded: Reloaded::Begun(entered.change),
             former: Some(entered.former),

@@ -24,16 +24,12 @@ const SLEEPS: u64 = 5;
 const _: () = prove!(SLEEP_MILLIS * SLEEPS == 1_000);
 
 /// How many reports may wait to be written, but for refusals.
-const MOST_TOLD: usize = 64;
+pub(crate) const MOST_TOLD: usize = 64;
 
 impl<G, A, R: Wait> Server<'_, G, A, R> {
-    /// Has a report written, but for refusals. It is left out where `MOST_TOLD` reports wait, or
-    /// memory is refused.
+    /// Has a report written, but for refusals. It is left out where `MOST_TOLD` reports wait.
     pub(crate) fn tell(&self, told: Told) {
-        let mut waiting = self.told.lock(self.rt);
-        if waiting.len() < MOST_TOLD {
-            let _ = waiting.push(told);
-        }
+        let _ = self.told.lock(self.rt).try_push_back(told);
     }
 }
 
@@ -102,7 +98,7 @@ where
             if !writer.has_room() {
                 return false;
             }
-            let Some(told) = self.take_told() else {
+            let Some(told) = self.told.lock(self.rt).pop_front() else {
                 return true;
             };
             let _ = self.rt.eprint(ToldLine {
@@ -111,15 +107,6 @@ where
             });
         }
         true
-    }
-
-    /// Takes the report that has waited longest, but for refusals.
-    fn take_told(&self) -> Option<Told> {
-        let mut waiting = self.told.lock(self.rt);
-        if waiting.is_empty() {
-            return None;
-        }
-        Some(waiting.remove(0))
     }
 
     /// What the store shows, where that is wanted and memory is not refused.
@@ -142,14 +129,14 @@ where
             _ => None,
         };
         let mut line = Vec::new(self.alloc);
-        let written = refusal.write_line(self.alloc, &mut line, self.plan.sink, places);
+        let written = refusal.write_line(&mut line, self.plan.sink, places);
         written.is_ok() && self.write(writer, line.as_slice())
     }
 
     /// Writes how many refusals were left out, and gives whether that found room.
     fn report_left_out(&self, writer: &mut StderrWriter, left_out: &Counts) -> bool {
         let mut lines = Vec::new(self.alloc);
-        let written = write_left_out(self.alloc, &mut lines, self.plan.sink, left_out);
+        let written = write_left_out(&mut lines, self.plan.sink, left_out);
         written.is_ok() && self.write(writer, lines.as_slice())
     }
 

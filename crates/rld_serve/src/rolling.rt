@@ -62,8 +62,10 @@ where
     fn roll(&self) -> Result<(), RollFault> {
         let era = self.state.lock(self.rt).header().era;
         let next = self.generations.next_log(self.alloc, era)?;
+        let next = next.paced(self.plan.pacing);
         let mut state = self.state.lock(self.rt);
-        Ok(state.roll(self.alloc, self.generations, next, self.plan.pacing)?)
+        let _older = state.roll(self.alloc, self.generations, next)?;
+        Ok(())
     }
 
     /// Puts old logs away, and reports where that fails.

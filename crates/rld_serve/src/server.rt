@@ -1,7 +1,9 @@
 use crate::accounts::Accounts;
 use crate::current::Current;
+use crate::reporting::MOST_TOLD;
 use crate::rolling::Rolls;
 use crate::shared_recorder::SharedRecorder;
+use circular_buffer::HeapCircularBuffer;
 use rld_edges::{
     Control, Job, Readiness, RunFault, Shutdown, Sockets, Start, outcome_of, ports_of,
 };
@@ -62,7 +64,7 @@ pub(crate) struct Server<'a, G, A, R> {
     pub(crate) state: Mutex<ServerState<Store<PacedLog<'a, FileLog>>>>,
     pub(crate) board: Board,
     pub(crate) refusals: Refusals,
-    pub(crate) told: Mutex<Vec<Told>>,
+    pub(crate) told: Mutex<HeapCircularBuffer<Told>>,
     pub(crate) history: Mutex<History>,
     pub(crate) is_failing: AtomicBool,
     pub(crate) shutdown: Shutdown,
@@ -141,7 +143,7 @@ where
         state: Mutex::new(ServerState::new(store, config, plan.header)),
         board,
         refusals: Refusals::new(alloc, ports.len())?,
-        told: Mutex::new(Vec::new(alloc)),
+        told: Mutex::new(HeapCircularBuffer::with_capacity(alloc, MOST_TOLD)?),
         history: Mutex::new(history),
         is_failing: AtomicBool::new(false),
         shutdown: Shutdown::new(jobs.len()),
