@@ -13,7 +13,6 @@ mod ask;
 mod bad_file;
 mod check;
 mod command;
-mod endpoints;
 mod exit;
 mod fault;
 mod files;

@@ -1,44 +1,27 @@
 use crate::VERSION;
 use crate::accounts::ServerAccounts;
-use crate::endpoints::Endpoints;
 use crate::fault::Fault;
 use crate::files::{AccountFile, accounts_for, server_file};
 use crate::pace::pace_of;
 use crate::proof::proof_in;
 use crate::sink::sink_of;
-use rld_config::{Paths, ServerFile};
+use rld_config::Paths;
 use rld_folder::{Folder, FolderFault};
 use rld_log::{Pacing, Ticks};
-use rld_look::{Build, Sink};
-use rld_serve::{Plan, serve};
+use rld_look::Build;
+use rld_serve::{Control, Plan, RunFault, Sockets, serve};
 use rld_start::{FolderGenerations, StartFault, Started, start};
-use rsl_accounts::Config;
+use rld_web::Web;
+use rsl_event::Source;
+use rsl_port::socket_addr;
 use std::alloc::Global;
 use std::env::Env;
 use std::fs::{File, Files};
+use std::hash::RandomState;
 use std::net::{Net, TcpListener, TcpStream};
 use std::sync::Wait;
 use std::thread::Threads;
 use std::time::Clock;
-
-/// What a server is started with, besides its accounts.
-#[derive(Clone, Copy)]
-struct Given<'a> {
-    /// The name of the server's file.
-    name: &'a str,
-    /// What it says.
-    server: &'a ServerFile,
-    /// The paths of its files.
-    paths: &'a Paths,
-    /// Where it is reached.
-    endpoints: &'a Endpoints,
-    /// Which program runs.
-    build: Build,
-    /// Who reads standard error.
-    sink: Sink,
-    /// The present moment, in seconds since 1970.
-    now: u64,
-}
 
 /// Runs the server of this file until it is killed or cannot go on.
 ///
@@ -73,99 +56,81 @@ where
     };
     let server = server_file(rt, alloc, name)?;
     let paths = Paths::of(alloc, name, &server)?;
-    let AccountFile { config, .. } = accounts_for(
-        rt,
-        alloc,
-        name,
-        &server,
-        paths.accounts.as_str(),
-    )?;
-    check_free(rt, alloc, paths.state.as_str())?;
-    let endpoints = Endpoints::bind(rt, files, alloc, &server, &paths)?;
-    let given = Given {
+    let path = paths.accounts.as_str();
+    let AccountFile { config, .. } = accounts_for(rt, alloc, name, &server, path)?;
+    let state = paths.state.as_str();
+    check_free(rt, alloc, state)?;
+    let sockets = Sockets::bind(rt, alloc, server.listens.as_slice())?;
+    let web = web_of(rt, files, alloc, server.web)?;
+    let control = match Control::bind(rt, paths.control.as_str()) {
+        Ok(control) => control,
+        Err(_) => return Err(Fault::Control(String::from_str(alloc, paths.control.as_str())?)),
+    };
+    let ticks = Ticks::new();
+    let pacing = Pacing {
+        pace: pace_of(server.sync),
+        ticks: &ticks,
+    };
+    let started = start(rt, alloc, &config, state, now, pacing)?;
+    let greeting = started.found.greeting(alloc)?;
+    let Started {
+        folder,
+        store,
+        boot,
+        header,
+        ..
+    } = started;
+    let generations = FolderGenerations::new(files, folder, server.archive);
+    let accounts = ServerAccounts {
+        files,
         name,
         server: &server,
-        paths: &paths,
-        endpoints: &endpoints,
-        build,
-        sink,
-        now,
+        path,
     };
-    given.serve(rt, files, alloc, config)
+    let plan = Plan {
+        build,
+        networks: server.networks.as_slice(),
+        boot,
+        start: now,
+        pacing,
+        header,
+        greeting: greeting.as_str(),
+        sink,
+    };
+    Ok(serve(
+        rt,
+        files,
+        alloc,
+        plan,
+        config,
+        &sockets,
+        &control,
+        web.as_ref(),
+        &generations,
+        &accounts,
+        store,
+    )?)
 }
 
-impl Given<'_> {
-    /// Goes on from the state folder with these accounts, until the server is killed or cannot go on.
-    fn serve<R>(
-        &self,
-        rt: &R,
-        files: &HostRuntime,
-        alloc: Global,
-        config: Config,
-    ) -> Result<(), Fault>
-    where
-        R: Files<File = File>
-            + Net<Listener = TcpListener, Stream = TcpStream>
-            + Alloc<A = Global>
-            + Clone
-            + Drop
-            + Eprint
-            + Clock
-            + Threads
-            + Wait
-            + Sync,
-    {
-        let ticks = Ticks::new();
-        let pacing = Pacing {
-            pace: pace_of(self.server.sync),
-            ticks: &ticks,
-        };
-        let started = start(
-            rt,
-            alloc,
-            &config,
-            self.paths.state.as_str(),
-            self.now,
-            pacing,
-        )?;
-        let greeting = started.found.greeting(alloc)?;
-        let Started {
-            folder,
-            store,
-            boot,
-            header,
-            ..
-        } = started;
-        let generations = FolderGenerations::new(files, folder, self.server.archive);
-        let accounts = ServerAccounts {
-            files,
-            name: self.name,
-            server: self.server,
-            path: self.paths.accounts.as_str(),
-        };
-        let plan = Plan {
-            build: self.build,
-            networks: self.server.networks.as_slice(),
-            boot,
-            start: self.now,
-            pacing,
-            header,
-            greeting: greeting.as_str(),
-            sink: self.sink,
-        };
-        Ok(serve(
-            rt,
-            files,
-            alloc,
-            plan,
-            config,
-            &self.endpoints.sockets,
-            &self.endpoints.control,
-            self.endpoints.web.as_ref(),
-            &generations,
-            &accounts,
-            store,
-        )?)
+/// Where the server is shown, if its file says so. `Unbound` comes where the address and port
+/// cannot be bound.
+fn web_of<N: Net<Listener = TcpListener, Stream = TcpStream>>(
+    net: &N,
+    source: &HostRuntime,
+    alloc: Global,
+    web: Option<rld_config::Web>,
+) -> Result<Option<Web>, Fault> {
+    let Some(web) = web else {
+        return Ok(None);
+    };
+    let address = web.address;
+    let port = web.port;
+    match Web::bind(net, alloc, RandomState::new(source)?, address, port) {
+        Ok(web) => Ok(Some(web)),
+        Err(_) => {
+            let address = socket_addr(Source { address, port });
+            Err(Fault::Run(RunFault::Unbound(address)))
+        }
     }
 }
 
