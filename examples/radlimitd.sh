@@ -76,6 +76,8 @@ refused() {
 }
 
 install -m 600 "$top/examples/with-radclient.toml" "$folder/accounts.toml"
+# a request is sent again some steps later, on a slow machine too
+sed -i 's/^keep_secs = .*/keep_secs = 60/' "$folder/accounts.toml"
 read -r source _ < <(free_ports)
 # another program may take a port in between
 start_first || start_first || start_first || {
