@@ -155,10 +155,6 @@ links_more next rules links i link had new within is so_far this =
     ∙ ap (λ l. placed rules [] (links_on next l)) (sym (saved_push (take i links) link))
     ∙ ap (λ l. placed rules [] (links_on next (saved_links l))) (sym (next_is links i link within is))
 
-pub links_all : (next : Next) (rules : Rules) (links : List SavedLink) (i : ℕ) → length links ≤ i
-    → placed rules [] (links_on next (saved_links (take i links))) ≡ placed rules [] (links_on next (saved_links links))
-links_all next rules links i past = ap (λ l. placed rules [] (links_on next (saved_links l))) (take_all i links past)
-
 pub asks_more : (next : Next) (asks : List KeptAsk) (i : ℕ) (ask : KeptAsk) (had new : List KeptAsk) → i < length asks → ask ≡ get_or asks i ask
     → had ≡ asks_on next (take i asks) → new ≡ had ++ asks_on next (ask ∷ []) → new ≡ asks_on next (take (i + 1) asks)
 unfolding asks_on

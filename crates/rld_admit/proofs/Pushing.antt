@@ -40,12 +40,6 @@ none_past (x ∷ xs) zero none = absurd (some none)
 none_past (x ∷ xs) (suc i) none = omega (arith, none_past xs i none)
 
 module _ (numbers : List (Option ℕ)) (old : Configuration) (held : List BooksSeen) (new : Configuration) (shard : ℕ) where
-  pub none_begun : (before : List Book) → AreBegun numbers old held new shard before before shard
-  none_begun before = record {
-    index = 0;
-    at = omega arith;
-    books = sym (append-nil before);
-    within = λ i less. absurd (omega (arith, less));
   }
 
   -- and that of this one

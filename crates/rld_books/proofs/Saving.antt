@@ -3,7 +3,7 @@ use Rattle.std.proofs.Common.{◌≡◌, ℕ, ◌+◌, ◌%◌, ◌<◌, ◌≤�
 use Rattle.std.specs.Prelude.{slice_get}
 use Rattle.std.specs.List.{flat_map, range_with_len}
 use Rattle.std.specs.Option.{option_and_then, option_map}
-use Rattle.std.proofs.lemmas.List.{length-map, map-append, take_all, take_more}
+use Rattle.std.proofs.lemmas.List.{length-map, map-append, take_more}
 use Rattle.std.proofs.lemmas.List.Concat.{flat_map-append}
 use Rattle.std.proofs.lemmas.List.FromFn.{map-range_with_len_more}
 use Rattle.std.proofs.lemmas.Option.{slice_get-map, slice_get_read}
@@ -32,15 +32,6 @@ flat_more : {A B : Type 0} (f : A → List B) (xs : List A) (at : ℕ) (x : A) �
 flat_more f xs at x within is =
     ap (flat_map f) (take_more xs at x within) ∙ flat_map-append f (take at xs) (get_or xs at x ∷ [])
     ∙ ap (λ l. flat_map f (take at xs) ++ l) (append-nil (f (get_or xs at x)) ∙ ap f (sym is))
-
--- with what is had of one shard more
-pub one_shard_more : {X B : Type 0} (g : X → B) (f : BooksSeen → List B) (shards : List BooksSeen) (at : ℕ) (shard : BooksSeen) (had more all : List X) → at < length shards → shard ≡ get_or shards at shard
-    → map g had ≡ flat_map f (take at shards) → map g more ≡ f shard → all ≡ had ++ more → map g all ≡ flat_map f (take (at + 1) shards)
-one_shard_more g f shards at shard had more all within is so_far this are =
-    ap (map g) are ∙ map-append g had more ∙ ap (λ l. l ++ map g more) so_far ∙ ap (λ l. flat_map f (take at shards) ++ l) this ∙ sym (flat_more f shards at shard within is)
-
-pub all_shards : {B : Type 0} (f : BooksSeen → List B) (shards : List BooksSeen) (at : ℕ) → length shards ≤ at → flat_map f (take at shards) ≡ flat_map f shards
-all_shards f shards at past = ap (flat_map f) (take_all at shards past)
 
 -- ---- of which configuration the books are
 
@@ -116,16 +107,6 @@ pub one_server : (config : Configuration) (a b : List BooksSeen) → IsServerOf 
 one_server config a b of_a of_b books = same_server a b (of_a ∙ sym of_b) books
 
 -- ---- what is put back
-
--- a book more is put back
-pub book_back : (books all : List RuledBook) (left rest kept : List SavedBook) (book : RuledBook) (first : SavedBook) → map saved books ++ map saved_book left ≡ map saved_book kept → left ≡ first ∷ rest
-    → saved book ≡ saved_book first → all ≡ books ++ book ∷ [] → map saved all ++ map saved_book rest ≡ map saved_book kept
-book_back books all left rest kept book first so is same are =
-    ap (λ (l : List RuledBook). map saved l ++ map saved_book rest) are
-    ∙ ap (λ (l : List Book). l ++ map saved_book rest) (map-append saved books (book ∷ []))
-    ∙ append_assoc (map saved books) (saved book ∷ []) (map saved_book rest)
-    ∙ ap (λ (b : Book). map saved books ++ b ∷ map saved_book rest) same
-    ∙ ap (λ (l : List SavedBook). map saved books ++ map saved_book l) (sym is) ∙ so
 
 -- and a shard more
 pub shard_back : (shards all : List BooksSeen) (left rest kept : List SavedBook) (shard : BooksSeen) (books : List RuledBook) → saved_server shards ++ map saved_book left ≡ map saved_book kept

@@ -1,5 +1,5 @@
 -- The first table that has what one before it has, as a loop over the tables finds it.
-use Rattle.std.proofs.Common.{◌≡◌, ℕ, ◌+◌, ◌<◌, List, length, get_or, take, drop, Option, None, Some, ◌∙◌}
+use Rattle.std.proofs.Common.{◌≡◌, ℕ, ◌+◌, ◌<◌, List, length, get_or, take, drop, Option, ◌∙◌}
 use Rattle.std.proofs.lemmas.List.{take_more, drop_more}
 use Rattle.rld_config.specs.declared.fault.ServerFault.{ServerFault}
 use Rattle.rld_config.specs.Server.{first_of, first_taken}
@@ -7,11 +7,3 @@ use Rattle.rld_config.specs.Server.{first_of, first_taken}
 module _ {T : Type 0} (taken : List T → T → Option ServerFault) (xs : List T) (i : ℕ) (x : T) (within : i < length xs) (is : x ≡ get_or xs i x) where
   here : first_taken taken (take i xs) (drop i xs) ≡ first_of (taken (take i xs) x) (first_taken taken (take (i + 1) xs) (drop (i + 1) xs))
   here = rw (drop_more xs i x within, take_more xs i x within, ← is)
-
-  -- a table that has nothing of those before it changes nothing for those after it
-  pub nothing_taken : None ≡ taken (take i xs) x → first_taken taken (take i xs) (drop i xs) ≡ first_taken taken (take (i + 1) xs) (drop (i + 1) xs)
-  nothing_taken free = here ∙ rw (← free)
-
-  -- and the first that has is the fault of all
-  pub something_taken : (fault : ServerFault) → Some fault ≡ taken (take i xs) x → first_taken taken (take i xs) (drop i xs) ≡ Some fault
-  something_taken fault found = here ∙ rw (← found)

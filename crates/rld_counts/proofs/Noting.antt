@@ -1,8 +1,8 @@
 -- Laws of a cell.
-use Rattle.std.proofs.Common.{◌≡◌, ℕ, ◌+◌, ◌<◌, Bool, true, false, cond, eqb, List, [], ◌∷◌, ◌++◌, length, get_or, set, map, append-nil, ◌≤◌, Option, Some, None, sym, refl, ap, subst, ◌∙◌, arith, inl, inr}
+use Rattle.std.proofs.Common.{◌≡◌, ℕ, ◌+◌, ◌<◌, Bool, true, false, cond, List, [], ◌∷◌, ◌++◌, length, get_or, set, map, append-nil, ◌≤◌, Option, Some, None, sym, refl, ap, subst, ◌∙◌, arith, inl, inr}
 use Rattle.std.specs.List.{filter, filter_map}
-use Rattle.std.proofs.lemmas.Bool.{cases_eq, cases_lt, eq-eqb, ne_eqb}
-use Rattle.std.proofs.lemmas.List.{get_or_append_left, get_or-set_same, get_or-set_other, length-set, length_push}
+use Rattle.std.proofs.lemmas.Bool.{cases_eq, cases_lt}
+use Rattle.std.proofs.lemmas.List.{get_or_append_left, get_or-set_same, get_or-set_other, length_push}
 use Rattle.std.proofs.Math.Seq.{get_or-append_seam}
 use Rattle.std.proofs.lemmas.List.Elements.{filter_map-append}
 use Rattle.std.specs.List.{cons_option}
@@ -29,11 +29,6 @@ ends_of_append client xs ys =
     ap (map (λ one. one.end)) (filter_append (λ one. is_of client one.client) xs ys)
     ∙ ends_append (filter (λ one. is_of client one.client) xs) (filter (λ one. is_of client one.client) ys)
 
-more_ends : (client : ℕ) (all : List Ended) (ended : Ended) → is_of client ended.client ≡ true → ends_of client (all ++ ended ∷ []) ≡ ends_of client all ++ ended.end ∷ []
-more_ends client all ended is =
-    ends_of_append client all (ended ∷ [])
-    ∙ ap (λ (b : Bool). ends_of client all ++ map (λ one. one.end) (cond b (ended ∷ []) [])) is
-
 same_ends : (client : ℕ) (all : List Ended) (ended : Ended) → is_of client ended.client ≡ false → ends_of client (all ++ ended ∷ []) ≡ ends_of client all
 same_ends client all ended is =
     ends_of_append client all (ended ∷ [])
@@ -44,31 +39,6 @@ same_ends client all ended is =
 pub none_counted : (all : List Ended) (ended : Ended) (clients : List (List ℕ)) → ended.client ≡ None → AreCounted all clients → AreCounted (all ++ ended ∷ []) clients
 none_counted all ended clients none counted client below =
     counted client below ∙ ap counts_of (sym (same_ends client all ended (ap (is_of client) none)))
-
--- one of a client that is not among them
-pub other_counted : (all : List Ended) (ended : Ended) (clients : List (List ℕ)) (one : ℕ) → ended.client ≡ Some one → length clients ≤ one → AreCounted all clients → AreCounted (all ++ ended ∷ []) clients
-other_counted all ended clients one is above counted client below =
-    let no : eqb one client ≡ false = ne_eqb one client (λ e. omega arith) in
-    counted client below ∙ ap counts_of (sym (same_ends client all ended (ap (is_of client) is ∙ no)))
-
--- one of a client that is among them
-pub client_counted : (all : List Ended) (ended : Ended) (old new : List (List ℕ)) (one : ℕ) (counts : List ℕ) → ended.client ≡ Some one → one < length old
-    → ((ends : List End) → get_or old one [] ≡ counts_of ends → counts ≡ counts_of (ends ++ ended.end ∷ []))
-    → new ≡ set old one counts → AreCounted all old → AreCounted (all ++ ended ∷ []) new
-client_counted all ended old new one counts is in_old noted made counted client below =
-    let len : length new ≡ length old = ap length made ∙ length-set old one counts in
-    let in_clients : client < length old = omega arith in
-    elim (cases_eq one client) [
-      | inl same ↦
-          let now : get_or new client [] ≡ counts =
-          ap (λ (l : List (List ℕ)). get_or l client []) made ∙ ap (λ (j : ℕ). get_or (set old one counts) j []) (sym same) ∙ get_or-set_same old one counts [] in_old in
-          let was : get_or old one [] ≡ counts_of (ends_of client all) = ap (λ (j : ℕ). get_or old j []) same ∙ counted client in_clients in
-          now ∙ noted (ends_of client all) was ∙ ap counts_of (sym (more_ends client all ended (ap (is_of client) is ∙ eq-eqb one client same)))
-      | inr other ↦
-          let now : get_or new client [] ≡ get_or old client [] =
-          ap (λ (l : List (List ℕ)). get_or l client []) made ∙ get_or-set_other old one client counts [] (λ e. other (sym e)) in
-          now ∙ counted client in_clients ∙ ap counts_of (sym (same_ends client all ended (ap (is_of client) is ∙ ne_eqb one client other)))
-    ]
 
 -- ---- times
 

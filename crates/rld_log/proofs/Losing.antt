@@ -20,10 +20,6 @@ goes_on synced made more step ending before left is reached takes =
     subst (λ (l : List Step). reaches synced l ending left) (sym is)
     (subst (λ (l : List Step). Reaches ending synced l left) (sym (reverse-append made (step ∷ []))) (before, reached, takes))
 
--- a whole append is one that a crash may cut short
-pub as_append : (tears : List ℕ → List ℕ → Type 0) (octets old new : List ℕ) → new ≡ old ++ octets → Appends tears octets old new
-as_append tears octets old new is = record { tail = octets; added = is; torn = inl refl }
-
 -- nothing of an append may be left
 pub nothing : (octets old : List ℕ) → Appends Shortens octets old old
 nothing [] old = record { tail = []; added = sym (append-nil old); torn = inl refl }

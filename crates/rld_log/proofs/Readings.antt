@@ -1,5 +1,5 @@
 -- A file is read in one way.
-use Rattle.std.proofs.Common.{◌≡◌, ℕ, ◌+◌, List, [], ◌∷◌, ◌++◌, length, take, refl, sym, ◌∙◌, ap, subst, arith, append_assoc, length-append}
+use Rattle.std.proofs.Common.{◌≡◌, ℕ, ◌+◌, List, [], ◌∷◌, ◌++◌, length, take, refl, sym, ◌∙◌, ap, subst, arith, append_assoc}
 use Rattle.std.specs.List.{flat_map, AllByRecursion}
 use Rattle.std.proofs.lemmas.List.{append-nil, take_at}
 use Rattle.std.proofs.lemmas.List.Concat.{flat_map-append}
@@ -63,16 +63,9 @@ all_fit_more = fits_more
 pub frames_more : (ps : List (List ℕ)) (p : List ℕ) → frames (ps ++ p ∷ []) ≡ frames ps ++ frame p
 frames_more ps p = flat_map-append frame ps (p ∷ []) ∙ ap (λ (l : List ℕ). frames ps ++ l) (append-nil (frame p))
 
--- before the first frame
-pub passed_none : (octets : List ℕ) → HasPassed octets [] octets
-passed_none octets = record { parts = refl; fit = tt }
-
 -- one frame more was passed
 pub pass_one : (octets rest after payload : List ℕ) (ps : List (List ℕ)) → HasPassed octets ps rest → Fits payload → rest ≡ frame payload ++ after → HasPassed octets (ps ++ payload ∷ []) after
 pass_one octets rest after payload ps passed fits is = record {
   parts = passed.parts ∙ ap (λ (x : List ℕ). frames ps ++ x) is ∙ sym (append_assoc (frames ps) (frame payload) after) ∙ ap (λ (x : List ℕ). x ++ after) (sym (frames_more ps payload));
   fit = fits_more ps payload passed.fit fits;
 }
-
-pub passed_size : (octets rest : List ℕ) (ps : List (List ℕ)) (len : ℕ) → HasPassed octets ps rest → len + length rest ≡ length octets → len ≡ length (frames ps)
-passed_size octets rest ps len passed size = omega (arith, size, ap length passed.parts, length-append (frames ps) rest)

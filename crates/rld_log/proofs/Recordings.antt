@@ -96,10 +96,6 @@ settled_leaves seen new old may_leave before payload ending fits settled is only
 pub cut_behind : (seen : List ℕ) (before : List (List ℕ)) (len : ℕ) → len ≡ length (frames before) → Extends (frames before) seen → take len seen ≡ frames before
 cut_behind seen before len is more = ap (λ (x : List ℕ). take len x) more.added ∙ take_at (frames before) more.tail len (sym is)
 
-pub cut_front : (seen new : List ℕ) (before : List (List ℕ)) (len : ℕ) → len ≡ length (frames before) → Extends (frames before) seen → Cuts len seen new → Extends (frames before) new
-cut_front seen new before len is more (inl same) = subst (λ (f : List ℕ). Extends (frames before) f) (sym same) more
-cut_front seen new before len is more (inr cut) = record { tail = []; added = cut ∙ cut_behind seen before len is more ∙ sym (append-nil (frames before)) }
-
 -- a crash in that cut leaves either list of payloads, as before it
 either_extends : (file : List ℕ) (before : List (List ℕ)) (payload : List ℕ) → IsBeforeOrAfter before payload file → Extends (frames before) file
 either_extends file before payload (inl has) = record { tail = has.tail; added = has.parts }

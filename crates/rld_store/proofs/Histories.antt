@@ -13,7 +13,7 @@ use Rattle.rld_log.proofs.Callers.{ends_there, have_one_reading}
 use Rattle.rld_spelling.specs.declared.header.Header.{Header}
 use Rattle.rld_spelling.specs.declared.moves.Counts.{Counts}
 use Rattle.rld_store.specs.Generations.{AreOfHistory, HasHistory, IsUnbegun, counts_of}
-use Rattle.rld_store.specs.Opening.{IsFound, IsFoundIn, IsOfNoLog, IsWhy, IsWhyUnread, LeavesAsItWas}
+use Rattle.rld_store.specs.Opening.{IsFound, IsFoundIn}
 use Rattle.rld_store.specs.Standing.{StandsFor}
 use Rattle.rld_store.specs.declared.fault.StoreFault.{StoreFault}
 use Rattle.rld_store.specs.declared.fault.StoreFault.TheVariants as faults
@@ -50,25 +50,6 @@ pub ends_whole : (file octets : List ℕ) (len : ℕ) (before : List (List ℕ))
 ends_whole file octets len before is ends has = ends_there file len before (subst (λ (f : List ℕ). EndsAt f len) is ends) has
 
 -- ---- faults
-
-pub left_as_it_was : (fault : StoreFault) (old new : List ℕ) (old_outcomes new_outcomes : Ending → List ℕ → Type 0) → IsOfNoLog fault → new ≡ old → NoMore old_outcomes new_outcomes
-    → LeavesAsItWas fault old new old_outcomes new_outcomes
-left_as_it_was (faults.Log fault) old new old_outcomes new_outcomes other same fewer = tt
-left_as_it_was _ old new old_outcomes new_outcomes other same fewer = (same, fewer)
-
--- why a log was refused, by why its payloads were not read
-pub why_refused : (counts : Counts) (file : List ℕ) (payloads : List (List ℕ)) (fault : StoreFault) → HasPayloads file payloads → IsWhyUnread counts payloads fault → IsWhy counts file fault
-why_refused counts file payloads faults.Unbegun has why = record { payloads = payloads; has = has; few = why }
-why_refused counts file payloads (faults.Malformed malformed) has why = (payloads, (has, why))
-why_refused counts file payloads (faults.Misfit offset fault) has why = (payloads, (has, why))
-why_refused counts file payloads (faults.Foreign offset) has why = (payloads, (has, why))
-why_refused counts file payloads (faults.Damaged damage) has why = absurd why
-why_refused counts file payloads (faults.Log fault) has why = absurd why
-why_refused counts file payloads _ has why = tt
-
-pub of_no_log : (counts : Counts) (payloads : List (List ℕ)) (fault : StoreFault) → IsWhyUnread counts payloads fault → IsOfNoLog fault
-of_no_log counts payloads (faults.Log fault) why = absurd why
-of_no_log counts payloads _ why = tt
 
 -- ---- the history of a log that was opened
 

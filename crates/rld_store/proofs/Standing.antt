@@ -5,8 +5,8 @@ use Rattle.rsl_shard.specs.Restep.{BooksSeen}
 use Rattle.rsl_shard.specs.declared.moved.Move.{Move}
 use Rattle.rld_books.specs.Server.{replay}
 use Rattle.rld_log.specs.Frames.{Fits, HasPayloads, frames}
-use Rattle.rld_log.specs.Log.{Extends, Premise}
-use Rattle.rld_log.specs.Recording.{IsBeforeOrAfter, IsSettled, LeavesEither}
+use Rattle.rld_log.specs.Log.{Extends}
+use Rattle.rld_log.specs.Recording.{IsBeforeOrAfter, LeavesEither}
 use Rattle.rld_log.specs.declared.log.Ending.{Ending}
 use Rattle.rld_log.proofs.Callers.{whole_has}
 use Rattle.rld_spelling.specs.Moves.{moves_field}
@@ -29,50 +29,9 @@ still_unsettled tears seen new old may_leave payloads unanswered so front leaves
   left = λ ending premise. leaves ending (so.left ending premise);
 }
 
--- recording that failed
-pub now_unsettled : (tears : List ℕ → List ℕ → Type 0) (seen new : List ℕ) (old may_leave : Ending → List ℕ → Type 0) (payloads : List (List ℕ)) (payload : List ℕ)
-    → IsSettled seen old payloads → Extends seen new → ((ending : Ending) → Premise tears ending → LeavesEither (may_leave ending) payloads payload) → IsUnsettled tears new may_leave payloads payload
-now_unsettled tears seen new old may_leave payloads payload settled front leaves = record {
-  fit = settled.fit;
-  front = subst (λ (f : List ℕ). Extends f new) settled.whole front;
-  left = leaves;
-}
-
 -- ---- what a store stands for
 
 module _ (config : Configuration) (opening : List BooksSeen) (tears : List ℕ → List ℕ → Type 0) where
-  -- a call that kept the history and what was not answered
-  pub stands_still : (counts same_counts : Counts) (end now : End) (seen new : List ℕ) (old may_leave : Ending → List ℕ → Type 0) (whole size : ℕ) (books made : List BooksSeen) (history unanswered : List Move)
-      → StandsFor config opening counts tears end seen old whole books history unanswered → same_counts ≡ counts → size ≡ whole → made ≡ books
-      → ((before : List (List ℕ)) (payload : List ℕ) → whole ≡ length (frames before) → EndsSo end tears seen old before payload → EndsSo now tears new may_leave before payload)
-      → StandsFor config opening same_counts tears now new may_leave size made history unanswered
-  stands_still counts same_counts end now seen new old may_leave whole size books made history unanswered so counted same made_is ends =
-      subst (λ (c : Counts). StandsFor config opening c tears now new may_leave size made history unanswered) (sym counted) (record {
-        counts_are = so.counts_are;
-        payloads = so.payloads;
-        are = so.are;
-        unanswered_fits = so.unanswered_fits;
-        size = same ∙ so.size;
-        ends = ends so.payloads ((moves_field counts).spell unanswered) so.size so.ends;
-        replayed = made_is ∙ so.replayed;
-      })
-
-  -- a call that failed as it recorded a batch
-  pub stands_unanswered : (counts same_counts : Counts) (end : End) (seen new : List ℕ) (old may_leave : Ending → List ℕ → Type 0) (whole size : ℕ) (books made : List BooksSeen) (history unanswered batch : List Move) (payload : List ℕ)
-      → StandsFor config opening counts tears end seen old whole books history unanswered → same_counts ≡ counts → size ≡ whole → made ≡ books → payload ≡ (moves_field counts).spell batch → (moves_field counts).Fits batch
-      → ((before : List (List ℕ)) (other : List ℕ) → whole ≡ length (frames before) → EndsSo end tears seen old before other → EndsSo Unsettled tears new may_leave before payload)
-      → StandsFor config opening same_counts tears Unsettled new may_leave size made history batch
-  stands_unanswered counts same_counts end seen new old may_leave whole size books made history unanswered batch payload so counted same made_is is fit ends =
-      subst (λ (c : Counts). StandsFor config opening c tears Unsettled new may_leave size made history batch) (sym counted) (record {
-        counts_are = so.counts_are;
-        payloads = so.payloads;
-        are = so.are;
-        unanswered_fits = fit;
-        size = same ∙ so.size;
-        ends = subst (λ (p : List ℕ). EndsSo Unsettled tears new may_leave so.payloads p) is (ends so.payloads ((moves_field counts).spell unanswered) so.size so.ends);
-        replayed = made_is ∙ so.replayed;
-      })
-
   -- a call that recorded a batch and made it
   pub stands_more : (counts same_counts : Counts) (end : End) (seen new : List ℕ) (old may_leave : Ending → List ℕ → Type 0) (whole size : ℕ) (books made : List BooksSeen) (history unanswered batch : List Move) (payload : List ℕ)
       → StandsFor config opening counts tears end seen old whole books history unanswered → same_counts ≡ counts → Fits payload → size ≡ whole + (20 + length payload) → made ≡ replay books batch

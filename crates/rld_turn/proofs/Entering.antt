@@ -83,19 +83,6 @@ gathered_more service port moment Told Tells len peer received buffer entry take
           ∙ ap (λ (q : List PeerDatagram). q ++ one ∷ []) (so_far.told (tells t)) ∙ append_assoc taken_old so_far.taken (one ∷ []);
     })
 
--- none more was
-pub gathered_all : (service : ServiceSeen) (port : Port) (moment : ℕ) (Told Tells : Type 0)
-    (received : Received) (buffer : List ℕ) (taken_old taken_mid taken_new : List PeerDatagram) (queue : List Entry) (batch : List Move)
-    → taken_by received buffer ≡ [] → (Tells → Told)
-    → HasGathered service port moment Told taken_old taken_mid queue batch
-    → (Tells → taken_new ≡ taken_mid ++ taken_by received buffer)
-    → HasGathered service port moment Tells taken_old taken_new queue batch
-gathered_all service port moment Told Tells received buffer taken_old taken_mid taken_new queue batch none tells so_far taken = record {
-  taken = so_far.taken;
-  entered = so_far.entered;
-  told = λ t. taken t ∙ ap (λ (q : List PeerDatagram). taken_mid ++ q) none ∙ append-nil taken_mid ∙ so_far.told (tells t);
-}
-
 -- ---- what is kept of a batch
 
 -- the batch goes on with what it had

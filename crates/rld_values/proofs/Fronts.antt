@@ -1,5 +1,5 @@
 -- What is read at the front of a text, and what is left.
-use Rattle.std.proofs.Common.{◌≡◌, ◌≢◌, ℕ, ◌+◌, ◌-◌, ◌<◌, ◌≤◌, ◌==◌, List, [], ◌∷◌, ◌++◌, length, take, drop, get_or, Bool, true, false, Option, Some, None, refl, sym, ap, ◌∙◌, append_assoc, arith, length-drop}
+use Rattle.std.proofs.Common.{◌≡◌, ◌≢◌, ℕ, ◌+◌, ◌-◌, ◌<◌, ◌≤◌, ◌==◌, List, [], ◌∷◌, ◌++◌, length, take, drop, get_or, Bool, true, false, Option, Some, None, refl, sym, ap, ◌∙◌, arith, length-drop}
 use Rattle.std.specs.Option.{option_map}
 use Rattle.std.proofs.lemmas.Bool.Decides.{nat_tests}
 use Rattle.std.proofs.lemmas.List.{append-nil, length-take, take_all}
@@ -157,29 +157,6 @@ no_digits digits some is =
 -- octets before those that are read of the rest, if it can be read
 abbrev pub onto : List ℕ → Option (List ℕ) → Option (List ℕ)
 onto octets found = option_map (λ more. octets ++ more) found
-
-pub onto_none : (found : Option (List ℕ)) → onto [] found ≡ found
-onto_none None = refl
-onto_none (Some more) = refl
-
-onto_before : (octets : List ℕ) (octet : ℕ) (found : Option (List ℕ))
-    → onto octets (before (Some octet) found) ≡ onto (octets ++ octet ∷ []) found
-onto_before octets octet None = refl
-onto_before octets octet (Some more) = ap Some (sym (append_assoc octets (octet ∷ []) more))
-
--- one octet more is read
-pub onto_more : (read : List ℕ → Option (List ℕ)) (octets new text behind : List ℕ) (octet : ℕ) (all : Option (List ℕ))
-    → new ≡ octets ++ octet ∷ [] → HasFront read text octet behind → onto octets (read text) ≡ all
-    → onto new (read behind) ≡ all
-onto_more read octets new text behind octet all pushed has so =
-    ap (λ (some : List ℕ). onto some (read behind)) pushed
-    ∙ sym (onto_before octets octet (read behind))
-    ∙ sym (ap (onto octets) has.reads)
-    ∙ so
-
--- nothing can be read there
-pub onto_bad : (octets : List ℕ) (found all : Option (List ℕ)) → found ≡ None → onto octets found ≡ all → None ≡ all
-onto_bad octets found all bad so = sym (ap (onto octets) bad) ∙ so
 
 -- nothing is left
 pub onto_all : (read : List ℕ → Option (List ℕ)) (octets text : List ℕ) (all : Option (List ℕ))

@@ -30,15 +30,6 @@ tables_of-array f (boolean x) values is = cc
 tables_of-array f (datetime x) values is = cc
 tables_of-array f (table x) values is = cc
 
-pub tables_of-other : (f : Field) (value : Data) → as_array value ≡ None → tables_of f value ≡ None
-tables_of-other f (array found) is = cc
-tables_of-other f (string x) is = refl
-tables_of-other f (integer x) is = refl
-tables_of-other f (float x) is = refl
-tables_of-other f (boolean x) is = refl
-tables_of-other f (datetime x) is = refl
-tables_of-other f (table x) is = refl
-
 module _ (f : Field) (values : List Value) where
   abbrev pub are_all : Bool
   are_all = list_all (λ value. is_some (as_table (view value))) values

@@ -19,7 +19,7 @@ use Rattle.rsl_session.proofs.Callers.{length-le-places}
 use Rattle.rsl_book.specs.declared.book.Book.TheInside.{Inside}
 use Rattle.rsl_links.specs.declared.links.Links.{Links}
 use Rattle.rsl_links.specs.declared.link.Link.{Link}
-use Rattle.rsl_links.specs.declared.link.Holder.TheVariants.{Reserved as LinkReserved, Bound as LinkBound}
+use Rattle.rsl_links.specs.declared.link.Holder.TheVariants.{Reserved as LinkReserved}
 use Rattle.rsl_book.specs.declared.kept.Kept.{Kept}
 use Rattle.rsl_book.specs.declared.kept.DecidedAsk.{DecidedAsk}
 use Rattle.rsl_book.specs.declared.kept.EndedSession.{EndedSession}
@@ -157,12 +157,6 @@ pub reserved_seen : (servers : List Nas) (nas number touched : ℕ) (at : Nas) �
 unfolding link_seen
 reserved_seen servers nas number touched at stands = rw stands refl
 
-pub bound_seen : (servers : List Nas) (nas touched : ℕ) (id : List ℕ) (bundle : Option (List ℕ)) (at : Nas) → server_at servers nas ≡ at
-    → (let link : Link = record { nas = nas; holder = LinkBound id; bundle = bundle; touched = touched } in
-    let seen : BookLink = record { nas = at; holder = Bound (record { nas = at; id = id }); bundle = bundle_with at bundle; touched = touched } in link_seen servers link ≡ seen)
-unfolding link_seen
-bound_seen servers nas touched id bundle at stands = rw stands refl
-
 pub as_saved_seen : (servers : List Nas) (nas touched : ℕ) (holder : LinkHolder) (bundle : Option (List ℕ)) (at : Nas) → server_at servers nas ≡ at
     → (let link : Link = record { nas = nas; holder = holder; bundle = bundle; touched = touched } in
     let seen : BookLink = record { nas = at; holder = holder_at at holder; bundle = bundle_with at bundle; touched = touched } in link_seen servers link ≡ seen)
@@ -238,11 +232,6 @@ length-asks servers asks = length-map asks (ask_seen servers)
 pub length-stops : (servers : List Nas) (stops : List (Kept EndedSession)) → length (stops_seen servers stops) ≡ length stops
 unfolding stops_seen
 length-stops servers stops = length-map stops (stop_seen servers)
-
-pub over_value : (book : Inside) (over : ℕ) → over ≡ min (book.over + 1) (2 ^ 64 - 1)
-    → (let one : RuledBook = record { rules = book.rules; book = record (running book) { over = over } } in
-    let other : RuledBook = record { rules = book.rules; book = record (running book) { over = min (book.over + 1) (2 ^ 64 - 1) } } in one ≡ other)
-over_value book over is = rw is refl
 
 pub few_after : (servers : List Nas) (book : Inside) (links : Links) (n : ℕ) → IsSound book → AreCounted servers links → links.places ≤ book.links.places → links.ports ≡ book.links.ports → n ≡ length links.list.items
     → n + book.asks.capacity + book.stops.capacity < length book.servers

@@ -4,7 +4,7 @@ use Rattle.std.specs.Option.{option_or}
 use Rattle.std.proofs.lemmas.Bool.{eq-eqb}
 use Rattle.std.proofs.lemmas.List.Sums.{sum_by-cons}
 use Rattle.rsl_wire.specs.Attributes.{Attribute, attribute_of, attribute_octets, first_of, is_kind}
-use Rattle.rsl_event.specs.Occurrences.{AreOf, value_of}
+use Rattle.rsl_event.specs.Occurrences.{value_of}
 use Rattle.rsl_event.specs.Request.{attribute_count, proxy_len, proxy_states}
 use Rattle.rsl_event.specs.declared.codes.TheConstants.{PROXY_STATE}
 use Rattle.rsl_event.specs.declared.occurrences.Occurrences.{Occurrences}
@@ -32,9 +32,6 @@ or_again (Some other) value later = refl
 -- how many there are among one attribute and those after it
 counted : (kind other : ℕ) (value : List ℕ) (rest : List Attribute) → attribute_count kind (attribute_of other value ∷ rest) ≡ cond (other == kind) 1 0 + attribute_count kind rest
 counted kind other value rest = sum_by-cons (λ (x : Attribute). cond (is_kind kind x) 1 0) (attribute_of other value) rest
-
-first_counted : (kind other : ℕ) (value : List ℕ) (rest : List Attribute) → first_of kind (attribute_of other value ∷ rest) ≡ cond (other == kind) (Some value) (first_of kind rest)
-first_counted kind other value rest = refl
 
 -- an attribute of the Type is noted
 pub one_more : (kind : ℕ) (value : List ℕ) (all left rest : List Attribute) (noted more : Occurrences) → left ≡ attribute_of kind value ∷ rest
@@ -67,19 +64,6 @@ passed_over kind other value all left rest noted differs is so_far =
       first = ap (λ (o : Option (List ℕ)). option_or (value_of noted.first) o) (sym first_here) ∙ so_far.first;
       few = omega (arith, so_far.few, ap (λ (x : List Attribute). length x) is);
     }
-
--- nothing is left
-pub all_noted : (kind : ℕ) (all left : List Attribute) (noted : Occurrences) → left ≡ [] → AreSoFar kind all left noted → AreOf kind all noted
-all_noted kind all left noted empty so_far =
-    let none : attribute_count kind left ≡ 0 = ap (attribute_count kind) empty in
-    record {
-      count = omega (arith, none, so_far.count);
-      first = or_none (value_of noted.first) ∙ ap (λ (o : Option (List ℕ)). option_or (value_of noted.first) o) (sym (ap (first_of kind) empty)) ∙ so_far.first;
-    }
-  where
-    or_none : (o : Option (List ℕ)) → o ≡ option_or o None
-    or_none None = refl
-    or_none (Some value) = refl
 
 -- where there is no Proxy-State, they have no octets
 passed_proxy : (attribute : Attribute) (attributes : List Attribute) (b : Bool) → (attribute.kind == PROXY_STATE) ≡ b → attribute_count PROXY_STATE (attribute ∷ attributes) ≡ 0

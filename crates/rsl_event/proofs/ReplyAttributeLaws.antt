@@ -3,7 +3,7 @@ use Rattle.std.proofs.Common.{◌≡◌, ℕ, ◌≤◌, append_assoc, List, [],
 use Rattle.std.specs.Prelude.{replicate, slice_get}
 use Rattle.std.specs.Option.{option_map_or}
 use Rattle.std.proofs.lemmas.List.{append-nil, drop_all, take_all}
-use Rattle.std.proofs.lemmas.List.Concat.{flat_map-append, length-flat_map}
+use Rattle.std.proofs.lemmas.List.Concat.{flat_map-append}
 use Rattle.rsl_accounts.specs.Configuration.{Configuration}
 use Rattle.rsl_accounts.specs.declared.client.Client.{Client}
 use Rattle.rsl_accounts.specs.declared.entry.Entry.{Entry}
@@ -14,7 +14,7 @@ use Rattle.rsl_wire.specs.Packet.{Fields, packet_octets}
 use Rattle.rsl_event.specs.Answer.{number_attribute, optional_attribute, class_attribute, accept_attributes, said_to, code_of, said_attributes, repeated_attributes, answer_to}
 use Rattle.rsl_event.specs.Signature.{reply_signing, signature_attributes, signed_by}
 use Rattle.rsl_event.specs.declared.signing.Signing.{Signing}
-use Rattle.rsl_event.specs.Request.{proxy_states, proxy_len, secret_of}
+use Rattle.rsl_event.specs.Request.{proxy_len, secret_of}
 use Rattle.rsl_event.specs.declared.event.Decision.{Decision}
 use Rattle.rsl_event.specs.Prepared.{HasRoomFor}
 use Rattle.rsl_event.specs.declared.meaning_kind.MeaningKind.{MeaningKind}
@@ -64,10 +64,6 @@ accept_written boot number entry start a b c d e f g ea eb ec ed ee ef eg =
     let g_is : g.attributes ≡ front ++ list_octets (class ∷ port ∷ s ++ p ++ t ++ i ++ u) = ap (λ (x : Begun). x.attributes) eg ∙ then_octets front (class ∷ port ∷ s ++ p ++ t ++ i) u f.attributes f_is in
     let id_is : g.id ≡ start.id = ap (λ (x : Begun). x.id) eg ∙ ap (λ (x : Begun). x.id) ef ∙ ap (λ (x : Begun). x.id) ee ∙ ap (λ (x : Begun). x.id) ed ∙ ap (λ (x : Begun). x.id) ec ∙ ap (λ (x : Begun). x.id) eb ∙ ap (λ (x : Begun). x.id) ea in
     λ k. record { id = id_is k; attributes = g_is k }
-
--- the octets of Proxy-States are as many as they are counted
-pub length-proxy_states : (attributes : List Attribute) → length (list_octets (proxy_states attributes)) ≡ proxy_len attributes
-length-proxy_states attributes = length-flat_map attribute_octets (proxy_states attributes)
 
 -- what a reply repeats has room, unless nothing is repeated
 pub repeated_short : (octets : List ℕ) (attributes : List Attribute) (kind : MeaningKind) → attributes ≡ attributes_in octets → HasRoomFor octets kind

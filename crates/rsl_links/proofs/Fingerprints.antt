@@ -1,6 +1,6 @@
 -- The fingerprint of an access server: what it makes of the octets that are left, and of tables.
 use Rattle.std.proofs.Common.{◌≡◌, ◌≢◌, ℕ, ◌+◌, ◌*◌, ◌%◌, ◌^◌, ◌<◌, ◌≤◌, List, [], ◌∷◌, ◌++◌, drop, get_or, length, set, ap, sym, ◌∙◌}
-use Rattle.std.proofs.lemmas.List.{drop_all, drop_more, get_or-map, map-append, map-set}
+use Rattle.std.proofs.lemmas.List.{drop_all, drop_more, get_or-map, map-set}
 use Rattle.rsl_event.specs.declared.nas.Nas.{Nas}
 use Rattle.rsl_links.specs.Fingerprints.{fingerprint_of, fingerprint_with, fingerprints_of}
 use Rattle.rsl_links.specs.Seen.{server_at, unnamed}
@@ -21,11 +21,6 @@ pub told_apart : (servers : List Nas) (fingerprints : List ℕ) (nas : Nas) (at 
     → own ≡ fingerprint_of nas → fingerprint ≢ own → server_at servers at ≢ nas
 told_apart servers fingerprints nas at fingerprint own are within is own_is other same =
     other (is ∙ ap (λ xs. get_or xs at fingerprint) are ∙ get_or-map fingerprint_of servers at unnamed fingerprint within ∙ ap fingerprint_of same ∙ sym own_is)
-
--- an access server more, or one put at an index
-pub fingerprints_more : (servers : List Nas) (fingerprints : List ℕ) (nas : Nas) (fingerprint : ℕ) → fingerprints ≡ fingerprints_of servers → fingerprint ≡ fingerprint_of nas → fingerprints ++ fingerprint ∷ [] ≡ fingerprints_of (servers ++ nas ∷ [])
-fingerprints_more servers fingerprints nas fingerprint are is =
-    ap (λ xs. xs ++ fingerprint ∷ []) are ∙ ap (λ m. fingerprints_of servers ++ m ∷ []) is ∙ sym (map-append fingerprint_of servers (nas ∷ []))
 
 pub fingerprints_put : (servers : List Nas) (fingerprints : List ℕ) (nas : Nas) (at fingerprint : ℕ) → fingerprints ≡ fingerprints_of servers → fingerprint ≡ fingerprint_of nas → set fingerprints at fingerprint ≡ fingerprints_of (set servers at nas)
 fingerprints_put servers fingerprints nas at fingerprint are is =

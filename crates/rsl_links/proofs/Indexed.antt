@@ -1,10 +1,10 @@
 -- Links at first indexes of the table: whether a link is of a session or in a bundle shows in its index.
-use Rattle.std.proofs.Common.{◌≡◌, ◌≢◌, ℕ, zero, suc, ◌+◌, ◌<◌, List, [], ◌∷◌, ◌++◌, take, drop, set, get_or, length, map, Bool, true, false, cond, refl, ap, sym, ◌∙◌, subst, inl, inr, arith}
+use Rattle.std.proofs.Common.{◌≡◌, ◌≢◌, ℕ, zero, suc, ◌+◌, ◌<◌, List, [], ◌∷◌, ◌++◌, take, set, get_or, length, map, Bool, true, false, cond, refl, ap, sym, ◌∙◌, subst, inl, inr, arith}
 use Rattle.std.specs.Prelude.{Option, None, Some, IfNone, count_by, find, ◌==◌, ◌&&◌}
 use Rattle.std.specs.List.{All, list_any}
 use Rattle.std.proofs.lemmas.Bool.{cases_eq, cases_lt, eq-eqb, false≢true, ne_eqb, or_parts}
 use Rattle.std.proofs.lemmas.List.{get_or-map, get_or-set_other, get_or-set_same, length-map, length-set}
-use Rattle.std.proofs.lemmas.List.Elements.{All-append, All-drop, All-from_get_or, All-get_or, All-take}
+use Rattle.std.proofs.lemmas.List.Elements.{All-append, All-from_get_or, All-get_or}
 use Rattle.std.proofs.lemmas.List.Sums.{sum_by-cons}
 use Rattle.std.proofs.Math.Bool.{and-false}
 use Rattle.rsl_event.specs.declared.nas.Nas.{Nas}
@@ -27,13 +27,6 @@ use Rattle.rsl_links.proofs.Found.{length-change_at}
 use Rattle.rsl_links.proofs.Lists.{find_none}
 use Rattle.rsl_links.proofs.OfLinks.{link_here}
 use Rattle.rsl_links.proofs.Yielding.{any_none, any_nowhere}
-
--- links that end, open or change
-pub indexed_less : (servers : List Nas) (xs ys : List Link) (at : ℕ) → ys ≡ take at xs ++ drop (at + 1) xs → AreIndexed servers xs → AreIndexed servers ys
-indexed_less servers xs ys at is indexed x within =
-    let all = All-from_get_or (λ (link : Link). IsIndex servers link.nas) xs no_link indexed in
-    let left = All-append (λ (link : Link). IsIndex servers link.nas) (take at xs) (drop (at + 1) xs) (All-take (λ (link : Link). IsIndex servers link.nas) at xs all) (All-drop (λ (link : Link). IsIndex servers link.nas) (at + 1) xs all) in
-    All-get_or (λ (link : Link). IsIndex servers link.nas) ys x no_link within (subst (λ (zs : List Link). All (λ (link : Link). IsIndex servers link.nas) zs) (sym is) left)
 
 pub indexed_more : (servers : List Nas) (xs ys : List Link) (link : Link) → ys ≡ xs ++ link ∷ [] → IsIndex servers link.nas → AreIndexed servers xs → AreIndexed servers ys
 indexed_more servers xs ys link is here indexed x within =

@@ -1,24 +1,18 @@
 -- The parts of a step, as the code takes them one by one, are the step.
 use Rattle.std.proofs.Common.{◌≡◌, ℕ, ◌+◌, ◌^◌, ◌-◌, ◌<◌, ◌≤◌, List, ◌++◌, map, take, drop, true, false, cond, refl, ap, sym, ◌∙◌, arith}
-use Rattle.std.specs.Prelude.{Option, Some, None, find, nat_le, nat_lt}
-use Rattle.std.specs.Option.{option_map}
-use Rattle.std.specs.List.{list_any}
-use Rattle.std.proofs.lemmas.Bool.{le-leb, lt-leb, lt-ltb, le-ltb}
+use Rattle.std.specs.Prelude.{Option, None, find, nat_le}
+use Rattle.std.proofs.lemmas.Bool.{le-leb, lt-leb}
 use Rattle.std.proofs.lemmas.List.{take-map, drop-map, map-append}
-use Rattle.std.proofs.lemmas.Option.{none-some}
 use Rattle.rsl_accounts.specs.declared.rules.Rules.{Rules}
 use Rattle.rsl_event.specs.declared.event.Decision.{Decision}
 use Rattle.rsl_event.specs.declared.event.Key.{Key}
 use Rattle.rsl_event.specs.declared.nas.Nas.{Nas}
 use Rattle.rsl_event.specs.declared.nas.NasName.TheVariants.{Unnamed}
-use Rattle.rsl_session.specs.declared.kept.KeptAsk.{KeptAsk}
 use Rattle.rsl_session.specs.declared.session.Session.{Session}
-use Rattle.rsl_session.specs.declared.bundle.Bundle.{Bundle}
 use Rattle.rsl_session.specs.Places.{places_of}
 use Rattle.rsl_session.specs.Book.{Book, BookLink, Reserved, places_in, bundles_in}
 use Rattle.rsl_session.specs.BookLinks.{is_link_of, can_be_taken, can_yield, fits_beside, without_first, touch, take_for}
-use Rattle.rsl_session.specs.Closed.{closes}
-use Rattle.rsl_session.specs.BookStep.{refuse, keep_ask, accept_beside, fresh_ask, ask, open_link, bind, alive}
+use Rattle.rsl_session.specs.BookStep.{refuse, keep_ask, accept_beside, fresh_ask, ask, bind, alive}
 use Rattle.rsl_links.specs.declared.link.Link.{Link}
 use Rattle.rsl_links.specs.First.{IsFirst, change_at}
 use Rattle.rsl_links.specs.Seen.{links_seen, link_seen, bundle_with}
@@ -80,28 +74,6 @@ fresh_in_place rules book key nas at made full first is =
     let found = found_at (can_yield rules book.clock book.links) book.links at some_link first in
     is ∙ rw (tight, found) refl
 
--- an ask
-pub ask_repeated : (rules : Rules) (book : Book) (key : Key) (nas : Nas) (found : Option KeptAsk) (r : Option Decision) (decision : Decision)
-    → r ≡ option_map (λ (kept : KeptAsk). kept.decision) found → r ≡ Some decision → (book, decision) ≡ ask rules book key nas found
-ask_repeated rules book key nas (Some kept) r decision is some = ap (λ d. (book, d)) (some_same (sym some ∙ is)) where
-  some_same : {a b : Decision} → Some a ≡ Some b → a ≡ b
-  some_same e = grind arith
-ask_repeated rules book key nas None r decision is some = absurd (none-some decision (sym is ∙ some))
-
-pub ask_fresh : (rules : Rules) (book : Book) (key : Key) (nas : Nas) (found : Option KeptAsk) (r : Option Decision) (made : Book × Decision)
-    → r ≡ option_map (λ (kept : KeptAsk). kept.decision) found → r ≡ None → book.accepts < 2 ^ 64 - 1 → made ≡ fresh_ask rules book key nas → made ≡ ask rules book key nas found
-ask_fresh rules book key nas (Some kept) r made is none few fresh = absurd (none-some kept.decision (sym none ∙ is))
-ask_fresh rules book key nas None r made is none few fresh =
-    let less : nat_lt book.accepts (2 ^ 64 - 1) ≡ true = lt-ltb _ _ few in
-    fresh ∙ rw less refl
-
-pub ask_spent : (rules : Rules) (book : Book) (key : Key) (nas : Nas) (found : Option KeptAsk) (r : Option Decision) (made : Book × Decision)
-    → r ≡ option_map (λ (kept : KeptAsk). kept.decision) found → r ≡ None → 2 ^ 64 - 1 ≤ book.accepts → made ≡ refuse book key nas → made ≡ ask rules book key nas found
-ask_spent rules book key nas (Some kept) r made is none spent refused = absurd (none-some kept.decision (sym none ∙ is))
-ask_spent rules book key nas None r made is none spent refused =
-    let more : nat_lt book.accepts (2 ^ 64 - 1) ≡ false = le-ltb _ _ spent in
-    refused ∙ rw more refl
-
 -- an alive
 pub alive_renews : (rules : Rules) (book : Book) (session : Session) (bundle : Option (List ℕ)) (class : Option ℕ) (at : ℕ) → IsFirst (is_link_of session) book.links at
     → record book { links = change_at at (touch_here book.clock bundle) book.links } ≡ alive rules book session (bundle_with session.nas bundle) class (find (is_link_of session) book.links)
@@ -111,15 +83,6 @@ alive_renews rules book session bundle class at first =
     (λ link is. touched_here session book.clock bundle link is) first in
     rw (found, changed) refl
 
-pub alive_closed : (rules : Rules) (book : Book) (session : Session) (bundle : Option Bundle) (class : Option ℕ) → find (is_link_of session) book.links ≡ None
-    → list_any (closes rules session book.clock) book.stops ≡ true → book ≡ alive rules book session bundle class (find (is_link_of session) book.links)
-alive_closed rules book session bundle class none closed = rw (none, closed) refl
-
-pub alive_binds : (rules : Rules) (book : Book) (session : Session) (bundle : Option Bundle) (class : Option ℕ) → find (is_link_of session) book.links ≡ None
-    → list_any (closes rules session book.clock) book.stops ≡ false
-    → bind rules book session bundle class (find (can_be_taken session.nas class) book.links) ≡ alive rules book session bundle class (find (is_link_of session) book.links)
-alive_binds rules book session bundle class none free = rw (none, free) refl
-
 pub bind_takes : (rules : Rules) (book : Book) (nas : Nas) (id : List ℕ) (bundle : Option (List ℕ)) (class : Option ℕ) (at : ℕ) → IsFirst (can_be_taken nas class) book.links at
     → record book { links = change_at at (take_here book.clock id bundle) book.links } ≡ bind rules book (record { nas = nas; id = id }) (bundle_with nas bundle) class (find (can_be_taken nas class) book.links)
 bind_takes rules book nas id bundle class at first =
@@ -127,10 +90,6 @@ bind_takes rules book nas id bundle class at first =
     let changed = changed_at (can_be_taken nas class) (take_for (record { nas = nas; id = id }) book.clock (bundle_with nas bundle)) (take_here book.clock id bundle) book.links at
     (λ link is. taken_here nas class book.clock id bundle link is) first in
     rw (found, changed) refl
-
-pub bind_opens : (rules : Rules) (book : Book) (session : Session) (bundle : Option Bundle) (class : Option ℕ) → find (can_be_taken session.nas class) book.links ≡ None
-    → open_link rules book session bundle ≡ bind rules book session bundle class (find (can_be_taken session.nas class) book.links)
-bind_opens rules book session bundle class none = rw none refl
 
 pub freed_place : (rules : Rules) (book : Book) (at : ℕ) → places_in rules book ≡ places_of rules.ports (bundles_in (without_at at book.links)) + 1 → places_in rules book ≤ rules.places
     → (let ended : Book = record book { links = without_at at book.links } in places_in rules ended + 1 ≤ rules.places)

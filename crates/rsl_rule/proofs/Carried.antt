@@ -3,7 +3,7 @@ use Rattle.std.proofs.Common.{◌≡◌, ℕ, suc, ◌+◌, ◌-◌, ◌<◌, �
 use Rattle.std.specs.Prelude.{Option, None, filter, nat_le}
 use Rattle.std.specs.Option.{option_or}
 use Rattle.std.proofs.lemmas.Bool.{eq-eqb, ne_eqb}
-use Rattle.std.proofs.lemmas.List.{get_or-map, length-map, map-append, take_all, take_more}
+use Rattle.std.proofs.lemmas.List.{get_or-map, length-map, map-append, take_all}
 use Rattle.rsl_accounts.specs.declared.rules.Rules.{Rules}
 use Rattle.rsl_event.specs.declared.event.Event.{Event}
 use Rattle.rsl_session.specs.declared.past_event.PastEvent.{PastEvent}
@@ -151,13 +151,6 @@ holding_more rules xs i x holding within is so = rw (looking_back-more xs i x wi
 
 pub holding_all : (rules : Rules) (xs : List PastEvent) (i : ℕ) (holding : Holding) → length xs ≤ i → IsHolding rules (looking_back (take i xs)) holding → IsHolding rules (looking_back xs) holding
 holding_all rules xs i holding all so = rw looking_back_all at so
-
--- the numbers of the held links, one further on
-pub number_more : (past : Past) (links : List ℕ) (items : List HeldLink) → items ≡ standings past links → (i : ℕ) (x : HeldLink) → i < length items → x ≡ get_or items i x
-    → take (i + 1) links ≡ take i links ++ x.link ∷ []
-number_more past links items same i x within is =
-    let at = standings_at past links items same i x within is in
-    take_more links i x.link at.0 ∙ ap (λ n. take i links ++ n ∷ []) (sym at.1)
 
 pub number_all : (past : Past) (links : List ℕ) (items : List HeldLink) → items ≡ standings past links → (i : ℕ) → length items ≤ i → take i links ≡ links
 number_all past links items same i all = take_all i links (omega (arith, ap length same, length-standings past links))

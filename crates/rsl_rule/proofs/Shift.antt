@@ -85,10 +85,6 @@ shift_outcome n Passed = Passed
 unfoldable pub shift_entry : ℕ → PastEvent → PastEvent
 shift_entry n entry = record { event = entry.event; outcome = shift_outcome n entry.outcome }
 
-pub shift_event : (n : ℕ) (entry : PastEvent) → (shift_entry n entry).event ≡ entry.event
-unfolding shift_entry
-shift_event n entry = refl
-
 unfoldable pub tick_event : ℕ → Event
 tick_event moment = record { moment = moment; act = Tick }
 

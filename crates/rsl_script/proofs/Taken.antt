@@ -111,9 +111,6 @@ pub record Stands (all : List (List ℕ)) (k : ℕ) (held : Contents) : Type 0 w
   pub held_is : held ≡ contents_of (filter_map line_of (take k all))
   pub wrong_is : first_wrong [] (map line_of all) ≡ first_wrong (map line_of (take k all)) (map line_of (drop k all))
 
-pub stands_first : (all : List (List ℕ)) (held : Contents) → held ≡ contents_of [] → Stands all 0 held
-stands_first all held is = record { held_is = is; wrong_is = refl }
-
 pub stands_more : (all : List (List ℕ)) (k : ℕ) (line : List ℕ) (held after : Contents) → Stands all k held → k < length all → line ≡ get_or all k line → with_said held (line_of line) ≡ Some after → Stands all (k + 1) after
 stands_more all k line held after s below is took =
     let front = take k all in

@@ -54,9 +54,6 @@ settled_alive rules moment nas id bundle class past outcome links over undecided
     (record (book_come rules past (alive_at moment nas id bundle class)) { links = links; over = over })
     refl is_links (sym (accepts_same entry past unnumbered)) (sym (asks_same entry past refl undecided)) (sym (stops_same entry past refl refl)) is_over
 
-session_here : Nas → List ℕ → Session
-session_here nas id = record { nas = nas; id = id }
-
 -- what each outcome of an alive makes of the book
 ignored : (rules : Rules) (moment : ℕ) (nas : Nas) (id : List ℕ) (bundle : Option (List ℕ)) (class : Option ℕ)
     (past : Past) → IsRuled rules past

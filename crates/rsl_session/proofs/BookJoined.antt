@@ -145,19 +145,6 @@ decided_by_is rules past (event ∷ events) ruled =
     ap (λ (next : Book × Decision). next.1 ∷ decided_by rules next.0 events) (joins rules past event ruled)
     ∙ ap (λ ds. decision_of (outcome_of rules past event) ∷ ds) (decided_by_is rules (entry_of rules past event ∷ past) events (refl, ruled))
 
--- some events and then others
-pub book_after-append : (rules : Rules) (book : Book) (events others : List Event)
-    → book_after rules book (events ++ others) ≡ book_after rules (book_after rules book events) others
-unfolding book_after
-book_after-append rules book [] others = refl
-book_after-append rules book (event ∷ events) others = book_after-append rules (step rules book event).0 events others
-
-pub decided_by-append : (rules : Rules) (book : Book) (events others : List Event)
-    → decided_by rules book (events ++ others) ≡ decided_by rules book events ++ decided_by rules (book_after rules book events) others
-unfolding book_after decided_by
-decided_by-append rules book [] others = refl
-decided_by-append rules book (event ∷ events) others = ap (λ decisions. (step rules book event).1 ∷ decisions) (decided_by-append rules (step rules book event).0 events others)
-
 -- the book of no past is new
 new_is : (rules : Rules) → new_book ≡ book_of rules []
 unfolding new_book book_of clock held_links links accepts fresh_asks stops over_count

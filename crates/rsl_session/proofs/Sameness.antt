@@ -140,9 +140,3 @@ nas_is_same a b r is = same_test a b r (same_nas a b) is (same_nas-true a b) (λ
 
 pub key_is_same : (a b : Key) (r : Bool) → ((r ≡ true) ↔ (a ≡ b)) → r ≡ same_key a b
 key_is_same a b r is = same_test a b r (same_key a b) is (same_key-true a b) (λ e. subst (λ x. same_key a x ≡ true) e (same_key-refl a))
-
-pub session_is_same : (a b : Session) (r : Bool) → ((r ≡ true) ↔ (a ≡ b)) → r ≡ same_session a b
-session_is_same a b r is = same_test a b r (same_session a b) is (same_session-true a b) (λ e. subst (λ x. same_session a x ≡ true) e (same_session-refl a))
-
-pub bundle_is_same : (a b : Bundle) (r : Bool) → ((r ≡ true) ↔ (a ≡ b)) → r ≡ same_bundle a b
-bundle_is_same a b r is = same_test a b r (same_bundle a b) is (same_bundle-true a b) (λ e. subst (λ x. same_bundle a x ≡ true) e (same_bundle-refl a))
