@@ -5,7 +5,7 @@
 
 use crate::bad_file::{BadFile, Wrong};
 use crate::fault::Fault;
-use rld_config::{Place, ServerFault, ServerFile, break_of, unknown_client};
+use rld_config::{Place, ServerFault, ServerFile, break_of, shadowed_client, unknown_client};
 use rsl_accounts::{Config, ConfigFault, TextFault, read_file};
 use std::alloc::Global;
 use std::fs::{self, Files};
@@ -41,8 +41,8 @@ pub(crate) fn server_file<F: Files>(
     }
 }
 
-/// What the account file of this path says, and its mode, where the account file has the client of each
-/// network of the server's file, which has this name.
+/// What the account file of this path says, and its mode, where it fits the server's file, which has this
+/// name: it has the client of each network, and no network takes the address of another client.
 pub(crate) fn accounts_for<F: Files>(
     files: &F,
     alloc: Global,
@@ -51,7 +51,11 @@ pub(crate) fn accounts_for<F: Files>(
     path: &str,
 ) -> Result<AccountFile, Fault> {
     let accounts = account_file(files, alloc, path)?;
-    match unknown_client(server.networks.as_slice(), &accounts.config) {
+    let networks = server.networks.as_slice();
+    if let Some(fault) = unknown_client(networks, &accounts.config) {
+        return bad_file(alloc, name, None, Wrong::Server(fault));
+    }
+    match shadowed_client(networks, &accounts.config) {
         Some(fault) => bad_file(alloc, name, None, Wrong::Server(fault)),
         None => Ok(accounts),
     }

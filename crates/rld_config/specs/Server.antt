@@ -1,14 +1,18 @@
 -- The server's file: what it says, or its first fault.
-use Rattle.std.specs.Prelude.{ℕ, ◌+◌, Bool, false, not, ◌==◌, ◌&&◌, ◌||◌, if◌then◌else◌, List, [], ◌∷◌, ◌++◌, length, Option, None, Some, option_map, ok_or, is_some, position, Result, Ok, Err}
+use Rattle.std.specs.Prelude.{ℕ, ◌+◌, Bool, false, not, ◌==◌, ◌&&◌, ◌||◌, if◌then◌else◌, List, [], ◌∷◌, ◌++◌, length, map, Option, None, Some, find, option_map, ok_or, is_some, position, Result, Ok, Err}
 use Rattle.std.specs.List.{list_any}
+use Rattle.std.specs.Net.Addr.{ipv4_octets}
+use Rattle.std.specs.Option.{option_map_or}
 use Rattle.std.specs.Str.{is_utf8}
 use Rattle.std.specs.declared.net.ip_addr.IpAddr.{IpAddr}
+use Rattle.std.specs.declared.net.ip_addr.IpAddr.TheVariants.{V4}
+use Rattle.std.specs.declared.net.ipv4_addr.Ipv4Addr.{Ipv4Addr}
 use Rattle.toml.specs.Data.{Data, table}
 use Rattle.toml.specs.Parse.{parse_document}
 use Rattle.rld_config.specs.declared.archive.Archive.{Archive}
 use Rattle.rld_config.specs.declared.archive.Archive.TheVariants.{Days}
 use Rattle.rld_config.specs.declared.fault.ServerFault.{ServerFault}
-use Rattle.rld_config.specs.declared.fault.ServerFault.TheVariants.{NotToml, BadValue, TakenPort, TakenPrefix, UnknownClient}
+use Rattle.rld_config.specs.declared.fault.ServerFault.TheVariants.{NotToml, BadValue, ShadowedClient, TakenPort, TakenPrefix, UnknownClient}
 use Rattle.rld_config.specs.declared.head.Head.{Head}
 use Rattle.rld_config.specs.declared.key.Key.{Key}
 use Rattle.rld_config.specs.declared.key.Key.TheVariants as key
@@ -20,10 +24,12 @@ use Rattle.rld_config.specs.declared.sync.SyncPolicy.{SyncPolicy}
 use Rattle.rld_config.specs.declared.sync.SyncPolicy.TheVariants.{Always}
 use Rattle.rld_config.specs.declared.web.Web.{Web}
 use Rattle.rld_networks.specs.Address.{covers, ipv4, same_address}
+use Rattle.rld_networks.specs.Networks.{client_of}
 use Rattle.rld_networks.specs.Prefix.{same_prefix}
 use Rattle.rld_networks.specs.declared.network.Network.{Network}
 use Rattle.rld_networks.specs.declared.prefix.Prefix.{Prefix}
-use Rattle.rsl_accounts.specs.Configuration.{Configuration, client_number}
+use Rattle.rsl_accounts.specs.Configuration.{Configuration, client_number, same_octets}
+use Rattle.rsl_accounts.specs.declared.client.Client.{Client}
 use Rattle.rld_config.specs.Value.{member_in, number_of, path_of, address_value, ip_address_value, prefix_value, flag_value, sync_value, archive_value, tables_of, required, or_default, unknown_in, and_then, fault_or}
 
 -- what a server's file says
@@ -277,3 +283,17 @@ unfoldable pub unknown_client : List Network → Configuration → Option Server
 unknown_client networks config =
     unknown_client_at
     (position (λ network. not (is_some (client_number config network.client))) networks)
+
+-- the address that a client has of its own
+abbrev pub own_address_of : Client → Ipv4Addr
+own_address_of client = record { octets = client.address }
+
+-- whether the networks make a client's own address stand for another client
+abbrev pub shadows : List Network → Ipv4Addr → Bool
+shadows networks address =
+    not (option_map_or (same_octets (ipv4_octets address)) (client_of networks (V4 address)) false)
+
+-- the first client of a configuration whose own address stands for another one
+unfoldable pub shadowed_client : List Network → Configuration → Option ServerFault
+shadowed_client networks config =
+    option_map ShadowedClient (find (shadows networks) (map own_address_of config.clients))

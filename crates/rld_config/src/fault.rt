@@ -6,6 +6,7 @@ use crate::part::Part;
 use rsl_accounts::Text;
 use rsl_wire::NoMemory;
 use std::alloc::{AllocError, AllocFailed};
+use std::net::Ipv4Addr;
 use thiserror::Error;
 
 /// Why a server's file says nothing. It prints as its name, the table but for the head, and the
@@ -33,6 +34,9 @@ pub enum ServerFault {
     /// The account file has no client of this address.
     #[error("UnknownClient {0}{1}")]
     UnknownClient(Part, Key),
+    /// The address of this client of the account file stands for another client by a network.
+    #[error("ShadowedClient {0}")]
+    ShadowedClient(Ipv4Addr),
     /// Memory was refused.
     #[error("NoMemory")]
     NoMemory,

@@ -28,7 +28,7 @@ pub use archive::Archive;
 pub use fault::ServerFault;
 pub use key::Key;
 pub use listen::Listen;
-pub use network::unknown_client;
+pub use network::{shadowed_client, unknown_client};
 pub use part::Part;
 pub use paths::Paths;
 pub use place::{Place, break_of};

@@ -1,16 +1,18 @@
-//! The networks of a server's file: no prefix twice, and none of which the client is missing.
+//! The networks of a server's file: no prefix twice, none of which the client is missing, and none that
+//! takes the address of another client.
 ghost use Rattle.std.specs.Prelude.{◌≡◌, ◌<◌, ◌^◌, [], IfSome, is_some, length, not, position};
 ghost use Rattle.std.specs.List.{list_any};
 ghost use Rattle.rld_networks.specs.Prefix.{same_prefix};
 ghost use Rattle.rsl_accounts.specs.Configuration.{client_number};
 ghost use Rattle.rld_networks.specs.declared.network.Network.{Network as OneNetwork};
-ghost use Rattle.rld_config.specs.Server.{first_taken, taken_prefix, unknown_client};
+ghost use Rattle.rld_config.specs.Server.{first_taken, shadowed_client, shadows, taken_prefix, unknown_client};
 
 use crate::fault::ServerFault;
 use crate::key::Key;
 use crate::part::Part;
-use rld_networks::{Network, Prefix};
+use rld_networks::{Network, Prefix, client_of};
 use rsl_accounts::Config;
+use std::net::{IpAddr, Ipv4Addr};
 
 /// Whether one of the networks has the prefix.
 fn has_prefix(networks: &[Network], prefix: &Prefix) -> bool
@@ -71,4 +73,26 @@ fn lacks(config: &Config, network: &Network) -> bool
     ensures { result ≡ not (is_some (client_number config.now network.now.client)) }
 {
     config.client(network.client).is_none()
+}
+
+/// `ShadowedClient` of the first client of the account file whose own address a network makes stand for
+/// another client: its packets would be read with the other one's secret.
+#[tactic(auto, unfolding(crate::specs::Server::shadowed_client))]
+pub fn shadowed_client(networks: &[Network], config: &Config) -> Option<ServerFault>
+    ensures { result ≡ shadowed_client networks.now config.now }
+{
+    for number in 0..config.clients() {
+        let address = Ipv4Addr::from(config.client_at(number).address);
+        if is_shadowed(networks, address) {
+            return Some(ServerFault::ShadowedClient(address));
+        }
+    }
+    None
+}
+
+/// Whether the address of a client stands for another one.
+fn is_shadowed(networks: &[Network], address: Ipv4Addr) -> bool
+    ensures { result ≡ shadows networks.now address }
+{
+    client_of(networks, IpAddr::V4(address)) != Some(address.octets())
 }
