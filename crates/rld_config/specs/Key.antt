@@ -1,8 +1,8 @@
 -- The keys of a server's file, the tables that they stand in, and which values each may have.
-use Rattle.std.specs.Prelude.{ℕ, List, [], ◌∷◌, Bool, false, not, ◌==◌, ◌&&◌, nat_le, length, codes, bytes_eq}
+use Rattle.std.specs.Prelude.{ℕ, List, [], ◌∷◌, Bool, false, not, ◌==◌, ◌&&◌, ◌||◌, nat_le, length, codes, bytes_eq}
 use Rattle.std.specs.List.{list_all, list_any}
 use Rattle.rld_config.specs.declared.key.Key.{Key}
-use Rattle.rld_config.specs.declared.key.Key.TheVariants.{Accounts, State, Sync, Archive, Listen, Network, Control, Web, Address, Auth, Acct, Receivers, StatusServer, Prefix, Client, Socket, Port}
+use Rattle.rld_config.specs.declared.key.Key.TheVariants.{Accounts, State, Sync, Archive, Listen, Network, Control, Web, Address, Auth, Acct, Receivers, StatusServer, Prefix, Client, Socket, Mode, Group, Port}
 use Rattle.rld_config.specs.declared.part.Part.{Part}
 use Rattle.rld_config.specs.declared.part.Part.TheVariants.{Head, Listen as OfListen, Network as OfNetwork, Control as OfControl, Web as OfWeb}
 
@@ -24,6 +24,8 @@ key_name StatusServer = codes "status_server"
 key_name Prefix = codes "prefix"
 key_name Client = codes "client"
 key_name Socket = codes "socket"
+key_name Mode = codes "mode"
+key_name Group = codes "group"
 key_name Port = codes "port"
 
 -- the keys that a table may have
@@ -31,7 +33,7 @@ abbrev pub keys_of : Part → List Key
 keys_of Head = Accounts ∷ State ∷ Sync ∷ Archive ∷ Listen ∷ Network ∷ Control ∷ Web ∷ []
 keys_of (OfListen number) = Address ∷ Auth ∷ Acct ∷ Receivers ∷ StatusServer ∷ []
 keys_of (OfNetwork number) = Prefix ∷ Client ∷ []
-keys_of OfControl = Socket ∷ []
+keys_of OfControl = Socket ∷ Mode ∷ Group ∷ []
 keys_of OfWeb = Address ∷ Port ∷ []
 
 -- whether a table may have a key of this name
@@ -41,13 +43,18 @@ knows part name = list_any (λ key. bytes_eq name (key_name key)) (keys_of part)
 abbrev pub is_between : ℕ → ℕ → ℕ → Bool
 is_between least most number = nat_le least number && nat_le number most
 
--- a number that the key may have: days of an archive, a port, how many receivers
+-- 0o600, 0o660 or 0o666: its owner may write to a socket, and nobody else, his group or everybody
+abbrev pub is_mode : ℕ → Bool
+is_mode number = number == 384 || number == 432 || number == 438
+
+-- a number that the key may have: days of an archive, a port, how many receivers, a mode
 abbrev pub takes_number : Key → ℕ → Bool
 takes_number Archive number = is_between 1 36500 number
 takes_number Auth number = is_between 1 65535 number
 takes_number Acct number = is_between 1 65535 number
 takes_number Port number = is_between 1 65535 number
 takes_number Receivers number = is_between 1 16 number
+takes_number Mode number = is_mode number
 takes_number _ number = false
 
 abbrev pub has_no_nul : List ℕ → Bool
@@ -56,3 +63,7 @@ has_no_nul text = list_all (λ octet. not (octet == 0)) text
 -- 1 to 4,095 octets without NUL, as a path may have
 abbrev pub is_path : List ℕ → Bool
 is_path text = is_between 1 4095 (length text) && has_no_nul text
+
+-- 1 to 32 octets without NUL, as the name of a group may have
+abbrev pub is_group : List ℕ → Bool
+is_group text = is_between 1 32 (length text) && has_no_nul text

@@ -30,5 +30,5 @@ abbrev pub paths_of : (file : List ℕ) → ServerFile → PathsSeen
 paths_of file server = record {
   accounts = beside file server.accounts;
   state = beside file server.state;
-  control = control_path file server.state server.control;
+  control = control_path file server.state server.control.path;
 }

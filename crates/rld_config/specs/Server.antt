@@ -11,6 +11,7 @@ use Rattle.toml.specs.Data.{Data, table}
 use Rattle.toml.specs.Parse.{parse_document}
 use Rattle.rld_config.specs.declared.archive.Archive.{Archive}
 use Rattle.rld_config.specs.declared.archive.Archive.TheVariants.{Days}
+use Rattle.rld_config.specs.declared.control.ControlSocket.{ControlSocket}
 use Rattle.rld_config.specs.declared.fault.ServerFault.{ServerFault}
 use Rattle.rld_config.specs.declared.fault.ServerFault.TheVariants.{NotToml, BadValue, ShadowedClient, TakenPort, TakenPrefix, UnknownClient}
 use Rattle.rld_config.specs.declared.head.Head.{Head}
@@ -30,7 +31,7 @@ use Rattle.rld_networks.specs.declared.network.Network.{Network}
 use Rattle.rld_networks.specs.declared.prefix.Prefix.{Prefix}
 use Rattle.rsl_accounts.specs.Configuration.{Configuration, client_number, same_octets}
 use Rattle.rsl_accounts.specs.declared.client.Client.{Client}
-use Rattle.rld_config.specs.Value.{member_in, number_of, path_of, address_value, ip_address_value, prefix_value, flag_value, sync_value, archive_value, tables_of, required, or_default, unknown_in, and_then, fault_or}
+use Rattle.rld_config.specs.Value.{member_in, number_of, path_of, address_value, ip_address_value, prefix_value, flag_value, sync_value, archive_value, tables_of, required, or_default, optional, group_of, unknown_in, and_then, fault_or}
 
 -- what a server's file says
 pub record Server : Type 0 where
@@ -40,7 +41,7 @@ pub record Server : Type 0 where
   pub archive : Archive
   pub listens : List Listen
   pub networks : List Network
-  pub control : Option (List ℕ)
+  pub control : ControlSocket
   pub web : Option Web
 
 abbrev pub server_in : ServerFile → Server
@@ -75,6 +76,12 @@ default_listen = record {
 -- what each key of a table says
 unfoldable pub path_in : Part → Data → Key → Result (List ℕ) ServerFault
 path_in part value key = required part key path_of (member_in value key)
+
+unfoldable pub path_or_none_in : Part → Data → Key → Result (Option (List ℕ)) ServerFault
+path_or_none_in part value key = optional part key path_of (member_in value key)
+
+unfoldable pub group_in : Part → Data → Result (Option (List ℕ)) ServerFault
+group_in part value = optional part key.Group group_of (member_in value key.Group)
 
 unfoldable pub port_in : Part → Data → Key → (default : ℕ) → Result ℕ ServerFault
 port_in part value key default = or_default part key (number_of key) default (member_in value key)
@@ -224,12 +231,24 @@ option_at key part_in (Some value) =
     and_then (ok_or (table_of value) (BadValue part.Head key)) (λ found.
     and_then (part_in found) (λ found. Ok (Some found)))
 
-unfoldable pub socket_in : Data → Result (List ℕ) ServerFault
-socket_in value =
-    fault_or (unknown_in part.Control value) (path_in part.Control value key.Socket)
+-- a socket in the state folder, for the server's user alone, if the file does not say otherwise
+abbrev pub default_control : ControlSocket
+default_control = record { path = None; mode = 384; group = None }
 
-unfoldable pub control_in : Data → Result (Option (List ℕ)) ServerFault
-control_in file = option_at key.Control socket_in (member_in file key.Control)
+unfoldable pub socket_in : Data → Result ControlSocket ServerFault
+socket_in value =
+    fault_or (unknown_in part.Control value)
+    (and_then (path_or_none_in part.Control value key.Socket) (λ path.
+    and_then (port_in part.Control value key.Mode 384) (λ mode.
+    and_then (group_in part.Control value) (λ group.
+    Ok (record { path = path; mode = mode; group = group })))))
+
+abbrev pub control_at : Option Data → Result ControlSocket ServerFault
+control_at None = Ok default_control
+control_at (Some value) = and_then (ok_or (table_of value) (BadValue part.Head key.Control)) socket_in
+
+unfoldable pub control_in : Data → Result ControlSocket ServerFault
+control_in file = control_at (member_in file key.Control)
 
 unfoldable pub page_in : Data → Result Web ServerFault
 page_in value =

@@ -16,13 +16,13 @@ use Rattle.rld_config.specs.declared.key.Key.TheVariants as key
 use Rattle.rld_config.specs.declared.part.Part.{Part}
 use Rattle.rld_config.specs.declared.sync.SyncPolicy.{SyncPolicy}
 use Rattle.rld_config.specs.declared.sync.SyncPolicy.TheVariants.{Always, Second, Never}
-use Rattle.rld_config.specs.Key.{key_name, knows, takes_number, is_between, is_path}
+use Rattle.rld_config.specs.Key.{key_name, knows, takes_number, is_between, is_group, is_path}
 
 -- what a table has under a key
 abbrev pub member_in : Data → Key → Option Data
 member_in value key = get (key_name key) value
 
--- the number, the path, the address, the prefix, the word and the table that a value is, if the key
+-- the number, the path, the group, the address, the prefix, the word and the table that a value is, if the key
 -- may have it
 abbrev pub number_of : Key → Data → Option ℕ
 number_of key (integer (pos number)) = if takes_number key number then Some number else None
@@ -31,6 +31,10 @@ number_of key _ = None
 abbrev pub path_of : Data → Option (List ℕ)
 path_of (string text) = if is_path text then Some text else None
 path_of _ = None
+
+abbrev pub group_of : Data → Option (List ℕ)
+group_of (string text) = if is_group text then Some text else None
+group_of _ = None
 
 abbrev pub address_value : Data → Option (List ℕ)
 address_value (string text) = address_of text
@@ -99,6 +103,13 @@ abbrev pub or_default : {T : Type 0} → Part → Key → (Data → Option T) �
     → Result T ServerFault
 or_default part key value_of default None = Ok default
 or_default part key value_of default (Some value) = ok_or (value_of value) (BadValue part key)
+
+-- the text of a key that a table may leave out, or the fault
+abbrev pub optional : {T : Type 0} → Part → Key → (Data → Option T) → Option Data
+    → Result (Option T) ServerFault
+optional part key value_of None = Ok None
+optional part key value_of (Some value) =
+    ok_or (option_map Some (value_of value)) (BadValue part key)
 
 -- the first key that the table may not have; keys are in the order of their octets
 abbrev pub unknown_of : Part → Members → Option ServerFault

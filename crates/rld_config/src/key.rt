@@ -1,5 +1,5 @@
 ghost use Rattle.std.specs.Prelude.{◌≡◌, ◌<◌, ◌^◌, IsTrue, Some};
-ghost use Rattle.rld_config.specs.Key.{key_name, has_no_nul, is_between, is_path, takes_number};
+ghost use Rattle.rld_config.specs.Key.{key_name, has_no_nul, is_between, is_group, is_mode, is_path, takes_number};
 
 use std::fmt;
 
@@ -11,6 +11,9 @@ const MAX_PORT: u64 = 65_535;
 
 /// The most receivers on each socket of a table.
 const MAX_RECEIVERS: u64 = 16;
+
+/// The most octets of a group's name.
+const MAX_GROUP_LEN: u64 = 32;
 
 /// The most octets of a path.
 const MAX_PATH_LEN: u64 = 4_095;
@@ -50,6 +53,10 @@ pub enum Key {
     Client,
     /// The path of the control's socket.
     Socket,
+    /// The mode of the control's socket.
+    Mode,
+    /// The name of the group that the control's socket is given to.
+    Group,
     /// The TCP port of the page.
     Port,
 }
@@ -76,6 +83,8 @@ impl Key {
             Key::Prefix => "prefix",
             Key::Client => "client",
             Key::Socket => "socket",
+            Key::Mode => "mode",
+            Key::Group => "group",
             Key::Port => "port",
         }
     }
@@ -89,6 +98,7 @@ impl Key {
             Key::Archive => is_between(1, MAX_DAYS, number),
             Key::Auth | Key::Acct | Key::Port => is_between(1, MAX_PORT, number),
             Key::Receivers => is_between(1, MAX_RECEIVERS, number),
+            Key::Mode => is_mode(number),
             _ => false,
         }
     }
@@ -107,6 +117,22 @@ pub(crate) fn is_between(least: u64, most: u64, number: u64) -> bool
     ensures { result ≡ is_between least most number }
 {
     least <= number && number <= most
+}
+
+/// Whether a number is the mode of a socket that its owner may write to, and nobody else, his group or
+/// everybody.
+fn is_mode(number: u64) -> bool
+    ensures value { result ≡ is_mode number }
+    ensures small { IsTrue result → number < 2 ^ 16 }
+{
+    number == 0o600 || number == 0o660 || number == 0o666
+}
+
+/// Whether the text has 1 to 32 octets, none of them NUL.
+pub(crate) fn is_group(text: &[u8]) -> bool
+    ensures { result ≡ is_group text.now }
+{
+    is_between(1, MAX_GROUP_LEN, text.len() as u64) && has_no_nul(text)
 }
 
 /// Whether the text has 1 to 4,095 octets, none of them NUL.

@@ -10,6 +10,7 @@
 #![tactic(auto)]
 
 mod archive;
+mod control;
 mod fault;
 mod head;
 mod key;
@@ -25,6 +26,7 @@ mod warning;
 mod web;
 
 pub use archive::Archive;
+pub use control::ControlSocket;
 pub use fault::ServerFault;
 pub use key::Key;
 pub use listen::Listen;

@@ -46,7 +46,7 @@ impl Part {
                 Key::StatusServer,
             ],
             Part::Network(_) => &[Key::Prefix, Key::Client],
-            Part::Control => &[Key::Socket],
+            Part::Control => &[Key::Socket, Key::Mode, Key::Group],
             Part::Web => &[Key::Address, Key::Port],
         }
     }

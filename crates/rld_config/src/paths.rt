@@ -29,7 +29,7 @@ impl Paths {
     {
         let accounts = beside(alloc, file, server.accounts.as_str())?;
         let state = beside(alloc, file, server.state.as_str())?;
-        let control = control(alloc, file, &server.state, &server.control)?;
+        let control = control(alloc, file, &server.state, &server.control.path)?;
         Ok(Paths {
             accounts,
             state,

@@ -22,6 +22,7 @@ ghost use Rattle.rld_config.specs.Server.{
 };
 
 use crate::archive::Archive;
+use crate::control::ControlSocket;
 use crate::fault::ServerFault;
 use crate::head::Head;
 use crate::key::Key;
@@ -30,8 +31,8 @@ use crate::network::first_taken_prefix;
 use crate::part::Part;
 use crate::sync::SyncPolicy;
 use crate::value::{
-    address, archive, check_names, client, ip_address, member, needed_number, number, path, prefix,
-    status_server, sync, tables_of,
+    address, archive, check_names, client, group, ip_address, member, needed_number, number, path,
+    path_or_none, prefix, status_server, sync, tables_of,
 };
 use crate::web::Web;
 use rld_networks::Network;
@@ -48,6 +49,9 @@ const MAX_NETWORKS: u64 = 256;
 /// The address of the machine itself, which no other machine can ask.
 const OWN_ADDRESS: [u8; 4] = [127, 0, 0, 1];
 
+/// The mode of the control's socket if the file does not say it: the server's user alone may ask.
+const OWNERS_MODE: u16 = 0o600;
+
 /// What a server's file says.
 #[derive(Drop)]
 pub struct ServerFile {
@@ -63,8 +67,8 @@ pub struct ServerFile {
     pub listens: Vec<Listen>,
     /// Which addresses stand for clients: at most 256, no two with one prefix.
     pub networks: Vec<Network>,
-    /// The path of the control's socket, if the file has one.
-    pub control: Option<Text>,
+    /// Where the running server is asked, and who may ask it.
+    pub control: ControlSocket,
     /// Where the page is served, if it is.
     pub web: Option<Web>,
 }
@@ -267,26 +271,34 @@ fn networks(alloc: Global, file: &Value) -> Result<Vec<Network>, ServerFault>
 
 /// What a table `control` says.
 #[tactic(auto, unfolding(crate::specs::Server::socket_in))]
-fn socket(alloc: Global, table: &Value) -> Result<Text, ServerFault>
-    ensures ok { IfOk result (λ path. socket_in (view table.now) ≡ Ok path) }
+fn socket(alloc: Global, table: &Value) -> Result<ControlSocket, ServerFault>
+    ensures ok { IfOk result (λ socket. socket_in (view table.now) ≡ Ok socket) }
     ensures fault { IfErr result (λ fault. fault ≢ ServerFault.NoMemory →
         socket_in (view table.now) ≡ Err fault) }
 {
     check_names(alloc, Part::Control, table)?;
-    path(alloc, Part::Control, table, Key::Socket)
+    Ok(ControlSocket {
+        path: path_or_none(alloc, Part::Control, table, Key::Socket)?,
+        mode: number(Part::Control, table, Key::Mode, OWNERS_MODE)?,
+        group: group(alloc, Part::Control, table)?,
+    })
 }
 
-/// The path of the control's socket, if the file has one.
+/// Where the running server is asked, and who may ask it.
 #[tactic(auto, unfolding(crate::specs::Server::control_in))]
-fn control(alloc: Global, file: &Value) -> Result<Option<Text>, ServerFault>
-    ensures ok { IfOk result (λ path. control_in (view file.now) ≡ Ok path) }
+fn control(alloc: Global, file: &Value) -> Result<ControlSocket, ServerFault>
+    ensures ok { IfOk result (λ socket. control_in (view file.now) ≡ Ok socket) }
     ensures fault { IfErr result (λ fault. fault ≢ ServerFault.NoMemory →
         control_in (view file.now) ≡ Err fault) }
 {
     match member(file, Key::Control) {
-        Some(table) if table.is_table() => Ok(Some(socket(alloc, table)?)),
+        Some(table) if table.is_table() => socket(alloc, table),
         Some(_) => Err(ServerFault::BadValue(Part::Head, Key::Control)),
-        None => Ok(None),
+        None => Ok(ControlSocket {
+            path: None,
+            mode: OWNERS_MODE,
+            group: None,
+        }),
     }
 }
 

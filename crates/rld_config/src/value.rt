@@ -23,6 +23,7 @@ ghost use Rattle.rld_config.specs.Value.{
   address_value,
   archive_value,
   flag_value,
+  group_of,
   ip_address_value,
   prefix_value,
   member_in,
@@ -37,18 +38,20 @@ ghost use Rattle.rld_config.specs.Server.{
   address_in,
   archive_in,
   client_in,
+  group_in,
   ip_address_in,
   prefix_in,
   status_in,
   needed_port_in,
   path_in,
+  path_or_none_in,
   port_in,
   sync_in,
 };
 
 use crate::archive::Archive;
 use crate::fault::ServerFault;
-use crate::key::{Key, is_between, is_path};
+use crate::key::{Key, is_between, is_group, is_path};
 use crate::part::Part;
 use crate::sync::SyncPolicy;
 use rld_networks::{Prefix, canonical, ip_address_of, prefix_of};
@@ -141,6 +144,55 @@ pub(crate) fn path(alloc: Global, part: Part, table: &Value, key: Key) -> Result
     match path_of(present(part, table, key)?) {
         Some(text) => Ok(Text::from_str(alloc, text)?),
         None => Err(ServerFault::BadValue(part, key)),
+    }
+}
+
+/// The path under a key that may be left out. `NoMemory` comes after the faults of the key.
+#[tactic(auto, unfolding(crate::specs::Server::path_or_none_in))]
+pub(crate) fn path_or_none(
+    alloc: Global,
+    part: Part,
+    table: &Value,
+    key: Key,
+) -> Result<Option<Text>, ServerFault>
+    ensures ok { IfOk result (λ path. path_or_none_in part (view table.now) key ≡ Ok path) }
+    ensures fault { IfErr result (λ fault. fault ≢ ServerFault.NoMemory →
+        path_or_none_in part (view table.now) key ≡ Err fault) }
+{
+    match member(table, key) {
+        Some(value) => match path_of(value) {
+            Some(text) => Ok(Some(Text::from_str(alloc, text)?)),
+            None => Err(ServerFault::BadValue(part, key)),
+        },
+        None => Ok(None),
+    }
+}
+
+/// The name of a group that a value is.
+fn group_of(value: &Value) -> Option<&str>
+    ensures { option_copied result ≡ group_of (view value.now) }
+{
+    let text = value.as_str()?;
+    if is_group(text.as_bytes()) {
+        Some(text)
+    } else {
+        None
+    }
+}
+
+/// The name of the group of a table that may leave it out. `NoMemory` comes after the fault of the key.
+#[tactic(auto, unfolding(crate::specs::Server::group_in))]
+pub(crate) fn group(alloc: Global, part: Part, table: &Value) -> Result<Option<Text>, ServerFault>
+    ensures ok { IfOk result (λ group. group_in part (view table.now) ≡ Ok group) }
+    ensures fault { IfErr result (λ fault. fault ≢ ServerFault.NoMemory →
+        group_in part (view table.now) ≡ Err fault) }
+{
+    match member(table, Key::Group) {
+        Some(value) => match group_of(value) {
+            Some(text) => Ok(Some(Text::from_str(alloc, text)?)),
+            None => Err(ServerFault::BadValue(part, Key::Group)),
+        },
+        None => Ok(None),
     }
 }
 

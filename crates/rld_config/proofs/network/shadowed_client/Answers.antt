@@ -10,10 +10,10 @@ unfolding shadowed_client
 returns-then-is_shadowed c =
     sym (ap (option_map ShadowedClient) (c.loop-number.invariant
     ∙ found_at c.args.networks.now c.args.config.now.clients c.loop-number.number c.client_at.result.now c.client_at.ensures.client c.from-address.result c.from-address.ensures
-      c.is_shadowed.result c.is_shadowed.ensures c.if-is_shadowed.true))
+    c.is_shadowed.result c.is_shadowed.ensures c.if-is_shadowed.true))
 
 pub loop-number-preserved : goal.loop-number-preserved
 loop-number-preserved c =
     c.loop-number.invariant
     ∙ passed_at c.args.networks.now c.args.config.now.clients c.loop-number.number c.client_at.result.now c.client_at.ensures.client c.from-address.result c.from-address.ensures
-      c.is_shadowed.result c.is_shadowed.ensures c.if-is_shadowed.false
+    c.is_shadowed.result c.is_shadowed.ensures c.if-is_shadowed.false
