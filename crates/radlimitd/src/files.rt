@@ -97,7 +97,12 @@ fn file_text<F: Files>(files: &F, alloc: Global, name: &str) -> Result<Vec<u8>, 
 }
 
 /// The fault of a file that is wrong.
-fn bad_file<T>(alloc: Global, name: &str, place: Option<Place>, wrong: Wrong) -> Result<T, Fault> {
+pub(crate) fn bad_file<T>(
+    alloc: Global,
+    name: &str,
+    place: Option<Place>,
+    wrong: Wrong,
+) -> Result<T, Fault> {
     match String::from_str(alloc, name) {
         Ok(name) => Err(Fault::BadFile(BadFile { name, place, wrong })),
         Err(_) => Err(Fault::NoMemory),

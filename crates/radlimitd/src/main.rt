@@ -16,6 +16,7 @@ mod command;
 mod exit;
 mod fault;
 mod files;
+mod group;
 mod init;
 mod lines;
 mod pace;

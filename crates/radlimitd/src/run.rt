@@ -1,15 +1,17 @@
 use crate::VERSION;
 use crate::accounts::ServerAccounts;
+use crate::bad_file::Wrong;
 use crate::fault::Fault;
-use crate::files::{AccountFile, accounts_for, server_file};
+use crate::files::{AccountFile, accounts_for, bad_file, server_file};
+use crate::group::group_number;
 use crate::pace::pace_of;
 use crate::proof::proof_in;
 use crate::sink::sink_of;
-use rld_config::Paths;
+use rld_config::{ControlSocket, Key, Part, Paths, ServerFault};
 use rld_folder::{Folder, FolderFault};
 use rld_log::{Pacing, Ticks};
 use rld_look::Build;
-use rld_serve::{Control, Plan, RunFault, Sockets, serve};
+use rld_serve::{Access, Control, Plan, RunFault, Sockets, serve};
 use rld_start::{FolderGenerations, StartFault, Started, start};
 use rld_web::Web;
 use rsl_event::Source;
@@ -26,11 +28,12 @@ use std::time::Clock;
 /// Runs the server of this file until it is killed or cannot go on.
 ///
 /// What keeps it from starting comes in this order: the clock, the server's file, the account file,
-/// a network whose client the account file does not have; `busy`, where another process has the
-/// state folder, or what is wrong with the folder itself; a socket that cannot be bound, those of
-/// RADIUS before that of the page; a control that cannot be made; and last what is wrong with the
-/// files of the folder. So where an address, a port or a path cannot be used nothing has changed in
-/// the folder, but that it may be new, with an empty `lock` in it.
+/// a network whose client the account file does not have, or that takes another client's address;
+/// `busy`, where another process has the state folder, or what is wrong with the folder itself; a
+/// socket that cannot be bound, those of RADIUS before that of the page; a group that the system does
+/// not know; a control that cannot be made; and last what is wrong with the files of the folder. So
+/// where an address, a port or a path cannot be used nothing has changed in the folder, but that it
+/// may be new, with an empty `lock` in it.
 ///
 /// A server that runs reads its files by `files`: a thread may be handed no other handle of files
 /// than the system's own.
@@ -62,7 +65,8 @@ where
     check_free(rt, alloc, state)?;
     let sockets = Sockets::bind(rt, alloc, server.listens.as_slice())?;
     let web = web_of(rt, files, alloc, server.web)?;
-    let control = match Control::bind(rt, paths.control.as_str()) {
+    let access = access_of(rt, alloc, name, &server.control)?;
+    let control = match Control::bind(rt, alloc, paths.control.as_str(), access) {
         Ok(control) => control,
         Err(_) => return Err(Fault::Control(String::from_str(alloc, paths.control.as_str())?)),
     };
@@ -110,6 +114,30 @@ where
         &accounts,
         store,
     )?)
+}
+
+/// Who may ask over the control's socket, by the server's file of this name. The group's fault comes
+/// where the system knows none of its name.
+fn access_of<F: Files>(
+    files: &F,
+    alloc: Global,
+    name: &str,
+    control: &ControlSocket,
+) -> Result<Access, Fault> {
+    let group = match &control.group {
+        None => None,
+        Some(group) => match group_number(files, alloc, group.as_str())? {
+            Some(number) => Some(number),
+            None => {
+                let fault = ServerFault::BadValue(Part::Control, Key::Group);
+                return bad_file(alloc, name, None, Wrong::Server(fault));
+            }
+        },
+    };
+    Ok(Access {
+        mode: u32::from(control.mode),
+        group,
+    })
 }
 
 /// Where the server is shown, if its file says so. `Unbound` comes where the address and port

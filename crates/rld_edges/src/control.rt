@@ -5,10 +5,10 @@ ghost use Rattle.std.specs.Prelude.{◌≡◌};
 use rld_control::{Command, read_line};
 use rsl_wire::NoMemory;
 use std::alloc::Global;
-use std::fs::{self, File, Files};
+use std::fs::{self, DirBuilder, File, Files, Permissions};
 use std::io::{self, ErrorKind, Read, Write};
 use std::net::Net;
-use std::os::unix::fs::FileTypeExt;
+use std::os::unix::fs::{self as unix, DirBuilderExt, FileTypeExt, PermissionsExt};
 use std::os::unix::net::{UnixListener, UnixStream};
 use std::time::{Clock, Duration, Instant};
 
@@ -27,6 +27,19 @@ const SILENCE_SECS: u64 = 1;
 
 const _: () = prove!(SILENCE_SECS == 1 && PATIENCE_SECS == 5 && PART_LEN == 4_096);
 
+/// What only the server's user may do with the folder that a socket is made in: everything.
+const MAKING_MODE: u32 = 0o700;
+
+/// Who may ask over a control's socket: its mode, and the number of the group that it is given to, if it
+/// is given to one.
+#[derive(Clone, Copy)]
+pub struct Access {
+    /// The mode, as 0o660.
+    pub mode: u32,
+    /// The number of the group.
+    pub group: Option<u32>,
+}
+
 /// The listening socket of a server's control.
 #[derive(Drop)]
 pub struct Control {
@@ -34,19 +47,34 @@ pub struct Control {
 }
 
 impl Control {
-    /// Makes the socket, whose calls do not wait. Who may write to the socket, whose mode the umask says,
-    /// and may enter its folder, may ask.
+    /// Makes the socket, whose calls do not wait. Who may write to it, and may enter its folder, may ask.
     ///
-    /// A socket that is there, and that nobody answers at, is removed first: it is left by a server that
-    /// was killed. The error is the system's: the path is too long for a socket, a file of another kind
-    /// or a socket that is answered has it, or the folder may not be written to.
-    pub fn bind<R: Files<File = File> + Net>(rt: &R, path: &str) -> io::Result<Control> {
+    /// It is made in a folder beside it that nobody else may enter, named as it and `.new`, and has its
+    /// mode and group before it takes its place: so nobody else can ask meanwhile. A socket that is
+    /// there, and that nobody answers at, is removed first: it is left by a server that was killed. The
+    /// error is the system's: the path is too long for a socket, a file of another kind or a socket that
+    /// is answered has it, the folder may not be written to, or the group may not be given.
+    pub fn bind<R: Files<File = File> + Net>(
+        rt: &R,
+        alloc: Global,
+        path: &str,
+        access: Access,
+    ) -> io::Result<Control> {
         if is_left(rt, path) {
             fs::remove_file(rt, path)?;
         }
-        let listener = UnixListener::bind(rt, path)?;
-        listener.set_nonblocking(true)?;
-        Ok(Control { listener })
+        if fs::symlink_metadata(rt, path).is_ok() {
+            return Err(io::Error::from(ErrorKind::AddrInUse));
+        }
+        let folder = format!(in alloc; "{path}.new")?;
+        let made = format!(in alloc; "{path}.new/s")?;
+        remove_making(rt, folder.as_str(), made.as_str());
+        DirBuilder::new()
+            .mode(MAKING_MODE)
+            .create(rt, folder.as_str())?;
+        let bound = bind_at(rt, made.as_str(), path, access);
+        remove_making(rt, folder.as_str(), made.as_str());
+        Ok(Control { listener: bound? })
     }
 
     /// The socket, at which operators connect.
@@ -55,6 +83,31 @@ impl Control {
     {
         &self.listener
     }
+}
+
+/// A socket that is made at one path, has its mode and group there, and then moves to another.
+fn bind_at<R: Files<File = File> + Net>(
+    rt: &R,
+    made: &str,
+    path: &str,
+    access: Access,
+) -> io::Result<UnixListener> {
+    let listener = UnixListener::bind(rt, made)?;
+    listener.set_nonblocking(true)?;
+    if let Some(group) = access.group {
+        unix::lchown(rt, made, None, Some(group))?;
+    }
+    fs::set_permissions(rt, made, Permissions::from_mode(access.mode))?;
+    fs::rename(rt, made, path)?;
+    Ok(listener)
+}
+
+/// Removes the folder that a socket is made in, with a socket that a server left there that was killed
+/// as it made one.
+fn remove_making<R: Files<File = File>>(rt: &R, folder: &str, made: &str) {
+    // what is not there, or cannot be removed, is found where the folder is made
+    let _ = fs::remove_file(rt, made);
+    let _ = fs::remove_dir(rt, folder);
 }
 
 /// Whether a socket is there at which nobody answers.

@@ -14,7 +14,7 @@ mod shutdown;
 mod sockets;
 mod stderr_writer;
 
-pub use control::{Control, Operator};
+pub use control::{Access, Control, Operator};
 pub use fault::{RunFault, outcome_of};
 pub use job::{Job, ports_of};
 pub use readiness::Readiness;

@@ -22,5 +22,5 @@ mod socket_port;
 mod status_service;
 
 pub use accounts::{Accounts, AccountsFault};
-pub use rld_edges::{Control, RunFault, Sockets};
+pub use rld_edges::{Access, Control, RunFault, Sockets};
 pub use server::{Plan, serve};
