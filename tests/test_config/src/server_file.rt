@@ -1,6 +1,7 @@
 //! What a server's file says, and its faults.
 
 use rld_config::{ServerFault, ServerFile};
+use rsl_accounts::Text;
 use std::alloc::Global;
 use std::test::Fail;
 use test_rows::{Plain, Subject, check_rows, printed, shown};
@@ -95,7 +96,17 @@ fn the_first_fault_of_the_tables_is_named(rt: HostRuntime) -> Result<(), Fail> {
         17 | accounts = "a" | state = "s" | [[listen]] | receivers = 17 | BadValue listen 1 receivers
         a second | accounts = "a" | state = "s" | [[listen]] | [[listen]] | auth = "1" | BadValue listen 2 auth
         a number for the control | accounts = "a" | state = "s" | control = 1 | BadValue control
-        no socket | accounts = "a" | state = "s" | [control] | Missing control socket
+        nothing of the control | accounts = "a" | state = "s" | [control] | Ok
+        a mode of everybody | accounts = "a" | state = "s" | [control] | mode = 0o666 | Ok
+        a mode by its digits | accounts = "a" | state = "s" | [control] | mode = 660 | BadValue control mode
+        a mode for reading alone | accounts = "a" | state = "s" | [control] | mode = 0o640 | BadValue control mode
+        a mode as a text | accounts = "a" | state = "s" | [control] | mode = "0660" | BadValue control mode
+        a group's number | accounts = "a" | state = "s" | [control] | group = 27 | BadValue control group
+        no group's name | accounts = "a" | state = "s" | [control] | group = "" | BadValue control group
+        a group of 32 octets | accounts = "a" | state = "s" | [control] | group = "abcdefghijklmnopqrstuvwxyz012345" | Ok
+        a group of 33 octets | accounts = "a" | state = "s" | [control] | group = "abcdefghijklmnopqrstuvwxyz0123456" | BadValue control group
+        the socket before the mode | accounts = "a" | state = "s" | [control] | mode = 1 | socket = 1 | BadValue control socket
+        the mode before the group | accounts = "a" | state = "s" | [control] | group = 1 | mode = 1 | BadValue control mode
         another name | accounts = "a" | state = "s" | [control] | path = "c" | Unknown control "path"
         an empty socket | accounts = "a" | state = "s" | [control] | socket = "" | BadValue control socket
         two pages | accounts = "a" | state = "s" | [[web]] | BadValue web
@@ -106,7 +117,7 @@ fn the_first_fault_of_the_tables_is_named(rt: HostRuntime) -> Result<(), Fail> {
         a listen before the rest | accounts = "a" | state = "s" | [web] | [control] | [[listen]] | auth = 0 | BadValue listen 1 auth
         a listen before a network | accounts = "a" | state = "s" | [[network]] | [[listen]] | auth = 0 | BadValue listen 1 auth
         a network before the control | accounts = "a" | state = "s" | [control] | [[network]] | Missing network 1 prefix
-        the control before the page | accounts = "a" | state = "s" | [web] | [control] | Missing control socket
+        the control before the page | accounts = "a" | state = "s" | [web] | [control] | mode = 0 | BadValue control mode
     "#;
     check_rows(&rt, &Faults, rows)
 }
@@ -164,12 +175,39 @@ struct Tables;
 impl Subject for Tables {
     fn found(&self, alloc: Global, fields: &[&str]) -> Result<String, Fail> {
         let file = read(alloc, fields)?;
-        let socket = match &file.control {
-            Some(socket) => socket.as_str(),
-            None => "no socket",
-        };
+        let socket = text_or(&file.control.path, "no socket");
         printed(alloc, &(file.listens.as_slice(), Plain(socket), file.web))
     }
+}
+
+/// A text, or what stands for none.
+fn text_or<'a>(text: &'a Option<Text>, none: &'a str) -> &'a str {
+    match text {
+        Some(text) => text.as_str(),
+        None => none,
+    }
+}
+
+/// What the table `control` says of who may ask.
+struct Askers;
+
+impl Subject for Askers {
+    fn found(&self, alloc: Global, fields: &[&str]) -> Result<String, Fail> {
+        let control = read(alloc, fields)?.control;
+        let group = text_or(&control.group, "no group");
+        printed(alloc, &(control.mode, Plain(group)))
+    }
+}
+
+#[test]
+fn a_control_says_who_may_ask(rt: HostRuntime) -> Result<(), Fail> {
+    let rows = "
+        none | accounts = 'a' | state = 's' | (384, no group)
+        an empty one | accounts = 'a' | state = 's' | [control] | (384, no group)
+        a group | accounts = 'a' | state = 's' | [control] | group = 'adm' | mode = 0o660 | (432, adm)
+        everybody | accounts = 'a' | state = 's' | [control] | mode = 0o666 | (438, no group)
+    ";
+    check_rows(&rt, &Askers, rows)
 }
 
 #[test]

@@ -2,7 +2,7 @@
 //! after those of the head.
 
 use crate::server_file::text_of;
-use rld_config::{unknown_client, warnings};
+use rld_config::{shadowed_client, unknown_client, warnings};
 use rld_networks::{Network, prefix_of};
 use rsl_accounts::Config;
 use std::alloc::Global;
@@ -74,6 +74,10 @@ const ACCOUNTS: &str = "
 address = '192.0.2.1'
 secret = '0123456789abcdef'
 signed = true
+[[client]]
+address = '192.0.2.9'
+secret = '0123456789abcdef'
+signed = true
 [[account]]
 name = 'a'
 password = 'p'
@@ -81,8 +85,8 @@ places = 1
 ports = 1
 ";
 
-/// What an operator learns of a network of a prefix for a client, or the fault where the client is
-/// missing.
+/// What an operator learns of two networks of a prefix for two clients, or the fault where a client is
+/// missing or has its own address in a network of the other.
 struct Networked;
 
 impl Subject for Networked {
@@ -95,7 +99,11 @@ impl Subject for Networked {
             return Err("the account file is refused")?;
         };
         let networks = [network(prefix, a)?, network(prefix, b)?];
-        match unknown_client(&networks, &config) {
+        let fault = match unknown_client(&networks, &config) {
+            Some(fault) => Some(fault),
+            None => shadowed_client(&networks, &config),
+        };
+        match fault {
             Some(fault) => shown(alloc, &fault),
             None => printed(
                 alloc,
@@ -123,6 +131,10 @@ fn an_operator_is_told_of_networks(rt: HostRuntime) -> Result<(), Fail> {
           Prefixed(Prefix { address: 2001:db8::, len: 32 }), Memory(1)]
         a client that is missing | ::/0 | 2 | 3 | UnknownClient network 1 client
         a second that is missing | ::/0 | 1 | 3 | UnknownClient network 2 client
+        the other one's address | 192.0.2.8/29 | 1 | 1 | ShadowedClient 192.0.2.9
+        its own address | 192.0.2.8/29 | 9 | 9 | [Prefixed(Prefix { address: 192.0.2.8, len: 29 }), \
+          Prefixed(Prefix { address: 192.0.2.8, len: 29 }), Memory(1)]
+        both addresses | 192.0.2.0/28 | 1 | 1 | ShadowedClient 192.0.2.9
     ";
     check_rows(&rt, &Networked, rows)
 }
