@@ -7,6 +7,7 @@
 #
 # It wants Linux, Python 3, and Debian's packages freeradius and freeradius-utils, whose configuration it can read.
 set -euo pipefail
+umask 077
 
 top=$(cd "$(dirname "$0")/.." && pwd)
 program=${1:-$top/crates/radlimitd/out/radlimitd}

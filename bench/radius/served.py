@@ -36,6 +36,9 @@ REQUEST = bytes.fromhex(
 SECRET, PASSWORD = b"xyzzy5461", b"arctangent"
 COUNTS = re.compile(r"^(auth|acct) received (\d+) answered (\d+) dropped (\d+) refused (\d+) unsent (\d+)$", re.M)
 
+# a server refuses an account file that everybody may read
+os.umask(0o077)
+
 POLICIES = ("always", "second", "never")  # of the key `sync` of a server's file
 
 DAEMON_FILE = """accounts = "accounts.toml"

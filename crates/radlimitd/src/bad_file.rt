@@ -13,6 +13,12 @@ pub(crate) enum Wrong {
     /// It has not the name of a log.
     #[error("no log by its name")]
     NoLog,
+    /// Everybody can write to an account file.
+    #[error("others may write to it")]
+    Writable,
+    /// Everybody can read an account file, and the operator does not allow that.
+    #[error("others may read it")]
+    Readable,
     /// It has more octets than it may have.
     #[error("too long")]
     TooLong,

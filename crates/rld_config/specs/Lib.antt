@@ -4,3 +4,4 @@ pub mod Server
 pub mod Place
 pub mod Paths
 pub mod Warning
+pub mod Trust

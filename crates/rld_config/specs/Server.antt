@@ -23,6 +23,7 @@ use Rattle.rld_config.specs.declared.part.Part.TheVariants as part
 use Rattle.rld_config.specs.declared.server.ServerFile.{ServerFile}
 use Rattle.rld_config.specs.declared.sync.SyncPolicy.{SyncPolicy}
 use Rattle.rld_config.specs.declared.sync.SyncPolicy.TheVariants.{Always}
+use Rattle.rld_config.specs.declared.trust.Trust.{Trust}
 use Rattle.rld_config.specs.declared.web.Web.{Web}
 use Rattle.rld_networks.specs.Address.{covers, ipv4, same_address}
 use Rattle.rld_networks.specs.Networks.{client_of}
@@ -43,6 +44,7 @@ pub record Server : Type 0 where
   pub networks : List Network
   pub control : ControlSocket
   pub web : Option Web
+  pub trust : Trust
 
 abbrev pub server_in : ServerFile → Server
 server_in file = record {
@@ -54,6 +56,7 @@ server_in file = record {
   networks = file.networks.items;
   control = file.control;
   web = file.web;
+  trust = file.trust;
 }
 
 -- the address that means every IPv4 address of the machine, and that of the machine itself
@@ -97,10 +100,9 @@ unfoldable pub ip_address_in : Part → Data → Result IpAddr ServerFault
 ip_address_in part value =
     or_default part key.Address ip_address_value any_address (member_in value key.Address)
 
--- Status-Server is not answered if the file does not say otherwise
-unfoldable pub status_in : Part → Data → Result Bool ServerFault
-status_in part value =
-    or_default part key.StatusServer flag_value false (member_in value key.StatusServer)
+-- false if the table does not say otherwise
+unfoldable pub flag_in : Part → Data → Key → Result Bool ServerFault
+flag_in part value key = or_default part key flag_value false (member_in value key)
 
 unfoldable pub prefix_in : Part → Data → Result Prefix ServerFault
 prefix_in part value = required part key.Prefix prefix_value (member_in value key.Prefix)
@@ -133,7 +135,7 @@ listen_in number value =
     and_then (port_in (part.Listen number) value key.Auth 1812) (λ auth.
     and_then (port_in (part.Listen number) value key.Acct 1813) (λ acct.
     and_then (port_in (part.Listen number) value key.Receivers 1) (λ receivers.
-    and_then (status_in (part.Listen number) value) (λ status.
+    and_then (flag_in (part.Listen number) value key.StatusServer) (λ status.
     Ok (record {
       address = address;
       auth = auth;
@@ -260,8 +262,22 @@ page_in value =
 unfoldable pub web_in : Data → Result (Option Web) ServerFault
 web_in file = option_at key.Web page_in (member_in file key.Web)
 
+unfoldable pub readers_in : Data → Result Trust ServerFault
+readers_in value =
+    fault_or (unknown_in part.Trust value)
+    (and_then (flag_in part.Trust value key.ReadableAccounts) (λ readable.
+    Ok (record { readable_accounts = readable })))
+
+-- nobody else may read the account file if the file does not say otherwise
+abbrev pub trust_at : Option Data → Result Trust ServerFault
+trust_at None = Ok (record { readable_accounts = false })
+trust_at (Some value) = and_then (ok_or (table_of value) (BadValue part.Head key.Trust)) readers_in
+
+unfoldable pub trust_in : Data → Result Trust ServerFault
+trust_in file = trust_at (member_in file key.Trust)
+
 -- what the file says, or its first fault: of the head, of the tables `listen` in their order, of the
--- tables `network`, of `control`, of `web`
+-- tables `network`, of `control`, of `web`, of `trust`
 unfoldable pub server_of_file : Data → Result Server ServerFault
 server_of_file file =
     and_then (head_in file) (λ head.
@@ -269,6 +285,7 @@ server_of_file file =
     and_then (networks_in file) (λ networks.
     and_then (control_in file) (λ control.
     and_then (web_in file) (λ web.
+    and_then (trust_in file) (λ trust.
     Ok (record {
       accounts = head.accounts;
       state = head.state;
@@ -278,7 +295,8 @@ server_of_file file =
       networks = networks;
       control = control;
       web = web;
-    }))))))
+      trust = trust;
+    })))))))
 
 -- the table that the text is, if it is UTF-8 and TOML
 unfoldable pub file_of : List ℕ → Option Data

@@ -37,6 +37,8 @@ pub enum Key {
     Control,
     /// Where its page is served, as a table.
     Web,
+    /// What others may do, as a table.
+    Trust,
     /// The address of a `listen` or of `web`.
     Address,
     /// The UDP port for Access-Requests.
@@ -59,6 +61,8 @@ pub enum Key {
     Group,
     /// The TCP port of the page.
     Port,
+    /// Whether everybody may read the account file.
+    ReadableAccounts,
 }
 
 impl Key {
@@ -75,6 +79,7 @@ impl Key {
             Key::Network => "network",
             Key::Control => "control",
             Key::Web => "web",
+            Key::Trust => "trust",
             Key::Address => "address",
             Key::Auth => "auth",
             Key::Acct => "acct",
@@ -86,6 +91,7 @@ impl Key {
             Key::Mode => "mode",
             Key::Group => "group",
             Key::Port => "port",
+            Key::ReadableAccounts => "readable_accounts",
         }
     }
 

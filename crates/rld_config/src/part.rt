@@ -20,6 +20,8 @@ pub enum Part {
     Control,
     /// The table `web`.
     Web,
+    /// The table `trust`.
+    Trust,
 }
 
 impl Part {
@@ -37,6 +39,7 @@ impl Part {
                 Key::Network,
                 Key::Control,
                 Key::Web,
+                Key::Trust,
             ],
             Part::Listen(_) => &[
                 Key::Address,
@@ -48,6 +51,7 @@ impl Part {
             Part::Network(_) => &[Key::Prefix, Key::Client],
             Part::Control => &[Key::Socket, Key::Mode, Key::Group],
             Part::Web => &[Key::Address, Key::Port],
+            Part::Trust => &[Key::ReadableAccounts],
         }
     }
 
@@ -67,6 +71,7 @@ impl fmt::Display for Part {
             Part::Network(number) => write!(f, "network {number} "),
             Part::Control => f.write_str("control "),
             Part::Web => f.write_str("web "),
+            Part::Trust => f.write_str("trust "),
         }
     }
 }

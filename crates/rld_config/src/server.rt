@@ -1,5 +1,5 @@
-//! The server's file: TOML with the paths at its head, an array of tables `listen`, a table
-//! `control` and a table `web`.
+//! The server's file: TOML with the paths at its head, arrays of tables `listen` and `network`, and
+//! tables `control`, `web` and `trust`.
 ghost use Rattle.std.specs.Prelude.{◌≡◌, ◌≢◌, ◌≤◌, Some, None, map, length, IfOk, IfErr, option_map};
 ghost use Rattle.toml.specs.View.{view};
 ghost use Rattle.rld_config.specs.Server.{
@@ -17,7 +17,9 @@ ghost use Rattle.rld_config.specs.Server.{
   server_in,
   server_of_file,
   server_of_text,
+  readers_in,
   socket_in,
+  trust_in,
   web_in,
 };
 
@@ -30,9 +32,10 @@ use crate::listen::{ACCT_PORT, AUTH_PORT, Listen, first_taken_port};
 use crate::network::first_taken_prefix;
 use crate::part::Part;
 use crate::sync::SyncPolicy;
+use crate::trust::Trust;
 use crate::value::{
-    address, archive, check_names, client, group, ip_address, member, needed_number, number, path,
-    path_or_none, prefix, status_server, sync, tables_of,
+    address, archive, check_names, client, flag, group, ip_address, member, needed_number, number,
+    path, path_or_none, prefix, sync, tables_of,
 };
 use crate::web::Web;
 use rld_networks::Network;
@@ -71,13 +74,16 @@ pub struct ServerFile {
     pub control: ControlSocket,
     /// Where the page is served, if it is.
     pub web: Option<Web>,
+    /// What others may do with the account file.
+    pub trust: Trust,
 }
 
 impl ServerFile {
     /// What the text of a server's file says. The faults come in this order: `NotToml`; of the
     /// head, the first name that is not known, then the first key that is absent or has a wrong
     /// value; the same of each table `listen`, in the file's order, then `TakenPort`; the same of
-    /// each table `network`, then `TakenPrefix`; the same of `control` and of `web`. `NoMemory` comes
+    /// each table `network`, then `TakenPrefix`; the same of `control`, of `web` and of
+    /// `trust`. `NoMemory` comes
     /// where memory is refused, before the checks that follow.
     pub fn read(alloc: Global, text: &[u8]) -> Result<ServerFile, ServerFault>
         ensures ok { IfOk result (λ file. server_of_text text.now ≡ Ok (server_in file)) }
@@ -100,6 +106,7 @@ impl ServerFile {
         let networks = networks(alloc, file)?;
         let control = control(alloc, file)?;
         let web = web(alloc, file)?;
+        let trust = trust(alloc, file)?;
         Ok(ServerFile {
             accounts: head.accounts,
             state: head.state,
@@ -109,6 +116,7 @@ impl ServerFile {
             networks,
             control,
             web,
+            trust,
         })
     }
 }
@@ -156,7 +164,7 @@ fn listen(alloc: Global, number_of_table: u64, table: &Value) -> Result<Listen, 
         auth: number(part, table, Key::Auth, AUTH_PORT)?,
         acct: number(part, table, Key::Acct, ACCT_PORT)?,
         receivers: number(part, table, Key::Receivers, 1)?,
-        status_server: status_server(part, table)?,
+        status_server: flag(part, table, Key::StatusServer)?,
     })
 }
 
@@ -327,5 +335,34 @@ fn web(alloc: Global, file: &Value) -> Result<Option<Web>, ServerFault>
         Some(table) if table.is_table() => Ok(Some(page(alloc, table)?)),
         Some(_) => Err(ServerFault::BadValue(Part::Head, Key::Web)),
         None => Ok(None),
+    }
+}
+
+/// What a table `trust` says.
+#[tactic(auto, unfolding(crate::specs::Server::readers_in))]
+fn readers(alloc: Global, table: &Value) -> Result<Trust, ServerFault>
+    ensures ok { IfOk result (λ trust. readers_in (view table.now) ≡ Ok trust) }
+    ensures fault { IfErr result (λ fault. fault ≢ ServerFault.NoMemory →
+        readers_in (view table.now) ≡ Err fault) }
+{
+    check_names(alloc, Part::Trust, table)?;
+    Ok(Trust {
+        readable_accounts: flag(Part::Trust, table, Key::ReadableAccounts)?,
+    })
+}
+
+/// What others may do with the account file: nothing if the file does not say it.
+#[tactic(auto, unfolding(crate::specs::Server::trust_in))]
+fn trust(alloc: Global, file: &Value) -> Result<Trust, ServerFault>
+    ensures ok { IfOk result (λ trust. trust_in (view file.now) ≡ Ok trust) }
+    ensures fault { IfErr result (λ fault. fault ≢ ServerFault.NoMemory →
+        trust_in (view file.now) ≡ Err fault) }
+{
+    match member(file, Key::Trust) {
+        Some(table) if table.is_table() => readers(alloc, table),
+        Some(_) => Err(ServerFault::BadValue(Part::Head, Key::Trust)),
+        None => Ok(Trust {
+            readable_accounts: false,
+        }),
     }
 }

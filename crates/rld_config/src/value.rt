@@ -41,7 +41,7 @@ ghost use Rattle.rld_config.specs.Server.{
   group_in,
   ip_address_in,
   prefix_in,
-  status_in,
+  flag_in,
   needed_port_in,
   path_in,
   path_or_none_in,
@@ -238,15 +238,15 @@ pub(crate) fn ip_address(part: Part, table: &Value) -> Result<IpAddr, ServerFaul
     }
 }
 
-/// Whether Status-Server packets are answered: not if the table does not say it.
-#[tactic(auto, unfolding(crate::specs::Server::status_in))]
-pub(crate) fn status_server(part: Part, table: &Value) -> Result<bool, ServerFault>
-    ensures { result ≡ status_in part (view table.now) }
+/// Whether a table says `true` under a key: not if it does not say it.
+#[tactic(auto, unfolding(crate::specs::Server::flag_in))]
+pub(crate) fn flag(part: Part, table: &Value, key: Key) -> Result<bool, ServerFault>
+    ensures { result ≡ flag_in part (view table.now) key }
 {
-    match member(table, Key::StatusServer) {
+    match member(table, key) {
         Some(value) => match flag_value(value) {
             Some(flag) => Ok(flag),
-            None => Err(ServerFault::BadValue(part, Key::StatusServer)),
+            None => Err(ServerFault::BadValue(part, key)),
         },
         None => Ok(false),
     }

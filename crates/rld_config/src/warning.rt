@@ -159,7 +159,7 @@ fn warn_of_mode(mode: u32, warnings: &mut Vec<Warning>) -> Result<(), NoMemory>
 }
 
 /// Whether the mode of a file lets everybody read it.
-fn others_read(mode: u32) -> bool
+pub(crate) fn others_read(mode: u32) -> bool
     ensures { result ≡ others_read mode }
 {
     mode & OTHERS_READ != 0
