@@ -17,6 +17,12 @@ pub enum FolderFault {
     /// What has its name is no folder.
     #[error("is no folder")]
     NoFolder,
+    /// The folder belongs to another user than the one who runs the process.
+    #[error("belongs to another user")]
+    Foreign,
+    /// A link stands where a file of the server should.
+    #[error("has a link in place of a file")]
+    Linked,
     /// Others than its owner may write to the folder.
     #[error("others may write to it")]
     Exposed,

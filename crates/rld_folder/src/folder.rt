@@ -4,7 +4,7 @@ use rld_log::FileLog;
 use std::alloc::{AllocError, Global};
 use std::fs::{self, DirBuilder, File, OpenOptions, ReadDir, TryLockError};
 use std::io::{self, ErrorKind, Read, Write};
-use std::os::unix::fs::{DirBuilderExt, OpenOptionsExt, PermissionsExt};
+use std::os::unix::fs::{DirBuilderExt, FileTypeExt, MetadataExt, OpenOptionsExt, PermissionsExt};
 use std::rt::Files;
 
 /// What only the owner of the folder may do with it: everything.
@@ -35,7 +35,7 @@ pub(crate) fn make_folder<R: Files>(files: &R, path: &str) -> Result<(), FolderF
     }
 }
 
-/// Checks that this is a folder, and that nobody but its owner may write to it.
+/// Checks that this is a folder of the user who runs the process, and that nobody else may write to it.
 fn check_folder<R: Files>(files: &R, path: &str) -> Result<(), FolderFault> {
     let found = match fs::metadata(files, path) {
         Ok(found) => found,
@@ -44,10 +44,23 @@ fn check_folder<R: Files>(files: &R, path: &str) -> Result<(), FolderFault> {
     if !found.is_dir() {
         return Err(FolderFault::NoFolder);
     }
+    if found.uid() != libc::geteuid() {
+        return Err(FolderFault::Foreign);
+    }
     if found.permissions().mode() & OTHERS_WRITE != 0 {
         return Err(FolderFault::Exposed);
     }
     Ok(())
+}
+
+/// Checks that no link stands at a path of the folder. Nobody else may write to the folder, so none is put
+/// there afterwards.
+fn check_no_link<R: Files>(files: &R, path: &str) -> Result<(), FolderFault> {
+    match fs::symlink_metadata(files, path) {
+        Ok(found) if found.file_type().is_symlink() => Err(FolderFault::Linked),
+        // what is not there, or cannot be looked at, is found where it is opened
+        Ok(_) | Err(_) => Ok(()),
+    }
 }
 
 /// Takes the lock, which the system gives back when the process ends, however it ends.
@@ -113,8 +126,9 @@ impl Folder {
     /// folder that it stands in has to be.
     ///
     /// `Unmade` where it is not there and cannot be made, `Unread` where the system tells nothing of it,
-    /// `NoFolder` where a file has its name, and `Exposed` where others than its owner may write to it:
-    /// then nothing in it has changed. `Unlocked` where its lock cannot be opened or taken, and `Busy`
+    /// `NoFolder` where a file has its name, `Foreign` where it belongs to another user, `Exposed` where
+    /// others than its owner may write to it, and `Linked` where its lock is a link: then nothing in it
+    /// has changed. `Unlocked` where its lock cannot be opened or taken, and `Busy`
     /// where another process has it: then at most an empty `lock` is new in it. `NoMemory` where memory
     /// is refused.
     pub fn open<R: Files<File = File>>(
@@ -125,6 +139,7 @@ impl Folder {
         make_folder(files, path)?;
         check_folder(files, path)?;
         let name = path_in(alloc, path, FileName::Lock)?;
+        check_no_link(files, name.as_str())?;
         let lock = match open_file(files, name.as_str()) {
             Ok(lock) => lock,
             Err(error) => return Err(FolderFault::of(&error, FolderFault::Unlocked)),
@@ -154,7 +169,8 @@ impl Folder {
         }
     }
 
-    /// The log of a generation that is there. `Unopened` where it is not, or cannot be opened.
+    /// The log of a generation that is there. `Linked` where a link stands in its place, and `Unopened`
+    /// where it is not there or cannot be opened.
     pub fn open_log<R: Files<File = File>>(
         &self,
         files: &R,
@@ -162,6 +178,7 @@ impl Folder {
         generation: Generation,
     ) -> Result<FileLog, FolderFault> {
         let path = self.path_of(alloc, FileName::Log(generation))?;
+        check_no_link(files, path.as_str())?;
         match OpenOptions::new()
             .read(true)
             .write(true)
@@ -186,7 +203,8 @@ impl Folder {
         Ok(FileLog::new(file))
     }
 
-    /// The octets of an era's table. `Unopened` where it is not there, `Unread` where it cannot be read.
+    /// The octets of an era's table. `Linked` where a link stands in its place, `Unopened` where it is not
+    /// there, `Unread` where it cannot be read.
     pub fn read_era<R: Files<File = File>>(
         &self,
         files: &R,
@@ -194,6 +212,7 @@ impl Folder {
         era: u64,
     ) -> Result<Vec<u8>, FolderFault> {
         let path = self.path_of(alloc, FileName::Era(era))?;
+        check_no_link(files, path.as_str())?;
         let mut file = match File::open(files, path.as_str()) {
             Ok(file) => file,
             Err(error) => return Err(FolderFault::of(&error, FolderFault::Unopened)),

@@ -67,7 +67,8 @@ fn status_of_folder(fault: FolderFault) -> EndStatus
 {
     match fault {
         FolderFault::NoMemory => EndStatus::NoMemory,
-        FolderFault::NoFolder | FolderFault::Exposed => EndStatus::WrongInput,
+        FolderFault::NoFolder | FolderFault::Foreign | FolderFault::Linked | FolderFault::Exposed =>
+            EndStatus::WrongInput,
         FolderFault::Unsynced => EndStatus::Unsynced,
         FolderFault::Unmade
         | FolderFault::Unread
