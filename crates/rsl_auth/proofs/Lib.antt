@@ -4,3 +4,4 @@ pub mod DigestLemmas
 pub mod HmacLemmas
 pub mod PasswordLemmas
 pub mod SignatureLemmas
+pub mod ComparisonLemmas

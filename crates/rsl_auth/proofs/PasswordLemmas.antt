@@ -1,5 +1,5 @@
 -- What the tests of a password mean, the steps of hiding and revealing one, and that a hidden password is revealed.
-use Rattle.std.proofs.Common.{◌≡◌, ℕ, zero, suc, ◌+◌, ◌-◌, ◌*◌, ◌/◌, ◌%◌, ◌<◌, ◌≤◌, true, List, [], ◌∷◌, ◌++◌, length, get_or, take, drop, replicate, bit_xor, Decides, eqb, leb, refl, sym, ap, ◌∙◌, arith, rules}
+use Rattle.std.proofs.Common.{◌≡◌, ℕ, zero, suc, ◌+◌, ◌-◌, ◌*◌, ◌/◌, ◌%◌, ◌<◌, ◌≤◌, true, false, List, [], ◌∷◌, ◌++◌, length, get_or, take, drop, replicate, true≢false, bit_xor, Decides, eqb, leb, refl, sym, ap, ◌∙◌, arith, rules}
 use Rattle.std.specs.List.{starts_with}
 use Rattle.std.specs.Int.Bits.{xor_assoc, xor_self, xor_zero_r}
 use Rattle.std.proofs.lemmas.Slice.Eq.{starts_is}
@@ -8,7 +8,9 @@ use Rattle.std.proofs.Math.Seq.{take-append-add}
 use Rattle.std.proofs.lemmas.Slice.{take-put_mid}
 use borrow.Rule.Slice.PartMut.{put_mid}
 use Rattle.std.proofs.lemmas.List.Prefix.{front_rest}
-use Rattle.std.proofs.lemmas.Bool.Decides.{Decides-and, Decides-like, Decides-eqb, nat_tests}
+use Rattle.std.proofs.lemmas.Bool.Decides.{Decides-and, Decides-like, Decides-eqb, nat_tests, same_from_decides}
+use Rattle.std.proofs.lemmas.Slice.Eq.{bytes_eq-Decides}
+use Rattle.std.specs.Str.{bytes_eq}
 use Rattle.md5.specs.Md5.{md5}
 use Rattle.rsl_auth.specs.Password.{xor_octets, masked, hidden_blocks, revealed_blocks, hidden, revealed, nuls_after, padded_password, are_nuls, is_padded, IsPadded, is_password_length, IsPasswordLength, matches_password}
 use Rattle.rsl_auth.proofs.DigestLemmas.{length-md5}
@@ -92,6 +94,32 @@ is_password_length-Decides : (n : ℕ) → Decides (is_password_length n) (IsPas
 is_password_length-Decides n =
     Decides-like (is_password_length n) (λ w. (w.0.0, w.0.1, w.1)) (λ w. ((w.0, w.1), w.2))
     (Decides-and _ _ (Decides-and _ _ (Decides-eqb (n % 16) 0) (Decides-leb 16 n)) (Decides-leb n 128))
+
+-- octets are the password and NULs alone after it where they begin the buffer of a password
+pub is_padded_by_buffer : (octets password buffer : List ℕ) → length password ≤ length octets → length octets ≤ 128
+    → buffer ≡ password ++ replicate (128 - length password) 0
+    → bytes_eq octets (take (length octets) buffer) ≡ is_padded octets password
+is_padded_by_buffer octets password buffer longer fits filled =
+    let zeros : ℕ = length octets - length password in
+    let padded : take (length octets) buffer ≡ password ++ replicate zeros 0 =
+    rw filled
+    (ap (λ (n : ℕ). take n (password ++ replicate (128 - length password) 0)) (omega arith)
+    ∙ take-append-add password (replicate (128 - length password) 0) zeros
+    ∙ ap (λ (r : List ℕ). password ++ r) (take-replicate zeros (128 - length password) 0 (omega arith))) in
+    same_from_decides _ _
+    (Decides-like (bytes_eq octets (take (length octets) buffer)) (λ is. (zeros, is ∙ padded))
+    (λ w.
+    let count : w.0 ≡ zeros = omega (arith, ap length w.1, length-append password (replicate w.0 0), length-replicate {A = ℕ} w.0 0) in
+    w.1 ∙ ap (λ (n : ℕ). password ++ replicate n 0) count ∙ sym padded)
+    (bytes_eq-Decides _ _))
+    (is_padded-Decides octets password)
+
+-- no octets are a longer password and NULs after it
+pub is_padded_too_long : (octets password : List ℕ) → length octets < length password → false ≡ is_padded octets password
+is_padded_too_long octets password long =
+    same_from_decides {P = IsPadded octets password} _ _
+    (λ yes. absurd (true≢false (sym yes)), λ w. absurd (omega (arith, ap length w.1, length-append password (replicate w.0 0))))
+    (is_padded-Decides octets password)
 
 pub matches_password-Decides : (value secret request_auth password : List ℕ)
     → Decides (matches_password value secret request_auth password)

@@ -6,6 +6,7 @@ ghost use Rattle.rsl_auth.specs.Authenticator.{
   sealed,
 };
 
+use crate::comparison::same_octets;
 use md5::{Digest, Md5};
 use rsl_wire::{AUTHENTICATOR_START, HEADER_LEN};
 
@@ -47,7 +48,7 @@ pub fn accounting_ok(packet: &[u8], secret: &[u8]) -> bool
         (authenticator packet.now ≡ accounting_authenticator packet.now secret.now) }
 {
     let digest = accounting_authenticator(packet, secret);
-    &packet[AUTHENTICATOR_START..HEADER_LEN] == digest.as_slice()
+    same_octets(&packet[AUTHENTICATOR_START..HEADER_LEN], &digest)
 }
 
 /// The Request Authenticator of an Accounting-Request.

@@ -1,6 +1,7 @@
 ghost use Rattle.std.specs.Prelude.{◌≡◌, ◌↔◌, IsTrue, length, drop, slice_index};
 ghost use Rattle.rsl_auth.specs.Chap.{chap_response, matches_chap};
 
+use crate::comparison::same_octets;
 use md5::{Digest, Md5};
 
 /// Octets of a CHAP-Password: a CHAP Ident and a response of 16 (RFC 2865 section 5.3).
@@ -31,5 +32,5 @@ pub fn chap_ok(value: &[u8], challenge: &[u8], password: &[u8]) -> bool
     if value.len() != CHAP_PASSWORD_LEN {
         return false;
     }
-    &value[1..] == chap_response(value[0], password, challenge).as_slice()
+    same_octets(&value[1..], &chap_response(value[0], password, challenge))
 }

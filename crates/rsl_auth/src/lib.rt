@@ -7,6 +7,7 @@
 
 mod authenticator;
 mod chap;
+mod comparison;
 mod hmac;
 mod password;
 mod signature;

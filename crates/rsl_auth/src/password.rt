@@ -14,7 +14,6 @@ ghost use Rattle.std.specs.Prelude.{
 };
 ghost use Rattle.md5.specs.Md5.{md5};
 ghost use Rattle.rsl_auth.specs.Password.{
-  are_nuls,
   hidden,
   hidden_blocks,
   is_padded,
@@ -27,6 +26,7 @@ ghost use Rattle.rsl_auth.specs.Password.{
   revealed,
 };
 
+use crate::comparison::same_octets;
 use md5::{Digest, Md5};
 use rsl_wire::NoMemory;
 use std::alloc::Global;
@@ -183,16 +183,15 @@ fn digest_of_parts(secret: &[u8], before: &[u8]) -> [u8; 16]
     hasher.finalize()
 }
 
-/// Whether octets are the password and NULs alone after it.
+/// Whether octets are the password and NULs alone after it. Where it is no longer than they are,
+/// each octet is looked at, wherever they differ first.
 fn is_followed_by_nuls(octets: &[u8], password: &[u8]) -> bool
+    requires { length octets.now ≤ 128 }
     ensures { result ≡ is_padded octets.now password.now }
 {
-    octets.starts_with(password) && are_nuls(&octets[password.len()..])
-}
-
-/// Whether each octet is NUL.
-fn are_nuls(octets: &[u8]) -> bool
-    ensures { result ≡ are_nuls octets.now }
-{
-    octets.iter().all(|octet| *octet == 0)
+    if octets.len() < password.len() {
+        return false;
+    }
+    let padded = pad(password);
+    same_octets(octets, &padded[..octets.len()])
 }

@@ -2,6 +2,7 @@ ghost use Rattle.std.specs.Prelude.{◌≡◌, ◌↔◌, ◌≤◌, ◌+◌, Is
 ghost use Rattle.rsl_auth.specs.Authenticator.{authenticator};
 ghost use Rattle.rsl_auth.specs.Signature.{is_signed, signature, signed, value_at};
 
+use crate::comparison::same_octets;
 use crate::hmac::HmacKey;
 use md5::Digest;
 use rsl_wire::{AUTHENTICATOR_START, HEADER_LEN};
@@ -60,7 +61,7 @@ impl HmacKey {
     {
         let request_auth = &packet[AUTHENTICATOR_START..HEADER_LEN];
         let value = self.signature_of(packet, at, request_auth);
-        &packet[at..at + SIGNATURE_LEN] == value.as_slice()
+        same_octets(&packet[at..at + SIGNATURE_LEN], &value)
     }
 
     /// The value that belongs at an offset of a packet.

@@ -89,6 +89,9 @@ a prefix | 0dbe708d93d413ce3196e43f782a0aee | 61726374616e6765 | false
 one more | 0dbe708d93d413ce3196e43f782a0aee | 61726374616e67656e74 31 | false
 a NUL more | 0dbe708d93d413ce3196e43f782a0aee | 61726374616e67656e74 00 | true
 seven NULs more | 0dbe708d93d413ce3196e43f782a0aee | 61726374616e67656e74 00*7 | false
+another first octet | 0dbe708d93d413ce3196e43f782a0aee | 62726374616e67656e74 | false
+another last octet | 0dbe708d93d413ce3196e43f782a0aee | 61726374616e67656e75 | false
+one bit of two octets | 0dbe708d93d413ce3196e43f782a0aee | 60736374616e67656e74 | false
 no password | 0dbe708d93d413ce3196e43f782a0aee | | false
 no value | | | false
 15 octets | 0dbe708d93d413ce3196e43f782a0a | 61726374616e67656e74 | false

@@ -6,7 +6,7 @@ use Rattle.rsl_auth.specs.Chap.{chap_response, matches_chap}
 use Rattle.rsl_auth.proofs.ChapLemmas.{matches_chap-Decides}
 use Rattle.rsl_auth.proofs.chap.chap_ok.Goals as goal
 
-tests : (c : goal.After-eq) → c.eq.result ≡ matches_chap c.args.value.now c.args.challenge.now c.args.password.now
+tests : (c : goal.After-same_octets) → c.same_octets.result ≡ matches_chap c.args.value.now c.args.challenge.now c.args.password.now
 unfolding matches_chap chap_response
 tests c = grind (arith, common_steps)
 
