@@ -108,5 +108,6 @@ fn account_of(alloc: Global, row: &EraAccount) -> Result<Entry, TableFault> {
         own_live: Some(row.rules.live),
         own_grace: Some(row.rules.grace),
         interim: None,
+        disabled: false,
     })
 }

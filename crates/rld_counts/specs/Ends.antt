@@ -14,18 +14,20 @@ auth_number auth.UnknownClient = 2
 auth_number auth.WrongCode = 3
 auth_number auth.BadSignature = 4
 auth_number auth.Unsigned = 5
-auth_number auth.ProxyTooLong = 6
-auth_number auth.Refused = 7
-auth_number auth.Unrecorded = 8
-auth_number auth.Unsent = 9
-auth_number auth.Accept = 10
-auth_number auth.LimitReject = 11
-auth_number auth.Malformed = 12
-auth_number auth.NotOneName = 13
-auth_number auth.NotOnePassword = 14
-auth_number auth.SeveralChallenges = 15
-auth_number auth.UnknownAccount = 16
-auth_number auth.WrongPassword = 17
+auth_number auth.UnsignedProxy = 6
+auth_number auth.ProxyTooLong = 7
+auth_number auth.Refused = 8
+auth_number auth.Unrecorded = 9
+auth_number auth.Unsent = 10
+auth_number auth.Accept = 11
+auth_number auth.LimitReject = 12
+auth_number auth.Malformed = 13
+auth_number auth.NotOneName = 14
+auth_number auth.NotOnePassword = 15
+auth_number auth.SeveralChallenges = 16
+auth_number auth.UnknownAccount = 17
+auth_number auth.WrongPassword = 18
+auth_number auth.DisabledAccount = 19
 
 abbrev pub acct_number : AcctEnd → ℕ
 acct_number acct.Short = 0
@@ -50,14 +52,15 @@ acct_number acct.OtherStatus = 17
 -- the ends of the accounting port follow those of the authentication port
 abbrev pub number_of : End → ℕ
 number_of (Auth end) = auth_number end
-number_of (Acct end) = 18 + acct_number end
+number_of (Acct end) = 20 + acct_number end
 
 -- all ends of a port, by their numbers
 unfoldable pub auth_ends : List AuthEnd
 auth_ends =
     auth.Short ∷ auth.BadLength ∷ auth.UnknownClient ∷ auth.WrongCode ∷ auth.BadSignature ∷ auth.Unsigned
-    ∷ auth.ProxyTooLong ∷ auth.Refused ∷ auth.Unrecorded ∷ auth.Unsent ∷ auth.Accept ∷ auth.LimitReject
-    ∷ auth.Malformed ∷ auth.NotOneName ∷ auth.NotOnePassword ∷ auth.SeveralChallenges ∷ auth.UnknownAccount ∷ auth.WrongPassword ∷ []
+    ∷ auth.UnsignedProxy ∷ auth.ProxyTooLong ∷ auth.Refused ∷ auth.Unrecorded ∷ auth.Unsent ∷ auth.Accept
+    ∷ auth.LimitReject ∷ auth.Malformed ∷ auth.NotOneName ∷ auth.NotOnePassword ∷ auth.SeveralChallenges
+    ∷ auth.UnknownAccount ∷ auth.WrongPassword ∷ auth.DisabledAccount ∷ []
 
 unfoldable pub acct_ends : List AcctEnd
 acct_ends =
@@ -74,6 +77,7 @@ auth_name auth.UnknownClient = codes "drop_unknown_client"
 auth_name auth.WrongCode = codes "drop_wrong_code"
 auth_name auth.BadSignature = codes "drop_bad_signature"
 auth_name auth.Unsigned = codes "drop_unsigned"
+auth_name auth.UnsignedProxy = codes "drop_unsigned_proxy"
 auth_name auth.ProxyTooLong = codes "drop_proxy_too_long"
 auth_name auth.Refused = codes "refused"
 auth_name auth.Unrecorded = codes "unrecorded"
@@ -86,6 +90,7 @@ auth_name auth.NotOnePassword = codes "reject_not_one_password"
 auth_name auth.SeveralChallenges = codes "reject_several_challenges"
 auth_name auth.UnknownAccount = codes "reject_unknown_account"
 auth_name auth.WrongPassword = codes "reject_wrong_password"
+auth_name auth.DisabledAccount = codes "reject_disabled_account"
 
 abbrev pub acct_name : AcctEnd → List ℕ
 acct_name acct.Short = codes "drop_short"

@@ -17,6 +17,8 @@ pub enum AuthEnd {
     BadSignature,
     /// It was dropped: it has no Message-Authenticator, and its client has to sign.
     Unsigned,
+    /// It was dropped: it has no Message-Authenticator, and a Proxy-State.
+    UnsignedProxy,
     /// It was dropped: its Proxy-State attributes have over 3,900 octets.
     ProxyTooLong,
     /// Memory for it was refused.
@@ -41,13 +43,15 @@ pub enum AuthEnd {
     UnknownAccount,
     /// An Access-Reject was sent: the password is not the account's.
     WrongPassword,
+    /// An Access-Reject was sent: the account is disabled.
+    DisabledAccount,
 }
 
 impl AuthEnd {
     /// Its number, in the order above.
     pub(crate) fn number(self) -> usize
         ensures number { result ≡ auth_number self }
-        ensures below { result < 18 }
+        ensures below { result < 20 }
     {
         match self {
             AuthEnd::Short => 0,
@@ -56,24 +60,26 @@ impl AuthEnd {
             AuthEnd::WrongCode => 3,
             AuthEnd::BadSignature => 4,
             AuthEnd::Unsigned => 5,
-            AuthEnd::ProxyTooLong => 6,
-            AuthEnd::Refused => 7,
-            AuthEnd::Unrecorded => 8,
-            AuthEnd::Unsent => 9,
-            AuthEnd::Accept => 10,
-            AuthEnd::LimitReject => 11,
-            AuthEnd::Malformed => 12,
-            AuthEnd::NotOneName => 13,
-            AuthEnd::NotOnePassword => 14,
-            AuthEnd::SeveralChallenges => 15,
-            AuthEnd::UnknownAccount => 16,
-            AuthEnd::WrongPassword => 17,
+            AuthEnd::UnsignedProxy => 6,
+            AuthEnd::ProxyTooLong => 7,
+            AuthEnd::Refused => 8,
+            AuthEnd::Unrecorded => 9,
+            AuthEnd::Unsent => 10,
+            AuthEnd::Accept => 11,
+            AuthEnd::LimitReject => 12,
+            AuthEnd::Malformed => 13,
+            AuthEnd::NotOneName => 14,
+            AuthEnd::NotOnePassword => 15,
+            AuthEnd::SeveralChallenges => 16,
+            AuthEnd::UnknownAccount => 17,
+            AuthEnd::WrongPassword => 18,
+            AuthEnd::DisabledAccount => 19,
         }
     }
 
     /// All ends of the port, by their numbers.
     #[tactic(auto, unfolding(crate::specs::Ends::auth_ends))]
-    pub fn all() -> [AuthEnd; 18]
+    pub fn all() -> [AuthEnd; 20]
         ensures all { result ≡ auth_ends }
         ensures each { (end : OneEnd) → slice_get result (auth_number end) ≡ Some end }
     {
@@ -84,6 +90,7 @@ impl AuthEnd {
             AuthEnd::WrongCode,
             AuthEnd::BadSignature,
             AuthEnd::Unsigned,
+            AuthEnd::UnsignedProxy,
             AuthEnd::ProxyTooLong,
             AuthEnd::Refused,
             AuthEnd::Unrecorded,
@@ -96,6 +103,7 @@ impl AuthEnd {
             AuthEnd::SeveralChallenges,
             AuthEnd::UnknownAccount,
             AuthEnd::WrongPassword,
+            AuthEnd::DisabledAccount,
         ]
     }
 
@@ -110,6 +118,7 @@ impl AuthEnd {
             AuthEnd::WrongCode => "drop_wrong_code",
             AuthEnd::BadSignature => "drop_bad_signature",
             AuthEnd::Unsigned => "drop_unsigned",
+            AuthEnd::UnsignedProxy => "drop_unsigned_proxy",
             AuthEnd::ProxyTooLong => "drop_proxy_too_long",
             AuthEnd::Refused => "refused",
             AuthEnd::Unrecorded => "unrecorded",
@@ -122,6 +131,7 @@ impl AuthEnd {
             AuthEnd::SeveralChallenges => "reject_several_challenges",
             AuthEnd::UnknownAccount => "reject_unknown_account",
             AuthEnd::WrongPassword => "reject_wrong_password",
+            AuthEnd::DisabledAccount => "reject_disabled_account",
         }
     }
 }

@@ -5,7 +5,7 @@ use crate::acct_end::AcctEnd;
 use crate::auth_end::AuthEnd;
 
 /// How many ends there are, of both ports.
-pub const ENDS: usize = 36;
+pub const ENDS: usize = 38;
 
 /// How a datagram ended, with the port that it came to.
 #[derive(Clone, Copy)]
@@ -20,11 +20,11 @@ impl End {
     /// Its number: those of the accounting port follow those of the authentication port.
     pub(crate) fn number(self) -> usize
         ensures number { result ≡ number_of self }
-        ensures below { result < 36 }
+        ensures below { result < 38 }
     {
         match self {
             End::Auth(end) => end.number(),
-            End::Acct(end) => 18 + end.number(),
+            End::Acct(end) => 20 + end.number(),
         }
     }
 }

@@ -41,7 +41,7 @@ total_of counts ends = total_after counts 0 ends
 unfoldable pub reject_ends : List End
 reject_ends =
     Auth auth.Malformed ∷ Auth auth.NotOneName ∷ Auth auth.NotOnePassword ∷ Auth auth.SeveralChallenges
-    ∷ Auth auth.UnknownAccount ∷ Auth auth.WrongPassword ∷ []
+    ∷ Auth auth.UnknownAccount ∷ Auth auth.WrongPassword ∷ Auth auth.DisabledAccount ∷ []
 
 -- the answers to accounting requests
 unfoldable pub accounting_ends : List End

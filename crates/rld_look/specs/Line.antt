@@ -36,6 +36,7 @@ priority_of (Auth auth.NotOnePassword) = Notice
 priority_of (Auth auth.SeveralChallenges) = Notice
 priority_of (Auth auth.UnknownAccount) = Notice
 priority_of (Auth auth.WrongPassword) = Notice
+priority_of (Auth auth.DisabledAccount) = Notice
 priority_of (Auth end) = Warning
 priority_of (Acct end) = Warning
 

@@ -158,7 +158,7 @@ fn total_of(counts: &Counts, ends: &[End]) -> u64
 
 /// The ends of a request that was rejected, but not for want of a place.
 #[tactic(auto, unfolding(crate::specs::History::reject_ends))]
-fn rejects() -> [End; 6]
+fn rejects() -> [End; 7]
     ensures { result ≡ reject_ends }
 {
     [
@@ -168,6 +168,7 @@ fn rejects() -> [End; 6]
         End::Auth(AuthEnd::SeveralChallenges),
         End::Auth(AuthEnd::UnknownAccount),
         End::Auth(AuthEnd::WrongPassword),
+        End::Auth(AuthEnd::DisabledAccount),
     ]
 }
 

@@ -49,7 +49,8 @@ impl Priority {
                 | AuthEnd::NotOnePassword
                 | AuthEnd::SeveralChallenges
                 | AuthEnd::UnknownAccount
-                | AuthEnd::WrongPassword,
+                | AuthEnd::WrongPassword
+                | AuthEnd::DisabledAccount,
             ) => Priority::Notice,
             _ => Priority::Warning,
         }

@@ -19,6 +19,7 @@ fn auth_words(end: AuthEnd) -> &'static str {
         AuthEnd::WrongCode => "Dropped: no Access-Request",
         AuthEnd::BadSignature => "Dropped: wrong signature",
         AuthEnd::Unsigned => "Dropped: not signed",
+        AuthEnd::UnsignedProxy => "Dropped: not signed, with Proxy-State",
         AuthEnd::ProxyTooLong => "Dropped: Proxy-State too long",
         AuthEnd::Refused => "No memory",
         AuthEnd::Unrecorded => "Not recorded",
@@ -31,6 +32,7 @@ fn auth_words(end: AuthEnd) -> &'static str {
         AuthEnd::SeveralChallenges => "Rejected: several challenges",
         AuthEnd::UnknownAccount => "Rejected: unknown account",
         AuthEnd::WrongPassword => "Rejected: wrong password",
+        AuthEnd::DisabledAccount => "Rejected: disabled account",
     }
 }
 

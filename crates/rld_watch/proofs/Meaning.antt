@@ -1,6 +1,6 @@
 -- Which drops and which meanings a port has.
 use Rattle.std.proofs.Common.{◌≡◌, ℕ, Bool, true, false, cond, List, refl}
-use Rattle.std.specs.Prelude.{⊤, ◌==◌, length, nat_lt, Option, Some, None, Result, Ok, Err}
+use Rattle.std.specs.Prelude.{⊤, ◌==◌, ◌&&◌, length, nat_lt, Option, Some, None, Result, Ok, Err}
 use Rattle.std.specs.Option.{IsSome}
 use Rattle.rsl_accounts.specs.Configuration.{Configuration, client_number}
 use Rattle.rsl_auth.specs.Authenticator.{is_accounting_authentic}
@@ -8,10 +8,10 @@ use Rattle.rsl_event.specs.Access.{access_by, access_meaning, ask_or_reject, ask
 use Rattle.rsl_event.specs.Accounting.{accounting_by, accounting_meaning, by_status, if_session, if_status, session_act, session_meaning, status_meaning}
 use Rattle.rsl_event.specs.Meaning.{if_client, if_packet, meaning}
 use Rattle.rsl_event.specs.MeaningKind.{kind_of, kind_of_act}
-use Rattle.rsl_event.specs.Request.{named_account, proxy_len, secret_of, text_of}
-use Rattle.rsl_event.specs.Signature.{has_right_signature, has_signature, must_sign}
+use Rattle.rsl_event.specs.Request.{attribute_count, named_account, proxy_len, secret_of, text_of}
+use Rattle.rsl_event.specs.Signature.{has_right_signature, has_signature, is_guarded, must_sign, rule_of}
 use Rattle.rsl_event.specs.Status.{status_of}
-use Rattle.rsl_event.specs.declared.codes.TheConstants.{ACCESS_REQUEST, ACCOUNTING_REQUEST, ACCT_SESSION_ID, ACCT_STATUS_TYPE, MAX_PROXY_STATE_LEN}
+use Rattle.rsl_event.specs.declared.codes.TheConstants.{ACCESS_REQUEST, ACCOUNTING_REQUEST, ACCT_SESSION_ID, ACCT_STATUS_TYPE, MAX_PROXY_STATE_LEN, PROXY_STATE}
 use Rattle.rsl_event.specs.declared.event.Act.TheVariants.{Ask}
 use Rattle.rsl_event.specs.declared.event.Source.{Source}
 use Rattle.rsl_event.specs.declared.meaning.Dropped.{Dropped}
@@ -51,12 +51,13 @@ auth_asked source client fields attributes None = tt
 auth_asked source client fields attributes (Some account) = tt
 
 -- by the Message-Authenticator
-auth_signed : (a b c : Bool) (rest : Result Meaning Dropped) → OfAuth rest
-    → OfAuth (unless_dropped (cond a (cond b None (Some drops.BadSignature)) (cond c (Some drops.Unsigned) None)) rest)
-auth_signed true true c rest holds = holds
-auth_signed true false c rest holds = refl
-auth_signed false b true rest holds = refl
-auth_signed false b false rest holds = holds
+auth_signed : (a b c d : Bool) (rest : Result Meaning Dropped) → OfAuth rest
+    → OfAuth (unless_dropped (cond a (cond b None (Some drops.BadSignature)) (cond c (Some drops.Unsigned) (cond d (Some drops.UnsignedProxy) None))) rest)
+auth_signed true true c d rest holds = holds
+auth_signed true false c d rest holds = refl
+auth_signed false b true d rest holds = refl
+auth_signed false b false true rest holds = refl
+auth_signed false b false false rest holds = holds
 
 auth_requested : (config : Configuration) (source : Source) (client : ℕ) (fields : Fields) (attributes : List Attribute)
     → OfAuth (request_meaning config source client fields attributes)
@@ -71,7 +72,8 @@ auth_listed config source client fields (Err at) =
     auth_if (must_sign config client) (Err drops.Unsigned) (Ok Bare) refl tt
 auth_listed config source client fields (Ok attributes) =
     auth_signed (has_signature attributes) (has_right_signature fields attributes (secret_of config client))
-    (must_sign config client) (request_meaning config source client fields attributes)
+    (must_sign config client) (is_guarded (rule_of config) && nat_lt 0 (attribute_count PROXY_STATE attributes))
+    (request_meaning config source client fields attributes)
     (auth_requested config source client fields attributes)
 
 auth_coded : (config : Configuration) (source : Source) (client : ℕ) (fields : Fields)

@@ -46,6 +46,7 @@ auth_dropped service one drops.UnknownClient is can = is
 auth_dropped service one drops.WrongCode is can = is
 auth_dropped service one drops.BadSignature is can = is
 auth_dropped service one drops.Unsigned is can = is
+auth_dropped service one drops.UnsignedProxy is can = is
 auth_dropped service one drops.ProxyTooLong is can = is
 auth_dropped service one drops.BadAuthenticator is can = absurd (cc can)
 auth_dropped service one drops.Malformed is can = absurd (cc can)
@@ -65,6 +66,7 @@ acct_dropped service one drops.ProxyTooLong is can = is
 acct_dropped service one drops.NoStatus is can = is
 acct_dropped service one drops.NoSession is can = is
 acct_dropped service one drops.BadSignature is can = absurd (cc can)
+acct_dropped service one drops.UnsignedProxy is can = absurd (cc can)
 acct_dropped service one drops.Unsigned is can = absurd (cc can)
 acct_dropped service one drops.NoMemory is can = absurd (cc can)
 
@@ -100,6 +102,7 @@ rejected service one (Some causes.NotOnePassword) means is holds = record { mean
 rejected service one (Some causes.SeveralChallenges) means is holds = record { means = means; is_cause = is }
 rejected service one (Some causes.UnknownAccount) means is holds = record { means = means; is_cause = is }
 rejected service one (Some causes.WrongPassword) means is holds = record { means = means; is_cause = is }
+rejected service one (Some causes.DisabledAccount) means is holds = record { means = means; is_cause = is }
 
 -- an ask is accepted, or finds no place
 asked : (service : ServiceSeen) (one : PeerDatagram) (cause : Option RejectCause) (account : ℕ) (key : Key) (nas : Nas) (decision : Decision)

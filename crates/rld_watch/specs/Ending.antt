@@ -33,6 +33,7 @@ auth_drop drops.UnknownClient = Some auth.UnknownClient
 auth_drop drops.WrongCode = Some auth.WrongCode
 auth_drop drops.BadSignature = Some auth.BadSignature
 auth_drop drops.Unsigned = Some auth.Unsigned
+auth_drop drops.UnsignedProxy = Some auth.UnsignedProxy
 auth_drop drops.ProxyTooLong = Some auth.ProxyTooLong
 auth_drop drops.BadAuthenticator = None
 auth_drop drops.Malformed = None
@@ -48,6 +49,7 @@ reject_end causes.NotOnePassword = auth.NotOnePassword
 reject_end causes.SeveralChallenges = auth.SeveralChallenges
 reject_end causes.UnknownAccount = auth.UnknownAccount
 reject_end causes.WrongPassword = auth.WrongPassword
+reject_end causes.DisabledAccount = auth.DisabledAccount
 
 -- an answer that was sent, of a request with this cause to reject it, if there is one
 abbrev pub auth_answer : (cause : Option RejectCause) → Said → Option AuthEnd
@@ -77,6 +79,7 @@ acct_drop drops.NoStatus = Some acct.NoStatus
 acct_drop drops.NoSession = Some acct.NoSession
 acct_drop drops.BadSignature = None
 acct_drop drops.Unsigned = None
+acct_drop drops.UnsignedProxy = None
 acct_drop drops.NoMemory = None
 
 -- an answer to a request of a status, or of none that is known

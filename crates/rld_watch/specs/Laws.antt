@@ -73,6 +73,7 @@ AuthSays service one auth.UnknownClient = IsDroppedBy service ports.Auth one dro
 AuthSays service one auth.WrongCode = IsDroppedBy service ports.Auth one drops.WrongCode
 AuthSays service one auth.BadSignature = IsDroppedBy service ports.Auth one drops.BadSignature
 AuthSays service one auth.Unsigned = IsDroppedBy service ports.Auth one drops.Unsigned
+AuthSays service one auth.UnsignedProxy = IsDroppedBy service ports.Auth one drops.UnsignedProxy
 AuthSays service one auth.ProxyTooLong = IsDroppedBy service ports.Auth one drops.ProxyTooLong
 AuthSays service one auth.Refused = HasMeaning service ports.Auth one
 AuthSays service one auth.Unrecorded = HasMeaning service ports.Auth one
@@ -85,6 +86,7 @@ AuthSays service one auth.NotOnePassword = IsRejectedFor service one causes.NotO
 AuthSays service one auth.SeveralChallenges = IsRejectedFor service one causes.SeveralChallenges
 AuthSays service one auth.UnknownAccount = IsRejectedFor service one causes.UnknownAccount
 AuthSays service one auth.WrongPassword = IsRejectedFor service one causes.WrongPassword
+AuthSays service one auth.DisabledAccount = IsRejectedFor service one causes.DisabledAccount
 
 -- what an end at the accounting port says of a datagram
 abbrev pub AcctSays : ServiceSeen → PeerDatagram → AcctEnd → Type 0

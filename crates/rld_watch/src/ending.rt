@@ -63,6 +63,7 @@ fn auth_drop(cause: Dropped) -> Option<AuthEnd>
         Dropped::WrongCode => Some(AuthEnd::WrongCode),
         Dropped::BadSignature => Some(AuthEnd::BadSignature),
         Dropped::Unsigned => Some(AuthEnd::Unsigned),
+        Dropped::UnsignedProxy => Some(AuthEnd::UnsignedProxy),
         Dropped::ProxyTooLong => Some(AuthEnd::ProxyTooLong),
         Dropped::BadAuthenticator
         | Dropped::Malformed
@@ -95,6 +96,7 @@ fn reject_end(cause: RejectCause) -> AuthEnd
         RejectCause::SeveralChallenges => AuthEnd::SeveralChallenges,
         RejectCause::UnknownAccount => AuthEnd::UnknownAccount,
         RejectCause::WrongPassword => AuthEnd::WrongPassword,
+        RejectCause::DisabledAccount => AuthEnd::DisabledAccount,
     }
 }
 
@@ -127,7 +129,8 @@ fn acct_drop(cause: Dropped) -> Option<AcctEnd>
         Dropped::ProxyTooLong => Some(AcctEnd::ProxyTooLong),
         Dropped::NoStatus => Some(AcctEnd::NoStatus),
         Dropped::NoSession => Some(AcctEnd::NoSession),
-        Dropped::BadSignature | Dropped::Unsigned | Dropped::NoMemory => None,
+        Dropped::BadSignature | Dropped::Unsigned | Dropped::UnsignedProxy | Dropped::NoMemory =>
+            None,
     }
 }
 

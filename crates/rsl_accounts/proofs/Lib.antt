@@ -10,4 +10,5 @@ pub mod Parts
 pub mod Memory
 pub mod Texts
 pub mod Keys
+pub mod Names
 pub mod Consumed

@@ -66,9 +66,9 @@ of_counts : (clients accounts : ℕ) → Never (count_checks clients accounts)
 unfolding count_checks
 of_counts clients accounts = never-all (count_checks clients accounts) (count _ _, (count _ _, tt))
 
-of_client : (client : Client) → Never (client_checks client)
+of_client : (version : ℕ) (client : Client) → Never (client_checks version client)
 unfolding client_checks
-of_client client = never-all (client_checks client) (text _ _, tt)
+of_client version client = never-all (client_checks version client) (text _ _, (unless _ _, tt))
 
 of_common : (entry : Entry) → Never (common_checks entry)
 unfolding common_checks
@@ -91,11 +91,11 @@ unfolding walk_over
 no_memory_in_walk settings clients accounts is =
     let head = settings_checks settings in
     let counts = count_checks (length clients) (length accounts) in
-    let of_clients = flat_map client_checks clients in
+    let of_clients = flat_map (client_checks settings.version) clients in
     let of_accounts = flat_map (account_checks settings.version) accounts in
     never-append (head ++ counts ++ of_clients) of_accounts
     (never-append (head ++ counts) of_clients
     (never-append head counts (of_settings settings) (of_counts (length clients) (length accounts)))
-    (never-flat_map client_checks of_client clients))
+    (never-flat_map (client_checks settings.version) (of_client settings.version) clients))
     (never-flat_map (account_checks settings.version) (of_account settings.version) accounts)
     is

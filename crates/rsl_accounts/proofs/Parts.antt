@@ -78,13 +78,13 @@ part_passes checks_of (first ∷ parts) part passed passes =
 -- parts that pass their checks pass the walk
 pub parts_pass : (settings : Settings) (clients : List Client) (accounts : List Entry)
     → first_fault (settings_checks settings) ≡ None → count_fault field.Client (length clients) ≡ None → count_fault field.Account (length accounts) ≡ None
-    → first_fault (flat_map client_checks clients) ≡ None → first_fault (flat_map (account_checks settings.version) accounts) ≡ None
+    → first_fault (flat_map (client_checks settings.version) clients) ≡ None → first_fault (flat_map (account_checks settings.version) accounts) ≡ None
     → first_fault (walk_over settings clients accounts) ≡ None
 unfolding walk_over count_checks
 parts_pass settings clients accounts of_settings client_count account_count of_clients of_accounts =
     let counts = count_fault field.Client (length clients) ∷ count_fault field.Account (length accounts) ∷ [] in
     let counted : first_fault counts ≡ None = rw (client_count, account_count) in
-    let each_client = flat_map client_checks clients in
+    let each_client = flat_map (client_checks settings.version) clients in
     let each_account = flat_map (account_checks settings.version) accounts in
     first_fault-append (settings_checks settings ++ counts ++ each_client) each_account
     (first_fault-append (settings_checks settings ++ counts) each_client

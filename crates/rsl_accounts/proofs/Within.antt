@@ -16,7 +16,7 @@ use Rattle.rsl_accounts.specs.Configuration.{with_times, comes_twice, addresses,
 use Rattle.rsl_accounts.specs.Field.{is_between, is_secret, is_name, has_no_nul, is_visible, takes_number, takes_count, takes_text}
 use Rattle.rsl_accounts.specs.Limits.{IsTime, IsInterval, SettingsFit, IsSecret, IsName, IsAccount, IsConfiguration}
 use Rattle.rsl_accounts.specs.Settings.{own_time, interim_of}
-use Rattle.rsl_accounts.specs.Version.{knows_own_times}
+use Rattle.rsl_accounts.specs.Version.{knows_own_times, least_secret}
 use Rattle.rsl_accounts.specs.Walk.{walk_over, settings_checks, count_checks, client_checks, common_checks, own_times_checks, own_checks, account_checks, first_fault, fault_unless, interim_fault, number_fault, text_fault, count_fault, option_fault}
 use Rattle.rsl_accounts.proofs.Made.{made}
 
@@ -72,7 +72,7 @@ interval (Some seconds) none =
 
 -- what the head of a file has that passes
 record HeadFits (settings : Settings) (client_count account_count : ℕ) : Type 0 where
-  version : (1 ≤ settings.version) × (settings.version ≤ 2)
+  version : (1 ≤ settings.version) × (settings.version ≤ 3)
   shards : (1 ≤ settings.shards) × (settings.shards ≤ 4)
   reserve : IsTime settings.reserve
   live : IsTime settings.live
@@ -89,7 +89,7 @@ head_fits settings clients accounts none counts =
     let p = passed (settings_checks settings) none in
     let q = passed (count_checks clients accounts) counts in
     record {
-      version = between 1 2 settings.version (right_number field.Version settings.version p.0);
+      version = between 1 3 settings.version (right_number field.Version settings.version p.0);
       shards = between 1 4 settings.shards (right_number field.Shards settings.shards p.1.0);
       reserve = time settings.reserve (right_number field.ReserveSecs settings.reserve p.1.1.0);
       live = time settings.live (right_number field.LiveSecs settings.live p.1.1.1.0);
@@ -127,11 +127,12 @@ name text right =
       visible = λ k d within. between 33 126 _ (AllPass-from_list_all (λ octet. is_between 33 126 octet) text clean k d within);
     }
 
-client_fits : (client : Client) → first_fault (client_checks client) ≡ None → IsSecret client.secret
+client_fits : (version : ℕ) (client : Client) → first_fault (client_checks version client) ≡ None
+    → IsSecret client.secret × (least_secret version ≤ length client.secret)
 unfolding client_checks
-client_fits client none =
-    let p = passed (client_checks client) none in
-    secret client.secret (right_text field.Secret client.secret p.0)
+client_fits version client none =
+    let p = passed (client_checks version client) none in
+    (secret client.secret (right_text field.Secret client.secret p.0), leb-true _ _ (is_right _ field.Secret p.1.0))
 
 optional : (f : Field) → ((n : ℕ) → takes_number f n ≡ is_between 1 4294967295 n) → (number : Option ℕ) → option_fault f number ≡ None → IfSome number (λ n. 1 ≤ n)
 optional f takes None none = tt
@@ -215,7 +216,7 @@ unfolding walk_over
 made_fits settings clients accounts none differ differ_too short =
     let head = settings_checks settings in
     let counts = count_checks (length clients) (length accounts) in
-    let of_clients = flat_map client_checks clients in
+    let of_clients = flat_map (client_checks settings.version) clients in
     let of_accounts = flat_map (account_checks settings.version) accounts in
     let (front, accounts_pass) = passed-append (head ++ counts ++ of_clients) of_accounts none in
     let (both, clients_pass) = passed-append (head ++ counts) of_clients front in
@@ -234,7 +235,7 @@ made_fits settings clients accounts none differ differ_too short =
       keep_within_reserve = short;
       interim = fits.interim;
     } in
-    let each_client = passed-flat_map client_checks clients clients_pass in
+    let each_client = passed-flat_map (client_checks settings.version) clients clients_pass in
     let each_entry = passed-flat_map (account_checks settings.version) accounts accounts_pass in
     record {
       settings = settings_fit;
@@ -242,7 +243,8 @@ made_fits settings clients accounts none differ differ_too short =
       clients = fits.clients.1;
       an_account = rw (length-map accounts (with_times settings)) fits.accounts.0;
       accounts = rw (length-map accounts (with_times settings)) fits.accounts.1;
-      secrets = λ k d within. client_fits (get_or clients k d) (each_client k d within);
+      secrets = λ k d within. (client_fits settings.version (get_or clients k d) (each_client k d within)).0;
+      long_secrets = λ k d within. (client_fits settings.version (get_or clients k d) (each_client k d within)).1;
       each_account = All-map (IsAccount settings) (with_times settings) accounts (λ k d within. entry_fits settings settings_fit (get_or accounts k d) (each_entry k d within));
       addresses_differ = differ;
       names_differ = rw (names-with_times settings accounts) differ_too;

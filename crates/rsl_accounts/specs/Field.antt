@@ -2,7 +2,7 @@
 use Rattle.std.specs.Prelude.{ℕ, List, Bool, false, not, ◌==◌, ◌&&◌, nat_le, length, codes}
 use Rattle.std.specs.List.{list_all}
 use Rattle.rsl_accounts.specs.declared.field.Field.{Field}
-use Rattle.rsl_accounts.specs.declared.field.Field.TheVariants.{Version, Shards, ReserveSecs, LiveSecs, GraceSecs, ClosedSecs, KeepSecs, Client, Account, Address, Secret, Name, Password, Signed, Places, Ports, ServiceType, FramedProtocol, SessionTimeout, IdleTimeout, OwnLive, OwnGrace, InterimSecs}
+use Rattle.rsl_accounts.specs.declared.field.Field.TheVariants.{Version, Shards, ReserveSecs, LiveSecs, GraceSecs, ClosedSecs, KeepSecs, Client, Account, Address, Secret, Name, Password, Signed, Places, Ports, ServiceType, FramedProtocol, SessionTimeout, IdleTimeout, OwnLive, OwnGrace, InterimSecs, Disabled}
 
 -- the key under which the field stands in the file
 abbrev pub field_key : Field → List ℕ
@@ -29,13 +29,14 @@ field_key IdleTimeout = codes "idle_timeout"
 field_key OwnLive = codes "live_secs"
 field_key OwnGrace = codes "grace_secs"
 field_key InterimSecs = codes "interim_secs"
+field_key Disabled = codes "disabled"
 
 abbrev pub is_between : ℕ → ℕ → ℕ → Bool
 is_between least most number = nat_le least number && nat_le number most
 
 -- a number that the field may have
 abbrev pub takes_number : Field → ℕ → Bool
-takes_number Version number = is_between 1 2 number
+takes_number Version number = is_between 1 3 number
 takes_number Shards number = is_between 1 4 number
 takes_number ReserveSecs number = is_between 1 86400 number
 takes_number LiveSecs number = is_between 1 86400 number

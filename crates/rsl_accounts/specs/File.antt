@@ -3,20 +3,24 @@ use Rattle.std.specs.Prelude.{ℕ, pos, Bool, false, ◌&&◌, if◌then◌else�
 use Rattle.std.specs.List.{list_all}
 use Rattle.std.specs.Result.{result_map_both}
 use Rattle.std.specs.Str.{is_utf8}
-use Rattle.toml.specs.Data.{Data, string, integer, boolean, array, table, Items, no_items, item, get, as_table}
+use Rattle.toml.specs.Data.{Data, string, integer, boolean, array, table, Items, no_items, item, Members, no_members, member, get, as_table}
 use Rattle.toml.specs.Parse.{parse_document}
 use Rattle.rsl_accounts.specs.declared.client.Client.{Client}
 use Rattle.rsl_accounts.specs.declared.entry.Entry.{Entry}
 use Rattle.rsl_accounts.specs.declared.fault.ConfigFault.{ConfigFault}
-use Rattle.rsl_accounts.specs.declared.fault.ConfigFault.TheVariants.{NotToml, Missing, BadValue}
+use Rattle.rsl_accounts.specs.declared.fault.ConfigFault.TheVariants.{NotToml, Unknown, Missing, BadValue}
 use Rattle.rsl_accounts.specs.declared.field.Field.{Field}
 use Rattle.rsl_accounts.specs.declared.field.Field.TheVariants as field
+use Rattle.rsl_accounts.specs.declared.part.Part.{Part}
+use Rattle.rsl_accounts.specs.declared.part.Part.TheVariants as part
 use Rattle.rsl_accounts.specs.declared.settings.Settings.{Settings}
 use Rattle.rsl_accounts.specs.Address.{address_of}
-use Rattle.rsl_accounts.specs.Configuration.{Configuration, configuration_of}
+use Rattle.rsl_accounts.specs.Configuration.{Configuration, configuration_of, fault_or}
 use Rattle.rsl_accounts.specs.Field.{field_key, takes_number, takes_count, takes_text}
+use Rattle.rsl_accounts.specs.Part.{knows}
 use Rattle.rsl_accounts.specs.Settings.{rules_of_places}
-use Rattle.rsl_accounts.specs.Version.{knows_own_times}
+use Rattle.rsl_accounts.specs.Version.{is_strict, knows_own_times}
+use Rattle.rsl_accounts.specs.Walk.{secret_len_fault}
 
 -- the table that the text is, if it is UTF-8 and TOML
 unfoldable pub file_of : List ℕ → Option Data
@@ -85,11 +89,33 @@ tables_in value field = required field (tables_of field) (member_in value field)
 unfoldable pub address_in : Data → Result (List ℕ) ConfigFault
 address_in value = required field.Address address_value (member_in value field.Address)
 
--- a client that does not say so is not signed
-unfoldable pub signed_in : Data → Result Bool ConfigFault
-signed_in value =
-    result_map_both (λ flag. unwrap_or flag false) (λ fault. fault)
-    (optional field.Signed boolean_value (member_in value field.Signed))
+unfoldable pub flag_in : Data → Field → (default : Bool) → Result Bool ConfigFault
+flag_in value field default =
+    result_map_both (λ flag. unwrap_or flag default) (λ fault. fault)
+    (optional field boolean_value (member_in value field))
+
+-- a client that does not say so is signed in version 3, and not before
+abbrev pub signed_in : (version : ℕ) → Data → Result Bool ConfigFault
+signed_in version value = flag_in value field.Signed (is_strict version)
+
+-- an account that does not say so is not disabled, and only version 3 knows it
+abbrev pub disabled_in : (version : ℕ) → Data → Result Bool ConfigFault
+disabled_in version value =
+    if is_strict version then flag_in value field.Disabled false else Ok false
+
+-- the first key that the table may not have; keys are in the order of their octets
+abbrev pub unknown_of : Part → Members → Option ConfigFault
+unknown_of part no_members = None
+unknown_of part (member name value rest) =
+    if knows part name then unknown_of part rest else Some (Unknown part name)
+
+abbrev pub unknown_in : Part → Data → Option ConfigFault
+unknown_in part (table members) = unknown_of part members
+unknown_in part _ = None
+
+-- which only version 3 takes for a fault
+abbrev pub misspelled_in : (version : ℕ) → Part → Data → Option ConfigFault
+misspelled_in version part value = if is_strict version then unknown_in part value else None
 
 -- a time of an account's own, or the seconds between interim updates: version 1 knows neither
 unfoldable pub own_in : (version : ℕ) → Data → Field → Result (Option ℕ) ConfigFault
@@ -101,11 +127,18 @@ abbrev pub and_then : {T U : Type 0} → Result T ConfigFault → (T → Result 
 and_then (Ok value) next = next value
 and_then (Err fault) next = Err fault
 
+-- a client's secret, which the version may take for too short
+unfoldable pub secret_in : (version : ℕ) → Data → Result (List ℕ) ConfigFault
+secret_in version value =
+    and_then (text_in value field.Secret) (λ secret.
+    fault_or (secret_len_fault version (length secret)) (Ok secret))
+
 -- the parts of a file, by the values of their fields in the order of the walk
 unfoldable pub settings_in : Data → Result Settings ConfigFault
 settings_in value =
     and_then (number_in value field.Version) (λ version.
-    and_then (number_in value field.Shards) (λ shards.
+    fault_or (misspelled_in version part.Head value)
+    (and_then (number_in value field.Shards) (λ shards.
     and_then (number_in value field.ReserveSecs) (λ reserve.
     and_then (number_in value field.LiveSecs) (λ live.
     and_then (number_in value field.GraceSecs) (λ grace.
@@ -121,19 +154,21 @@ settings_in value =
       closed = closed;
       keep = keep;
       interim = interim;
-    })))))))))
+    }))))))))))
 
-unfoldable pub client_in : Data → Result Client ConfigFault
-client_in value =
-    and_then (address_in value) (λ address.
-    and_then (text_in value field.Secret) (λ secret.
-    and_then (signed_in value) (λ signed.
-    Ok (record { address = address; secret = secret; signed = signed }))))
+unfoldable pub client_in : (version : ℕ) → Data → Result Client ConfigFault
+client_in version value =
+    fault_or (misspelled_in version part.Client value)
+    (and_then (address_in value) (λ address.
+    and_then (secret_in version value) (λ secret.
+    and_then (signed_in version value) (λ signed.
+    Ok (record { address = address; secret = secret; signed = signed })))))
 
 -- the times of the rules are filled in later, and so is the file's own `interim_secs`
 unfoldable pub entry_in : (version : ℕ) → Data → Result Entry ConfigFault
 entry_in version value =
-    and_then (text_in value field.Name) (λ name.
+    fault_or (misspelled_in version part.Account value)
+    (and_then (text_in value field.Name) (λ name.
     and_then (text_in value field.Password) (λ password.
     and_then (number_in value field.Places) (λ places.
     and_then (number_in value field.Ports) (λ ports.
@@ -144,6 +179,7 @@ entry_in version value =
     and_then (own_in version value field.OwnLive) (λ own_live.
     and_then (own_in version value field.OwnGrace) (λ own_grace.
     and_then (own_in version value field.InterimSecs) (λ interim.
+    and_then (disabled_in version value) (λ disabled.
     Ok (record {
       name = name;
       password = password;
@@ -155,7 +191,8 @@ entry_in version value =
       own_live = own_live;
       own_grace = own_grace;
       interim = interim;
-    }))))))))))))
+      disabled = disabled;
+    }))))))))))))))
 
 -- what each value is, or the first fault
 abbrev pub each : {T : Type 0} → (Data → Result T ConfigFault) → List Data
@@ -173,7 +210,7 @@ configuration_of_file file =
     and_then (settings_in file) (λ settings.
     and_then (tables_in file field.Client) (λ client_tables.
     and_then (tables_in file field.Account) (λ account_tables.
-    and_then (each client_in client_tables) (λ clients.
+    and_then (each (client_in settings.version) client_tables) (λ clients.
     and_then (each (entry_in settings.version) account_tables) (λ accounts.
     configuration_of settings clients accounts)))))
 

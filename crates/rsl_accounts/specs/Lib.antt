@@ -1,6 +1,7 @@
 pub mod Limits
 pub mod Address
 pub mod Field
+pub mod Part
 pub mod Version
 pub mod Walk
 pub mod Settings

@@ -5,7 +5,7 @@ use Rattle.rsl_accounts.specs.declared.rules.Rules.{Rules}
 use Rattle.rsl_accounts.specs.declared.settings.Settings.{Settings}
 use Rattle.rsl_accounts.specs.Configuration.{Configuration, addresses, names, comes_twice}
 use Rattle.rsl_accounts.specs.Settings.{rules_of}
-use Rattle.rsl_accounts.specs.Version.{knows_own_times}
+use Rattle.rsl_accounts.specs.Version.{knows_own_times, least_secret}
 
 -- a number of seconds that a rule may have
 pub record IsTime (seconds : ℕ) : Type 0 where
@@ -32,7 +32,7 @@ pub record RulesFit (rules : Rules) : Type 0 where
 -- every number of the settings is within its limits
 pub record SettingsFit (settings : Settings) : Type 0 where
   pub a_version : 1 ≤ settings.version
-  pub version : settings.version ≤ 2
+  pub version : settings.version ≤ 3
   pub a_shard : 1 ≤ settings.shards
   pub shards : settings.shards ≤ 4
   pub reserve : IsTime settings.reserve
@@ -76,6 +76,8 @@ pub record IsConfiguration (config : Configuration) : Type 0 where
   pub an_account : 1 ≤ length_of config.accounts
   pub accounts : length_of config.accounts ≤ 16384
   pub secrets : All (λ client. IsSecret client.secret) config.clients
+  pub long_secrets : All (λ client. least_secret config.settings.version ≤ length_of client.secret)
+      config.clients
   pub each_account : All (IsAccount config.settings) config.accounts
   pub addresses_differ : comes_twice (addresses config.clients) ≡ false
   pub names_differ : comes_twice (names config.accounts) ≡ false

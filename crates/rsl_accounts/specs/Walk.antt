@@ -1,5 +1,5 @@
 -- The walk over settings, clients and accounts: in which order their values are checked, and the first fault.
-use Rattle.std.specs.Prelude.{ℕ, Bool, List, [], ◌∷◌, ◌++◌, if◌then◌else◌, length, Option, None, Some}
+use Rattle.std.specs.Prelude.{ℕ, Bool, List, [], ◌∷◌, ◌++◌, if◌then◌else◌, nat_le, length, Option, None, Some}
 use Rattle.std.specs.List.{flat_map}
 use Rattle.rsl_accounts.specs.declared.client.Client.{Client}
 use Rattle.rsl_accounts.specs.declared.entry.Entry.{Entry}
@@ -9,7 +9,7 @@ use Rattle.rsl_accounts.specs.declared.field.Field.{Field}
 use Rattle.rsl_accounts.specs.declared.field.Field.TheVariants as field
 use Rattle.rsl_accounts.specs.declared.settings.Settings.{Settings}
 use Rattle.rsl_accounts.specs.Field.{takes_number, takes_count, takes_text}
-use Rattle.rsl_accounts.specs.Version.{knows_own_times}
+use Rattle.rsl_accounts.specs.Version.{knows_own_times, least_secret}
 
 -- the fault of a field, unless it may have its value
 abbrev pub fault_unless : (is_right : Bool) → Field → Option ConfigFault
@@ -34,6 +34,10 @@ abbrev pub interim_fault : (version : ℕ) → Option ℕ → Option ConfigFault
 interim_fault version interim =
     if knows_own_times version then option_fault field.InterimSecs interim else None
 
+-- the fault of a client's secret of so few octets
+abbrev pub secret_len_fault : (version length : ℕ) → Option ConfigFault
+secret_len_fault version length = fault_unless (nat_le (least_secret version) length) field.Secret
+
 -- the checks of the settings, each the fault of a field or `None`
 unfoldable pub settings_checks : Settings → List (Option ConfigFault)
 settings_checks settings =
@@ -53,8 +57,11 @@ count_checks clients accounts =
     count_fault field.Client clients ∷ count_fault field.Account accounts ∷ []
 
 -- the checks of a client: any four octets are an address, and a client is signed or is not
-unfoldable pub client_checks : Client → List (Option ConfigFault)
-client_checks client = text_fault field.Secret client.secret ∷ []
+unfoldable pub client_checks : (version : ℕ) → Client → List (Option ConfigFault)
+client_checks version client =
+    text_fault field.Secret client.secret
+    ∷ secret_len_fault version (length client.secret)
+    ∷ []
 
 -- the checks of an account in every version
 unfoldable pub common_checks : Entry → List (Option ConfigFault)
@@ -89,7 +96,7 @@ unfoldable pub walk_over : Settings → List Client → List Entry → List (Opt
 walk_over settings clients accounts =
     settings_checks settings
     ++ count_checks (length clients) (length accounts)
-    ++ flat_map client_checks clients
+    ++ flat_map (client_checks settings.version) clients
     ++ flat_map (account_checks settings.version) accounts
 
 -- the first fault of some checks

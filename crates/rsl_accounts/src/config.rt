@@ -31,6 +31,7 @@ ghost use Rattle.rsl_accounts.specs.Configuration.{
 ghost use Rattle.rsl_accounts.specs.File.{configuration_of_text};
 ghost use Rattle.rsl_accounts.specs.Keys.{AreKeysOf};
 ghost use Rattle.rsl_auth.specs.Hmac.{IsKeyOf};
+ghost use Rattle.rsl_accounts.specs.Version.{unsigned_rule};
 ghost use Rattle.rsl_accounts.specs.Walk.{first_fault, walk_over};
 ghost use Rattle.rsl_accounts.specs.Limits.{IsConfiguration, IsAccount, IsSecret};
 
@@ -39,8 +40,9 @@ use crate::entry::Entry;
 use crate::fault::ConfigFault;
 use crate::field::Field;
 use crate::file::{clients, entries, parse, settings};
-use crate::settings::Settings;
+use crate::settings::{Settings, unsigned_rule};
 use crate::table::tables;
+use crate::unsigned_rule::UnsignedRule;
 use crate::walk::walk;
 use indexmap::IndexSet;
 use rsl_auth::HmacKey;
@@ -100,17 +102,18 @@ impl Config {
     /// The configuration of the text of an account file. The faults come in this order: `NotToml`;
     /// then `Missing` or `BadValue` of the first field of the walk that is absent or has a wrong
     /// value; then `TwiceClient`, `TwiceAccount` and `KeepTooLong`. `NoMemory` comes where memory
-    /// is refused, before the checks that follow. Keys that are not those of a field are ignored.
+    /// is refused, before the checks that follow. Keys that are not those of a field are ignored, but
+    /// in version 3 the first of a table is `Unknown`, before its fields and after the version.
     pub fn read(alloc: Global, text: &[u8]) -> Result<Config, ConfigFault>
         ensures ok { IfOk result (λ config. configuration_of_text text.now ≡ Ok config) }
         ensures fault { IfErr result (λ fault. fault ≢ ConfigFault.NoMemory →
             configuration_of_text text.now ≡ Err fault) }
     {
         let file = parse(alloc, text)?;
-        let settings = settings(&file)?;
+        let settings = settings(alloc, &file)?;
         let client_tables = tables(&file, Field::Client)?;
         let account_tables = tables(&file, Field::Account)?;
-        let clients = clients(alloc, client_tables)?;
+        let clients = clients(alloc, settings.version, client_tables)?;
         let accounts = entries(alloc, settings.version, account_tables)?;
         Config::assemble(alloc, settings, clients, accounts)
     }
@@ -173,6 +176,13 @@ impl Config {
             IsKeyOf client.secret result.now) }
     {
         &self.keys[client as usize]
+    }
+
+    /// How an Access-Request without a Message-Authenticator is taken, of a client that need not sign.
+    pub fn unsigned_rule(&self) -> UnsignedRule
+        ensures { result ≡ unsigned_rule self.now.settings.version }
+    {
+        unsigned_rule(self.settings.version)
     }
 
     /// The number of the account with the name, if there is one.

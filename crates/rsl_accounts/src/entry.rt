@@ -33,6 +33,8 @@ pub struct Entry {
     pub interim: Option<u32>,
     /// The session limit.
     pub rules: Rules,
+    /// Whether its logins are rejected. What its sessions send in accounting counts as ever.
+    pub disabled: bool,
     /// The User-Name: 1 to 64 octets, each 0x21 to 0x7E.
     pub name: Text,
     /// The live time of the account's own in seconds, 1 to 86,400; in version 1 it is passed over.

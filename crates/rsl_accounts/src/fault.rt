@@ -2,17 +2,22 @@ ghost use Rattle.std.specs.Prelude.{◌≡◌};
 ghost use Rattle.rsl_accounts.specs.declared.fault.ConfigFault.TheVariants.{NoMemory as no_memory};
 
 use crate::field::Field;
+use crate::part::Part;
+use crate::text::Text;
 use rsl_wire::NoMemory;
 use std::alloc::{AllocError, AllocFailed};
 use thiserror::Error;
 
 /// Why there is no configuration. It prints as its name, followed by the key of the field if it has
-/// one: `BadValue keep_secs`.
-#[derive(Clone, Copy, Debug, Error)]
+/// one: `BadValue keep_secs`, and of a key that is not known its table too: `Unknown client "sigend"`.
+#[derive(Debug, Drop, Error)]
 pub enum ConfigFault {
     /// The file is not UTF-8 or not TOML.
     #[error("NotToml")]
     NotToml,
+    /// The table may not have a key of this name, in version 3.
+    #[error("Unknown {0}{1:?}")]
+    Unknown(Part, Text),
     /// The field is absent.
     #[error("Missing {0}")]
     Missing(Field),

@@ -85,6 +85,8 @@ pub enum Field {
     OwnGrace,
     /// Seconds between the interim updates that accepts ask for, of the file or of an account.
     InterimSecs,
+    /// Whether the logins of an account are rejected.
+    Disabled,
 }
 
 impl Field {
@@ -116,6 +118,7 @@ impl Field {
             Field::OwnLive => "live_secs",
             Field::OwnGrace => "grace_secs",
             Field::InterimSecs => "interim_secs",
+            Field::Disabled => "disabled",
         }
     }
 

@@ -15,10 +15,13 @@ use crate::client::Client;
 use crate::entry::Entry;
 use crate::fault::ConfigFault;
 use crate::field::Field;
+use crate::part::Part;
 use crate::rules::Rules;
 use crate::secret::Secret;
 use crate::settings::Settings;
-use crate::table::{address, interim, number, own_time, short_number, signed, text};
+use crate::table::{
+    address, check_names, disabled, interim, number, own_time, secret, short_number, signed, text,
+};
 use crate::text::Text;
 use std::alloc::Global;
 use toml::Value;
@@ -38,11 +41,14 @@ pub(crate) fn parse(alloc: Global, text: &[u8]) -> Result<Value, ConfigFault>
 
 /// The settings at the head of a file.
 #[tactic(auto, unfolding(crate::specs::File::settings_in, crate::specs::Walk::settings_checks))]
-pub(crate) fn settings(file: &Value) -> Result<Settings, ConfigFault>
-    ensures value { result ≡ settings_in (view file.now) }
+pub(crate) fn settings(alloc: Global, file: &Value) -> Result<Settings, ConfigFault>
+    ensures ok { IfOk result (λ settings. settings_in (view file.now) ≡ Ok settings) }
+    ensures fault { IfErr result (λ fault. fault ≢ ConfigFault.NoMemory →
+        settings_in (view file.now) ≡ Err fault) }
     ensures right { IfOk result (λ settings. first_fault (settings_checks settings) ≡ None) }
 {
     let version = number(file, Field::Version)?;
+    check_names(alloc, version, Part::Head, file)?;
     Ok(Settings {
         version,
         shards: number(file, Field::Shards)?,
@@ -57,34 +63,40 @@ pub(crate) fn settings(file: &Value) -> Result<Settings, ConfigFault>
 
 /// The client of a table.
 #[tactic(auto, unfolding(crate::specs::File::client_in, crate::specs::Walk::client_checks))]
-fn client(alloc: Global, table: &Value) -> Result<Client, ConfigFault>
-    ensures ok { IfOk result (λ client. client_in (view table.now) ≡ Ok client) }
+fn client(alloc: Global, version: u64, table: &Value) -> Result<Client, ConfigFault>
+    ensures ok { IfOk result (λ client. client_in version (view table.now) ≡ Ok client) }
     ensures fault { IfErr result (λ fault. fault ≢ ConfigFault.NoMemory →
-        client_in (view table.now) ≡ Err fault) }
-    ensures right { IfOk result (λ client. first_fault (client_checks client) ≡ None) }
+        client_in version (view table.now) ≡ Err fault) }
+    ensures right { IfOk result (λ client. first_fault (client_checks version client) ≡ None) }
 {
+    check_names(alloc, version, Part::Client, table)?;
     let address = address(table)?;
-    let secret = text(table, Field::Secret)?;
+    let secret = secret(version, table)?;
     Ok(Client {
         address,
-        signed: signed(table)?,
+        signed: signed(version, table)?,
         secret: Secret::from_str(alloc, secret)?,
     })
 }
 
 /// The clients of tables, in their order.
 #[tactic(auto, using(crate::proofs::Parts::part_steps))]
-pub(crate) fn clients(alloc: Global, tables: &[Value]) -> Result<Vec<Client>, ConfigFault>
-    ensures ok { IfOk result (λ clients. each client_in (map view tables.now) ≡ Ok clients.items) }
+pub(crate) fn clients(
+    alloc: Global,
+    version: u64,
+    tables: &[Value],
+) -> Result<Vec<Client>, ConfigFault>
+    ensures ok { IfOk result (λ clients.
+        each (client_in version) (map view tables.now) ≡ Ok clients.items) }
     ensures fault { IfErr result (λ fault. fault ≢ ConfigFault.NoMemory →
-        each client_in (map view tables.now) ≡ Err fault) }
+        each (client_in version) (map view tables.now) ≡ Err fault) }
     ensures number { IfOk result (λ clients. length clients.items ≡ length tables.now) }
     ensures right { IfOk result (λ clients.
-        first_fault (flat_map client_checks clients.items) ≡ None) }
+        first_fault (flat_map (client_checks version) clients.items) ≡ None) }
 {
     let mut clients = Vec::with_capacity(alloc, tables.len())?;
     for table in tables {
-        clients.push(client(alloc, table)?)?;
+        clients.push(client(alloc, version, table)?)?;
     }
     Ok(clients)
 }
@@ -97,6 +109,7 @@ fn entry(alloc: Global, version: u64, table: &Value) -> Result<Entry, ConfigFaul
         entry_in version (view table.now) ≡ Err fault) }
     ensures right { IfOk result (λ entry. first_fault (account_checks version entry) ≡ None) }
 {
+    check_names(alloc, version, Part::Account, table)?;
     // these are copied last, so that none is owned where a fault of another field leaves
     let name = text(table, Field::Name)?;
     let password = text(table, Field::Password)?;
@@ -109,6 +122,7 @@ fn entry(alloc: Global, version: u64, table: &Value) -> Result<Entry, ConfigFaul
         own_live: own_time(version, table, Field::OwnLive)?,
         own_grace: own_time(version, table, Field::OwnGrace)?,
         interim: interim(version, table)?,
+        disabled: disabled(version, table)?,
         name: Text::from_str(alloc, name)?,
         password: Secret::from_str(alloc, password)?,
     })

@@ -2,7 +2,7 @@ use crate::fault::ConfigFault;
 use thiserror::Error;
 
 /// Why an account file gives no configuration. It prints as a line for whoever wrote the file.
-#[derive(Clone, Copy, Debug, Error)]
+#[derive(Debug, Drop, Error)]
 pub enum FileFault {
     /// The file is not there, or a read of it failed.
     #[error("bad file: unreadable")]

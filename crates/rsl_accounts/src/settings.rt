@@ -1,28 +1,46 @@
 ghost use Rattle.std.specs.Prelude.{◌≡◌};
 ghost use Rattle.std.specs.Result.{result_err};
 ghost use Rattle.rsl_accounts.specs.Settings.{own_time};
-ghost use Rattle.rsl_accounts.specs.Version.{knows_own_times};
-ghost use Rattle.rsl_accounts.specs.Walk.{interim_fault, settings_checks, first_fault};
+ghost use Rattle.rsl_accounts.specs.Version.{
+  is_strict,
+  knows_own_times,
+  least_secret,
+  unsigned_rule,
+};
+ghost use Rattle.rsl_accounts.specs.Walk.{
+  interim_fault,
+  secret_len_fault,
+  settings_checks,
+  first_fault,
+};
 
 use crate::entry::Entry;
 use crate::fault::ConfigFault;
 use crate::field::Field;
 use crate::rules::Rules;
+use crate::unsigned_rule::UnsignedRule;
 
 /// The first version of the file's format.
 pub(crate) const MIN_VERSION: u64 = 1;
 
 /// The last one.
-pub(crate) const MAX_VERSION: u64 = 2;
+pub(crate) const MAX_VERSION: u64 = 3;
 
-/// The version in which an account can have times of its own, and `interim_secs` is known.
+/// The first version in which an account can have times of its own, and `interim_secs` is known.
 const OWN_TIMES_VERSION: u64 = 2;
+
+/// The version in which what is left out or misspelled counts on the safe side.
+const STRICT_VERSION: u64 = 3;
+
+/// The fewest octets of a client's secret in that version.
+const STRICT_SECRET_LEN: usize = 16;
 
 /// What an account file says once, for all accounts.
 #[derive(Clone, Copy)]
 pub struct Settings {
-    /// The version of the file's format: 1 or 2. In version 2 an account can have times of its own,
-    /// and accepts can have an Acct-Interim-Interval.
+    /// The version of the file's format: 1, 2 or 3. From version 2 on an account can have times of its
+    /// own, and accepts can have an Acct-Interim-Interval. In version 3 a secret has at least 16 octets,
+    /// and unsigned requests are guarded (`UnsignedRule`).
     pub version: u64,
     /// How many shards the accounts are spread over: 1 to 4.
     pub shards: u64,
@@ -102,7 +120,46 @@ fn check_interim(version: u64, interim: Option<u32>) -> Result<(), ConfigFault>
 pub(crate) fn knows_own_times(version: u64) -> bool
     ensures { result ≡ knows_own_times version }
 {
-    version == OWN_TIMES_VERSION
+    OWN_TIMES_VERSION <= version
+}
+
+/// Whether what is left out or misspelled counts on the safe side.
+pub(crate) fn is_strict(version: u64) -> bool
+    ensures { result ≡ is_strict version }
+{
+    version == STRICT_VERSION
+}
+
+/// How requests without a Message-Authenticator are taken.
+pub(crate) fn unsigned_rule(version: u64) -> UnsignedRule
+    ensures { result ≡ unsigned_rule version }
+{
+    if is_strict(version) {
+        UnsignedRule::Guarded
+    } else {
+        UnsignedRule::Trusted
+    }
+}
+
+/// `BadValue` of a client's secret that the version takes for too short.
+pub(crate) fn check_secret_len(version: u64, len: usize) -> Result<(), ConfigFault>
+    ensures { result_err result ≡ secret_len_fault version len }
+{
+    if len < least_secret(version) {
+        return Err(ConfigFault::BadValue(Field::Secret));
+    }
+    Ok(())
+}
+
+/// The fewest octets of a client's secret.
+fn least_secret(version: u64) -> usize
+    ensures { result ≡ least_secret version }
+{
+    if is_strict(version) {
+        STRICT_SECRET_LEN
+    } else {
+        1
+    }
 }
 
 /// A time of an account: its own where the version knows one, else the common one.

@@ -1,13 +1,16 @@
 //! The values of fields in a table of TOML: each with its value, or with the fault of the field.
 ghost use Rattle.std.specs.Prelude.{
   ◌≡◌,
+  ◌≢◌,
   ◌<◌,
   ◌^◌,
   ℕ,
   None,
   IfOk,
   IfErr,
+  IfNone,
   IfSome,
+  IsOk,
   is_some,
   length,
   map,
@@ -28,7 +31,12 @@ ghost use Rattle.rsl_accounts.specs.File.{
   option_in,
   text_in,
   address_in,
+  disabled_in,
+  flag_in,
+  misspelled_in,
+  secret_in,
   signed_in,
+  unknown_in,
   own_in,
   tables_in,
 };
@@ -36,6 +44,7 @@ ghost use Rattle.rsl_accounts.specs.Walk.{
   number_fault,
   option_fault,
   interim_fault,
+  secret_len_fault,
   text_fault,
   count_fault,
 };
@@ -43,7 +52,10 @@ ghost use Rattle.rsl_accounts.specs.Walk.{
 use crate::address::address_of;
 use crate::fault::ConfigFault;
 use crate::field::Field;
-use crate::settings::knows_own_times;
+use crate::part::Part;
+use crate::settings::{check_secret_len, is_strict, knows_own_times};
+use crate::text::Text;
+use std::alloc::Global;
 use toml::Value;
 
 /// What a table has under the key of a field.
@@ -194,17 +206,84 @@ pub(crate) fn address(table: &Value) -> Result<[u8; 4], ConfigFault>
     }
 }
 
-/// Whether a client signs its requests; one that does not say so does not.
-#[tactic(auto, unfolding(crate::specs::File::signed_in))]
-pub(crate) fn signed(table: &Value) -> Result<bool, ConfigFault>
-    ensures { result ≡ signed_in (view table.now) }
+/// The truth of a field, or `default` where it is left out.
+#[tactic(auto, unfolding(crate::specs::File::flag_in))]
+fn flag(table: &Value, field: Field, default: bool) -> Result<bool, ConfigFault>
+    ensures { result ≡ flag_in (view table.now) field default }
 {
-    match member(table, Field::Signed) {
+    match member(table, field) {
         Some(value) => match value.as_bool() {
-            Some(signed) => Ok(signed),
-            None => Err(ConfigFault::BadValue(Field::Signed)),
+            Some(flag) => Ok(flag),
+            None => Err(ConfigFault::BadValue(field)),
         },
-        None => Ok(false),
+        None => Ok(default),
+    }
+}
+
+/// Whether a client signs its requests. One that does not say so does in version 3, and not before.
+pub(crate) fn signed(version: u64, table: &Value) -> Result<bool, ConfigFault>
+    ensures { result ≡ signed_in version (view table.now) }
+{
+    flag(table, Field::Signed, is_strict(version))
+}
+
+/// Whether an account's logins are rejected, which only version 3 knows.
+pub(crate) fn disabled(version: u64, table: &Value) -> Result<bool, ConfigFault>
+    ensures { result ≡ disabled_in version (view table.now) }
+{
+    if is_strict(version) {
+        flag(table, Field::Disabled, false)
+    } else {
+        Ok(false)
+    }
+}
+
+/// The secret of a client, lent.
+#[tactic(auto, unfolding(crate::specs::File::secret_in))]
+pub(crate) fn secret(version: u64, table: &Value) -> Result<&str, ConfigFault>
+    ensures ok { IfOk result (λ text. secret_in version (view table.now) ≡ Ok text.now) }
+    ensures fault { IfErr result (λ fault. secret_in version (view table.now) ≡ Err fault) }
+    ensures right { IfOk result (λ text. text_fault Field.Secret text.now ≡ None) }
+    ensures long { IfOk result (λ text. secret_len_fault version (length text.now) ≡ None) }
+{
+    let secret = text(table, Field::Secret)?;
+    match check_secret_len(version, secret.len()) {
+        Ok(()) => Ok(secret),
+        Err(fault) => Err(fault),
+    }
+}
+
+/// The first name that a table may not have as a key, in the order of their octets.
+fn unknown_name(part: Part, table: &Value) -> Option<&str>
+    ensures some { IfSome result (λ name.
+        unknown_in part (view table.now) ≡ Some (ConfigFault.Unknown part name.now)) }
+    ensures none { IfNone result (unknown_in part (view table.now) ≡ None) }
+{
+    for name in table.as_table()?.keys() {
+        if !part.knows(name.as_str()) {
+            return Some(name.as_str());
+        }
+    }
+    None
+}
+
+/// In version 3 `Unknown` of the first name that a table may not have as a key.
+pub(crate) fn check_names(
+    alloc: Global,
+    version: u64,
+    part: Part,
+    table: &Value,
+) -> Result<(), ConfigFault>
+    ensures ok { IsOk result → misspelled_in version part (view table.now) ≡ None }
+    ensures fault { IfErr result (λ fault. fault ≢ ConfigFault.NoMemory →
+        misspelled_in version part (view table.now) ≡ Some fault) }
+{
+    if !is_strict(version) {
+        return Ok(());
+    }
+    match unknown_name(part, table) {
+        Some(name) => Err(ConfigFault::Unknown(part, Text::from_str(alloc, name)?)),
+        None => Ok(()),
     }
 }
 

@@ -27,7 +27,7 @@ pub(crate) fn walk(
 {
     settings.check()?;
     check_counts(clients.len(), accounts.len())?;
-    check_clients(clients)?;
+    check_clients(settings.version, clients)?;
     check_accounts(settings.version, accounts)
 }
 
@@ -42,11 +42,11 @@ fn check_counts(clients: usize, accounts: usize) -> Result<(), ConfigFault>
 
 /// Checks each client.
 #[tactic(auto, using(crate::proofs::Faults::loop_steps))]
-fn check_clients(clients: &[Client]) -> Result<(), ConfigFault>
-    ensures { result_err result ≡ first_fault (flat_map client_checks clients.now) }
+fn check_clients(version: u64, clients: &[Client]) -> Result<(), ConfigFault>
+    ensures { result_err result ≡ first_fault (flat_map (client_checks version) clients.now) }
 {
     for client in clients {
-        client.check()?;
+        client.check(version)?;
     }
     Ok(())
 }

@@ -4,7 +4,7 @@ use rsl_serve::ServeFault;
 use thiserror::Error;
 
 /// Why the program does not end well. It prints as the line for standard error.
-#[derive(Clone, Copy, Debug, Error)]
+#[derive(Debug, Drop, Error)]
 pub(crate) enum Fault {
     /// The arguments are wrong.
     #[error("usage: radlimit replay or radlimit serve FILE ADDRESS AUTHPORT ACCTPORT TURNS")]

@@ -1,5 +1,5 @@
 -- What a datagram means is something that a reply can be made to.
-use Rattle.std.proofs.Common.{◌≡◌, ℕ, ◌<◌, ◌≤◌, ◌==◌, Bool, true, false, cond, ltb, List, [], length, Option, Some, None, Result, Ok, Err, refl, sym, ap, subst, ◌∙◌, arith}
+use Rattle.std.proofs.Common.{◌≡◌, ℕ, ◌<◌, ◌≤◌, ◌==◌, ◌&&◌, Bool, true, false, not, cond, ltb, List, [], length, Option, Some, None, Result, Ok, Err, refl, sym, ap, subst, ◌∙◌, arith}
 use Rattle.std.specs.Prelude.{option_and_then, position}
 use Rattle.std.specs.List.{position_or_len}
 use Rattle.std.specs.Result.{result_unwrap_or}
@@ -9,7 +9,7 @@ use Rattle.rsl_auth.specs.Authenticator.{is_accounting_authentic}
 use Rattle.rsl_wire.specs.Attributes.{Attribute, attribute_list, attributes_in, first_of, number_in}
 use Rattle.rsl_wire.specs.Packet.{Fields, packet_octets, packet_of}
 use Rattle.rsl_wire.specs.declared.packet.WireFault.{WireFault}
-use Rattle.rsl_event.specs.Request.{access_server_of, named_account, proxy_len, secret_of, account_password, text_of}
+use Rattle.rsl_event.specs.Request.{access_server_of, named_account, proxy_len, secret_of, account_password, is_disabled, text_of}
 use Rattle.rsl_event.specs.Access.{asks_once, if_shown, shows_password, asker, ask_or_reject, unless_dropped, request_meaning, access_by, access_meaning}
 use Rattle.rsl_event.specs.Signature.{must_sign, signature_drop}
 use Rattle.rsl_event.specs.Accounting.{note_of, session_act, session_meaning, if_session, by_status, status_meaning, if_status, accounting_by, accounting_meaning}
@@ -77,7 +77,7 @@ some_of false x y e = absurd cc
 
 shown_is : (config : Configuration) (secret authenticator : List ℕ) (attributes : List Attribute) (found : Option ℕ) (account : ℕ) → option_and_then (if_shown config secret authenticator attributes) found ≡ Some account → found ≡ Some account
 shown_is config secret authenticator attributes None account e = absurd cc
-shown_is config secret authenticator attributes (Some other) account e = ap (λ (x : ℕ). Some x) (some_of (shows_password secret authenticator attributes (account_password config other)) other account e)
+shown_is config secret authenticator attributes (Some other) account e = ap (λ (x : ℕ). Some x) (some_of (shows_password secret authenticator attributes (account_password config other) && not (is_disabled config other)) other account e)
 
 asked_is : (b : Bool) (found : Option ℕ) (account : ℕ) → cond b found None ≡ Some account → found ≡ Some account
 asked_is true found account e = e

@@ -1,11 +1,11 @@
 -- A request that is understood has a cause exactly where it is rejected.
-use Rattle.std.proofs.Common.{◌≡◌, ℕ, Bool, true, false, cond, List, refl, subst, sym}
+use Rattle.std.proofs.Common.{◌≡◌, ℕ, Bool, true, false, not, cond, List, refl, subst, sym}
 use Rattle.std.specs.Prelude.{◌+◌, ◌==◌, ◌&&◌, nat_le, nat_lt, option_and_then, Option, Some, None, Result, Ok, Err}
 use Rattle.std.specs.Option.{option_or}
 use Rattle.rsl_accounts.specs.Configuration.{Configuration, client_number}
 use Rattle.rsl_event.specs.Access.{access_by, access_meaning, ask_or_reject, asker, if_shown, shows_password, unless_dropped}
 use Rattle.rsl_event.specs.Meaning.{if_client, if_packet, meaning}
-use Rattle.rsl_event.specs.Request.{account_password, attribute_count, named_account, proxy_len, secret_of}
+use Rattle.rsl_event.specs.Request.{account_password, is_disabled, attribute_count, named_account, proxy_len, secret_of}
 use Rattle.rsl_event.specs.Signature.{must_sign, signature_drop}
 use Rattle.rsl_event.specs.declared.codes.TheConstants.{ACCESS_REQUEST, USER_NAME, USER_PASSWORD, CHAP_PASSWORD, CHAP_CHALLENGE, MAX_PROXY_STATE_LEN}
 use Rattle.rsl_event.specs.declared.event.Source.{Source}
@@ -23,13 +23,15 @@ use Rattle.rsl_event.specs.Cause.{asker_cause, cause_by, request_cause}
 use Rattle.rsl_event.specs.Detail.{detail_by, detail_of}
 use Rattle.rsl_event.specs.Laws.{IsCauseOf, cause_in}
 use Rattle.rsl_event.specs.declared.detail.RejectCause.{RejectCause}
-use Rattle.rsl_event.specs.declared.detail.RejectCause.TheVariants.{Malformed, NotOneName, NotOnePassword, SeveralChallenges, UnknownAccount, WrongPassword}
+use Rattle.rsl_event.specs.declared.detail.RejectCause.TheVariants.{Malformed, NotOneName, NotOnePassword, SeveralChallenges, UnknownAccount, WrongPassword, DisabledAccount}
 
--- by whether the password is shown
-shown : (b : Bool) (source : Source) (client : ℕ) (fields : Fields) (attributes : List Attribute) (account : ℕ)
-    → IsCauseOf (ask_or_reject source client fields attributes (cond b (Some account) None)) (cond b None (Some WrongPassword))
-shown true source client fields attributes account = refl
-shown false source client fields attributes account = λ (e : WrongPassword ≡ Malformed). cc
+-- by whether the password is shown, and the account disabled
+shown : (b d : Bool) (source : Source) (client : ℕ) (fields : Fields) (attributes : List Attribute) (account : ℕ)
+    → IsCauseOf (ask_or_reject source client fields attributes (cond (b && not d) (Some account) None))
+    (cond b (cond d (Some DisabledAccount) None) (Some WrongPassword))
+shown true false source client fields attributes account = refl
+shown true true source client fields attributes account = λ (e : DisabledAccount ≡ Malformed). cc
+shown false d source client fields attributes account = λ (e : WrongPassword ≡ Malformed). cc
 
 -- by the account that is named
 asked : (config : Configuration) (source : Source) (client : ℕ) (fields : Fields) (attributes : List Attribute) (named : Option ℕ)
@@ -38,7 +40,7 @@ asked : (config : Configuration) (source : Source) (client : ℕ) (fields : Fiel
 asked config source client fields attributes None = λ (e : UnknownAccount ≡ Malformed). cc
 asked config source client fields attributes (Some account) =
     shown (shows_password (secret_of config client) fields.authenticator attributes (account_password config account))
-    source client fields attributes account
+    (is_disabled config account) source client fields attributes account
 
 -- by how often each attribute stands there
 counted : (a b c : Bool) (source : Source) (client : ℕ) (fields : Fields) (attributes : List Attribute)

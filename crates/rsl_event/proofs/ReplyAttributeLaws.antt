@@ -12,7 +12,7 @@ use Rattle.rsl_wire.specs.Attributes.{Attribute, attribute_list, attribute_octet
 use Rattle.rsl_wire.specs.DraftSeen.{Begun}
 use Rattle.rsl_wire.specs.Packet.{Fields, packet_octets}
 use Rattle.rsl_event.specs.Answer.{number_attribute, optional_attribute, class_attribute, accept_attributes, said_to, code_of, said_attributes, repeated_attributes, answer_to}
-use Rattle.rsl_event.specs.Signature.{reply_signing, signature_attributes, signed_by}
+use Rattle.rsl_event.specs.Signature.{rule_of, reply_signing, signature_attributes, signed_by}
 use Rattle.rsl_event.specs.declared.signing.Signing.{Signing}
 use Rattle.rsl_event.specs.Request.{proxy_len, secret_of}
 use Rattle.rsl_event.specs.declared.event.Decision.{Decision}
@@ -104,7 +104,7 @@ pub answer_is : (config : Configuration) (boot client : ℕ) (fields : Fields) (
     → start ≡ record { id = fields.id; attributes = [] } → first ≡ with_attributes start (start.attributes ++ list_octets (signature_attributes signing))
     → second ≡ with_attributes first (first.attributes ++ list_octets (said_attributes config boot kind decision))
     → third ≡ with_attributes second (second.attributes ++ list_octets (repeated_attributes (attributes_in fields.attributes) kind))
-    → word ≡ said_to kind decision → signing ≡ reply_signing word (attributes_in fields.attributes) → code ≡ code_of word
+    → word ≡ said_to kind decision → signing ≡ reply_signing (rule_of config) word (attributes_in fields.attributes) → code ≡ code_of word
     → slice_get config.clients client ≡ Some found → secret ≡ found.secret
     → packet ≡ signed_by signing (packet_octets (record { code = code; id = third.id; authenticator = replicate 16 0; attributes = third.attributes })) fields.authenticator secret
     → result ≡ sealed packet fields.authenticator secret
@@ -115,7 +115,7 @@ answer_is config boot client fields kind decision word code signing start first 
     let said_are = said_attributes config boot kind decision in
     let repeated = repeated_attributes attributes kind in
     let code_is : code ≡ code_of (said_to kind decision) = ec ∙ ap code_of ew in
-    let signing_is : signing ≡ reply_signing (said_to kind decision) attributes = eg ∙ ap (λ (w : Said). reply_signing w attributes) ew in
+    let signing_is : signing ≡ reply_signing (rule_of config) (said_to kind decision) attributes = eg ∙ ap (λ (w : Said). reply_signing (rule_of config) w attributes) ew in
     let secret_is : secret ≡ secret_of config client = es ∙ sym (ap (λ (o : Option Client). option_map_or (λ c. c.secret) o []) ef) in
     let third_is = reply_written fields.id (signature_attributes signing) said_are repeated start first second third e0 e1 e2 e3 in
     let written = ap (λ (x : Begun). packet_octets (record { code = code; id = x.id; authenticator = replicate 16 0; attributes = x.attributes })) third_is in

@@ -1,11 +1,11 @@
 -- What an Access-Request means (RFC 2865 section 4.1).
-use Rattle.std.specs.Prelude.{ℕ, ◌+◌, ◌==◌, ◌&&◌, nat_le, nat_lt, Bool, false, List, unwrap_or, option_and_then, if◌then◌else◌, Option, Some, None, Result, Ok, Err}
+use Rattle.std.specs.Prelude.{ℕ, ◌+◌, ◌==◌, ◌&&◌, nat_le, nat_lt, Bool, false, not, List, unwrap_or, option_and_then, if◌then◌else◌, Option, Some, None, Result, Ok, Err}
 use Rattle.rsl_accounts.specs.Configuration.{Configuration}
 use Rattle.rsl_auth.specs.Chap.{matches_chap}
 use Rattle.rsl_auth.specs.Password.{matches_password}
 use Rattle.rsl_wire.specs.Attributes.{Attribute, first_of, attribute_list}
 use Rattle.rsl_wire.specs.Packet.{Fields}
-use Rattle.rsl_event.specs.Request.{attribute_count, access_server_of, named_account, proxy_len, secret_of, account_password}
+use Rattle.rsl_event.specs.Request.{attribute_count, access_server_of, named_account, proxy_len, secret_of, account_password, is_disabled}
 use Rattle.rsl_event.specs.Signature.{must_sign, signature_drop}
 use Rattle.rsl_event.specs.declared.event.Source.{Source}
 use Rattle.rsl_event.specs.declared.event.Act.TheVariants.{Ask}
@@ -43,11 +43,12 @@ shows_password secret authenticator attributes password =
     shows secret authenticator (challenge_of authenticator attributes) password
     (first_of USER_PASSWORD attributes) (first_of CHAP_PASSWORD attributes)
 
--- the account, if its password is shown
+-- the account, if its password is shown and it is not disabled
 abbrev pub if_shown : Configuration → (secret authenticator : List ℕ) → List Attribute
     → (account : ℕ) → Option ℕ
 if_shown config secret authenticator attributes account =
     if shows_password secret authenticator attributes (account_password config account)
+    && not (is_disabled config account)
     then Some account
     else None
 

@@ -10,7 +10,7 @@ use Rattle.rsl_wire.specs.Attributes.{Attribute, attribute_of, attributes_in, li
 use Rattle.rsl_wire.specs.Packet.{Fields, packet_octets}
 use Rattle.rsl_event.specs.MeaningKind.{kind_of}
 use Rattle.rsl_event.specs.Request.{proxy_states, secret_of}
-use Rattle.rsl_event.specs.Signature.{reply_signing, signature_attributes, signed_by}
+use Rattle.rsl_event.specs.Signature.{rule_of, reply_signing, signature_attributes, signed_by}
 use Rattle.rsl_event.specs.declared.event.Decision.{Decision}
 use Rattle.rsl_event.specs.declared.event.Decision.TheVariants as decisions
 use Rattle.rsl_event.specs.declared.meaning_kind.MeaningKind.{MeaningKind}
@@ -101,7 +101,7 @@ repeated_attributes attributes _ = proxy_states attributes
 abbrev pub reply_attributes : Configuration → (boot : ℕ) → List Attribute → MeaningKind → Decision
     → List Attribute
 reply_attributes config boot attributes kind decision =
-    signature_attributes (reply_signing (said_to kind decision) attributes)
+    signature_attributes (reply_signing (rule_of config) (said_to kind decision) attributes)
     ++ said_attributes config boot kind decision
     ++ repeated_attributes attributes kind
 
@@ -115,12 +115,13 @@ unsigned_reply config boot fields kind decision = packet_octets (record {
       list_octets (reply_attributes config boot (attributes_in fields.attributes) kind decision);
 })
 
--- the octets of the reply to a packet of a client with a meaning of this kind: signed if the
--- request was, and then sealed, with the client's secret
+-- the octets of the reply to a packet of a client with a meaning of this kind: signed if it is to
+-- be, and then sealed, with the client's secret
 unfoldable pub answer_to : Configuration → (boot client : ℕ) → Fields → MeaningKind → Decision → List ℕ
 answer_to config boot client fields kind decision =
     sealed
-    (signed_by (reply_signing (said_to kind decision) (attributes_in fields.attributes))
+    (signed_by
+    (reply_signing (rule_of config) (said_to kind decision) (attributes_in fields.attributes))
     (unsigned_reply config boot fields kind decision)
     fields.authenticator (secret_of config client))
     fields.authenticator (secret_of config client)

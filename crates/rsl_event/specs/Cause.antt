@@ -6,10 +6,10 @@ use Rattle.rsl_accounts.specs.Configuration.{Configuration}
 use Rattle.rsl_wire.specs.Attributes.{Attribute, attribute_list}
 use Rattle.rsl_wire.specs.Packet.{Fields}
 use Rattle.rsl_event.specs.Access.{shows_password}
-use Rattle.rsl_event.specs.Request.{account_password, attribute_count, named_account, secret_of}
+use Rattle.rsl_event.specs.Request.{account_password, is_disabled, attribute_count, named_account, secret_of}
 use Rattle.rsl_event.specs.declared.codes.TheConstants.{USER_NAME, USER_PASSWORD, CHAP_PASSWORD, CHAP_CHALLENGE}
 use Rattle.rsl_event.specs.declared.detail.RejectCause.{RejectCause}
-use Rattle.rsl_event.specs.declared.detail.RejectCause.TheVariants.{Malformed, NotOneName, NotOnePassword, SeveralChallenges, UnknownAccount, WrongPassword}
+use Rattle.rsl_event.specs.declared.detail.RejectCause.TheVariants.{Malformed, NotOneName, NotOnePassword, SeveralChallenges, UnknownAccount, WrongPassword, DisabledAccount}
 
 -- one User-Name, one password of either kind, at most one CHAP-Challenge: the first of these that is
 -- not so
@@ -22,14 +22,14 @@ count_cause attributes =
     else Some NotOnePassword)
     else Some NotOneName
 
--- there is an account of the name, and its password is shown
+-- there is an account of the name, its password is shown, and it is not disabled
 abbrev pub asker_cause : Configuration → (client : ℕ) → (authenticator : List ℕ) → List Attribute
     → (account : Option ℕ) → Option RejectCause
 asker_cause config client authenticator attributes None = Some UnknownAccount
 asker_cause config client authenticator attributes (Some account) =
     if shows_password (secret_of config client) authenticator attributes
     (account_password config account)
-    then None
+    then (if is_disabled config account then Some DisabledAccount else None)
     else Some WrongPassword
 
 -- by the attributes

@@ -1,5 +1,5 @@
 -- What both kinds of request say: which access server, which account, and what the reply repeats.
-use Rattle.std.specs.Prelude.{ℕ, List, [], length, count_by, sum_by, filter, slice_get, unwrap_or, option_and_then, Option, Some, None}
+use Rattle.std.specs.Prelude.{ℕ, Bool, false, List, [], length, count_by, sum_by, filter, slice_get, unwrap_or, option_and_then, Option, Some, None}
 use Rattle.std.specs.Option.{option_map_or}
 use Rattle.rsl_accounts.specs.Configuration.{Configuration, account_number}
 use Rattle.rsl_wire.specs.Attributes.{Attribute, attribute_octets, is_kind, first_of}
@@ -53,3 +53,8 @@ secret_of config client = option_map_or (λ found. found.secret) (slice_get conf
 abbrev pub account_password : Configuration → ℕ → List ℕ
 account_password config account =
     option_map_or (λ found. found.password) (slice_get config.accounts account) []
+
+-- whether the logins of an account are rejected
+abbrev pub is_disabled : Configuration → ℕ → Bool
+is_disabled config account =
+    option_map_or (λ found. found.disabled) (slice_get config.accounts account) false

@@ -1,20 +1,23 @@
 -- Message-Authenticators (RFC 3579 section 3.2): what an Access-Request has to have, and which
 -- replies get one.
-use Rattle.std.specs.Prelude.{ℕ, ◌+◌, ◌==◌, ◌&&◌, nat_lt, Bool, true, false, List, [], ◌∷◌, length, replicate, slice_get, if◌then◌else◌, Option, Some, None}
+use Rattle.std.specs.Prelude.{ℕ, ◌+◌, ◌==◌, ◌&&◌, ◌||◌, nat_lt, Bool, true, false, List, [], ◌∷◌, length, replicate, slice_get, if◌then◌else◌, Option, Some, None}
 use Rattle.std.specs.List.{before_first}
 use Rattle.std.specs.Option.{option_map_or}
 use Rattle.rsl_accounts.specs.Configuration.{Configuration}
+use Rattle.rsl_accounts.specs.Version.{unsigned_rule}
+use Rattle.rsl_accounts.specs.declared.unsigned_rule.UnsignedRule.{UnsignedRule}
+use Rattle.rsl_accounts.specs.declared.unsigned_rule.UnsignedRule.TheVariants.{Trusted, Guarded}
 use Rattle.rsl_auth.specs.Signature.{is_signed, signed}
 use Rattle.rsl_wire.specs.Attributes.{Attribute, attribute_of, is_kind, list_octets}
 use Rattle.rsl_wire.specs.Packet.{Fields, packet_octets}
 use Rattle.rsl_event.specs.Request.{attribute_count, secret_of, text_of}
 use Rattle.rsl_event.specs.declared.meaning.Dropped.{Dropped}
-use Rattle.rsl_event.specs.declared.meaning.Dropped.TheVariants.{BadSignature, Unsigned}
+use Rattle.rsl_event.specs.declared.meaning.Dropped.TheVariants.{BadSignature, Unsigned, UnsignedProxy}
 use Rattle.rsl_event.specs.declared.signing.Signing.{Signing}
 use Rattle.rsl_event.specs.declared.signing.Signing.TheVariants.{Plain, Signed}
 use Rattle.rsl_event.specs.declared.words.Said.{Said}
 use Rattle.rsl_event.specs.declared.words.Said.TheVariants as words
-use Rattle.rsl_event.specs.declared.codes.TheConstants.{MESSAGE_AUTHENTICATOR}
+use Rattle.rsl_event.specs.declared.codes.TheConstants.{MESSAGE_AUTHENTICATOR, PROXY_STATE}
 
 -- whether a client has to sign its requests
 abbrev pub must_sign : Configuration → (client : ℕ) → Bool
@@ -41,13 +44,30 @@ has_right_signature fields attributes secret =
     && length (text_of MESSAGE_AUTHENTICATOR attributes) == 16
     && is_signed (packet_octets fields) (signature_offset attributes) secret
 
+-- how a configuration takes requests without a Message-Authenticator
+abbrev pub rule_of : Configuration → UnsignedRule
+rule_of config = unsigned_rule config.settings.version
+
+abbrev pub is_guarded : UnsignedRule → Bool
+is_guarded Trusted = false
+is_guarded Guarded = true
+
+-- a guarded request may have no Proxy-State, which is repeated in the answer: by one of their choice
+-- somebody between the two could make a reject into an accept (CVE-2024-3596)
+abbrev pub unsigned_drop : UnsignedRule → List Attribute → Option Dropped
+unsigned_drop rule attributes =
+    if is_guarded rule && nat_lt 0 (attribute_count PROXY_STATE attributes)
+    then Some UnsignedProxy
+    else None
+
 -- why a request with these attributes is dropped, if it is for its Message-Authenticator
 abbrev pub signature_drop : Configuration → (client : ℕ) → Fields → List Attribute → Option Dropped
 signature_drop config client fields attributes =
     if has_signature attributes
     then (if has_right_signature fields attributes (secret_of config client) then None
     else Some BadSignature)
-    else (if must_sign config client then Some Unsigned else None)
+    else (if must_sign config client then Some Unsigned
+    else unsigned_drop (rule_of config) attributes)
 
 -- an Access-Accept or an Access-Reject may be signed, and an Accounting-Response never is
 abbrev pub is_access : Said → Bool
@@ -60,9 +80,10 @@ signing_if false = Plain
 signing_if true = Signed
 
 -- the signing of a reply: it is signed where it answers an Access-Request that carried a
--- Message-Authenticator
-abbrev pub reply_signing : Said → (request : List Attribute) → Signing
-reply_signing word request = signing_if (is_access word && has_signature request)
+-- Message-Authenticator, or any under a guard
+abbrev pub reply_signing : UnsignedRule → Said → (request : List Attribute) → Signing
+reply_signing rule word request =
+    signing_if (is_access word && (is_guarded rule || has_signature request))
 
 -- its Message-Authenticator, before the value is known: the first attribute
 abbrev pub unsigned_signature : Attribute

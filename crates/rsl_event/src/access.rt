@@ -91,12 +91,14 @@ fn asker(
         return Err(RejectCause::UnknownAccount);
     };
     let secret = config.client_at(client).secret.expose();
-    let password = config.entry(account).password.expose();
-    if shows_password(secret, authenticator, attributes, password) {
-        Ok(account)
-    } else {
-        Err(RejectCause::WrongPassword)
+    let entry = config.entry(account);
+    if !shows_password(secret, authenticator, attributes, entry.password.expose()) {
+        return Err(RejectCause::WrongPassword);
     }
+    if entry.disabled {
+        return Err(RejectCause::DisabledAccount);
+    }
+    Ok(account)
 }
 
 /// Whether the User-Password or the CHAP-Password is right for this password.

@@ -16,6 +16,8 @@ pub enum RejectCause {
     UnknownAccount,
     /// Its password is not the account's.
     WrongPassword,
+    /// The account is disabled.
+    DisabledAccount,
 }
 
 /// What counters and lines tell of a request, beyond its meaning.

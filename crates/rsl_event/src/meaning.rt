@@ -50,7 +50,8 @@ pub enum Meaning {
     /// A request on the authentication port whose attributes are malformed: it is rejected, and
     /// nothing of it is repeated.
     Bare,
-    /// An Access-Request that asks for no account with the right password: it is rejected.
+    /// An Access-Request that asks for no account with the right password, or for a disabled one: it is
+    /// rejected.
     Reject,
     /// An act of one account: an ask, an alive or a stop.
     Own {
@@ -91,6 +92,9 @@ pub enum Dropped {
     /// Access-Request of a client that has to sign: the attributes are malformed, or there is no
     /// Message-Authenticator.
     Unsigned,
+    /// Access-Request of a client that need not sign, under a guard (`rsl_accounts::UnsignedRule`): there
+    /// is no Message-Authenticator, and a Proxy-State.
+    UnsignedProxy,
     /// The Proxy-State attributes have over 3,900 octets.
     ProxyTooLong,
     /// Accounting: there is no Acct-Status-Type, or the first does not have 4 octets.
@@ -118,6 +122,7 @@ impl Dropped {
             Dropped::Malformed => "Malformed",
             Dropped::BadSignature => "BadSignature",
             Dropped::Unsigned => "Unsigned",
+            Dropped::UnsignedProxy => "UnsignedProxy",
             Dropped::ProxyTooLong => "ProxyTooLong",
             Dropped::NoStatus => "NoStatus",
             Dropped::NoSession => "NoSession",

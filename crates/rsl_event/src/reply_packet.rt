@@ -27,7 +27,7 @@ use crate::meaning_kind::MeaningKind;
 use crate::reply_attributes::{push_accept, push_limit_message, push_proxy_states};
 use crate::signing::Signing;
 use crate::words::Said;
-use rsl_accounts::Config;
+use rsl_accounts::{Config, UnsignedRule};
 use rsl_auth::{HmacKey, sealed};
 use rsl_wire::{Attrs, Draft, NoMemory, Packet};
 use std::alloc::Global;
@@ -62,8 +62,8 @@ pub fn room_in(prepared: &Prepared<'_>, earlier: Vec<u8>) -> Result<Draft, NoMem
 
 /// The octets of the reply: Code, the request's Identifier, the attributes, and the Response
 /// Authenticator over them and the client's secret (RFC 2865 section 3). Where it answers an
-/// Access-Request that has a Message-Authenticator, its own stands first (RFC 3579 section 3.2),
-/// and Proxy-States stand last, as they came (RFC 2865 section 5.33). It takes no memory: the draft
+/// Access-Request that has a Message-Authenticator, or any under a guard, its own stands first (RFC
+/// 3579 section 3.2), and Proxy-States stand last, as they came (RFC 2865 section 5.33). It takes no memory: the draft
 /// is that of `room` or `room_in`.
 pub fn reply(
     prepared: &Prepared<'_>,
@@ -107,7 +107,7 @@ pub fn reply_to(
 {
     let word = kind.said(decision);
     let attributes = attributes_of(request, kind);
-    let signing = reply_signing(word, &attributes);
+    let signing = reply_signing(config.unsigned_rule(), word, &attributes);
     let mut draft = draft;
     signing.push(&mut draft);
     write_said(config, boot, kind, decision, &mut draft);
@@ -137,12 +137,15 @@ fn attributes_of<'a>(request: &Packet<'a>, kind: MeaningKind) -> Option<Attrs<'a
 }
 
 /// The signing of a reply with this word: it is signed where it answers an Access-Request of which
-/// the well-formed list has a Message-Authenticator.
-fn reply_signing(word: Said, request: &Option<Attrs<'_>>) -> Signing
-    ensures { result ≡ reply_signing word (unwrap_or request.now []) }
+/// the well-formed list has a Message-Authenticator, or any under a guard.
+fn reply_signing(rule: UnsignedRule, word: Said, request: &Option<Attrs<'_>>) -> Signing
+    ensures { result ≡ reply_signing rule word (unwrap_or request.now []) }
 {
     if let Said::Account = word {
         return Signing::Plain;
+    }
+    if let UnsignedRule::Guarded = rule {
+        return Signing::Signed;
     }
     match request {
         Some(attributes) if attributes.count(MESSAGE_AUTHENTICATOR) > 0 => Signing::Signed,

@@ -6,12 +6,13 @@ ghost use Rattle.rsl_event.specs.Signature.{
   before_signature,
   has_right_signature,
   signature_drop,
+  unsigned_drop,
 };
 
 use crate::access_attributes::AccessAttributes;
 use crate::codes::MESSAGE_AUTHENTICATOR;
 use crate::meaning::Dropped;
-use rsl_accounts::Config;
+use rsl_accounts::{Config, UnsignedRule};
 use rsl_auth::{HmacKey, SIGNATURE_LEN};
 use rsl_wire::{ATTR_HEADER_LEN, Attrs, HEADER_LEN, Packet};
 
@@ -40,7 +41,17 @@ pub(crate) fn signature_drop(
     } else if config.client_at(client).signed {
         Some(Dropped::Unsigned)
     } else {
-        None
+        unsigned_drop(config.unsigned_rule(), attributes)
+    }
+}
+
+/// Why a request without a Message-Authenticator is dropped, if it is, of a client that need not sign.
+fn unsigned_drop(rule: UnsignedRule, attributes: &AccessAttributes<'_>) -> Option<Dropped>
+    ensures { result ≡ unsigned_drop rule attributes.now.all }
+{
+    match rule {
+        UnsignedRule::Guarded if attributes.proxy_states.count > 0 => Some(Dropped::UnsignedProxy),
+        UnsignedRule::Guarded | UnsignedRule::Trusted => None,
     }
 }
 

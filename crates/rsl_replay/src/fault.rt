@@ -13,7 +13,7 @@ use std::io;
 use thiserror::Error;
 
 /// Why a script was not replayed. It prints as the text for standard error.
-#[derive(Clone, Copy, Debug, Error)]
+#[derive(Debug, Drop, Error)]
 pub enum ReplayFault {
     /// The line with this number is wrong. Every line counts, from 1, and the first wrong one is
     /// named.

@@ -60,6 +60,7 @@ account_with name password places options = record {
   own_live = options.live;
   own_grace = options.grace;
   interim = None;
+  disabled = false;
 }
 
 -- an account: NAME PASSWORD PLACES, and what it may have

@@ -187,5 +187,6 @@ fn account_with(
         own_live: options.live,
         own_grace: options.grace,
         interim: None,
+        disabled: false,
     })
 }

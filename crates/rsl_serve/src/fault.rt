@@ -14,7 +14,7 @@ use thiserror::Error;
 
 /// Why a server has not started, or has not ended well. It prints as the text for standard error,
 /// but for `Usage`.
-#[derive(Clone, Copy, Debug, Error)]
+#[derive(Debug, Drop, Error)]
 pub enum ServeFault {
     /// The arguments are wrong. They are looked at before anything else. The program prints its own
     /// line of usage for it.

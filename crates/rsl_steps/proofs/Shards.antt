@@ -219,6 +219,7 @@ takes_drop config boot before moment port source datagram drops.BadAuthenticator
 takes_drop config boot before moment port source datagram drops.Malformed old is are = dropped_is config boot before moment port source datagram drops.Malformed old is are
 takes_drop config boot before moment port source datagram drops.BadSignature old is are = dropped_is config boot before moment port source datagram drops.BadSignature old is are
 takes_drop config boot before moment port source datagram drops.Unsigned old is are = dropped_is config boot before moment port source datagram drops.Unsigned old is are
+takes_drop config boot before moment port source datagram drops.UnsignedProxy old is are = dropped_is config boot before moment port source datagram drops.UnsignedProxy old is are
 takes_drop config boot before moment port source datagram drops.ProxyTooLong old is are = dropped_is config boot before moment port source datagram drops.ProxyTooLong old is are
 takes_drop config boot before moment port source datagram drops.NoStatus old is are = dropped_is config boot before moment port source datagram drops.NoStatus old is are
 takes_drop config boot before moment port source datagram drops.NoSession old is are = dropped_is config boot before moment port source datagram drops.NoSession old is are

@@ -184,6 +184,7 @@ fn answer_to_drop(dropped: Dropped) -> Answer
         | Dropped::Malformed
         | Dropped::BadSignature
         | Dropped::Unsigned
+        | Dropped::UnsignedProxy
         | Dropped::ProxyTooLong
         | Dropped::NoStatus
         | Dropped::NoSession => Answer::Dropped(dropped),

@@ -7,7 +7,7 @@ use Rattle.rsl_accounts.proofs.file.clients.Given as goal
 
 abbrev pub invariant-loop-table : goal.invariant-loop-table
 invariant-loop-table l = record {
-  read : each client_in (map view (take l.table-index l.tables)) ≡ Ok l.clients.items;
+  read : each (client_in l.version) (map view (take l.table-index l.tables)) ≡ Ok l.clients.items;
   number : length l.clients.items ≡ l.table-index;
-  right : first_fault (flat_map client_checks l.clients.items) ≡ None;
+  right : first_fault (flat_map (client_checks l.version) l.clients.items) ≡ None;
 }

@@ -7,4 +7,4 @@ pub returns-in_err-check : goal.returns-in_err-check
 returns-in_err-check c =
     let p = err_from_is_err_and c.from_residual.result c.from_residual.ensures.1 in
     rw (p.1, p.2)
-    (checks_found client_checks c.args.clients.now c.loop-client.client-index c.client-item.result c.loop-client-test.true c.client-item.is c.in_err-check.field-0.0 c.loop-client.invariant c.in_err-check.ensures)
+    (checks_found (client_checks c.args.version) c.args.clients.now c.loop-client.client-index c.client-item.result c.loop-client-test.true c.client-item.is c.in_err-check.field-0.0 c.loop-client.invariant c.in_err-check.ensures)

@@ -5,4 +5,4 @@ use Rattle.rsl_accounts.proofs.walk.check_clients.Given as goal
 
 abbrev pub invariant-loop-client : goal.invariant-loop-client
 invariant-loop-client l =
-    first_fault (flat_map client_checks l.clients) ≡ first_fault (flat_map client_checks (drop l.client-index l.clients))
+    first_fault (flat_map (client_checks l.version) l.clients) ≡ first_fault (flat_map (client_checks l.version) (drop l.client-index l.clients))

@@ -11,7 +11,7 @@ returns-in_err-check c =
     let p = err_from_is_err_and c.from_residual.result c.from_residual.ensures.1 in
     let settings = settings_checks c.args.settings.now in
     let counts = count_checks (length c.args.clients.now) (length c.args.accounts.now) in
-    let clients = flat_map client_checks c.args.clients.now in
+    let clients = flat_map (client_checks c.args.settings.now.version) c.args.clients.now in
     let accounts = flat_map (account_checks c.args.settings.now.version) c.args.accounts.now in
     rw (p.1, p.2)
     (checks_here (settings ++ counts ++ clients) accounts (checks_here (settings ++ counts) clients (checks_here settings counts c.in_err-check.ensures)))
@@ -22,7 +22,7 @@ returns-in_err-check_counts c =
     let p = err_from_is_err_and c.from_residual-in_err-check_counts.result c.from_residual-in_err-check_counts.ensures.1 in
     let settings = settings_checks c.args.settings.now in
     let counts = count_checks (length c.args.clients.now) (length c.args.accounts.now) in
-    let clients = flat_map client_checks c.args.clients.now in
+    let clients = flat_map (client_checks c.args.settings.now.version) c.args.clients.now in
     let accounts = flat_map (account_checks c.args.settings.now.version) c.args.accounts.now in
     rw (p.1, p.2)
     (checks_here (settings ++ counts ++ clients) accounts (checks_here (settings ++ counts) clients (checks_next settings counts c.in_ok-check.ensures c.in_err-check_counts.ensures)))
@@ -33,7 +33,7 @@ returns-in_err-check_clients c =
     let p = err_from_is_err_and c.from_residual-in_err-check_clients.result c.from_residual-in_err-check_clients.ensures.1 in
     let settings = settings_checks c.args.settings.now in
     let counts = count_checks (length c.args.clients.now) (length c.args.accounts.now) in
-    let clients = flat_map client_checks c.args.clients.now in
+    let clients = flat_map (client_checks c.args.settings.now.version) c.args.clients.now in
     let accounts = flat_map (account_checks c.args.settings.now.version) c.args.accounts.now in
     rw (p.1, p.2)
     (checks_here (settings ++ counts ++ clients) accounts (checks_next (settings ++ counts) clients (checks_next settings counts c.in_ok-check.ensures c.in_ok-check_counts.ensures) c.in_err-check_clients.ensures))

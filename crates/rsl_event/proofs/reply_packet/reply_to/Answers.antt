@@ -16,7 +16,7 @@ returns c =
     c.finish-octets.result.items c.expose-secret.result.now _ c.client_at.result.now
     c.requires.room c.push.ensures.written c.write_said.ensures.written
     (c.write_repeated.ensures.written ∙ ap (λ (x : List Attribute). with_attributes second (second.attributes ++ list_octets (repeated_attributes x c.args.kind))) c.attributes_of-attributes.ensures.list)
-    c.said-word.ensures (c.reply_signing-signing.ensures ∙ ap (λ (x : List Attribute). reply_signing c.said-word.result x) c.attributes_of-attributes.ensures.list) c.code_of.ensures
+    c.said-word.ensures (c.reply_signing-signing.ensures ∙ (λ k. reply_signing (c.unsigned_rule.ensures k) c.said-word.result (c.attributes_of-attributes.ensures.list k))) c.code_of.ensures
     c.client_at.ensures.client c.expose-secret.ensures.octets (c.finish-octets.ensures.octets c.expose-secret.result.now kept) c.sealed.ensures
 
 pub attributes_of-attributes-requires : goal.attributes_of-attributes-requires
