@@ -77,6 +77,7 @@ fn entry(alloc: Global, name: &str, password: &str) -> Result<Entry, Fail> {
         own_live: None,
         own_grace: None,
         interim: None,
+        disabled: false,
     })
 }
 

@@ -5,6 +5,7 @@ mod access;
 mod accounting;
 mod copies;
 mod drops;
+mod guard;
 mod hostile;
 mod replies;
 mod signatures;

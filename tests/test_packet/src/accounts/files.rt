@@ -63,7 +63,7 @@ fn the_first_fault_of_a_file_is_named(rt: HostRuntime) -> Result<(), Fail> {
         another key | keep_secs = 10\n => keep_secs = 10\nnote = 1\n | Ok
         version 2 | version = 1 => version = 2 | Ok
         version 0 | version = 1 => version = 0 | BadValue version
-        version 3 | version = 1 => version = 3 | BadValue version
+        version 4 | version = 1 => version = 4 | BadValue version
         a text for the version | version = 1 => version = "1" | BadValue version
         true for the version | version = 1 => version = true | BadValue version
         shards below 0 | shards = 2 => shards = -2 | BadValue shards
@@ -116,6 +116,86 @@ fn the_first_fault_of_a_file_is_named(rt: HostRuntime) -> Result<(), Fail> {
     let found = said(rt.alloc(), Config::read(rt.alloc(), b"\xff"))?;
     assert_eq!(rt; found.as_str(), "NotToml", "no UTF-8");
     Ok(())
+}
+
+/// In version 3 what is misspelled is found, what is left out counts on the safe side, and a secret has 16
+/// octets. Versions 1 and 2 pass over all of it.
+#[test]
+fn version_3_is_strict(rt: HostRuntime) -> Result<(), Fail> {
+    let rows = r#"
+        the sample | <3> | BadValue secret
+        15 octets | <3> | xyzzy5461 => 123456789012345 | BadValue secret
+        16 octets | <3> | <16> | Ok
+        128 octets | <3> | xyzzy5461 => <128> | Ok
+        15 octets in version 2 | <2> | xyzzy5461 => 123456789012345 | Ok
+        an empty secret | <3> | xyzzy5461 => | BadValue secret
+        a secret with a zero octet | <3> | xyzzy5461 => 1234567890123456\u0000 | BadValue secret
+        sigend | <3> | <16> | <sigend> | Unknown client "sigend"
+        sigend in version 2 | <2> | <sigend> | Ok
+        sigend in version 1 | <sigend> | Ok
+        a key of the head | <3> | <16> | keep_secs = 10\n => keep_secs = 10\nkeep_sec = 10\n | Unknown "keep_sec"
+        a table | <3> | <16> | => \n[listen]\nport = 1812\n | Unknown "listen"
+        a key of an account | <3> | <16> | => disable = true\n | Unknown account "disable"
+        a key of a client at an account | <3> | <16> | => signed = true\n | Unknown account "signed"
+        a key of an account at a client | <3> | <16> | 5461"\n => 5461"\nplaces = 1\n | Unknown client "places"
+        the first by its octets | <3> | <16> | => zone = 1\nrealm = "x"\n | Unknown account "realm"
+        a key with a blank | <3> | <16> | => "a b" = 1\n | Unknown account "a b"
+        a key with a quotation mark | <3> | <16> | => 'a"b' = 1\n | Unknown account "a\"b"
+        before the fields of its table | <3> | <16> | shards = 2 => shard = 2 | Unknown "shard"
+        after the version | version = 1 => version = 4\nx = 1 | BadValue version
+        the head before the clients | <3> | keep_secs = 10\n => keep_secs = 0\n | <sigend> | BadValue keep_secs
+        the clients before the accounts | <3> | <16> | => x = 1\n | <sigend> | Unknown client "sigend"
+        a misspelled account | <3> | <sigend> | [[account]] => [[user]] | Unknown "user"
+        a disabled account | <3> | <16> | => disabled = true\n | Ok
+        one that is not | <3> | <16> | => disabled = false\n | Ok
+        a number | <3> | <16> | => disabled = 1\n | BadValue disabled
+        a text | <3> | <16> | => disabled = "true"\n | BadValue disabled
+        a number in version 2 | <2> | => disabled = 1\n | Ok
+        its own times | <3> | <16> | => live_secs = 0\n | BadValue live_secs
+        interim_secs | <3> | <16> | => interim_secs = 59\n | BadValue interim_secs
+        keep last | <3> | <16> | keep_secs = 10\n => keep_secs = 61\n | KeepTooLong
+    "#;
+    check_rows(&rt, &FileRows, strict(rt.alloc(), rows)?.as_str())
+}
+
+/// Rows with what stands for their words.
+fn strict(alloc: Global, rows: &str) -> Result<String, Fail> {
+    let words = r#"<2> = version = 1 => version = 2
+<3> = version = 1 => version = 3
+<16> = xyzzy5461 => 1234567xyzzy5461
+<sigend> = 5461"\n => 5461"\nsigend = true\n
+<128> = <64><64>
+<64> = 1234567890123456789012345678901234567890123456789012345678901234"#;
+    replaced(alloc, rows, words)
+}
+
+/// Whether the first client signs, and whether the first account is disabled.
+struct SafeRows;
+
+impl Subject for SafeRows {
+    fn found(&self, alloc: Global, fields: &[&str]) -> Result<String, Fail> {
+        let text = file_of(alloc, fields)?;
+        let config = Config::read(alloc, text.as_bytes())?;
+        printed(
+            alloc,
+            &(config.client_at(0).signed, config.entry(0).disabled),
+        )
+    }
+}
+
+#[test]
+fn what_version_3_leaves_out_is_safe(rt: HostRuntime) -> Result<(), Fail> {
+    let rows = r#"
+        neither | <3> | <16> | (true, false)
+        neither in version 2 | <2> | (false, false)
+        neither in version 1 | (false, false)
+        not signed | <3> | <16> | 5461"\n => 5461"\nsigned = false\n | (false, false)
+        signed | <3> | <16> | 5461"\n => 5461"\nsigned = true\n | (true, false)
+        disabled | <3> | <16> | => disabled = true\n | (true, true)
+        not disabled | <3> | <16> | => disabled = false\n | (true, false)
+        disabled in version 2 | <2> | => disabled = true\n | (false, false)
+    "#;
+    check_rows(&rt, &SafeRows, strict(rt.alloc(), rows)?.as_str())
 }
 
 /// A reader that gives a text seven octets at a time. Then it fails, or is at its end.
@@ -233,7 +313,7 @@ fn own_times_are_those_of_version_2(rt: HostRuntime) -> Result<(), Fail> {
         grace of 0 | <2> | => grace_secs = 0\n | BadValue grace_secs
         grace of true | <2> | => grace_secs = true\n | BadValue grace_secs
         both of 0 | <2> | => live_secs = 0\ngrace_secs = 0\n | BadValue live_secs
-        version 3 | version = 1 => version = 3 | => live_secs = 0\n | BadValue version
+        version 4 | version = 1 => version = 4 | => live_secs = 0\n | BadValue version
     "#;
     let rows = replaced(rt.alloc(), rows, "<2> = version = 1 => version = 2")?;
     check_rows(&rt, &TimesRows, rows.as_str())
@@ -293,7 +373,7 @@ fn seconds_between_interim_updates_are_those_of_version_2(rt: HostRuntime) -> Re
         before the clients | <2> | <head> 59\n | [[client]] => [[customer]] | BadValue interim_secs
         after the grace time | <2> | => interim_secs = 59\ngrace_secs = 0\n | BadValue grace_secs
         before a long keep time | <2> | keep_secs = 10\n => keep_secs = 61\n | => interim_secs = 59\n | BadValue interim_secs
-        version 3 | version = 1 => version = 3 | <head> 59\n | BadValue version
+        version 4 | version = 1 => version = 4 | <head> 59\n | BadValue version
     "#;
     let words = r#"<2> = version = 1 => version = 2
 <head> = keep_secs = 10\n => keep_secs = 10\ninterim_secs =

@@ -83,7 +83,7 @@ fn set_attribute(nemo: &mut Entry, key: &str, number: u64) {
 #[test]
 fn numbers_are_taken_up_to_their_limits(rt: HostRuntime) -> Result<(), Fail> {
     let rows = "
-        version | version | 0 1 2 3 | BadValue version, Ok, Ok, BadValue version
+        version | version | 0 1 2 3 4 | BadValue version, Ok, Ok, BadValue secret, BadValue version
         shards | shards | 0 1 4 5 | BadValue shards, Ok, Ok, BadValue shards
         reserve time | reserve_secs | 0 1 86400 86401 | \
           BadValue reserve_secs, Ok, Ok, BadValue reserve_secs

@@ -1,6 +1,6 @@
 //! What faults, secrets and texts print, and copies.
 
-use rsl_accounts::{ConfigFault, Field, Secret, Text};
+use rsl_accounts::{ConfigFault, Field, Part, Secret, Text};
 use std::alloc::Global;
 use std::test::Fail;
 use test_rows::{Subject, check_rows, printed, short_number, shown};
@@ -36,6 +36,10 @@ fn faults_are_printed_with_the_key_of_their_field(rt: HostRuntime) -> Result<(),
         ConfigFault::BadValue(Field::OwnLive),
         ConfigFault::BadValue(Field::OwnGrace),
         ConfigFault::BadValue(Field::InterimSecs),
+        ConfigFault::BadValue(Field::Disabled),
+        ConfigFault::Unknown(Part::Head, Text::from_str(rt.alloc(), "shard")?),
+        ConfigFault::Unknown(Part::Client, Text::from_str(rt.alloc(), "sigend")?),
+        ConfigFault::Unknown(Part::Account, Text::from_str(rt.alloc(), "a \"b\"")?),
     ];
     let expected = "NotToml, TwiceClient, TwiceAccount, KeepTooLong, NoMemory, Missing version, \
         Missing shards, Missing reserve_secs, Missing live_secs, Missing grace_secs, \
@@ -43,7 +47,8 @@ fn faults_are_printed_with_the_key_of_their_field(rt: HostRuntime) -> Result<(),
         BadValue address, BadValue secret, BadValue signed, BadValue name, BadValue password, \
         BadValue places, BadValue ports, BadValue service_type, BadValue framed_protocol, \
         BadValue session_timeout, BadValue idle_timeout, BadValue live_secs, BadValue grace_secs, \
-        BadValue interim_secs, ";
+        BadValue interim_secs, BadValue disabled, Unknown \"shard\", \
+        Unknown client \"sigend\", Unknown account \"a \\\"b\\\"\", ";
     let found = all_shown(rt.alloc(), &faults)?;
     assert_eq!(rt; found.as_str(), expected);
     Ok(())
