@@ -33,8 +33,3 @@ of_keys part (table members) m is =
     let same : members ≡ table_view m = cc in
     rw same (of_members part m.entries)
 of_keys part _ m is = cc
-
--- where there is no table there is no name
-pub of_other : (part : Part) (value : Data) → as_table value ≡ None → unknown_in part value ≡ None
-of_other part (table found) is = cc
-of_other part _ is = refl
