@@ -5,7 +5,8 @@
 
 use crate::bad_file::{BadFile, Wrong};
 use crate::fault::Fault;
-use rld_config::{Exposure, Place, ServerFault, ServerFile, break_of, shadowed_client, unknown_client};
+use rld_config::{Exposure, Place, ServerFault, ServerFile, break_of, shadowed_client, unknown_client,
+    unsigned_client};
 use rsl_accounts::{Config, ConfigFault, TextFault, read_file};
 use std::alloc::Global;
 use std::fs::{self, Files};
@@ -42,7 +43,7 @@ pub(crate) fn server_file<F: Files>(
 }
 
 /// What the account file of this path says, and its mode, where it fits the server's file, which has this
-/// name: it has the client of each network, no network takes the address of another client, and nobody
+/// name: it has the client of each network, which signs under a guard, no network takes the address of another client, and nobody
 /// else may write to it, nor read it where the server's file does not allow that.
 pub(crate) fn accounts_for<F: Files>(
     files: &F,
@@ -54,6 +55,9 @@ pub(crate) fn accounts_for<F: Files>(
     let accounts = account_file(files, alloc, path)?;
     let networks = server.networks.as_slice();
     if let Some(fault) = unknown_client(networks, &accounts.config) {
+        return bad_file(alloc, name, None, Wrong::Server(fault));
+    }
+    if let Some(fault) = unsigned_client(networks, &accounts.config) {
         return bad_file(alloc, name, None, Wrong::Server(fault));
     }
     if let Some(fault) = shadowed_client(networks, &accounts.config) {

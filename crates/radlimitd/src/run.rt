@@ -7,13 +7,14 @@ use crate::group::group_number;
 use crate::pace::pace_of;
 use crate::proof::proof_in;
 use crate::sink::sink_of;
-use rld_config::{ControlSocket, Key, Part, Paths, ServerFault};
+use rld_config::{ControlSocket, Key, Part, Paths, ServerFault, Warning};
 use rld_folder::{Folder, FolderFault};
 use rld_log::{Pacing, Ticks};
 use rld_look::Build;
 use rld_serve::{Access, Control, Plan, RunFault, Sockets, serve};
-use rld_start::{FolderGenerations, StartFault, Started, start};
+use rld_start::{FolderGenerations, Found, StartFault, Started, start};
 use rld_web::Web;
+use rsl_accounts::{Config, UnsignedRule};
 use rsl_event::Source;
 use rsl_port::socket_addr;
 use std::alloc::Global;
@@ -76,7 +77,7 @@ where
         ticks: &ticks,
     };
     let started = start(rt, alloc, &config, state, now, pacing)?;
-    let greeting = started.found.greeting(alloc)?;
+    let greeting = greeting_of(alloc, &started.found, &config)?;
     let Started {
         folder,
         store,
@@ -114,6 +115,21 @@ where
         &accounts,
         store,
     )?)
+}
+
+/// What is said at a start: what was found, and a line for each client that need not sign, under a guard.
+fn greeting_of(alloc: Global, found: &Found, config: &Config) -> Result<String, Fault> {
+    let mut text = found.greeting(alloc)?;
+    if let UnsignedRule::Guarded = config.unsigned_rule() {
+        for number in 0..config.clients() {
+            let client = config.client_at(number);
+            if !client.signed {
+                let warning = Warning::NotSigned(client.address);
+                text.push_str(format!(in alloc; "\n{warning}")?.as_str())?;
+            }
+        }
+    }
+    Ok(text)
 }
 
 /// Who may ask over the control's socket, by the server's file of this name. The group's fault comes

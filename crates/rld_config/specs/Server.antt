@@ -1,6 +1,6 @@
 -- The server's file: what it says, or its first fault.
 use Rattle.std.specs.Prelude.{ℕ, ◌+◌, Bool, false, not, ◌==◌, ◌&&◌, ◌||◌, if◌then◌else◌, List, [], ◌∷◌, ◌++◌, length, map, Option, None, Some, find, option_map, ok_or, is_some, position, Result, Ok, Err}
-use Rattle.std.specs.List.{list_any}
+use Rattle.std.specs.List.{list_any, slice_get}
 use Rattle.std.specs.Net.Addr.{ipv4_octets}
 use Rattle.std.specs.Option.{option_map_or}
 use Rattle.std.specs.Str.{is_utf8}
@@ -13,7 +13,7 @@ use Rattle.rld_config.specs.declared.archive.Archive.{Archive}
 use Rattle.rld_config.specs.declared.archive.Archive.TheVariants.{Days}
 use Rattle.rld_config.specs.declared.control.ControlSocket.{ControlSocket}
 use Rattle.rld_config.specs.declared.fault.ServerFault.{ServerFault}
-use Rattle.rld_config.specs.declared.fault.ServerFault.TheVariants.{NotToml, BadValue, ShadowedClient, TakenPort, TakenPrefix, UnknownClient}
+use Rattle.rld_config.specs.declared.fault.ServerFault.TheVariants.{NotToml, BadValue, ShadowedClient, TakenPort, TakenPrefix, UnknownClient, UnsignedClient}
 use Rattle.rld_config.specs.declared.head.Head.{Head}
 use Rattle.rld_config.specs.declared.key.Key.{Key}
 use Rattle.rld_config.specs.declared.key.Key.TheVariants as key
@@ -31,6 +31,7 @@ use Rattle.rld_networks.specs.Prefix.{same_prefix}
 use Rattle.rld_networks.specs.declared.network.Network.{Network}
 use Rattle.rld_networks.specs.declared.prefix.Prefix.{Prefix}
 use Rattle.rsl_accounts.specs.Configuration.{Configuration, client_number, same_octets}
+use Rattle.rsl_accounts.specs.Version.{is_strict}
 use Rattle.rsl_accounts.specs.declared.client.Client.{Client}
 use Rattle.rld_config.specs.Value.{member_in, number_of, path_of, address_value, ip_address_value, prefix_value, flag_value, sync_value, archive_value, tables_of, required, or_default, optional, group_of, unknown_in, and_then, fault_or}
 
@@ -320,6 +321,23 @@ unfoldable pub unknown_client : List Network → Configuration → Option Server
 unknown_client networks config =
     unknown_client_at
     (position (λ network. not (is_some (client_number config network.client))) networks)
+
+-- whether the client of this number need not sign
+abbrev pub is_unsigned_at : Configuration → Option ℕ → Bool
+is_unsigned_at config None = false
+is_unsigned_at config (Some number) =
+    option_map_or (λ client. not client.signed) (slice_get config.clients number) false
+
+-- whether the client of this address need not sign, under the guard of version 3
+abbrev pub need_not_sign : Configuration → (address : List ℕ) → Bool
+need_not_sign config address =
+    is_strict config.settings.version && is_unsigned_at config (client_number config address)
+
+-- the first network of which the client need not sign
+unfoldable pub unsigned_client : List Network → Configuration → Option ServerFault
+unsigned_client networks config =
+    option_map (λ index. UnsignedClient (part.Network (index + 1)) key.Client)
+    (position (λ network. need_not_sign config network.client) networks)
 
 -- the address that a client has of its own
 abbrev pub own_address_of : Client → Ipv4Addr

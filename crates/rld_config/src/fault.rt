@@ -34,6 +34,10 @@ pub enum ServerFault {
     /// The account file has no client of this address.
     #[error("UnknownClient {0}{1}")]
     UnknownClient(Part, Key),
+    /// The client of this address need not sign, which version 3 of the account file does not allow
+    /// behind a network.
+    #[error("UnsignedClient {0}{1}")]
+    UnsignedClient(Part, Key),
     /// The address of this client of the account file stands for another client by a network.
     #[error("ShadowedClient {0}")]
     ShadowedClient(Ipv4Addr),

@@ -31,7 +31,7 @@ pub use control::ControlSocket;
 pub use fault::ServerFault;
 pub use key::Key;
 pub use listen::Listen;
-pub use network::{shadowed_client, unknown_client};
+pub use network::{shadowed_client, unknown_client, unsigned_client};
 pub use part::Part;
 pub use paths::Paths;
 pub use place::{Place, break_of};

@@ -1,17 +1,17 @@
-//! The networks of a server's file: no prefix twice, none of which the client is missing, and none that
-//! takes the address of another client.
+//! The networks of a server's file: no prefix twice, none of which the client is missing, none for a
+//! client that need not sign under a guard, and none that takes the address of another client.
 ghost use Rattle.std.specs.Prelude.{◌≡◌, ◌<◌, ◌^◌, [], IfSome, is_some, length, not, position};
 ghost use Rattle.std.specs.List.{list_any};
 ghost use Rattle.rld_networks.specs.Prefix.{same_prefix};
 ghost use Rattle.rsl_accounts.specs.Configuration.{client_number};
 ghost use Rattle.rld_networks.specs.declared.network.Network.{Network as OneNetwork};
-ghost use Rattle.rld_config.specs.Server.{first_taken, shadowed_client, shadows, taken_prefix, unknown_client};
+ghost use Rattle.rld_config.specs.Server.{first_taken, need_not_sign, shadowed_client, shadows, taken_prefix, unknown_client, unsigned_client};
 
 use crate::fault::ServerFault;
 use crate::key::Key;
 use crate::part::Part;
 use rld_networks::{Network, Prefix, client_of};
-use rsl_accounts::Config;
+use rsl_accounts::{Config, UnsignedRule};
 use std::net::{IpAddr, Ipv4Addr};
 
 /// Whether one of the networks has the prefix.
@@ -73,6 +73,38 @@ fn lacks(config: &Config, network: &Network) -> bool
     ensures { result ≡ not (is_some (client_number config.now network.now.client)) }
 {
     config.client(network.client).is_none()
+}
+
+/// `UnsignedClient` of the first network of a server's file whose client need not sign, under the guard of
+/// version 3 of the account file: each host of the network could ask for it.
+#[tactic(auto, unfolding(crate::specs::Server::unsigned_client))]
+pub fn unsigned_client(networks: &[Network], config: &Config) -> Option<ServerFault>
+    ensures { result ≡ unsigned_client networks.now config.now }
+{
+    let index = first_unsigned(networks, config)?;
+    let part = Part::Network(index as u64 + 1);
+    Some(ServerFault::UnsignedClient(part, Key::Client))
+}
+
+/// The index of the first network whose client need not sign, under a guard.
+fn first_unsigned(networks: &[Network], config: &Config) -> Option<usize>
+    ensures index { result ≡ position
+        (λ (network : OneNetwork). need_not_sign config.now network.client) networks.now }
+    ensures within { IfSome result (λ index. index < length networks.now) }
+{
+    networks
+        .iter()
+        .position(|network| need_not_sign(config, network.client))
+}
+
+/// Whether the client of this address need not sign, under a guard.
+fn need_not_sign(config: &Config, address: [u8; 4]) -> bool
+    ensures { result ≡ need_not_sign config.now address }
+{
+    match (config.unsigned_rule(), config.client(address)) {
+        (UnsignedRule::Guarded, Some(number)) => !config.client_at(number).signed,
+        _ => false,
+    }
 }
 
 /// `ShadowedClient` of the first client of the account file whose own address a network makes stand for
