@@ -1,7 +1,7 @@
 //! How seconds stand in a line, as dates and as ages.
 
-ghost use Rattle.std.specs.Prelude.{◌≡◌, ◌++◌, OnOk};
-ghost use Rattle.rld_values.specs.Dates.{IsAge, IsDate, days_before, month_of, time_of, year_first};
+ghost use Rattle.std.specs.Prelude.{◌≡◌, ◌<◌, ◌++◌, List, OnOk, ℕ};
+ghost use Rattle.rld_values.specs.Dates.{AreDates, age, clock, date_or_number, days_before, http_date, month_of, time_of, two_digits, year_first};
 
 use crate::spelling::{push_decimal, push_text};
 use httpdate::HttpDate;
@@ -63,18 +63,57 @@ fn push_year_first(out: &mut Vec<u8>, date: &[u8; 29]) -> Result<(), AllocError>
     push_time(out, date)
 }
 
+/// The date that HTTP has for a second since 1970; none from the year 10000 on.
+pub fn http_date(second: u64) -> Option<[u8; 29]>
+    ensures { (dates : ℕ → List ℕ) → AreDates dates → result ≡ http_date dates second }
+{
+    match HttpDate::from_unix_secs(second) {
+        Ok(date) => Some(date.to_bytes()),
+        Err(_) => None,
+    }
+}
+
 /// Writes a second since 1970 as a date and a time of UTC, `2026-11-26 18:20:00`, and from the year 10000
 /// on as a number. It fails only where memory is refused.
 pub fn push_date(out: &mut Vec<u8>, second: u64) -> Result<(), AllocError>
-    ensures { OnOk result (IsDate second out.old.items out.new.items) }
+    ensures { OnOk result ((dates : ℕ → List ℕ) → AreDates dates → out.new.items
+        ≡ out.old.items ++ date_or_number (http_date dates second) second) }
 {
-    match HttpDate::from_unix_secs(second) {
-        Ok(date) => {
-            push_year_first(out, &date.to_bytes())?;
-            Ok(())
-        }
-        Err(_) => push_decimal(out, second),
+    push_date_or_number(out, &http_date(second), second)
+}
+
+/// Writes a second by its date, or where it has none as a number.
+fn push_date_or_number(
+    out: &mut Vec<u8>,
+    date: &Option<[u8; 29]>,
+    second: u64,
+) -> Result<(), AllocError>
+    ensures { OnOk result (out.new.items ≡ out.old.items ++ date_or_number date.now second) }
+{
+    match date {
+        Some(date) => push_year_first(out, date),
+        None => push_decimal(out, second),
     }
+}
+
+/// Writes two digits of a number.
+fn push_two_digits(out: &mut Vec<u8>, number: u64) -> Result<(), AllocError>
+    requires { number < 100 }
+    ensures { OnOk result (out.new.items ≡ out.old.items ++ two_digits number) }
+{
+    out.push(48 + (number / 10) as u8)?;
+    out.push(48 + (number % 10) as u8)?;
+    Ok(())
+}
+
+/// Writes the hour and the minute of the day of a second since 1970, `18:20`. It fails only where
+/// memory is refused.
+pub fn push_clock(out: &mut Vec<u8>, second: u64) -> Result<(), AllocError>
+    ensures { OnOk result (out.new.items ≡ out.old.items ++ clock second) }
+{
+    push_two_digits(out, second / 3_600 % 24)?;
+    push_text(out, ":")?;
+    push_two_digits(out, second / 60 % 60)
 }
 
 /// Writes how many whole days a number of seconds has, if it has any.
@@ -89,13 +128,12 @@ fn push_days(out: &mut Vec<u8>, seconds: u64) -> Result<(), AllocError>
 }
 
 /// Writes a number of seconds as days and a time, `3 d 02:11:09`. It fails only where memory is refused.
+#[tactic(auto, unfolding(crate::specs::Dates::age))]
 pub fn push_age(out: &mut Vec<u8>, seconds: u64) -> Result<(), AllocError>
-    ensures { OnOk result (IsAge seconds out.old.items out.new.items) }
+    ensures { OnOk result (out.new.items ≡ out.old.items ++ age seconds) }
 {
-    let Ok(time) = HttpDate::from_unix_secs(seconds % DAY_SECS) else {
-        unreachable!()
-    };
     push_days(out, seconds)?;
-    push_time(out, &time.to_bytes())?;
-    Ok(())
+    push_clock(out, seconds)?;
+    push_text(out, ":")?;
+    push_two_digits(out, seconds % 60)
 }

@@ -12,6 +12,6 @@ pub mod laws;
 mod reading;
 mod spelling;
 
-pub use date::{push_age, push_date};
+pub use date::{http_date, push_age, push_clock, push_date};
 pub use reading::{read_escaped, read_hex, read_word};
 pub use spelling::{push_decimal, push_dotted, push_escaped, push_hex, push_text, push_word};
