@@ -1,11 +1,13 @@
--- How a datagram can end at each port: the number of each end, in the order of the enums, and its name.
-use Rattle.std.specs.Prelude.{ℕ, ◌+◌, List, [], ◌∷◌, codes}
+-- How a datagram can end at each port: the number of each end, in the order of the enums, its kind, its port and its name.
+use Rattle.std.specs.Prelude.{ℕ, ◌+◌, Bool, true, false, List, [], ◌∷◌, codes}
 use Rattle.rld_counts.specs.declared.acct_end.AcctEnd.{AcctEnd}
 use Rattle.rld_counts.specs.declared.acct_end.AcctEnd.TheVariants as acct
 use Rattle.rld_counts.specs.declared.auth_end.AuthEnd.{AuthEnd}
 use Rattle.rld_counts.specs.declared.auth_end.AuthEnd.TheVariants as auth
 use Rattle.rld_counts.specs.declared.end.End.{End}
 use Rattle.rld_counts.specs.declared.end.End.TheVariants.{Auth, Acct}
+use Rattle.rld_counts.specs.declared.kind.Kind.{Kind}
+use Rattle.rld_counts.specs.declared.kind.Kind.TheVariants as kinds
 
 abbrev pub auth_number : AuthEnd → ℕ
 auth_number auth.Short = 0
@@ -54,20 +56,18 @@ abbrev pub number_of : End → ℕ
 number_of (Auth end) = auth_number end
 number_of (Acct end) = 20 + acct_number end
 
--- all ends of a port, by their numbers
-unfoldable pub auth_ends : List AuthEnd
-auth_ends =
-    auth.Short ∷ auth.BadLength ∷ auth.UnknownClient ∷ auth.WrongCode ∷ auth.BadSignature ∷ auth.Unsigned
-    ∷ auth.UnsignedProxy ∷ auth.ProxyTooLong ∷ auth.Refused ∷ auth.Unrecorded ∷ auth.Unsent ∷ auth.Accept
-    ∷ auth.LimitReject ∷ auth.Malformed ∷ auth.NotOneName ∷ auth.NotOnePassword ∷ auth.SeveralChallenges
-    ∷ auth.UnknownAccount ∷ auth.WrongPassword ∷ auth.DisabledAccount ∷ []
-
-unfoldable pub acct_ends : List AcctEnd
-acct_ends =
-    acct.Short ∷ acct.BadLength ∷ acct.UnknownClient ∷ acct.WrongCode ∷ acct.BadAuthenticator
-    ∷ acct.Malformed ∷ acct.ProxyTooLong ∷ acct.NoStatus ∷ acct.NoSession ∷ acct.Refused ∷ acct.Unrecorded
-    ∷ acct.Unsent ∷ acct.Start ∷ acct.Stop ∷ acct.InterimUpdate ∷ acct.AccountingOn ∷ acct.AccountingOff
-    ∷ acct.OtherStatus ∷ []
+-- all ends, by their numbers
+unfoldable pub all_ends : List End
+all_ends =
+    Auth auth.Short ∷ Auth auth.BadLength ∷ Auth auth.UnknownClient ∷ Auth auth.WrongCode
+    ∷ Auth auth.BadSignature ∷ Auth auth.Unsigned ∷ Auth auth.UnsignedProxy ∷ Auth auth.ProxyTooLong ∷ Auth auth.Refused
+    ∷ Auth auth.Unrecorded ∷ Auth auth.Unsent ∷ Auth auth.Accept ∷ Auth auth.LimitReject ∷ Auth auth.Malformed
+    ∷ Auth auth.NotOneName ∷ Auth auth.NotOnePassword ∷ Auth auth.SeveralChallenges ∷ Auth auth.UnknownAccount
+    ∷ Auth auth.WrongPassword ∷ Auth auth.DisabledAccount ∷ Acct acct.Short ∷ Acct acct.BadLength ∷ Acct acct.UnknownClient
+    ∷ Acct acct.WrongCode ∷ Acct acct.BadAuthenticator ∷ Acct acct.Malformed ∷ Acct acct.ProxyTooLong
+    ∷ Acct acct.NoStatus ∷ Acct acct.NoSession ∷ Acct acct.Refused ∷ Acct acct.Unrecorded ∷ Acct acct.Unsent
+    ∷ Acct acct.Start ∷ Acct acct.Stop ∷ Acct acct.InterimUpdate ∷ Acct acct.AccountingOn
+    ∷ Acct acct.AccountingOff ∷ Acct acct.OtherStatus ∷ []
 
 -- the word for an end: all drops begin with `drop_`, and all rejects with `reject_`
 abbrev pub auth_name : AuthEnd → List ℕ
@@ -111,3 +111,47 @@ acct_name acct.InterimUpdate = codes "interim_update"
 acct_name acct.AccountingOn = codes "accounting_on"
 acct_name acct.AccountingOff = codes "accounting_off"
 acct_name acct.OtherStatus = codes "other_status"
+
+abbrev pub name_of : End → List ℕ
+name_of (Auth end) = auth_name end
+name_of (Acct end) = acct_name end
+
+-- the word for the port that a datagram came to
+abbrev pub port_of : End → List ℕ
+port_of (Auth end) = codes "auth"
+port_of (Acct end) = codes "acct"
+
+-- what became of a datagram
+abbrev pub kind_of : End → Kind
+kind_of (Auth auth.Accept) = kinds.Accepted
+kind_of (Auth auth.LimitReject) = kinds.LimitRejected
+kind_of (Auth auth.Malformed) = kinds.Rejected
+kind_of (Auth auth.NotOneName) = kinds.Rejected
+kind_of (Auth auth.NotOnePassword) = kinds.Rejected
+kind_of (Auth auth.SeveralChallenges) = kinds.Rejected
+kind_of (Auth auth.UnknownAccount) = kinds.Rejected
+kind_of (Auth auth.WrongPassword) = kinds.Rejected
+kind_of (Auth auth.DisabledAccount) = kinds.Rejected
+kind_of (Auth auth.Refused) = kinds.Failed
+kind_of (Auth auth.Unrecorded) = kinds.Failed
+kind_of (Auth auth.Unsent) = kinds.Failed
+kind_of (Auth end) = kinds.Dropped
+kind_of (Acct acct.Start) = kinds.Accounted
+kind_of (Acct acct.Stop) = kinds.Accounted
+kind_of (Acct acct.InterimUpdate) = kinds.Accounted
+kind_of (Acct acct.AccountingOn) = kinds.Accounted
+kind_of (Acct acct.AccountingOff) = kinds.Accounted
+kind_of (Acct acct.OtherStatus) = kinds.Accounted
+kind_of (Acct acct.Refused) = kinds.Failed
+kind_of (Acct acct.Unrecorded) = kinds.Failed
+kind_of (Acct acct.Unsent) = kinds.Failed
+kind_of (Acct end) = kinds.Dropped
+
+-- whether an answer was sent
+abbrev pub is_answer : Kind → Bool
+is_answer kinds.Accepted = true
+is_answer kinds.LimitRejected = true
+is_answer kinds.Rejected = true
+is_answer kinds.Accounted = true
+is_answer kinds.Dropped = false
+is_answer kinds.Failed = false

@@ -1,6 +1,5 @@
-ghost use Rattle.std.specs.Prelude.{◌≡◌, ◌<◌, Some, slice_get};
-ghost use Rattle.rld_counts.specs.Ends.{acct_ends, acct_name, acct_number};
-ghost use Rattle.rld_counts.specs.declared.acct_end.AcctEnd.{AcctEnd as OneEnd};
+ghost use Rattle.std.specs.Prelude.{◌≡◌, ◌<◌};
+ghost use Rattle.rld_counts.specs.Ends.{acct_name, acct_number};
 
 /// How a datagram that came to the accounting port ended.
 #[derive(Clone, Copy)]
@@ -71,36 +70,8 @@ impl AcctEnd {
         }
     }
 
-    /// All ends of the port, by their numbers.
-    #[tactic(auto, unfolding(crate::specs::Ends::acct_ends))]
-    pub fn all() -> [AcctEnd; 18]
-        ensures all { result ≡ acct_ends }
-        ensures each { (end : OneEnd) → slice_get result (acct_number end) ≡ Some end }
-    {
-        [
-            AcctEnd::Short,
-            AcctEnd::BadLength,
-            AcctEnd::UnknownClient,
-            AcctEnd::WrongCode,
-            AcctEnd::BadAuthenticator,
-            AcctEnd::Malformed,
-            AcctEnd::ProxyTooLong,
-            AcctEnd::NoStatus,
-            AcctEnd::NoSession,
-            AcctEnd::Refused,
-            AcctEnd::Unrecorded,
-            AcctEnd::Unsent,
-            AcctEnd::Start,
-            AcctEnd::Stop,
-            AcctEnd::InterimUpdate,
-            AcctEnd::AccountingOn,
-            AcctEnd::AccountingOff,
-            AcctEnd::OtherStatus,
-        ]
-    }
-
     /// The word for it. All drops begin with `drop_`, and all rejects with `reject_`.
-    pub fn name(self) -> &'static str
+    pub(crate) fn name(self) -> &'static str
         ensures { result.now ≡ acct_name self }
     {
         match self {

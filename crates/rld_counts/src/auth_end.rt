@@ -1,6 +1,5 @@
-ghost use Rattle.std.specs.Prelude.{◌≡◌, ◌<◌, Some, slice_get};
-ghost use Rattle.rld_counts.specs.Ends.{auth_ends, auth_name, auth_number};
-ghost use Rattle.rld_counts.specs.declared.auth_end.AuthEnd.{AuthEnd as OneEnd};
+ghost use Rattle.std.specs.Prelude.{◌≡◌, ◌<◌};
+ghost use Rattle.rld_counts.specs.Ends.{auth_name, auth_number};
 
 /// How a datagram that came to the authentication port ended.
 #[derive(Clone, Copy)]
@@ -77,38 +76,8 @@ impl AuthEnd {
         }
     }
 
-    /// All ends of the port, by their numbers.
-    #[tactic(auto, unfolding(crate::specs::Ends::auth_ends))]
-    pub fn all() -> [AuthEnd; 20]
-        ensures all { result ≡ auth_ends }
-        ensures each { (end : OneEnd) → slice_get result (auth_number end) ≡ Some end }
-    {
-        [
-            AuthEnd::Short,
-            AuthEnd::BadLength,
-            AuthEnd::UnknownClient,
-            AuthEnd::WrongCode,
-            AuthEnd::BadSignature,
-            AuthEnd::Unsigned,
-            AuthEnd::UnsignedProxy,
-            AuthEnd::ProxyTooLong,
-            AuthEnd::Refused,
-            AuthEnd::Unrecorded,
-            AuthEnd::Unsent,
-            AuthEnd::Accept,
-            AuthEnd::LimitReject,
-            AuthEnd::Malformed,
-            AuthEnd::NotOneName,
-            AuthEnd::NotOnePassword,
-            AuthEnd::SeveralChallenges,
-            AuthEnd::UnknownAccount,
-            AuthEnd::WrongPassword,
-            AuthEnd::DisabledAccount,
-        ]
-    }
-
     /// The word for it. All drops begin with `drop_`, and all rejects with `reject_`.
-    pub fn name(self) -> &'static str
+    pub(crate) fn name(self) -> &'static str
         ensures { result.now ≡ auth_name self }
     {
         match self {

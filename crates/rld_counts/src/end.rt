@@ -1,11 +1,16 @@
-ghost use Rattle.std.specs.Prelude.{◌≡◌, ◌<◌};
-ghost use Rattle.rld_counts.specs.Ends.{number_of};
+ghost use Rattle.std.specs.Prelude.{◌≡◌, ◌<◌, Some, slice_get};
+ghost use Rattle.rld_counts.specs.Ends.{all_ends, kind_of, name_of, number_of, port_of};
+ghost use Rattle.rld_counts.specs.declared.end.End.{End as OneEnd};
 
 use crate::acct_end::AcctEnd;
 use crate::auth_end::AuthEnd;
+use crate::kind::Kind;
 
 /// How many ends there are, of both ports.
 pub const ENDS: usize = 38;
+
+/// How many of them are of the authentication port: the first ones.
+pub const AUTH_ENDS: usize = 20;
 
 /// How a datagram ended, with the port that it came to.
 #[derive(Clone, Copy)]
@@ -24,7 +29,105 @@ impl End {
     {
         match self {
             End::Auth(end) => end.number(),
-            End::Acct(end) => 20 + end.number(),
+            End::Acct(end) => AUTH_ENDS + end.number(),
+        }
+    }
+
+    /// All ends, by their numbers: those of the accounting port follow those of the authentication port.
+    #[tactic(auto, unfolding(crate::specs::Ends::all_ends))]
+    pub fn all() -> [End; ENDS]
+        ensures all { result ≡ all_ends }
+        ensures each { (end : OneEnd) → slice_get result (number_of end) ≡ Some end }
+    {
+        [
+            End::Auth(AuthEnd::Short),
+            End::Auth(AuthEnd::BadLength),
+            End::Auth(AuthEnd::UnknownClient),
+            End::Auth(AuthEnd::WrongCode),
+            End::Auth(AuthEnd::BadSignature),
+            End::Auth(AuthEnd::Unsigned),
+            End::Auth(AuthEnd::UnsignedProxy),
+            End::Auth(AuthEnd::ProxyTooLong),
+            End::Auth(AuthEnd::Refused),
+            End::Auth(AuthEnd::Unrecorded),
+            End::Auth(AuthEnd::Unsent),
+            End::Auth(AuthEnd::Accept),
+            End::Auth(AuthEnd::LimitReject),
+            End::Auth(AuthEnd::Malformed),
+            End::Auth(AuthEnd::NotOneName),
+            End::Auth(AuthEnd::NotOnePassword),
+            End::Auth(AuthEnd::SeveralChallenges),
+            End::Auth(AuthEnd::UnknownAccount),
+            End::Auth(AuthEnd::WrongPassword),
+            End::Auth(AuthEnd::DisabledAccount),
+            End::Acct(AcctEnd::Short),
+            End::Acct(AcctEnd::BadLength),
+            End::Acct(AcctEnd::UnknownClient),
+            End::Acct(AcctEnd::WrongCode),
+            End::Acct(AcctEnd::BadAuthenticator),
+            End::Acct(AcctEnd::Malformed),
+            End::Acct(AcctEnd::ProxyTooLong),
+            End::Acct(AcctEnd::NoStatus),
+            End::Acct(AcctEnd::NoSession),
+            End::Acct(AcctEnd::Refused),
+            End::Acct(AcctEnd::Unrecorded),
+            End::Acct(AcctEnd::Unsent),
+            End::Acct(AcctEnd::Start),
+            End::Acct(AcctEnd::Stop),
+            End::Acct(AcctEnd::InterimUpdate),
+            End::Acct(AcctEnd::AccountingOn),
+            End::Acct(AcctEnd::AccountingOff),
+            End::Acct(AcctEnd::OtherStatus),
+        ]
+    }
+
+    /// What became of the datagram.
+    pub fn kind(self) -> Kind
+        ensures { result ≡ kind_of self }
+    {
+        match self {
+            End::Auth(AuthEnd::Accept) => Kind::Accepted,
+            End::Auth(AuthEnd::LimitReject) => Kind::LimitRejected,
+            End::Auth(
+                AuthEnd::Malformed
+                | AuthEnd::NotOneName
+                | AuthEnd::NotOnePassword
+                | AuthEnd::SeveralChallenges
+                | AuthEnd::UnknownAccount
+                | AuthEnd::WrongPassword
+                | AuthEnd::DisabledAccount,
+            ) => Kind::Rejected,
+            End::Acct(
+                AcctEnd::Start
+                | AcctEnd::Stop
+                | AcctEnd::InterimUpdate
+                | AcctEnd::AccountingOn
+                | AcctEnd::AccountingOff
+                | AcctEnd::OtherStatus,
+            ) => Kind::Accounted,
+            End::Auth(AuthEnd::Refused | AuthEnd::Unrecorded | AuthEnd::Unsent)
+            | End::Acct(AcctEnd::Refused | AcctEnd::Unrecorded | AcctEnd::Unsent) => Kind::Failed,
+            End::Auth(_) | End::Acct(_) => Kind::Dropped,
+        }
+    }
+
+    /// The word for the port: `auth` or `acct`.
+    pub fn port(self) -> &'static str
+        ensures { result.now ≡ port_of self }
+    {
+        match self {
+            End::Auth(_) => "auth",
+            End::Acct(_) => "acct",
+        }
+    }
+
+    /// The word for it. All drops begin with `drop_`, and all rejects with `reject_`.
+    pub fn name(self) -> &'static str
+        ensures { result.now ≡ name_of self }
+    {
+        match self {
+            End::Auth(end) => end.name(),
+            End::Acct(end) => end.name(),
         }
     }
 }

@@ -1,10 +1,10 @@
 -- What came in each of the last minutes.
-use Rattle.std.specs.Prelude.{ℕ, ◌-◌, ◌*◌, ◌/◌, ◌^◌, min, Bool, true, false, List, [], ◌∷◌, ◌++◌, drop, length}
+use Rattle.std.specs.Prelude.{ℕ, ◌-◌, ◌*◌, ◌/◌, ◌^◌, min, Bool, true, false, List, [], ◌∷◌, ◌++◌, drop, length, slice_get, Option}
 use Rattle.rld_counts.specs.Counts.{count_in}
-use Rattle.rld_counts.specs.declared.acct_end.AcctEnd.TheVariants as acct
-use Rattle.rld_counts.specs.declared.auth_end.AuthEnd.TheVariants as auth
+use Rattle.rld_counts.specs.Ends.{all_ends, kind_of}
 use Rattle.rld_counts.specs.declared.end.End.{End}
-use Rattle.rld_counts.specs.declared.end.End.TheVariants.{Auth, Acct}
+use Rattle.rld_counts.specs.declared.kind.Kind.{Kind}
+use Rattle.rld_counts.specs.declared.kind.Kind.TheVariants.{Accepted, LimitRejected, Rejected, Accounted, Dropped, Failed}
 use Rattle.rld_look.specs.Totals.{plus}
 use Rattle.rld_look.specs.declared.history.Came.{Came}
 use Rattle.rld_look.specs.declared.look.Minute.{Minute}
@@ -29,34 +29,23 @@ nothing_yet now = record {
   before = no_came;
 }
 
--- how many datagrams ended in any of these ways
-abbrev pub total_after : (counts : List ℕ) → (so_far : ℕ) → List End → ℕ
-total_after counts so_far [] = so_far
-total_after counts so_far (end ∷ ends) = total_after counts (plus so_far (count_in counts end)) ends
+-- with datagrams more that ended in one way
+abbrev pub with_came : Came → Kind → (number : ℕ) → Came
+with_came came Accepted number = record { accepts = plus came.accepts number; limit_rejects = came.limit_rejects; rejects = came.rejects; accounting = came.accounting }
+with_came came LimitRejected number = record { accepts = came.accepts; limit_rejects = plus came.limit_rejects number; rejects = came.rejects; accounting = came.accounting }
+with_came came Rejected number = record { accepts = came.accepts; limit_rejects = came.limit_rejects; rejects = plus came.rejects number; accounting = came.accounting }
+with_came came Accounted number = record { accepts = came.accepts; limit_rejects = came.limit_rejects; rejects = came.rejects; accounting = plus came.accounting number }
+with_came came Dropped number = came
+with_came came Failed number = came
 
-abbrev pub total_of : (counts : List ℕ) → List End → ℕ
-total_of counts ends = total_after counts 0 ends
-
--- the rejects that are no matter of places
-unfoldable pub reject_ends : List End
-reject_ends =
-    Auth auth.Malformed ∷ Auth auth.NotOneName ∷ Auth auth.NotOnePassword ∷ Auth auth.SeveralChallenges
-    ∷ Auth auth.UnknownAccount ∷ Auth auth.WrongPassword ∷ Auth auth.DisabledAccount ∷ []
-
--- the answers to accounting requests
-unfoldable pub accounting_ends : List End
-accounting_ends =
-    Acct acct.Start ∷ Acct acct.Stop ∷ Acct acct.InterimUpdate ∷ Acct acct.AccountingOn
-    ∷ Acct acct.AccountingOff ∷ Acct acct.OtherStatus ∷ []
+-- after those that were found before
+abbrev pub came_after : (counts : List ℕ) → Came → List End → Came
+came_after counts came [] = came
+came_after counts came (end ∷ ends) = came_after counts (with_came came (kind_of end) (count_in counts end)) ends
 
 -- what has come, by these counts
 abbrev pub came_in : (counts : List ℕ) → Came
-came_in counts = record {
-  accepts = count_in counts (Auth auth.Accept);
-  limit_rejects = count_in counts (Auth auth.LimitReject);
-  rejects = total_of counts reject_ends;
-  accounting = total_of counts accounting_ends;
-}
+came_in counts = came_after counts no_came all_ends
 
 -- a minute: what has come since it began, and what is held at its end
 abbrev pub minute_of : (number : ℕ) → (before after : Came) → (held : ℕ) → Minute
@@ -86,3 +75,6 @@ with_minute history next came held = record {
   is_whole = true;
   before = came;
 }
+
+abbrev pub last_of : List Minute → Option Minute
+last_of minutes = slice_get minutes (length minutes - 1)

@@ -3,12 +3,10 @@ use Rattle.std.specs.Prelude.{ℕ, ◌==◌, List, [], ◌++◌, codes, if◌the
 use Rattle.std.specs.Fmt.{decimal}
 use Rattle.std.specs.List.{flat_map}
 use Rattle.rld_counts.specs.Counts.{count_in}
-use Rattle.rld_counts.specs.Ends.{acct_ends, acct_name, auth_ends, auth_name}
-use Rattle.rld_counts.specs.declared.acct_end.AcctEnd.{AcctEnd}
-use Rattle.rld_counts.specs.declared.auth_end.AuthEnd.{AuthEnd}
-use Rattle.rld_counts.specs.declared.auth_end.AuthEnd.TheVariants as auth
+use Rattle.rld_counts.specs.Ends.{all_ends, kind_of, name_of, port_of}
 use Rattle.rld_counts.specs.declared.end.End.{End}
-use Rattle.rld_counts.specs.declared.end.End.TheVariants.{Auth, Acct}
+use Rattle.rld_counts.specs.declared.kind.Kind.{Kind}
+use Rattle.rld_counts.specs.declared.kind.Kind.TheVariants as kinds
 use Rattle.rld_values.specs.Values.{dotted, escaped, hex}
 use Rattle.rsl_event.specs.declared.event.Source.{Source}
 use Rattle.rsl_event.specs.declared.nas.NasName.{NasName}
@@ -28,30 +26,18 @@ mark_of Journal Warning = codes "<4>"
 mark_of Journal Notice = codes "<5>"
 
 -- rejects are notices, all else is a warning
-abbrev pub priority_of : End → Priority
-priority_of (Auth auth.LimitReject) = Notice
-priority_of (Auth auth.Malformed) = Notice
-priority_of (Auth auth.NotOneName) = Notice
-priority_of (Auth auth.NotOnePassword) = Notice
-priority_of (Auth auth.SeveralChallenges) = Notice
-priority_of (Auth auth.UnknownAccount) = Notice
-priority_of (Auth auth.WrongPassword) = Notice
-priority_of (Auth auth.DisabledAccount) = Notice
-priority_of (Auth end) = Warning
-priority_of (Acct end) = Warning
-
-abbrev pub port_of : End → List ℕ
-port_of (Auth end) = codes "auth"
-port_of (Acct end) = codes "acct"
-
-abbrev pub name_of : End → List ℕ
-name_of (Auth end) = auth_name end
-name_of (Acct end) = acct_name end
+abbrev pub priority_of : Kind → Priority
+priority_of kinds.LimitRejected = Notice
+priority_of kinds.Rejected = Notice
+priority_of kinds.Accepted = Warning
+priority_of kinds.Accounted = Warning
+priority_of kinds.Dropped = Warning
+priority_of kinds.Failed = Warning
 
 -- ---- a refusal
 
 unfoldable pub front_words : Sink → End → List ℕ
-front_words sink end = mark_of sink (priority_of end) ++ (codes "refused port=" ++ port_of end)
+front_words sink end = mark_of sink (priority_of (kind_of end)) ++ (codes "refused port=" ++ port_of end)
 
 unfoldable pub source_words : Source → List ℕ
 source_words source = codes " client=" ++ (dotted source.address ++ (codes ":" ++ decimal source.port))
@@ -83,7 +69,7 @@ line_of sink refusal places =
 -- ---- those that were left out
 
 unfoldable pub number_words : Sink → End → (number : ℕ) → List ℕ
-number_words sink end number = mark_of sink (priority_of end) ++ decimal number
+number_words sink end number = mark_of sink (priority_of (kind_of end)) ++ decimal number
 
 unfoldable pub more_words : End → List ℕ
 more_words end = codes " more refused port=" ++ port_of end
@@ -94,11 +80,8 @@ left_out_line sink end number = number_words sink end number ++ (more_words end 
 abbrev pub left_out_if_any : Sink → End → (number : ℕ) → List ℕ
 left_out_if_any sink end number = if number == 0 then [] else left_out_line sink end number
 
-abbrev pub auth_left_out : Sink → (counts : List ℕ) → List AuthEnd → List ℕ
-auth_left_out sink counts ends = flat_map (λ end. left_out_if_any sink (Auth end) (count_in counts (Auth end))) ends
-
-abbrev pub acct_left_out : Sink → (counts : List ℕ) → List AcctEnd → List ℕ
-acct_left_out sink counts ends = flat_map (λ end. left_out_if_any sink (Acct end) (count_in counts (Acct end))) ends
+abbrev pub left_out_among : Sink → (counts : List ℕ) → List End → List ℕ
+left_out_among sink counts ends = flat_map (λ end. left_out_if_any sink end (count_in counts end)) ends
 
 unfoldable pub left_out_lines : Sink → (counts : List ℕ) → List ℕ
-left_out_lines sink counts = auth_left_out sink counts auth_ends ++ acct_left_out sink counts acct_ends
+left_out_lines sink counts = left_out_among sink counts all_ends

@@ -1,9 +1,9 @@
 -- Which datagrams are refused, and what an operator learns of one.
 use Rattle.std.specs.Prelude.{ℕ, Bool, true, false, List, [], Result, Ok, Err}
-use Rattle.rld_counts.specs.declared.acct_end.AcctEnd.TheVariants as acct
-use Rattle.rld_counts.specs.declared.auth_end.AuthEnd.TheVariants as auth
+use Rattle.rld_counts.specs.Ends.{kind_of}
 use Rattle.rld_counts.specs.declared.end.End.{End}
-use Rattle.rld_counts.specs.declared.end.End.TheVariants.{Auth, Acct}
+use Rattle.rld_counts.specs.declared.kind.Kind.{Kind}
+use Rattle.rld_counts.specs.declared.kind.Kind.TheVariants as kinds
 use Rattle.rsl_event.specs.Request.{nas_name_of}
 use Rattle.rsl_event.specs.declared.codes.TheConstants.{NAS_IDENTIFIER, NAS_IP_ADDRESS, USER_NAME}
 use Rattle.rsl_wire.specs.Attributes.{Attribute, attribute_list, first_of}
@@ -12,17 +12,17 @@ use Rattle.rsl_wire.specs.declared.packet.WireFault.{WireFault}
 use Rattle.rld_look.specs.declared.refusal.Refusal.{Refusal}
 use Rattle.rld_look.specs.declared.refusal.Refused.{Refused}
 
--- on the authentication port all but an accept; on the accounting port all that is not answered
+-- neither an accept nor an answer of the accounting port
+abbrev pub is_refused : Kind → Bool
+is_refused kinds.Accepted = false
+is_refused kinds.Accounted = false
+is_refused kinds.LimitRejected = true
+is_refused kinds.Rejected = true
+is_refused kinds.Dropped = true
+is_refused kinds.Failed = true
+
 abbrev pub is_refusal : End → Bool
-is_refusal (Auth auth.Accept) = false
-is_refusal (Auth end) = true
-is_refusal (Acct acct.Start) = false
-is_refusal (Acct acct.Stop) = false
-is_refusal (Acct acct.InterimUpdate) = false
-is_refusal (Acct acct.AccountingOn) = false
-is_refusal (Acct acct.AccountingOff) = false
-is_refusal (Acct acct.OtherStatus) = false
-is_refusal (Acct end) = true
+is_refusal end = is_refused (kind_of end)
 
 -- the attributes that a datagram has, or none where they cannot be read
 abbrev pub attributes_or_none : Result (List Attribute) ℕ → List Attribute

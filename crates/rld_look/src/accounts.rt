@@ -2,7 +2,7 @@ ghost use Rattle.std.specs.Prelude.{◌≡◌, IfOk};
 ghost use Rattle.std.specs.List.Sorted.{IsNonDecreasingBy, IsPermutation};
 ghost use Rattle.rld_look.specs.Accounts.{AreFullest, free, held_in, look_of, looks_of};
 
-use crate::look::AccountLook;
+use crate::look::{AccountLook, AccountsLook};
 use rsl_accounts::Config;
 use rsl_shard::Row;
 use rsl_wire::NoMemory;
@@ -16,19 +16,25 @@ const _: () = prove!(MOST_FULLEST == 50);
 /// All places of an account, in millionths.
 const ALL: u64 = 1_000_000;
 
-/// What each account holds, in file order, by the rows of all shards. A row of no account is passed
-/// over. It fails only where memory is refused.
-pub fn account_looks(
-    alloc: Global,
-    config: &Config,
-    rows: &[Row],
-) -> Result<Vec<AccountLook>, NoMemory>
-    ensures rows { IfOk result (λ looks. IsPermutation (looks_of config.now rows.now) looks.items) }
-    ensures order { IfOk result (λ looks. IsNonDecreasingBy (λ look. look.row.account) looks.items) }
-{
-    let mut looks = looks_of(alloc, config, rows)?;
-    looks.sort_unstable_by_key(|look| look.row.account);
-    Ok(looks)
+impl AccountsLook {
+    /// What each account holds, in file order, by the rows of all shards in the second `now` since 1970. A
+    /// row of no account is passed over. It fails only where memory is refused.
+    pub fn of(
+        alloc: Global,
+        now: u64,
+        config: &Config,
+        rows: &[Row],
+    ) -> Result<AccountsLook, NoMemory>
+        ensures now { IfOk result (λ look. look.now ≡ now) }
+        ensures rows { IfOk result (λ look.
+            IsPermutation (looks_of config.now rows.now) look.accounts.items) }
+        ensures order { IfOk result (λ look.
+            IsNonDecreasingBy (λ account. account.row.account) look.accounts.items) }
+    {
+        let mut accounts = looks_of(alloc, config, rows)?;
+        accounts.sort_unstable_by_key(|account| account.row.account);
+        Ok(AccountsLook { now, accounts })
+    }
 }
 
 /// What the fullest accounts hold, at most `MOST_FULLEST` of them, by the rows of all shards: first the

@@ -1,18 +1,16 @@
-ghost use Rattle.std.specs.Prelude.{◌≡◌, ◌≢◌, ◌/◌, ◌↔◌, [], IsTrue, IfOk, OnOk, OnErr, map};
+ghost use Rattle.std.specs.Prelude.{◌≡◌, ◌≢◌, ◌/◌, ◌↔◌, IsTrue, IfOk, OnOk, OnErr};
 ghost use Rattle.rld_look.specs.History.{
-  accounting_ends,
   came_in,
   kept_minutes,
   minute_of,
   no_came,
   nothing_yet,
-  reject_ends,
-  total_of,
+  with_came,
   with_minute,
 };
 
 use crate::look::Minute;
-use rld_counts::{AcctEnd, AuthEnd, Counts, End};
+use rld_counts::{Counts, End, Kind};
 use std::alloc::{AllocError, Global};
 use std::marker::Model;
 
@@ -136,55 +134,26 @@ impl Came {
     fn of(counts: &Counts) -> Came
         ensures { result ≡ came_in counts.now }
     {
-        Came {
-            accepts: counts.count(End::Auth(AuthEnd::Accept)),
-            limit_rejects: counts.count(End::Auth(AuthEnd::LimitReject)),
-            rejects: total_of(counts, &rejects()),
-            accounting: total_of(counts, &answered_requests()),
+        let mut came = Came::new();
+        for end in End::all() {
+            came = came.with(end.kind(), counts.count(end));
         }
+        came
     }
-}
 
-/// How many datagrams ended in any of these ways, at most 2^64 - 1.
-fn total_of(counts: &Counts, ends: &[End]) -> u64
-    ensures { result ≡ total_of counts.now ends.now }
-{
-    let mut total = 0u64;
-    for end in ends {
-        total = total.saturating_add(counts.count(*end));
+    /// These with `number` datagrams more of which this became.
+    fn with(mut self, kind: Kind, number: u64) -> Came
+        ensures { result ≡ with_came self kind number }
+    {
+        match kind {
+            Kind::Accepted => self.accepts = self.accepts.saturating_add(number),
+            Kind::LimitRejected => self.limit_rejects = self.limit_rejects.saturating_add(number),
+            Kind::Rejected => self.rejects = self.rejects.saturating_add(number),
+            Kind::Accounted => self.accounting = self.accounting.saturating_add(number),
+            Kind::Dropped | Kind::Failed => {}
+        }
+        self
     }
-    total
-}
-
-/// The ends of a request that was rejected, but not for want of a place.
-#[tactic(auto, unfolding(crate::specs::History::reject_ends))]
-fn rejects() -> [End; 7]
-    ensures { result ≡ reject_ends }
-{
-    [
-        End::Auth(AuthEnd::Malformed),
-        End::Auth(AuthEnd::NotOneName),
-        End::Auth(AuthEnd::NotOnePassword),
-        End::Auth(AuthEnd::SeveralChallenges),
-        End::Auth(AuthEnd::UnknownAccount),
-        End::Auth(AuthEnd::WrongPassword),
-        End::Auth(AuthEnd::DisabledAccount),
-    ]
-}
-
-/// The ends of an accounting request that was answered.
-#[tactic(auto, unfolding(crate::specs::History::accounting_ends))]
-fn answered_requests() -> [End; 6]
-    ensures { result ≡ accounting_ends }
-{
-    [
-        End::Acct(AcctEnd::Start),
-        End::Acct(AcctEnd::Stop),
-        End::Acct(AcctEnd::InterimUpdate),
-        End::Acct(AcctEnd::AccountingOn),
-        End::Acct(AcctEnd::AccountingOff),
-        End::Acct(AcctEnd::OtherStatus),
-    ]
 }
 
 /// Adds a minute after those that are kept, if it was whole: the oldest then makes room.

@@ -23,13 +23,13 @@ mod refusals;
 mod socket_table;
 mod totals;
 
-pub use accounts::{MOST_FULLEST, account_looks, fullest_looks, held_in};
+pub use accounts::{MOST_FULLEST, fullest_looks, held_in};
 pub use backlog::{Backlog, MOST_LINES, Noted, Taken};
 pub use build::{Build, Proof};
 pub use clients::client_looks;
 pub use history::History;
 pub use line::{Places, write_left_out};
-pub use look::{AccountLook, ClientLook, Look, Minute, Recording, SocketLook};
+pub use look::{AccountLook, AccountsLook, ClientLook, Look, Minute, Recording, SocketLook};
 pub use pages::{Pages, Shown};
 pub use priority::{Priority, Sink};
 pub use refusal::{Refusal, Refused, is_refusal};

@@ -1,12 +1,11 @@
 //! The lines of refusals.
 
 ghost use Rattle.std.specs.Prelude.{◌≡◌, ◌++◌, OnOk};
-ghost use Rattle.rld_counts.specs.Ends.{acct_ends, auth_ends};
-ghost use Rattle.rld_look.specs.Line.{account_words, acct_left_out, asker_words, auth_left_out, cause_words, front_words, held_words, left_out_if_any, left_out_line, left_out_lines, line_of, more_words, nas_words, number_words, source_words};
+ghost use Rattle.rld_look.specs.Line.{account_words, asker_words, cause_words, front_words, held_words, left_out_if_any, left_out_among, left_out_line, left_out_lines, line_of, more_words, nas_words, number_words, source_words};
 
-use crate::priority::{Priority, Sink, name_of, port_of};
+use crate::priority::{Priority, Sink};
 use crate::refusal::Refusal;
-use rld_counts::{AcctEnd, AuthEnd, Counts, End};
+use rld_counts::{Counts, End};
 use rld_values::{push_decimal, push_dotted, push_escaped, push_hex, push_text};
 use rsl_event::{NasName, Source};
 use rsl_wire::Octets;
@@ -48,8 +47,23 @@ impl Refusal {
 pub fn write_left_out(out: &mut Vec<u8>, sink: Sink, left_out: &Counts) -> Result<(), AllocError>
     ensures { OnOk result (out.new.items ≡ out.old.items ++ left_out_lines sink left_out.now) }
 {
-    push_auth(out, sink, left_out, &AuthEnd::all())?;
-    push_acct(out, sink, left_out, &AcctEnd::all())
+    push_among(out, sink, left_out, &End::all())
+}
+
+/// Writes how many were left out of each of these causes, where any were.
+fn push_among(
+    out: &mut Vec<u8>,
+    sink: Sink,
+    left_out: &Counts,
+    ends: &[End],
+) -> Result<(), AllocError>
+    ensures { OnOk result
+        (out.new.items ≡ out.old.items ++ left_out_among sink left_out.now ends.now) }
+{
+    for end in ends {
+        push_if_any(out, sink, *end, left_out.count(*end))?;
+    }
+    Ok(())
 }
 
 /// Writes how a line begins: its mark, and the port.
@@ -57,9 +71,9 @@ pub fn write_left_out(out: &mut Vec<u8>, sink: Sink, left_out: &Counts) -> Resul
 fn push_front(out: &mut Vec<u8>, sink: Sink, end: End) -> Result<(), AllocError>
     ensures { OnOk result (out.new.items ≡ out.old.items ++ front_words sink end) }
 {
-    push_text(out, Priority::of(end).mark(sink))?;
+    push_text(out, Priority::of(end.kind()).mark(sink))?;
     push_text(out, "refused port=")?;
-    push_text(out, port_of(end))
+    push_text(out, end.port())
 }
 
 /// Writes where a datagram came from.
@@ -118,7 +132,7 @@ fn push_cause(out: &mut Vec<u8>, end: End) -> Result<(), AllocError>
     ensures { OnOk result (out.new.items ≡ out.old.items ++ cause_words end) }
 {
     push_text(out, " cause=")?;
-    push_text(out, name_of(end))
+    push_text(out, end.name())
 }
 
 /// Writes how many places are held of all, if they are known, and ends the line.
@@ -132,40 +146,6 @@ fn push_held(out: &mut Vec<u8>, places: Option<Places>) -> Result<(), AllocError
         push_decimal(out, u64::from(places.all))?;
     }
     push_text(out, "\n")
-}
-
-/// Writes how many were left out of these causes of the authentication port.
-fn push_auth(
-    out: &mut Vec<u8>,
-    sink: Sink,
-    left_out: &Counts,
-    ends: &[AuthEnd],
-) -> Result<(), AllocError>
-    ensures { OnOk result
-        (out.new.items ≡ out.old.items ++ auth_left_out sink left_out.now ends.now) }
-{
-    for end in ends {
-        let end = End::Auth(*end);
-        push_if_any(out, sink, end, left_out.count(end))?;
-    }
-    Ok(())
-}
-
-/// Writes how many were left out of these causes of the accounting port.
-fn push_acct(
-    out: &mut Vec<u8>,
-    sink: Sink,
-    left_out: &Counts,
-    ends: &[AcctEnd],
-) -> Result<(), AllocError>
-    ensures { OnOk result
-        (out.new.items ≡ out.old.items ++ acct_left_out sink left_out.now ends.now) }
-{
-    for end in ends {
-        let end = End::Acct(*end);
-        push_if_any(out, sink, end, left_out.count(end))?;
-    }
-    Ok(())
 }
 
 /// Writes how many were left out of a cause, if any were.
@@ -196,7 +176,7 @@ fn push_more(out: &mut Vec<u8>, end: End) -> Result<(), AllocError>
     ensures { OnOk result (out.new.items ≡ out.old.items ++ more_words end) }
 {
     push_text(out, " more refused port=")?;
-    push_text(out, port_of(end))?;
+    push_text(out, end.port())?;
     Ok(())
 }
 
@@ -205,6 +185,6 @@ fn push_more(out: &mut Vec<u8>, end: End) -> Result<(), AllocError>
 fn push_number(out: &mut Vec<u8>, sink: Sink, end: End, number: u64) -> Result<(), AllocError>
     ensures { OnOk result (out.new.items ≡ out.old.items ++ number_words sink end number) }
 {
-    push_text(out, Priority::of(end).mark(sink))?;
+    push_text(out, Priority::of(end.kind()).mark(sink))?;
     push_decimal(out, number)
 }

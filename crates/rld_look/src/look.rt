@@ -1,3 +1,6 @@
+ghost use Rattle.std.specs.Prelude.{◌≡◌};
+ghost use Rattle.rld_look.specs.History.{last_of};
+
 use crate::build::Build;
 use crate::refusal::Refusal;
 use crate::totals::Totals;
@@ -36,8 +39,6 @@ pub struct Look {
     pub totals: Totals,
     /// The accounts that hold most of their places, the fullest first: at most `MOST_FULLEST`.
     pub fullest: Vec<AccountLook>,
-    /// What each account holds, in file order.
-    pub accounts: Vec<AccountLook>,
     /// The last whole minutes, at most 60, the oldest first.
     pub minutes: Vec<Minute>,
     /// The datagrams that were refused lately, the oldest first.
@@ -45,6 +46,15 @@ pub struct Look {
     /// What waits at each socket, in the order of the server's file. A socket of which the system
     /// says nothing is left out.
     pub sockets: Vec<SocketLook>,
+}
+
+/// What the accounts of a running server hold at a moment.
+#[derive(Drop)]
+pub struct AccountsLook {
+    /// The second in which they were looked at, since 1970.
+    pub now: u64,
+    /// What each account holds, in file order.
+    pub accounts: Vec<AccountLook>,
 }
 
 /// How the datagrams of a client ended.
@@ -80,6 +90,15 @@ pub struct Minute {
     pub accounting: u64,
     /// How many places were held at its end.
     pub held: u64,
+}
+
+impl Minute {
+    /// The last of some minutes, if there is one.
+    pub fn last_of(minutes: &[Minute]) -> Option<Minute>
+        ensures { result ≡ last_of minutes.now }
+    {
+        minutes.get(minutes.len().saturating_sub(1)).copied()
+    }
 }
 
 /// What waits at a UDP socket, as the system gives it.

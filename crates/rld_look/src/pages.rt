@@ -1,6 +1,6 @@
 //! How a running server is shown to those who ask for it.
 
-use crate::look::Look;
+use crate::look::{AccountsLook, Look};
 use rsl_wire::NoMemory;
 use std::io;
 use std::net::Net;
@@ -11,6 +11,9 @@ use std::time::Clock;
 pub trait Shown {
     /// What it shows of itself now. It fails only where memory is refused.
     fn take_look(&self) -> Result<Look, NoMemory>;
+
+    /// What its accounts hold now. It fails only where memory is refused.
+    fn take_accounts(&self) -> Result<AccountsLook, NoMemory>;
 
     /// Whether the server shall end.
     fn is_over(&self) -> bool;

@@ -1,7 +1,7 @@
 ghost use Rattle.std.specs.Prelude.{◌≡◌};
-ghost use Rattle.rld_look.specs.Line.{mark_of, name_of, port_of, priority_of};
+ghost use Rattle.rld_look.specs.Line.{mark_of, priority_of};
 
-use rld_counts::{AuthEnd, End};
+use rld_counts::Kind;
 
 /// Who reads the lines that a server writes.
 #[derive(Clone, Copy)]
@@ -36,43 +36,14 @@ impl Priority {
         }
     }
 
-    /// The priority of the line of a datagram that ended so. A reject is the business of a
+    /// The priority of the line of a datagram of which this became. A reject is the business of a
     /// customer; any other is that of whoever runs the access servers or this server.
-    pub fn of(end: End) -> Priority
-        ensures { result ≡ priority_of end }
+    pub fn of(kind: Kind) -> Priority
+        ensures { result ≡ priority_of kind }
     {
-        match end {
-            End::Auth(
-                AuthEnd::LimitReject
-                | AuthEnd::Malformed
-                | AuthEnd::NotOneName
-                | AuthEnd::NotOnePassword
-                | AuthEnd::SeveralChallenges
-                | AuthEnd::UnknownAccount
-                | AuthEnd::WrongPassword
-                | AuthEnd::DisabledAccount,
-            ) => Priority::Notice,
-            _ => Priority::Warning,
+        match kind {
+            Kind::LimitRejected | Kind::Rejected => Priority::Notice,
+            Kind::Accepted | Kind::Accounted | Kind::Dropped | Kind::Failed => Priority::Warning,
         }
-    }
-}
-
-/// The word for the port that a datagram came to.
-pub(crate) fn port_of(end: End) -> &'static str
-    ensures { result.now ≡ port_of end }
-{
-    match end {
-        End::Auth(_) => "auth",
-        End::Acct(_) => "acct",
-    }
-}
-
-/// The word for how a datagram ended.
-pub(crate) fn name_of(end: End) -> &'static str
-    ensures { result.now ≡ name_of end }
-{
-    match end {
-        End::Auth(end) => end.name(),
-        End::Acct(end) => end.name(),
     }
 }

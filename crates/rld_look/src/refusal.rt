@@ -3,7 +3,7 @@ ghost use Rattle.rsl_event.specs.Occurrences.{value_of};
 ghost use Rattle.rsl_event.specs.Request.{nas_name_of};
 ghost use Rattle.rld_look.specs.Refusal.{is_refusal, refusal_of, refusal_with};
 
-use rld_counts::{AcctEnd, AuthEnd, End};
+use rld_counts::{End, Kind};
 use rsl_event::codes::{NAS_IDENTIFIER, NAS_IP_ADDRESS, USER_NAME};
 use rsl_event::{NasName, Source};
 use rsl_wire::{Attrs, NoMemory, Octets, read};
@@ -77,18 +77,9 @@ impl Refusal {
 pub fn is_refusal(end: End) -> bool
     ensures { result ≡ is_refusal end }
 {
-    match end {
-        End::Auth(AuthEnd::Accept) => false,
-        End::Auth(_) => true,
-        End::Acct(
-            AcctEnd::Start
-            | AcctEnd::Stop
-            | AcctEnd::InterimUpdate
-            | AcctEnd::AccountingOn
-            | AcctEnd::AccountingOff
-            | AcctEnd::OtherStatus,
-        ) => false,
-        End::Acct(_) => true,
+    match end.kind() {
+        Kind::Accepted | Kind::Accounted => false,
+        Kind::LimitRejected | Kind::Rejected | Kind::Dropped | Kind::Failed => true,
     }
 }
 

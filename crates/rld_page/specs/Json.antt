@@ -3,7 +3,7 @@ use Rattle.std.specs.Prelude.{ℕ, ◌+◌, ◌/◌, ◌%◌, ◌==◌, nat_lt, 
 use Rattle.std.specs.Fmt.{decimal}
 use Rattle.std.specs.List.{flat_map}
 use Rattle.rld_look.specs.declared.look.AccountLook.{AccountLook}
-use Rattle.rld_look.specs.declared.look.Look.{Look}
+use Rattle.rld_look.specs.declared.look.AccountsLook.{AccountsLook}
 use Rattle.rsl_shard.specs.declared.row.Row.{Row}
 
 -- a hexadecimal digit
@@ -54,7 +54,7 @@ list_json [] = []
 list_json (first ∷ others) = account_json first ++ flat_map more_json others
 
 -- the whole: the second since 1970, and the accounts in the order of the file
-unfoldable pub accounts_json : Look → List ℕ
+unfoldable pub accounts_json : AccountsLook → List ℕ
 accounts_json look =
     codes "{\"now\":" ++ (decimal look.now
     ++ (codes ",\"accounts\":[" ++ (list_json look.accounts.items ++ codes "]}\n")))

@@ -3,60 +3,59 @@
 use crate::ends::words;
 use crate::figures::write_grouped;
 use crate::html::Html;
-use rld_counts::{AcctEnd, AuthEnd, Counts, End};
+use rld_counts::{AUTH_ENDS, Counts, End};
 use std::alloc::AllocError;
-
-/// How many ends of the authentication port are no answer. Answers are shown first.
-const AUTH_ANSWERS: usize = 10;
-
-/// How many ends of the accounting port are no answer.
-const ACCT_ANSWERS: usize = 12;
 
 /// Writes how the datagrams ended since the start.
 pub(crate) fn write_causes(html: &mut Html, counts: &Counts) -> Result<(), AllocError> {
     html.markup(
         "<section class=\"rest\"><div class=\"top\"><h2>Datagrams since the start</h2></div>\n<div class=\"wide\">",
     )?;
-    write_front(html, "Authentication")?;
-    let ends = AuthEnd::all();
-    let answers = write_auth(html, counts, &ends[AUTH_ANSWERS..])?;
-    let others = write_auth(html, counts, &ends[..AUTH_ANSWERS])?;
-    write_total(html, answers.saturating_add(others))?;
-    write_front(html, "Accounting")?;
-    let ends = AcctEnd::all();
-    let answers = write_acct(html, counts, &ends[ACCT_ANSWERS..])?;
-    let others = write_acct(html, counts, &ends[..ACCT_ANSWERS])?;
-    write_total(html, answers.saturating_add(others))?;
+    let ends = End::all();
+    write_port(html, "Authentication", counts, &ends[..AUTH_ENDS])?;
+    write_port(html, "Accounting", counts, &ends[AUTH_ENDS..])?;
     html.markup("</div></section>\n")
 }
 
-/// Writes the head of a port's table.
-fn write_front(html: &mut Html, port: &'static str) -> Result<(), AllocError> {
+/// Writes the table of a port by all its ends: the answers that came, then all else that did.
+fn write_port(
+    html: &mut Html,
+    port: &'static str,
+    counts: &Counts,
+    ends: &[End],
+) -> Result<(), AllocError> {
     html.markup("<table><thead><tr><th scope=\"col\">")?;
     html.markup(port)?;
-    html.markup("</th><th scope=\"col\" class=\"n\">Datagrams</th></tr></thead><tbody>\n")
+    html.markup("</th><th scope=\"col\" class=\"n\">Datagrams</th></tr></thead><tbody>\n")?;
+    write_ends(html, counts, ends, true)?;
+    write_ends(html, counts, ends, false)?;
+    html.markup("</tbody><tfoot><tr><td>All</td><td class=\"n\">")?;
+    write_grouped(html, total(counts, ends))?;
+    html.markup("</td></tr></tfoot></table>\n")
 }
 
-/// Writes those ends of the authentication port that came, and gives how many datagrams they are.
-fn write_auth(html: &mut Html, counts: &Counts, ends: &[AuthEnd]) -> Result<u64, AllocError> {
-    let mut sum = 0u64;
+/// Writes those of the ends that came and are answers, or that came and are none.
+fn write_ends(
+    html: &mut Html,
+    counts: &Counts,
+    ends: &[End],
+    are_answers: bool,
+) -> Result<(), AllocError> {
     for end in ends {
-        let number = counts.count(End::Auth(*end));
-        write_end(html, End::Auth(*end), number)?;
-        sum = sum.saturating_add(number);
+        if end.kind().is_answer() == are_answers {
+            write_end(html, *end, counts.count(*end))?;
+        }
     }
-    Ok(sum)
+    Ok(())
 }
 
-/// Writes those ends of the accounting port that came, and gives how many datagrams they are.
-fn write_acct(html: &mut Html, counts: &Counts, ends: &[AcctEnd]) -> Result<u64, AllocError> {
+/// How many datagrams ended in one of these ways, at most 2^64 - 1.
+fn total(counts: &Counts, ends: &[End]) -> u64 {
     let mut sum = 0u64;
     for end in ends {
-        let number = counts.count(End::Acct(*end));
-        write_end(html, End::Acct(*end), number)?;
-        sum = sum.saturating_add(number);
+        sum = sum.saturating_add(counts.count(*end));
     }
-    Ok(sum)
+    sum
 }
 
 /// Writes how many datagrams ended so, if any did.
@@ -69,11 +68,4 @@ fn write_end(html: &mut Html, end: End, number: u64) -> Result<(), AllocError> {
     html.markup("</td><td class=\"n\">")?;
     write_grouped(html, number)?;
     html.markup("</td></tr>\n")
-}
-
-/// Writes the foot of a port's table: all of its datagrams.
-fn write_total(html: &mut Html, number: u64) -> Result<(), AllocError> {
-    html.markup("</tbody><tfoot><tr><td>All</td><td class=\"n\">")?;
-    write_grouped(html, number)?;
-    html.markup("</td></tr></tfoot></table>\n")
 }

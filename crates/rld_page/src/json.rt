@@ -4,7 +4,7 @@ ghost use Rattle.std.specs.Prelude.{◌≡◌, ◌/◌, ◌%◌, ◌<◌, ◌++�
 ghost use Rattle.std.specs.List.{flat_map};
 ghost use Rattle.rld_page.specs.Json.{account_json, accounts_json, hex_digit, json_octet, links_json, list_json, member_json, more_json, name_json, row_json};
 
-use rld_look::{AccountLook, Look};
+use rld_look::{AccountLook, AccountsLook};
 use rld_values::{push_decimal, push_text};
 use rsl_shard::Row;
 use std::alloc::{AllocError, Global};
@@ -14,7 +14,7 @@ use std::alloc::{AllocError, Global};
 ///
 /// Names are texts in UTF-8, and so is the whole.
 #[tactic(auto, unfolding(crate::specs::Json::accounts_json))]
-pub fn accounts_json(alloc: Global, look: &Look) -> Result<Vec<u8>, AllocError>
+pub fn accounts_json(alloc: Global, look: &AccountsLook) -> Result<Vec<u8>, AllocError>
     ensures { IfOk result (λ text. text.items ≡ accounts_json look.entry.now) }
 {
     let mut out = Vec::new(alloc);

@@ -92,7 +92,7 @@ where
 
     /// What each account of a selection holds.
     fn accounts(&self, form: Form, selection: Selection) -> Result<Vec<u8>, AskFault> {
-        let look = self.look()?;
+        let look = self.accounts_look()?;
         let accounts = look.accounts.as_slice();
         Ok(accounts_text(self.alloc, form, selection, accounts)?)
     }

@@ -4,8 +4,8 @@ use crate::server::Server;
 use rld_config::books_octets;
 use rld_counts::{Cell, Counts};
 use rld_look::{
-    Look, Minute, Places, Recording, SocketLook, Totals, account_looks, client_looks,
-    fullest_looks, held_in, socket_in,
+    AccountsLook, Look, Minute, Places, Recording, SocketLook, Totals, client_looks, fullest_looks,
+    held_in, socket_in,
 };
 use rld_spelling::Header;
 use rld_state::places_in;
@@ -73,12 +73,19 @@ impl<'a, G, A, R: time::Clock + Wait> Server<'a, G, A, R> {
             auth_times: auth.times(),
             acct_times: acct.times(),
             totals: Totals::of(&*config, rows.as_slice()),
-            accounts: account_looks(self.alloc, &*config, rows.as_slice())?,
             fullest: fullest_looks(self.alloc, &*config, rows)?,
             minutes: self.minutes()?,
             refusals: self.refusals.lately(self.rt, self.alloc)?,
             sockets: self.socket_looks()?,
         })
+    }
+
+    /// What the accounts hold now. The store's lock is held only while its rows are copied. It fails
+    /// only where memory is refused.
+    pub(crate) fn accounts_look(&self) -> Result<AccountsLook, NoMemory> {
+        let holdings = self.holdings()?;
+        let now = SystemClock::new(self.rt, self.plan.start).now();
+        AccountsLook::of(self.alloc, now, &*holdings.config, holdings.rows.as_slice())
     }
 
     /// What the receivers of each port have counted, and what the store shows: all of the same accounts.

@@ -3,7 +3,7 @@
 use crate::accounts::Accounts;
 use crate::server::Server;
 use rld_edges::RunFault;
-use rld_look::{Look, Pages, Shown};
+use rld_look::{AccountsLook, Look, Pages, Shown};
 use rld_start::Generations;
 use rsl_wire::NoMemory;
 use std::io::Eprint;
@@ -14,6 +14,10 @@ use std::time;
 impl<'a, G, A, R: time::Clock + Wait> Shown for Server<'a, G, A, R> {
     fn take_look(&self) -> Result<Look, NoMemory> {
         self.look()
+    }
+
+    fn take_accounts(&self) -> Result<AccountsLook, NoMemory> {
+        self.accounts_look()
     }
 
     fn is_over(&self) -> bool {

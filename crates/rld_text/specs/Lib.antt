@@ -3,6 +3,7 @@ pub mod Build
 pub mod Json
 pub mod Links
 pub mod Metrics
+pub mod Recent
 pub mod Status
 pub mod Text
 pub mod Words

@@ -3,12 +3,10 @@ use Rattle.std.specs.Prelude.{ℕ, ◌+◌, ◌^◌, List, [], ◌∷◌, ◌++�
 use Rattle.std.specs.Fmt.{decimal}
 use Rattle.std.specs.List.{flat_map, range_with_len}
 use Rattle.rld_counts.specs.Counts.{count_in}
-use Rattle.rld_counts.specs.Ends.{acct_ends, acct_name, auth_ends, auth_name}
+use Rattle.rld_counts.specs.Ends.{all_ends, name_of, port_of}
 use Rattle.rld_counts.specs.Histogram.{Times}
 use Rattle.rld_counts.specs.Tally.{kept}
-use Rattle.rld_counts.specs.declared.acct_end.AcctEnd.{AcctEnd}
-use Rattle.rld_counts.specs.declared.auth_end.AuthEnd.{AuthEnd}
-use Rattle.rld_counts.specs.declared.end.End.TheVariants.{Auth, Acct}
+use Rattle.rld_counts.specs.declared.end.End.{End}
 use Rattle.rld_look.specs.Totals.{plus}
 use Rattle.rld_look.specs.declared.build.Build.{Build}
 use Rattle.rld_look.specs.declared.look.ClientLook.{ClientLook}
@@ -46,18 +44,13 @@ datagrams_line front port end number =
     front ++ (label (codes "port") port
     ++ (codes "," ++ (label (codes "end") end ++ (codes "} " ++ (decimal number ++ codes "\n")))))
 
--- the lines of these ends
-abbrev pub auth_lines : (front counts : List ℕ) → List AuthEnd → List ℕ
-auth_lines front counts ends =
-    flat_map (λ end. datagrams_line front (codes "auth") (auth_name end) (count_in counts (Auth end))) ends
+-- the lines of these ends, and of all
+abbrev pub lines_of : (front counts : List ℕ) → List End → List ℕ
+lines_of front counts ends =
+    flat_map (λ end. datagrams_line front (port_of end) (name_of end) (count_in counts end)) ends
 
-abbrev pub acct_lines : (front counts : List ℕ) → List AcctEnd → List ℕ
-acct_lines front counts ends =
-    flat_map (λ end. datagrams_line front (codes "acct") (acct_name end) (count_in counts (Acct end))) ends
-
--- the lines of all ends
 unfoldable pub ends_lines : (front counts : List ℕ) → List ℕ
-ends_lines front counts = auth_lines front counts auth_ends ++ acct_lines front counts acct_ends
+ends_lines front counts = lines_of front counts all_ends
 
 abbrev pub client_lines : ClientLook → List ℕ
 client_lines client = ends_lines (client_front client.address) client.counts

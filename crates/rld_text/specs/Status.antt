@@ -4,18 +4,18 @@ use Rattle.std.specs.Prelude.{◌≡◌, ℕ, List, ◌++◌, codes}
 use Rattle.std.specs.Fmt.{decimal}
 use Rattle.std.specs.List.{flat_map}
 use Rattle.rld_counts.specs.Counts.{count_in}
-use Rattle.rld_counts.specs.Ends.{acct_ends, acct_name, auth_ends, auth_name}
-use Rattle.rld_counts.specs.declared.acct_end.AcctEnd.{AcctEnd}
-use Rattle.rld_counts.specs.declared.auth_end.AuthEnd.{AuthEnd}
-use Rattle.rld_counts.specs.declared.end.End.TheVariants.{Auth, Acct}
+use Rattle.rld_counts.specs.Ends.{all_ends, name_of, port_of}
+use Rattle.rld_counts.specs.declared.end.End.{End}
 use Rattle.rld_look.specs.declared.build.Build.{Build}
 use Rattle.rld_look.specs.declared.look.Look.{Look}
 use Rattle.rld_look.specs.declared.look.Recording.{Recording}
 use Rattle.rld_look.specs.declared.look.Recording.TheVariants.{Recorded, Failing}
 use Rattle.rld_look.specs.declared.totals.Totals.{Totals}
+use Rattle.rld_values.specs.Dates.{AreDates}
 use Rattle.rld_text.specs.Build.{build_line, proof_word}
 use Rattle.rld_text.specs.Json.{json_string, member_front, number_member, string_member}
 use Rattle.rld_text.specs.Metrics.{dropped_after, waiting_after}
+use Rattle.rld_text.specs.Recent.{recent_lines, start_line}
 use Rattle.rld_text.specs.Words.{number_line}
 
 abbrev pub recording_line : Recording → List ℕ
@@ -43,11 +43,15 @@ number_lines look =
     ++ number_line (codes "moves") look.moves
     ++ number_line (codes "memory") look.memory
 
--- two parts are for people alone: since when it runs, and what has happened lately
+-- who it is, since when, whether it records, the numbers, what has happened lately, and that it is all
+unfoldable pub status_of : (dates : ℕ → List ℕ) → Look → List ℕ
+status_of dates look =
+    build_line look.build ++ (start_line dates look.start look.now
+    ++ (recording_line look.recording ++ (number_lines look ++ (recent_lines look ++ codes "ok\n"))))
+
+-- `dates` are those of all seconds
 abbrev pub IsStatus : Look → (text : List ℕ) → Type 0
-IsStatus look text =
-    (started more : List ℕ)
-    × (text ≡ build_line look.build ++ (started ++ (recording_line look.recording ++ (number_lines look ++ (more ++ codes "ok\n")))))
+IsStatus look text = (dates : ℕ → List ℕ) → AreDates dates → text ≡ status_of dates look
 
 -- ---- as an object
 
@@ -86,13 +90,8 @@ numbers_members look =
 unfoldable pub end_member : (port end : List ℕ) → (number : ℕ) → List ℕ
 end_member port end number = codes ",\"" ++ (port ++ (codes "_" ++ (end ++ (codes "\":" ++ decimal number))))
 
-abbrev pub auth_members : (counts : List ℕ) → List AuthEnd → List ℕ
-auth_members counts ends =
-    flat_map (λ end. end_member (codes "auth") (auth_name end) (count_in counts (Auth end))) ends
-
-abbrev pub acct_members : (counts : List ℕ) → List AcctEnd → List ℕ
-acct_members counts ends =
-    flat_map (λ end. end_member (codes "acct") (acct_name end) (count_in counts (Acct end))) ends
+abbrev pub ends_members : (counts : List ℕ) → List End → List ℕ
+ends_members counts ends = flat_map (λ end. end_member (port_of end) (name_of end) (count_in counts end)) ends
 
 -- what waits at the sockets, and what was dropped there
 unfoldable pub socket_members : (waiting dropped : ℕ) → List ℕ
@@ -103,6 +102,5 @@ unfoldable pub status_object : Look → List ℕ
 status_object look =
     who_members look.build look.start look.now look.recording
     ++ (numbers_members look
-    ++ (auth_members look.counts auth_ends
-    ++ (acct_members look.counts acct_ends
-    ++ (socket_members (waiting_after 0 look.sockets.items) (dropped_after 0 look.sockets.items) ++ codes "}\nok\n"))))
+    ++ (ends_members look.counts all_ends
+    ++ (socket_members (waiting_after 0 look.sockets.items) (dropped_after 0 look.sockets.items) ++ codes "}\nok\n")))

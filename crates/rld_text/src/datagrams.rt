@@ -1,9 +1,9 @@
 ghost use Rattle.std.specs.Prelude.{◌≡◌, ◌++◌, OnOk};
 ghost use Rattle.std.specs.List.{flat_map};
-ghost use Rattle.rld_text.specs.Metrics.{acct_lines, all_front, auth_lines, client_front, client_lines, clients_head, datagrams_head, datagrams_line, ends_lines, ends_text};
+ghost use Rattle.rld_text.specs.Metrics.{all_front, client_front, client_lines, clients_head, datagrams_head, datagrams_line, ends_lines, ends_text, lines_of};
 
 use crate::text::{Head, push_head, push_label};
-use rld_counts::{AcctEnd, AuthEnd, Counts, End};
+use rld_counts::{Counts, End};
 use rld_look::{ClientLook, Look};
 use rld_values::{push_decimal, push_dotted, push_text};
 use std::alloc::{AllocError, Global};
@@ -95,40 +95,20 @@ fn push_client_front(out: &mut Vec<u8>, address: [u8; 4]) -> Result<(), AllocErr
 fn push_ends(out: &mut Vec<u8>, front: &[u8], counts: &Counts) -> Result<(), AllocError>
     ensures { OnOk result (out.new.items ≡ out.old.items ++ ends_lines front.now counts.now) }
 {
-    push_auth(out, front, counts, &AuthEnd::all())?;
-    push_acct(out, front, counts, &AcctEnd::all())
+    push_lines(out, front, counts, &End::all())
 }
 
-/// Writes how many datagrams of the authentication port ended in these ways.
-fn push_auth(
+/// Writes how many datagrams ended in each of these ways.
+fn push_lines(
     out: &mut Vec<u8>,
     front: &[u8],
     counts: &Counts,
-    ends: &[AuthEnd],
+    ends: &[End],
 ) -> Result<(), AllocError>
-    ensures { OnOk result (out.new.items
-        ≡ out.old.items ++ auth_lines front.now counts.now ends.now) }
+    ensures { OnOk result (out.new.items ≡ out.old.items ++ lines_of front.now counts.now ends.now) }
 {
     for end in ends {
-        let number = counts.count(End::Auth(*end));
-        push_line(out, front, "auth", end.name(), number)?;
-    }
-    Ok(())
-}
-
-/// Writes how many datagrams of the accounting port ended in these ways.
-fn push_acct(
-    out: &mut Vec<u8>,
-    front: &[u8],
-    counts: &Counts,
-    ends: &[AcctEnd],
-) -> Result<(), AllocError>
-    ensures { OnOk result (out.new.items
-        ≡ out.old.items ++ acct_lines front.now counts.now ends.now) }
-{
-    for end in ends {
-        let number = counts.count(End::Acct(*end));
-        push_line(out, front, "acct", end.name(), number)?;
+        push_line(out, front, end.port(), end.name(), counts.count(*end))?;
     }
     Ok(())
 }

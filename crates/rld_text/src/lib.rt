@@ -3,8 +3,8 @@
 //!
 //! The promise: what each account holds, and the links of one, are the lines of `specs/Accounts.antt` and
 //! `specs/Links.antt`, in which no name or id can forge a word or a line; the words that name a link's
-//! session are those by which it is freed. A status has the build, whether it records and the numbers of
-//! `specs/Status.antt`; what else is for people in it is shown by tests. What is written of metrics has the
+//! session are those by which it is freed. A status has the octets of `specs/Status.antt` and
+//! `specs/Recent.antt`. What is written of metrics has the
 //! octets of `specs/Metrics.antt`, and nothing else: a value of a label may have any text, and the buckets
 //! of a histogram are cumulative. As JSON each has the octets of the same definitions, over the strings and
 //! members of `specs/Json.antt`.
@@ -12,7 +12,6 @@
 
 mod accounts;
 mod build;
-mod columns;
 mod datagrams;
 mod gauges;
 mod json;

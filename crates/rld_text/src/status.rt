@@ -2,7 +2,7 @@ ghost use Rattle.std.specs.Prelude.{◌≡◌, ◌++◌, IfOk, OnOk};
 ghost use Rattle.rld_text.specs.Status.{IsStatus, number_lines, recording_line, totals_lines};
 
 use crate::build::push_build_line;
-use crate::recent::{recent_text, start_text};
+use crate::recent::{push_recent, push_start};
 use crate::words::push_number_line;
 use rld_control::Reply;
 use rld_look::{Look, Recording, Totals};
@@ -11,17 +11,16 @@ use std::alloc::{AllocError, Global};
 
 /// What a server says of itself: who it is and whether it records, numbers, a line each, then what has
 /// happened lately, and the line `ok`, which says that it is all. It fails only where memory is refused.
+#[tactic(auto, unfolding(crate::specs::Status::status_of))]
 pub fn status_text(alloc: Global, look: &Look) -> Result<Vec<u8>, AllocError>
     ensures { IfOk result (λ text. IsStatus look.entry.now text.items) }
 {
-    let started = start_text(alloc, look)?;
-    let recent = recent_text(alloc, look)?;
     let mut text = Vec::new(alloc);
     push_build_line(&mut text, &look.build)?;
-    text.extend_from_slice(started.as_slice())?;
+    push_start(&mut text, look.start, look.now)?;
     push_recording(&mut text, look.recording)?;
     push_numbers(alloc, &mut text, look)?;
-    text.extend_from_slice(recent.as_slice())?;
+    push_recent(alloc, &mut text, look)?;
     Reply::Done(b"").write(&mut text)?;
     Ok(text)
 }

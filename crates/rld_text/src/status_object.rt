@@ -1,14 +1,13 @@
 //! What a server says of itself as an object of JSON.
 
 ghost use Rattle.std.specs.Prelude.{◌≡◌, ◌++◌, IfOk, OnOk};
-ghost use Rattle.rld_counts.specs.Ends.{acct_ends, auth_ends};
-ghost use Rattle.rld_text.specs.Status.{acct_members, auth_members, end_member, numbers_members, recording_word, socket_members, status_object, totals_members, who_members};
+ghost use Rattle.rld_text.specs.Status.{end_member, ends_members, numbers_members, recording_word, socket_members, status_object, totals_members, who_members};
 
 use crate::build::push_proof_word;
 use crate::json::{push_member_front, push_number_member, push_text_string};
 use crate::sums::{dropped, waiting};
 use rld_control::Reply;
-use rld_counts::{AcctEnd, AuthEnd, Counts, End};
+use rld_counts::{Counts, End};
 use rld_look::{Build, Look, Recording, Totals};
 use rld_values::{push_decimal, push_text};
 use std::alloc::{AllocError, Global};
@@ -22,8 +21,7 @@ pub fn status_json(alloc: Global, look: &Look) -> Result<Vec<u8>, AllocError>
     let mut text = Vec::new(alloc);
     push_who(&mut text, &look.build, look.start, look.now, look.recording)?;
     push_numbers(&mut text, look)?;
-    push_auth(&mut text, &look.counts, &AuthEnd::all())?;
-    push_acct(&mut text, &look.counts, &AcctEnd::all())?;
+    push_ends(&mut text, &look.counts, &End::all())?;
     push_sockets(&mut text, waiting(sockets), dropped(sockets))?;
     push_text(&mut text, "}\n")?;
     Reply::Done(b"").write(&mut text)?;
@@ -92,22 +90,12 @@ fn push_totals(out: &mut Vec<u8>, totals: &Totals) -> Result<(), AllocError>
     Ok(())
 }
 
-/// Writes how many datagrams of the authentication port ended in these ways.
-fn push_auth(out: &mut Vec<u8>, counts: &Counts, ends: &[AuthEnd]) -> Result<(), AllocError>
-    ensures { OnOk result (out.new.items ≡ out.old.items ++ auth_members counts.now ends.now) }
+/// Writes how many datagrams ended in each of these ways.
+fn push_ends(out: &mut Vec<u8>, counts: &Counts, ends: &[End]) -> Result<(), AllocError>
+    ensures { OnOk result (out.new.items ≡ out.old.items ++ ends_members counts.now ends.now) }
 {
     for end in ends {
-        push_end(out, "auth", end.name(), counts.count(End::Auth(*end)))?;
-    }
-    Ok(())
-}
-
-/// Writes the same of the accounting port.
-fn push_acct(out: &mut Vec<u8>, counts: &Counts, ends: &[AcctEnd]) -> Result<(), AllocError>
-    ensures { OnOk result (out.new.items ≡ out.old.items ++ acct_members counts.now ends.now) }
-{
-    for end in ends {
-        push_end(out, "acct", end.name(), counts.count(End::Acct(*end)))?;
+        push_end(out, end.port(), end.name(), counts.count(*end))?;
     }
     Ok(())
 }

@@ -7,6 +7,7 @@ use Rattle.http1.specs.Fields.{Header}
 use Rattle.http_uri.specs.Uri.{uri_path}
 use Rattle.http_server.specs.declared.response.Response.{Response}
 use Rattle.http_server.specs.Response.{IsResponse}
+use Rattle.rld_look.specs.declared.look.AccountsLook.{AccountsLook}
 use Rattle.rld_look.specs.declared.look.Look.{Look}
 use Rattle.rld_text.specs.Metrics.{metrics_text}
 use Rattle.rld_page.specs.Health.{health_of, health_text}
@@ -29,12 +30,17 @@ fields_with media_type =
     ∷ (codes "content-security-policy", codes "default-src 'none'; style-src 'unsafe-inline'; frame-ancestors 'none'")
     ∷ (codes "connection", codes "close") ∷ []
 
+-- the octets are what the accounts hold, if they were looked at
+abbrev pub AreAccounts : Option AccountsLook → List ℕ → Type 0
+AreAccounts None text = ⊥
+AreAccounts (Some accounts) text = text ≡ accounts_json accounts
+
 -- the octets are the text of this path, for what the server shows
-abbrev pub IsTextOf : Look → Path → List ℕ → Type 0
-IsTextOf look Of.Page text = IsHtml text
-IsTextOf look Of.Metrics text = text ≡ metrics_text look
-IsTextOf look Of.Accounts text = text ≡ accounts_json look
-IsTextOf look Of.Health text = text ≡ health_text (health_of look.recording)
+abbrev pub IsTextOf : Look → Option AccountsLook → Path → List ℕ → Type 0
+IsTextOf look accounts Of.Page text = IsHtml text
+IsTextOf look accounts Of.Metrics text = text ≡ metrics_text look
+IsTextOf look accounts Of.Accounts text = AreAccounts accounts text
+IsTextOf look accounts Of.Health text = text ≡ health_text (health_of look.recording)
 
 -- 200, and of a server that is not well 503 for its health
 abbrev pub health_status : Health → ℕ
@@ -48,10 +54,10 @@ status_of look Of.Accounts = 200
 status_of look Of.Health = health_status (health_of look.recording)
 
 -- what a path that there is has, and what any other one has
-abbrev pub IsShown : Look → Option Path → Response → Type 0
-IsShown look None response = IsResponse 404 (fields_with plain) (codes "there is no such page\n") response
-IsShown look (Some path) response =
-    (text : List ℕ) × IsTextOf look path text
+abbrev pub IsShown : Look → Option AccountsLook → Option Path → Response → Type 0
+IsShown look accounts None response = IsResponse 404 (fields_with plain) (codes "there is no such page\n") response
+IsShown look accounts (Some path) response =
+    (text : List ℕ) × IsTextOf look accounts path text
     × IsResponse (status_of look path) (fields_with (media_type_of path)) text response
 
 -- whether a method only reads
@@ -64,22 +70,22 @@ IsRefusedMethod =
     IsResponse 405 (fields_with plain ++ (codes "allow", codes "GET, HEAD") ∷ []) (codes "only GET and HEAD are answered\n")
 
 -- what a method that reads has, and what any other one has
-abbrev pub IsRead : Look → (reading : Bool) → (path : List ℕ) → Response → Type 0
-IsRead look true path response = IsShown look (path_of path) response
-IsRead look false path response = IsRefusedMethod response
+abbrev pub IsRead : Look → Option AccountsLook → (reading : Bool) → (path : List ℕ) → Response → Type 0
+IsRead look accounts true path response = IsShown look accounts (path_of path) response
+IsRead look accounts false path response = IsRefusedMethod response
 
 -- what is answered under the server's own name, and what under any other one
-abbrev pub IsAnswered : Look → (asked : Bool) → (reading : Bool) → (path : List ℕ) → Response → Type 0
-IsAnswered look true reading path response = IsRead look reading path response
-IsAnswered look false reading path response =
+abbrev pub IsAnswered : Look → Option AccountsLook → (asked : Bool) → (reading : Bool) → (path : List ℕ) → Response → Type 0
+IsAnswered look accounts true reading path response = IsRead look accounts reading path response
+IsAnswered look accounts false reading path response =
     IsResponse 421 (fields_with plain) (codes "ask for this server by its address or as localhost\n") response
 
-abbrev pub Answers : Look → SocketAddrV4 → Request (List ℕ) → Response → Type 0
-Answers look place request response =
-    IsAnswered look (is_asked_for place (host_of (head_of request))) (is_reading (head_of request).method)
+abbrev pub Answers : Look → Option AccountsLook → SocketAddrV4 → Request (List ℕ) → Response → Type 0
+Answers look accounts place request response =
+    IsAnswered look accounts (is_asked_for place (host_of (head_of request))) (is_reading (head_of request).method)
     (uri_path (head_of request).uri) response
 
--- by the last look, without which nothing is answered
-abbrev pub HasAnswered : Option Look → SocketAddrV4 → Request (List ℕ) → Response → Type 0
-HasAnswered None place request response = ⊥
-HasAnswered (Some look) place request response = Answers look place request response
+-- by the last look, without which nothing is answered, and by that at the accounts
+abbrev pub HasAnswered : Option Look → Option AccountsLook → SocketAddrV4 → Request (List ℕ) → Response → Type 0
+HasAnswered None accounts place request response = ⊥
+HasAnswered (Some look) accounts place request response = Answers look accounts place request response

@@ -101,12 +101,12 @@ impl Connections {
     }
 
     /// Gives each connection a turn, and closes those that are done with or have had their time.
-    pub(crate) fn serve<S: Shown>(&mut self, service: &mut PageService, server: &S, now: u64) {
+    pub(crate) fn serve<S: Shown>(&mut self, service: &mut PageService<'_, S>, now: u64) {
         for _ in 0..self.open.len() {
             let Some(mut connection) = self.open.pop_front() else {
                 return;
             };
-            match turn(&mut connection, service, server, now) {
+            match turn(&mut connection, service, now) {
                 Turn::Waits => {}
                 Turn::GoesOn => self.has_more = true,
                 Turn::Leaves => continue,
@@ -119,14 +119,13 @@ impl Connections {
 /// A turn of a connection.
 fn turn<S: Shown>(
     connection: &mut HttpConnection,
-    service: &mut PageService,
-    server: &S,
+    service: &mut PageService<'_, S>,
     now: u64,
 ) -> Turn {
     if connection.left(now) == 0 {
         return Turn::Leaves;
     }
-    service.look_at(server, now);
+    service.look_at(now);
     service.turn_to(connection.place());
     connection.take_turn(service)
 }

@@ -3,6 +3,7 @@
 use crate::page_service::PageService;
 use http_server::{Config, Connection};
 use http1::Limits;
+use rld_look::Shown;
 use std::alloc::Global;
 use std::hash::RandomState;
 use std::io::{self, ErrorKind, Read};
@@ -78,7 +79,7 @@ impl HttpConnection {
     }
 
     /// Does what can be done without waiting, for some moves at most.
-    pub(crate) fn take_turn(&mut self, service: &mut PageService) -> Turn {
+    pub(crate) fn take_turn<S: Shown>(&mut self, service: &mut PageService<'_, S>) -> Turn {
         for _ in 0..MOVES {
             match self.take_step(service) {
                 Ok(Turn::GoesOn) => {}
@@ -92,7 +93,7 @@ impl HttpConnection {
 
     /// Answers what has come, and moves octets once. After the answer what still comes is read and
     /// let go, until the other side is done too.
-    fn take_step(&mut self, service: &mut PageService) -> io::Result<Turn> {
+    fn take_step<S: Shown>(&mut self, service: &mut PageService<'_, S>) -> io::Result<Turn> {
         if self.is_answered {
             return self.discard();
         }

@@ -1,4 +1,4 @@
-ghost use Rattle.std.specs.Prelude.{◌≡◌, IfOk, OnOk};
+ghost use Rattle.std.specs.Prelude.{◌≡◌, IfOk, IfSome, OnOk, Some};
 ghost use Rattle.http_server.specs.Response.{IsBlank};
 ghost use Rattle.rld_web.specs.Answer.{Answers, HasAnswered, IsRead, IsRefusedMethod, IsShown, IsTextOf, is_reading, status_of};
 ghost use Rattle.rld_web.specs.Path.{path_of};
@@ -10,7 +10,7 @@ use bytes::Bytes;
 use http::{HeaderValue, Request, StatusCode};
 use http_header::ALLOW;
 use http_server::{Response, Service};
-use rld_look::{Look, Shown};
+use rld_look::{AccountsLook, Look, Shown};
 use rld_page::{Health, accounts_json, page};
 use rld_text::push_metrics;
 use std::alloc::{AllocError, Global};
@@ -19,21 +19,26 @@ use std::net::SocketAddrV4;
 /// For how many milliseconds a look is shown to all who ask.
 const LOOK_MILLIS: u64 = 1_000;
 
-/// Answers requests by a look at the server, which is at most a second old when a request is read.
+/// Answers requests by a look at the server, which is at most a second old when a request is read; and by
+/// one at its accounts, which is taken once they are asked for, and is no older.
 #[derive(Drop)]
-pub(crate) struct PageService {
+pub(crate) struct PageService<'a, S: Shown> {
     alloc: Global,
+    server: &'a S,
     look: Option<Look>,
+    accounts: Option<AccountsLook>,
     taken: u64,
     place: SocketAddrV4,
 }
 
-impl PageService {
+impl<'a, S: Shown> PageService<'a, S> {
     /// A service at this place that has not looked yet.
-    pub(crate) fn new(alloc: Global, place: SocketAddrV4) -> PageService {
+    pub(crate) fn new(alloc: Global, server: &'a S, place: SocketAddrV4) -> PageService<'a, S> {
         PageService {
             alloc,
+            server,
             look: None,
+            accounts: None,
             taken: 0,
             place,
         }
@@ -41,12 +46,25 @@ impl PageService {
 
     /// Looks at the server where the last look is a second old, at this moment in milliseconds. Where
     /// memory for it is refused there is none, and no request is answered.
-    pub(crate) fn look_at<S: Shown>(&mut self, server: &S, now: u64) {
+    pub(crate) fn look_at(&mut self, now: u64) {
         if self.look.is_some() && now.saturating_sub(self.taken) < LOOK_MILLIS {
             return;
         }
-        self.look = server.take_look().ok();
+        self.look = self.server.take_look().ok();
+        self.accounts = None;
         self.taken = now;
+    }
+
+    /// Looks at the accounts if they are asked for, and were not looked at since the last look.
+    fn look_if_asked(&mut self, path: &str)
+        ensures look { self.new.look ≡ self.old.look }
+        ensures place { self.new.place ≡ self.old.place }
+        ensures accounts { IfSome self.old.accounts (λ accounts.
+            self.new.accounts ≡ Some accounts) }
+    {
+        if self.accounts.is_none() && matches!(Path::of(path), Some(Path::Accounts)) {
+            self.accounts = self.server.take_accounts().ok();
+        }
     }
 
     /// Answers what came to this place from now on.
@@ -55,37 +73,55 @@ impl PageService {
     }
 }
 
-impl Service for PageService {
+impl<S: Shown> Service for PageService<'_, S> {
     ghost answers = { λ old request response new.
-        HasAnswered old.look old.place request response × (new ≡ old) };
+        HasAnswered old.look new.accounts old.place request response
+        × (new.look ≡ old.look) × (new.place ≡ old.place)
+        × IfSome old.accounts (λ accounts. new.accounts ≡ Some accounts) };
 
     fn call(
         &mut self,
         request: &Request<Bytes>,
         response: &mut Response,
     ) -> Result<(), AllocError> {
+        self.look_if_asked(request.uri().path());
         let Some(look) = &self.look else {
             return Err(AllocError);
         };
-        answer(self.alloc, self.place, look, request, response)?;
+        answer(
+            self.alloc,
+            self.place,
+            look,
+            &self.accounts,
+            request,
+            response,
+        )?;
         Ok(())
     }
 }
 
-/// Answers a request to the server at this place by a look at it.
+/// Answers a request to the server at this place by a look at it, and at its accounts.
 fn answer(
     alloc: Global,
     place: SocketAddrV4,
     look: &Look,
+    accounts: &Option<AccountsLook>,
     request: &Request<Bytes>,
     response: &mut Response,
 ) -> Result<(), AllocError>
     requires { IsBlank response.old }
-    ensures { OnOk result (Answers look.entry.now place request.now response.new) }
+    ensures { OnOk result (Answers look.entry.now accounts.entry.now place request.now response.new) }
 {
     if is_asked_for(alloc, place, request)? {
         let method = request.method().as_str();
-        read(alloc, look, method, request.uri().path(), response)
+        read(
+            alloc,
+            look,
+            accounts,
+            method,
+            request.uri().path(),
+            response,
+        )
     } else {
         let text = "ask for this server by its address or as localhost\n";
         refuse(response, StatusCode::MISDIRECTED_REQUEST, text)
@@ -96,15 +132,16 @@ fn answer(
 fn read(
     alloc: Global,
     look: &Look,
+    accounts: &Option<AccountsLook>,
     method: &str,
     path: &str,
     response: &mut Response,
 ) -> Result<(), AllocError>
     requires { IsBlank response.old }
-    ensures { OnOk result (IsRead look.entry.now (is_reading method.now) path.now response.new) }
+    ensures { OnOk result (IsRead look.entry.now accounts.entry.now (is_reading method.now) path.now response.new) }
 {
     if is_reading(method) {
-        show(alloc, look, path, response)
+        show(alloc, look, accounts, path, response)
     } else {
         refuse_method(response)
     }
@@ -128,21 +165,33 @@ fn refuse_method(response: &mut Response) -> Result<(), AllocError>
 }
 
 /// Shows what a path asks for.
-fn show(alloc: Global, look: &Look, path: &str, response: &mut Response) -> Result<(), AllocError>
+fn show(
+    alloc: Global,
+    look: &Look,
+    accounts: &Option<AccountsLook>,
+    path: &str,
+    response: &mut Response,
+) -> Result<(), AllocError>
     requires { IsBlank response.old }
-    ensures { OnOk result (IsShown look.entry.now (path_of path.now) response.new) }
+    ensures { OnOk result (IsShown look.entry.now accounts.entry.now (path_of path.now) response.new) }
 {
     let Some(path) = Path::of(path) else {
         return refuse(response, StatusCode::NOT_FOUND, "there is no such page\n");
     };
-    let text = text_of(alloc, look, path)?;
+    let text = text_of(alloc, look, accounts, path)?;
     let body = Bytes::from_vec(text)?;
     fill(response, status_of(look, path), path.media_type(), body)
 }
 
-/// The text of a path.
-fn text_of(alloc: Global, look: &Look, path: Path) -> Result<Vec<u8>, AllocError>
-    ensures { IfOk result (λ text. IsTextOf look.entry.now path text.items) }
+/// The text of a path. It fails where memory is refused: for the text, or before for the look at the
+/// accounts.
+fn text_of(
+    alloc: Global,
+    look: &Look,
+    accounts: &Option<AccountsLook>,
+    path: Path,
+) -> Result<Vec<u8>, AllocError>
+    ensures { IfOk result (λ text. IsTextOf look.entry.now accounts.entry.now path text.items) }
 {
     match path {
         Path::Page => page(alloc, look),
@@ -151,7 +200,10 @@ fn text_of(alloc: Global, look: &Look, path: Path) -> Result<Vec<u8>, AllocError
             push_metrics(alloc, &mut text, look)?;
             Ok(text)
         }
-        Path::Accounts => accounts_json(alloc, look),
+        Path::Accounts => match accounts {
+            Some(accounts) => accounts_json(alloc, accounts),
+            None => Err(AllocError),
+        },
         Path::Health => Vec::from_slice(alloc, Health::of(look.recording).text().as_bytes()),
     }
 }

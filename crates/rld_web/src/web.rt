@@ -48,7 +48,7 @@ impl Web {
 impl Pages for Web {
     fn show<S: Shown, R: Net + Clock + Wait>(&self, rt: &R, server: &S) -> io::Result<()> {
         let mut connections = Connections::new(rt, self.alloc, self.keys, &self.listener)?;
-        let mut service = PageService::new(self.alloc, self.place);
+        let mut service = PageService::new(self.alloc, server, self.place);
         for _ in rt.forever() {
             if server.is_over() {
                 break;
@@ -56,7 +56,7 @@ impl Pages for Web {
             connections.wait(millis(rt))?;
             let now = millis(rt);
             connections.let_in(&self.listener, now);
-            connections.serve(&mut service, server, now);
+            connections.serve(&mut service, now);
         }
         Ok(())
     }

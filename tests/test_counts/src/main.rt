@@ -156,7 +156,6 @@ fn print_metrics(
             full: 2,
         },
         fullest: Vec::new(alloc),
-        accounts: Vec::new(alloc),
         minutes: Vec::new(alloc),
         sockets: vec![in alloc; socket(1812, 0, 3), socket(1813, 512, 4)]?,
         refusals: Vec::new(alloc),

@@ -4,26 +4,30 @@
 
 mod sample;
 
-use crate::sample::{idle, worked};
-use rld_look::Look;
+use crate::sample::{accounts, idle, worked};
+use rld_look::{AccountsLook, Look};
 use rld_page::{Health, accounts_json, page};
 use rsl_wire::NoMemory;
 use std::alloc::AllocError;
 use std::io::{self, Write};
 
 fn main(rt: HostRuntime) -> io::Result<()> {
-    print(&rt, worked(rt.alloc()))?;
-    print(&rt, idle(rt.alloc()))
+    print(&rt, worked(rt.alloc()), accounts(rt.alloc(), 10))?;
+    print(&rt, idle(rt.alloc()), accounts(rt.alloc(), 0))
 }
 
 /// Prints all that is shown of a server.
-fn print(rt: &HostRuntime, look: Result<Look, NoMemory>) -> io::Result<()> {
-    let Ok(look) = look else {
+fn print(
+    rt: &HostRuntime,
+    look: Result<Look, NoMemory>,
+    accounts: Result<AccountsLook, NoMemory>,
+) -> io::Result<()> {
+    let (Ok(look), Ok(accounts)) = (look, accounts) else {
         return Err(AllocError.into());
     };
     rt.stdout().write_all(page(rt.alloc(), &look)?.as_slice())?;
     rt.stdout()
-        .write_all(accounts_json(rt.alloc(), &look)?.as_slice())?;
+        .write_all(accounts_json(rt.alloc(), &accounts)?.as_slice())?;
     rt.stdout()
         .write_all(Health::of(look.recording).text().as_bytes())
 }

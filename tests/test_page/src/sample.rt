@@ -2,7 +2,8 @@
 
 use rld_counts::{AcctEnd, AuthEnd, Counts, End, Histogram};
 use rld_look::{
-    AccountLook, Build, ClientLook, Look, Minute, Proof, Recording, Refusal, SocketLook, Totals,
+    AccountLook, AccountsLook, Build, ClientLook, Look, Minute, Proof, Recording, Refusal,
+    SocketLook, Totals,
 };
 use rsl_accounts::Text;
 use rsl_event::{NasName, Source};
@@ -52,7 +53,6 @@ pub(crate) fn idle(alloc: Global) -> Result<Look, NoMemory> {
         acct_times: Histogram::new(),
         totals: Totals::new(),
         fullest: Vec::new(alloc),
-        accounts: Vec::new(alloc),
         minutes: Vec::new(alloc),
         sockets: Vec::new(alloc),
         refusals: Vec::new(alloc),
@@ -73,9 +73,6 @@ pub(crate) fn worked(alloc: Global) -> Result<Look, NoMemory> {
         counts: counts(),
     })?;
     look.totals = totals();
-    for number in 0..NAMES.len() {
-        look.accounts.push(account(alloc, number)?)?;
-    }
     for number in [0, 3, 8, 2, 1, 5, 6, 4, 7, 9] {
         look.fullest.push(account(alloc, number)?)?;
     }
@@ -84,6 +81,15 @@ pub(crate) fn worked(alloc: Global) -> Result<Look, NoMemory> {
     look.sockets.push(socket(1813, 2_304, 17))?;
     add_refusals(alloc, &mut look.refusals)?;
     Ok(look)
+}
+
+/// A look at the first accounts.
+pub(crate) fn accounts(alloc: Global, many: usize) -> Result<AccountsLook, NoMemory> {
+    let mut accounts = Vec::new(alloc);
+    for number in 0..many {
+        accounts.push(account(alloc, number)?)?;
+    }
+    Ok(AccountsLook { now: NOW, accounts })
 }
 
 /// What waits at a socket.

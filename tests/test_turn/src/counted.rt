@@ -2,7 +2,7 @@
 
 use crate::disk::store_of;
 use crate::turns::{Scene, port_of, scene_of, served};
-use rld_counts::{AcctEnd, AuthEnd, Cell, Counts, End};
+use rld_counts::{Cell, End};
 use rld_log::MemoryLog;
 use rld_look::Refusals;
 use rld_store::Store;
@@ -43,7 +43,7 @@ impl<R: Wait + Clock> Subject for Counted<'_, R> {
         let readings = board.read(self.rt, alloc, clients)?;
         let cell = cell_of(alloc, readings.as_slice(), port, clients)?;
         let mut text = String::new(alloc);
-        push_cell(&mut text, &cell, port)?;
+        push_cell(&mut text, &cell)?;
         Ok(text)
     }
 }
@@ -78,7 +78,7 @@ impl<R: Wait + Clock> Subject for Renewed<'_, R> {
         let readings = board.read(self.rt, alloc, looked)?;
         let cell = cell_of(alloc, readings.as_slice(), port, looked)?;
         let mut text = String::new(alloc);
-        push_cell(&mut text, &cell, port)?;
+        push_cell(&mut text, &cell)?;
         Ok(text)
     }
 }
@@ -103,10 +103,9 @@ fn served_by_two<R: Wait + Clock>(
 }
 
 /// Tells each count that is not 0, how many there are of the client, and how many are timed.
-fn push_cell(text: &mut String, cell: &Cell, port: Port) -> Result<(), Fail> {
-    match port {
-        Port::Auth => push_auth(text, cell.counts())?,
-        Port::Acct => push_acct(text, cell.counts())?,
+fn push_cell(text: &mut String, cell: &Cell) -> Result<(), Fail> {
+    for end in End::all() {
+        push_count(text, end.name(), cell.counts().count(end))?;
     }
     let of_client = match cell.client(0) {
         Some(counts) => counts.received(),
@@ -114,22 +113,6 @@ fn push_cell(text: &mut String, cell: &Cell, port: Port) -> Result<(), Fail> {
     };
     let timed = cell.times().samples();
     write!(text, "client={of_client} timed={timed}")?;
-    Ok(())
-}
-
-/// Tells the counts of the authentication port.
-fn push_auth(text: &mut String, counts: Counts) -> Result<(), Fail> {
-    for end in AuthEnd::all() {
-        push_count(text, end.name(), counts.count(End::Auth(end)))?;
-    }
-    Ok(())
-}
-
-/// Tells those of the accounting port.
-fn push_acct(text: &mut String, counts: Counts) -> Result<(), Fail> {
-    for end in AcctEnd::all() {
-        push_count(text, end.name(), counts.count(End::Acct(end)))?;
-    }
     Ok(())
 }
 

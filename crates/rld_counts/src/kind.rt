@@ -1,0 +1,31 @@
+ghost use Rattle.std.specs.Prelude.{◌≡◌};
+ghost use Rattle.rld_counts.specs.Ends.{is_answer};
+
+/// What became of a datagram.
+#[derive(Clone, Copy)]
+pub enum Kind {
+    /// An Access-Accept was sent.
+    Accepted,
+    /// An Access-Reject was sent: the account has no free place.
+    LimitRejected,
+    /// An Access-Reject was sent for any other cause.
+    Rejected,
+    /// An Accounting-Response was sent.
+    Accounted,
+    /// It was dropped: it is none that is answered.
+    Dropped,
+    /// It was not answered, for want of memory, of a record or of a way out.
+    Failed,
+}
+
+impl Kind {
+    /// Whether an answer was sent.
+    pub fn is_answer(self) -> bool
+        ensures { result ≡ is_answer self }
+    {
+        match self {
+            Kind::Accepted | Kind::LimitRejected | Kind::Rejected | Kind::Accounted => true,
+            Kind::Dropped | Kind::Failed => false,
+        }
+    }
+}

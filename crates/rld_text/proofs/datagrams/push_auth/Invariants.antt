@@ -1,7 +1,0 @@
-use Rattle.std.proofs.Common.{◌≡◌, ◌++◌, take}
-use Rattle.rld_text.specs.Metrics.{auth_lines}
-use Rattle.rld_text.proofs.datagrams.push_auth.Given as goal
-
--- the lines of the ends that were looked at
-abbrev pub invariant-loop-end : goal.invariant-loop-end
-invariant-loop-end l = l.out.items ≡ l.fn.out.items ++ auth_lines l.front l.counts (take l.end-index l.ends)
