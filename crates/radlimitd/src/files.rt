@@ -5,8 +5,10 @@
 
 use crate::bad_file::{BadFile, Wrong};
 use crate::fault::Fault;
-use rld_config::{Exposure, Place, ServerFault, ServerFile, break_of, shadowed_client, unknown_client,
-    unsigned_client};
+use rld_config::{
+    Exposure, Place, ServerFault, ServerFile, break_of, shadowed_client, unknown_client,
+    unsigned_client,
+};
 use rsl_accounts::{Config, ConfigFault, TextFault, read_file};
 use std::alloc::Global;
 use std::fs::{self, Files};

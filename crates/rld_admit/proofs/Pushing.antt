@@ -40,9 +40,7 @@ none_past (x ∷ xs) zero none = absurd (some none)
 none_past (x ∷ xs) (suc i) none = omega (arith, none_past xs i none)
 
 module _ (numbers : List (Option ℕ)) (old : Configuration) (held : List BooksSeen) (new : Configuration) (shard : ℕ) where
-  }
-
-  -- and that of this one
+  -- one more that begins
   pub one_begun : (before kept more : List Book) (account next : ℕ) (book : Book) → AreBegun numbers old held new shard before kept account → account < length new.accounts
       → next ≡ account + new.settings.shards → book ≡ begun_at numbers old held new account → more ≡ kept ++ book ∷ [] → AreBegun numbers old held new shard before more next
   one_begun before kept more account next book so less is made pushed =
