@@ -1,6 +1,7 @@
 //! How a log is opened.
 
 ghost use Rattle.std.specs.Prelude.{◌≡◌, ◌+◌, ℕ, List, length, IfErr, IfOk, IsTrue, OnOk};
+ghost use Rattle.rld_books.specs.Saved.{IsServerOf};
 ghost use Rattle.rld_log.specs.Frames.{EndsAt, HasPayloads, frames};
 ghost use Rattle.rld_store.specs.Premises.{Only};
 ghost use Rattle.rld_log.specs.Recording.{IsSettled};
@@ -28,6 +29,7 @@ pub(crate) struct Restored {
 
 /// The generation that octets have, and the length of its whole frames.
 fn generation_in(alloc: Global, config: &Config, octets: &[u8]) -> Result<Restored, StoreFault>
+    ensures server { IfOk result (λ restored. IsServerOf config.now restored.reading.books) }
     ensures found { IfOk result (λ restored. (before : List (List ℕ)) → HasPayloads octets.now before →
         IsFoundIn config.now before restored.reading.header restored.reading.books restored.reading.moves) }
     ensures ends { IfOk result (λ restored. EndsAt octets.now restored.whole) }
@@ -53,6 +55,7 @@ pub(crate) fn restore<L: Log>(
     log: &mut L,
 ) -> Result<Restored, StoreFault>
     ensures told { IsTrue (L.tells log.new) → IsTrue (L.tells log.old) }
+    ensures server { IfOk result (λ restored. IsServerOf config.now restored.reading.books) }
 
     // What is found is what the log has.
     ensures found { IsTrue (L.tells log.new) → (before : List (List ℕ)) → HasPayloads (L.seen log.old) before →

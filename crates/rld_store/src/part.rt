@@ -79,6 +79,7 @@ impl<'a> Part<'a> {
 
     /// The books of the snapshot that it spells.
     pub fn books(self, alloc: Global, config: &Config) -> Result<ServerBooks, StoreFault>
+        ensures server { IfOk result (λ books. IsServerOf config.now books) }
         ensures only { IfOk result (λ books. (begun : List BooksSeen) → IsServerOf config.now begun →
             IsSnapshot (counts_of config.now) begun self.entry.payload.now → books ≡ begun) }
         ensures why { IfErr result

@@ -1,11 +1,13 @@
 //! How a generation is read.
 
 ghost use Rattle.std.specs.Prelude.{◌≡◌, ℕ, List, [], ◌∷◌, length, map, IfErr, IfOk, OnOk};
+ghost use Rattle.rld_books.specs.Saved.{IsServerOf};
 ghost use Rattle.rld_books.specs.Server.{replay};
 ghost use Rattle.rld_log.specs.Frames.{frames};
 ghost use Rattle.rld_store.specs.Generations.{AreBatches, counts_of};
 ghost use Rattle.rld_store.specs.Opening.{IsFoundIn, IsWhyUnread};
 ghost use Rattle.rld_store.specs.declared.fault.StoreFault.TheVariants.{Foreign as foreign};
+ghost use Rattle.rsl_accounts.specs.Configuration.{Configuration};
 ghost use Rattle.rsl_shard.specs.declared.moved.Move.{Move as OneMove};
 
 use crate::beginning::counts_in;
@@ -51,6 +53,8 @@ fn replay_each(
     whole: usize,
     payloads: &[&[u8]],
 ) -> Result<usize, StoreFault>
+    ensures server { (config : Configuration) → IsServerOf config books.old →
+        OnOk result (IsServerOf config books.new) }
     ensures books { OnOk result ((moves : List OneMove) →
         AreBatches counts moves (map (λ payload. payload.now) payloads.now) → books.new ≡ replay books.old moves) }
     ensures count { IfOk result (λ count. (moves : List OneMove) →
@@ -86,6 +90,7 @@ pub(crate) fn read_generation(
     config: &Config,
     payloads: &[&[u8]],
 ) -> Result<Reading, StoreFault>
+    ensures server { IfOk result (λ reading. IsServerOf config.now reading.books) }
     ensures found { IfOk result (λ reading. IsFoundIn config.now (map (λ payload. payload.now) payloads.now)
         reading.header reading.books reading.moves) }
     ensures why { IfErr result

@@ -153,6 +153,7 @@ impl<L: Log> Store<L> {
     /// moves do not fit the configuration, is refused by name and left as it was.
     pub fn open(alloc: Global, config: &Config, log: L) -> Result<Opened<L>, Refused<L>>
         ensures told { IfOk result (λ opened. IsTrue (L.tells opened.store.log) → IsTrue (L.tells log)) }
+        ensures server { IfOk result (λ opened. IsServerOf config.now opened.store.books) }
         ensures refused { IfErr result (λ refused. IsTrue (L.tells refused.log) → IsTrue (L.tells log)) }
 
         // The store stands for the history that the log has.

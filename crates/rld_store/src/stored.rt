@@ -1,4 +1,4 @@
-ghost use Rattle.std.specs.Prelude.{◌≡◌};
+ghost use Rattle.std.specs.Prelude.{◌≡◌, IsTrue, true};
 ghost use Rattle.rld_store.specs.Stored.{HasRecorded, record_fault};
 
 use crate::fault::{RecordFault, StoreFault};
@@ -10,11 +10,11 @@ use rsl_shard::Move;
 use std::alloc::Global;
 
 impl<L: Log> Recorder for Store<L> {
-    ghost tells = { λ store. L.tells store.log };
+    ghost tells = { λ _. true };
 
     ghost books = { λ store. store.books };
 
-    ghost stands = { λ store config opening history. HasRecorded config opening store.counts L.tears store.end
+    ghost stands = { λ store config opening history. IsTrue (L.tells store.log) → HasRecorded config opening store.counts L.tears store.end
         (L.seen store.log) (L.may_leave store.log) store.whole store.books history };
 
     fn record(&mut self, alloc: Global, batch: Vec<Move>) -> Result<Recorded, RecordFault> {
