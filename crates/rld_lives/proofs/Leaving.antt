@@ -69,6 +69,22 @@ module _ (config : Configuration) (opening : List BooksSeen) (counts now_counts 
       (λ other. record { so_far = goes.so_far; unanswered = batch; stands = other; come = comes_unrecorded history batches outcomes rest batch goes.so_far goes.unanswered goes.come now fault is })
       (left goes.so_far goes.unanswered goes.stands)
 
+-- a store that went on in a next generation, or not
+pub goes_on : (config : Configuration) (opening : List BooksSeen) (counts now_counts : Counts) (tears : List ℕ → List ℕ → Type 0) (end now_end : End) (seen now_seen : List ℕ) (may_leave now_may_leave : Ending → List ℕ → Type 0) (whole now_whole : ℕ)
+    (books now_books : List BooksSeen) (history : List Move) (batches : List (List Move)) (outcomes : List Outcome) (rest : List (List Move))
+    → ((some unanswered : List Move) → StandsFor config opening counts tears end seen may_leave whole books some unanswered
+    → StandsFor config opening now_counts tears now_end now_seen now_may_leave now_whole now_books some unanswered ⊎ StandsFor config opening now_counts tears now_end now_seen now_may_leave now_whole now_books some [])
+    → GoesOn config opening counts tears end seen may_leave whole books history batches outcomes rest → GoesOn config opening now_counts tears now_end now_seen now_may_leave now_whole now_books history batches outcomes rest
+goes_on config opening counts now_counts tears end now_end seen now_seen may_leave now_may_leave whole now_whole books now_books history batches outcomes rest stands goes = ⊎_elim
+    (λ still. record { so_far = goes.so_far; unanswered = goes.unanswered; stands = still; come = goes.come })
+    (λ anew. record {
+      so_far = goes.so_far;
+      unanswered = [];
+      stands = anew;
+      come = record { moves = goes.come.moves; over = λ later unrecorded. none_left batches (outcomes ++ later); more = goes.come.more };
+    })
+    (stands goes.so_far goes.unanswered goes.stands)
+
 -- how a life ends
 pub leaves : (config : Configuration) (opening : List BooksSeen) (counts : Counts) (tears : List ℕ → List ℕ → Type 0) (end : End) (seen : List ℕ) (may_leave : Ending → List ℕ → Type 0) (whole : ℕ) (books : List BooksSeen) (history : List Move)
     (batches : List (List Move)) (outcomes : List Outcome) (rest : List (List Move))

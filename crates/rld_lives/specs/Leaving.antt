@@ -1,6 +1,5 @@
 -- What a crash leaves of the log of a life, and of lives.
-use Rattle.std.specs.Prelude.{ℕ, List, map, Option}
-use Rattle.std.specs.Global.{Vec}
+use Rattle.std.specs.Prelude.{ℕ, List, [], ◌∷◌, Option}
 use Rattle.rsl_accounts.specs.Configuration.{Configuration}
 use Rattle.rsl_shard.specs.Restep.{BooksSeen}
 use Rattle.rsl_shard.specs.declared.moved.Move.{Move}
@@ -8,10 +7,14 @@ use Rattle.rld_store.specs.Premises.{Premise}
 use Rattle.rld_log.specs.declared.log.Ending.{Ending}
 use Rattle.rld_store.specs.Generations.{HasHistory}
 use Rattle.rld_lives.specs.Life.{AreLives, IsLifeTold, Outcome}
+use Rattle.rld_lives.specs.declared.living.Step.{Step}
+use Rattle.rld_lives.specs.declared.living.Step.TheVariants.{Batch, Roll}
 
--- the moves of each batch
-abbrev pub batches_of : List (Vec Move) → List (List Move)
-batches_of batches = map (λ (batch : Vec Move). batch.items) batches
+-- the moves of each batch that a life is to answer
+abbrev pub batches_of : List Step → List (List Move)
+batches_of [] = []
+batches_of (Batch batch ∷ steps) = batch.items ∷ batches_of steps
+batches_of (Roll header ∷ steps) = batches_of steps
 
 -- a file has the history that a life left after another history, in an era that opened with these
 -- books

@@ -9,7 +9,7 @@ use Rattle.rld_lives.specs.declared.living.Plan.{Plan}
 
 -- the batches of each life
 abbrev pub plans_of : List Plan → List (List (List Move))
-plans_of plans = map (λ (plan : Plan). batches_of plan.batches.items) plans
+plans_of plans = map (λ (plan : Plan). batches_of plan.steps.items) plans
 
 -- what each life tells of its batches
 abbrev pub told_of : List (Option (Vec Outcome)) → List (Option (List Outcome))

@@ -10,4 +10,4 @@
 pub mod laws;
 mod living;
 
-pub use living::{Lived, Outcome, Plan, live, lives};
+pub use living::{Lived, Outcome, Plan, Step, live, lives};

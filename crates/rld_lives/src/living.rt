@@ -1,6 +1,6 @@
 //! Lives over a log: what they answer, and what they leave.
 
-ghost use Rattle.std.specs.Prelude.{◌≡◌, ℕ, List, [], IfOk, OnErr, IsTrue, Some};
+ghost use Rattle.std.specs.Prelude.{◌≡◌, ◌⊎◌, ℕ, List, [], IfOk, OnErr, IsTrue, Some};
 ghost use Rattle.std.specs.Prelude.{All};
 ghost use Rattle.std.specs.Option.{option_map};
 ghost use Rattle.rld_books.specs.Server.{replay};
@@ -16,6 +16,7 @@ ghost use Rattle.rsl_shard.specs.declared.moved.Move.{Move as OneMove};
 ghost use Rattle.std.specs.Global.{Vec as OneVec};
 
 use rld_log::{Crash, Ending, Log};
+use rld_spelling::Header;
 use rld_store::{Opened, RecordFault, Recorded, Refused, Store};
 use rsl_accounts::Config;
 use rsl_shard::Move;
@@ -25,11 +26,21 @@ use std::alloc::Global;
 /// What came of a batch: the decisions on its moves, or that it was not recorded.
 pub type Outcome = Result<Recorded, RecordFault>;
 
-/// What a life is to answer, and how it ends.
+/// What a life does at a time.
+#[derive(Drop)]
+pub enum Step {
+    /// It is to answer this batch.
+    Batch(Vec<Move>),
+    /// It goes on in the generation of this header, in the log that follows its own. Where none begins
+    /// there it goes on in its own, and that log is gone.
+    Roll(Header),
+}
+
+/// What a life does, and how it ends.
 #[derive(Drop)]
 pub struct Plan {
-    /// The batches, one after another.
-    pub batches: Vec<Vec<Move>>,
+    /// Its batches, and where it goes on in a next generation, one after another.
+    pub steps: Vec<Step>,
     /// How it ends, after the last of them or where nothing more could be recorded.
     pub ending: Ending,
 }
@@ -51,58 +62,88 @@ struct OneLife<L: Log> {
 }
 
 /// A life: records batches one after another, and gives what came of each. It goes on after one that
-/// was not recorded, unless nothing more can be recorded.
+/// was not recorded, unless nothing more can be recorded. Where it goes on in a next generation neither
+/// its books nor its history change.
 ///
-/// It fails only where memory for the outcomes is refused, before the first batch.
-pub fn live<L: Log>(
+/// It fails only where memory for the outcomes is refused, before the first step.
+pub fn live<L: Crash + Drop>(
     alloc: Global,
     store: &mut Store<L>,
-    batches: Vec<Vec<Move>>,
+    steps: Vec<Step>,
 ) -> Result<Vec<Outcome>, NoMemory>
-    ensures told { IsTrue (L.tells store.new.log) → IsTrue (L.tells store.old.log) }
+    ensures told { IsTrue (L.Log.tells store.new.log) → IsTrue (L.Log.tells store.old.log) }
     ensures outcomes { IfOk result (λ outcomes.
-        AreOutcomes store.old.books (batches_of batches.items) outcomes.items) }
+        AreOutcomes store.old.books (batches_of steps.items) outcomes.items) }
     ensures err { OnErr result (store.new ≡ store.old) }
 
     // A crash leaves what was recorded, and perhaps a batch after it that was not, whole.
-    ensures lived { IfOk result (λ outcomes. IsTrue (L.tells store.new.log) →
+    ensures lived { IfOk result (λ outcomes. IsTrue (L.Log.tells store.new.log) →
         (config : Configuration) (opening : List BooksSeen) (history : List OneMove) →
-        StandsFor config opening store.old.counts L.tears store.old.end (L.seen store.old.log) (L.may_leave store.old.log)
-        store.old.whole store.old.books history [] →
-        LeavesLife config opening L.tears history (batches_of batches.items) (Some outcomes.items)
-        (L.may_leave store.new.log)) }
+        StandsFor config opening store.old.counts L.Log.tears store.old.end (L.Log.seen store.old.log)
+        (L.Log.may_leave store.old.log) store.old.whole store.old.books history [] →
+        LeavesLife config opening L.Log.tears history (batches_of steps.items) (Some outcomes.items)
+        (L.Log.may_leave store.new.log)) }
 {
-    let mut outcomes = Vec::with_capacity(alloc, batches.len())?;
-    for batch in batches {
-        match store.commit(alloc, batch) {
-            Ok(recorded) => outcomes.push_reserved(Ok(recorded)),
-            Err(fault) => match RecordFault::from(fault) {
-                RecordFault::Failed => outcomes.push_reserved(Err(RecordFault::Failed)),
-                RecordFault::Ended => {
-                    outcomes.push_reserved(Err(RecordFault::Ended));
-                    return Ok(outcomes);
-                }
+    let mut outcomes = Vec::with_capacity(alloc, steps.len())?;
+    for step in steps {
+        match step {
+            Step::Roll(header) => roll_on(alloc, store, header),
+            Step::Batch(batch) => match store.commit(alloc, batch) {
+                Ok(recorded) => outcomes.push_reserved(Ok(recorded)),
+                Err(fault) => match RecordFault::from(fault) {
+                    RecordFault::Failed => outcomes.push_reserved(Err(RecordFault::Failed)),
+                    RecordFault::Ended => {
+                        outcomes.push_reserved(Err(RecordFault::Ended));
+                        return Ok(outcomes);
+                    }
+                },
             },
         }
     }
     Ok(outcomes)
 }
 
+/// Goes on in the generation of this header, in the log that follows the store's, if it begins there.
+fn roll_on<L: Crash + Drop>(alloc: Global, store: &mut Store<L>, header: Header)
+    ensures told { IsTrue (L.Log.tells store.new.log) → IsTrue (L.Log.tells store.old.log) }
+    ensures books { store.new.books ≡ store.old.books }
+
+    // The store stands for the same history.
+    ensures stands { IsTrue (L.Log.tells store.new.log) →
+        (config : Configuration) (opening : List BooksSeen) (history unanswered : List OneMove) →
+        StandsFor config opening store.old.counts L.Log.tears store.old.end (L.Log.seen store.old.log)
+        (L.Log.may_leave store.old.log) store.old.whole store.old.books history unanswered →
+        StandsFor config opening store.new.counts L.Log.tears store.new.end (L.Log.seen store.new.log)
+        (L.Log.may_leave store.new.log) store.new.whole store.new.books history unanswered
+        ⊎ StandsFor config opening store.new.counts L.Log.tears store.new.end (L.Log.seen store.new.log)
+        (L.Log.may_leave store.new.log) store.new.whole store.new.books history [] }
+{
+    let Ok(next) = store.log().next_log(alloc) else {
+        return;
+    };
+    let _older = store.roll(alloc, header, next);
+}
+
 /// A life over a log that the one before it left. Where the log cannot be opened, or memory is
 /// refused, it does not begin.
-fn live_over<L: Log>(alloc: Global, config: &Config, log: L, batches: Vec<Vec<Move>>) -> OneLife<L>
-    ensures told { IsTrue (L.tells result.log) → IsTrue (L.tells log) }
-    ensures lived { IsTrue (L.tells result.log) → Only (L.seen log) (L.may_leave log) →
+fn live_over<L: Crash + Drop>(
+    alloc: Global,
+    config: &Config,
+    log: L,
+    steps: Vec<Step>,
+) -> OneLife<L>
+    ensures told { IsTrue (L.Log.tells result.log) → IsTrue (L.Log.tells log) }
+    ensures lived { IsTrue (L.Log.tells result.log) → Only (L.Log.seen log) (L.Log.may_leave log) →
         (opening : List BooksSeen) (history : List OneMove) →
-        HasHistory config.now opening history (L.seen log) →
-        LeavesLife config.now opening L.tears history (batches_of batches.items)
+        HasHistory config.now opening history (L.Log.seen log) →
+        LeavesLife config.now opening L.Log.tears history (batches_of steps.items)
         (option_map (λ (outcomes : OneVec OneOutcome). outcomes.items) result.told)
-        (L.may_leave result.log) }
+        (L.Log.may_leave result.log) }
 {
     match Store::open(alloc, config, log) {
         Ok(opened) => {
             let Opened { mut store, .. } = opened;
-            let told = live(alloc, &mut store, batches).ok();
+            let told = live(alloc, &mut store, steps).ok();
             OneLife {
                 told,
                 log: store.into_log(),
@@ -120,7 +161,7 @@ fn live_over<L: Log>(alloc: Global, config: &Config, log: L, batches: Vec<Vec<Mo
 ///
 /// The premises: the log tells what it holds, and of a loss of power, that no torn write of a frame
 /// passes for one.
-pub fn lives<L: Crash>(
+pub fn lives<L: Crash + Drop>(
     alloc: Global,
     config: &Config,
     log: L,
@@ -142,11 +183,11 @@ pub fn lives<L: Crash>(
     };
     let mut log = log;
     for plan in plans {
-        let Plan { batches, ending } = plan;
+        let Plan { steps, ending } = plan;
         let OneLife {
             told: one,
             log: mut left,
-        } = live_over(alloc, config, log, batches);
+        } = live_over(alloc, config, log, steps);
         left.restart(ending);
         told.push_reserved(one);
         log = left;

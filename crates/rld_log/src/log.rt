@@ -67,9 +67,9 @@ pub trait Log {
         ensures durable { IsTrue (tells self.new) → OnOk result (Only (seen self.old) (may_leave self.new)) };
 }
 
-/// A log whose process or machine can stop and come back.
+/// A log whose process or machine can stop and come back, and that another can follow.
 pub trait Crash: Log {
-    ghost use Rattle.std.specs.Prelude.{IsTrue};
+    ghost use Rattle.std.specs.Prelude.{◌≡◌, [], IfOk, IsTrue};
     ghost use Rattle.rld_log.specs.Log.{Only};
 
     /// Stops, and comes back with something that the crash may have left.
@@ -77,4 +77,11 @@ pub trait Crash: Log {
         ensures told { IsTrue (Self.Log.tells self.new) → IsTrue (Self.Log.tells self.old) }
         ensures left { IsTrue (Self.Log.tells self.new) → Self.Log.may_leave self.old ending (Self.Log.seen self.new) }
         ensures settled { IsTrue (Self.Log.tells self.new) → Only (Self.Log.seen self.new) (Self.Log.may_leave self.new) };
+
+    /// Another log, which has nothing, for what follows this one.
+    fn next_log(&self, alloc: Global) -> Result<Self, LogFault>
+        ensures told { IfOk result (λ next. IsTrue (Self.Log.tells next) → IsTrue (Self.Log.tells self.now)) }
+        ensures empty { IfOk result (λ next. IsTrue (Self.Log.tells next) → Self.Log.seen next ≡ []) }
+        ensures settled { IfOk result (λ next. IsTrue (Self.Log.tells next) →
+            Only (Self.Log.seen next) (Self.Log.may_leave next)) };
 }

@@ -232,4 +232,18 @@ impl Crash for MemoryLog {
         self.index = self.index.saturating_add(1);
         self.life = life_at(&self.lives, self.index);
     }
+
+    /// Its lives are those of this log from now on.
+    fn next_log(&self, alloc: Global) -> Result<MemoryLog, LogFault> {
+        Ok(MemoryLog {
+            alloc,
+            octets: Vec::new(alloc),
+            synced: Vec::new(alloc),
+            steps: Vec::new(alloc),
+            telling: self.telling,
+            lives: self.lives.to_vec(alloc)?,
+            index: self.index,
+            life: self.life,
+        })
+    }
 }

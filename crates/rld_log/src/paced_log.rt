@@ -174,11 +174,20 @@ impl<L: Log> Log for PacedLog<'_, L> {
     }
 }
 
-impl<L: Crash> Crash for PacedLog<'_, L> {
+impl<'a, L: Crash> Crash for PacedLog<'a, L> {
     /// A crash that is reckoned as a kill is one.
     fn restart(&mut self, ending: Ending) {
         self.end = End::Unsettled;
         self.synced = None;
         self.log.restart(reckoned_ending(self.pace, ending));
+    }
+
+    /// Its pace is that of this log.
+    fn next_log(&self, alloc: Global) -> Result<PacedLog<'a, L>, LogFault> {
+        let pacing = Pacing {
+            pace: self.pace,
+            ticks: self.ticks,
+        };
+        Ok(PacedLog::new(self.log.next_log(alloc)?, pacing))
     }
 }

@@ -415,6 +415,13 @@ impl<L: Log> Store<L> {
         &self.books
     }
 
+    /// The log, to look at.
+    pub fn log(&self) -> &L
+        ensures { result.now ≡ self.now.log }
+    {
+        &self.log
+    }
+
     /// The log.
     pub fn into_log(self) -> L
         ensures { result ≡ self.log }

@@ -2,7 +2,7 @@
 //! ends, beside one run of the same packets without a crash.
 
 use crate::undisturbed::{Run, batch_len, batches_of, config_of, run_of};
-use rld_lives::{Lived, Outcome, Plan, lives};
+use rld_lives::{Lived, Outcome, Plan, Step, lives};
 use rld_log::{Ending, Life, MemoryLog};
 use rld_spelling::Header;
 use rld_store::{Opened, Store};
@@ -15,6 +15,9 @@ use std::test::Fail;
 /// A life that answers all makes 27 calls of the disk: three open the log, and two record each of twelve
 /// batches. So from none to all of them succeed.
 const CALLS: u64 = 28; // quick: 7
+
+/// A generation begins with five calls of its log: a read, and two for each of a header and a snapshot.
+const ROLL_CALLS: u64 = 5;
 
 /// How many batches the moves of the run are in.
 const BATCHES: usize = 12;
@@ -59,6 +62,15 @@ fn begun(alloc: Global, config: &Config) -> Result<MemoryLog, Fail> {
         Ok(store) => Ok(store.into_log()),
         Err(_) => Err("not begun")?,
     }
+}
+
+/// The batches of these lines, each to be answered.
+fn steps_of(alloc: Global, lines: &[Line]) -> Result<Vec<Step>, Fail> {
+    let mut steps = Vec::new(alloc);
+    for batch in batches_of(alloc, lines)? {
+        steps.push(Step::Batch(batch))?;
+    }
+    Ok(steps)
 }
 
 /// How many moves are answered, where each decision is that of its line.
@@ -124,6 +136,11 @@ fn are_same((one, other): (&Outcome, &Outcome)) -> bool {
     }
 }
 
+/// Whether two batches came out alike: recorded, with the same decisions, or not recorded.
+fn are_alike(pair: (&Outcome, &Outcome)) -> bool {
+    are_same(pair) || matches!(pair, (Err(_), Err(_)))
+}
+
 /// Whether these are the rows of the run, shard after shard.
 fn are_same_rows(rows: &[Row], wanted: &[Row]) -> bool {
     rows.len() == wanted.len()
@@ -167,8 +184,8 @@ impl Server {
     fn plans(&self, alloc: Global, froms: &[usize], ending: Ending) -> Result<Vec<Plan>, Fail> {
         let mut plans = Vec::new(alloc);
         for from in froms {
-            let batches = batches_of(alloc, self.lines_from(*from))?;
-            plans.push(Plan { batches, ending })?;
+            let steps = steps_of(alloc, self.lines_from(*from))?;
+            plans.push(Plan { steps, ending })?;
         }
         Ok(plans)
     }
@@ -202,14 +219,47 @@ impl Server {
 
     /// What a life answers and leaves that has all batches to answer but this one.
     fn lived_without(&self, alloc: Global, index: usize) -> Result<Lived<MemoryLog>, Fail> {
-        let mut batches = batches_of(alloc, &self.run.lines)?;
-        let _left_out = batches.remove(index);
+        let mut steps = steps_of(alloc, &self.run.lines)?;
+        let _left_out = steps.remove(index);
+        self.lived_once(alloc, &[], steps)
+    }
+
+    /// What a life answers and leaves that has these steps, over a log whose own lives go as is said.
+    fn lived_once(
+        &self,
+        alloc: Global,
+        short: &[Life],
+        steps: Vec<Step>,
+    ) -> Result<Lived<MemoryLog>, Fail> {
         let mut plans = Vec::new(alloc);
         plans.push(Plan {
-            batches,
+            steps,
             ending: Ending::Kill,
         })?;
-        self.lived_as(alloc, &self.begun, &[], plans)
+        self.lived_as(alloc, &self.begun, short, plans)
+    }
+
+    /// What a life answers and leaves that goes on in a next generation before the batch with this index.
+    fn lived_rolling(
+        &self,
+        alloc: Global,
+        index: usize,
+        short: &[Life],
+    ) -> Result<Lived<MemoryLog>, Fail> {
+        let mut steps = steps_of(alloc, &self.run.lines)?;
+        steps.insert(index, Step::Roll(HEADER))?;
+        self.lived_once(alloc, short, steps)
+    }
+
+    /// That a log has the books after the run, and how many moves its generation has.
+    fn moves_of_last(&self, alloc: Global, octets: &[u8]) -> Result<usize, Fail> {
+        match Store::open(alloc, &self.config, log_of(alloc, octets, &[])?) {
+            Ok(opened) if are_same_rows(&opened.store.rows(alloc)?, &self.run.rows) => Ok(
+                opened.moves,
+            ),
+            Ok(_) => Err("other rows")?,
+            Err(_) => Err("not opened")?,
+        }
     }
 
     /// That each of such lives answered as the run did, and left what it answered in the log, with the
@@ -324,6 +374,51 @@ fn fail_each_append<R: Abort + AllocGlobal>(rt: &R, server: &Server) -> Result<(
         let without = server.lived_without(alloc, index)?;
         check_gone_on(told_by(&lived, 0)?, told_by(&without, 0)?, index)?;
         assert!(rt; lived.log.octets() == without.log.octets());
+    }
+    Ok(())
+}
+
+/// A life that goes on in a next generation before one of its batches answers as the run does. The log that
+/// it leaves begins with the books that there were, and has the batches from that one on.
+#[test]
+fn a_life_goes_on_in_a_next_generation(rt: HostRuntime) -> Result<(), Fail> {
+    let server = Server::new(rt.alloc())?;
+    roll_before_each_batch(&rt, &server)
+}
+
+fn roll_before_each_batch<R: Abort + AllocGlobal>(rt: &R, server: &Server) -> Result<(), Fail> {
+    let alloc = rt.alloc();
+    let mut left: usize = 24;
+    for index in 0..BATCHES {
+        let lived = server.lived_rolling(alloc, index, &[])?;
+        assert_eq!(rt; answered(&server.run.lines, told_by(&lived, 0)?)?, 24);
+        assert_eq!(rt; server.moves_of_last(alloc, lived.log.octets())?, left);
+        left = left.saturating_sub(batch_len(index));
+    }
+    Ok(())
+}
+
+/// Each call of the next log fails in turn, and no call after it: the life tells and leaves what one does
+/// that was not to go on in a next generation.
+#[test]
+fn a_life_goes_on_where_no_generation_begins(rt: HostRuntime) -> Result<(), Fail> {
+    let server = Server::new(rt.alloc())?;
+    fail_to_roll(&rt, &server)
+}
+
+fn fail_to_roll<R: Abort + AllocGlobal>(rt: &R, server: &Server) -> Result<(), Fail> {
+    let alloc = rt.alloc();
+    for calls in 0..ROLL_CALLS {
+        let once = Life {
+            calls: 3 + calls,
+            failing: 1,
+            kept: 0,
+        };
+        let lived = server.lived_rolling(alloc, 0, &[once])?;
+        let still = server.lived(alloc, &server.begun, &[once], &[0], Ending::Kill)?;
+        let (told, wanted) = (told_by(&lived, 0)?, told_by(&still, 0)?);
+        assert!(rt; told.len() == wanted.len() && told.iter().zip(wanted.iter()).all(are_alike));
+        assert!(rt; lived.log.octets() == still.log.octets());
     }
     Ok(())
 }

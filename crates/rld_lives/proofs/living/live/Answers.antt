@@ -1,6 +1,4 @@
-use Rattle.std.proofs.Common.{◌≡◌, ◌++◌, ◌∷◌, [], List, length, ap, sym, subst, ◌∙◌, arith}
-use Rattle.std.specs.Global.{Vec}
-use Rattle.std.proofs.lemmas.List.{length-map}
+use Rattle.std.proofs.Common.{◌≡◌, ◌++◌, ◌∷◌, [], List, length, refl, ap, sym, subst, ◌∙◌, arith}
 use Rattle.std.specs.Vec.Iter.{into_iter_items}
 use Rattle.rsl_shard.specs.declared.moved.Move.{Move}
 use Rattle.rsl_shard.specs.Restep.{BooksSeen}
@@ -8,24 +6,26 @@ use Rattle.rld_store.specs.declared.fault.RecordFault.TheVariants.{Failed, Ended
 use Rattle.rld_lives.specs.Leaving.{batches_of}
 use Rattle.rld_lives.specs.Life.{AreOutcomes, Outcome}
 use Rattle.rld_lives.proofs.Lasting.{comes, next_ended, next_failed, next_recorded, none_next}
-use Rattle.rld_lives.proofs.Leaving.{GoesOn, goes_recorded, goes_unrecorded, leaves}
+use Rattle.rld_lives.specs.declared.living.Step.{Step}
+use Rattle.rld_lives.proofs.Leaving.{GoesOn, goes_on, goes_recorded, goes_unrecorded, leaves}
 use Rattle.rld_lives.proofs.living.live.Goals as goal
 
-none_of : (left : List (Vec Move)) → length left ≡ 0 → length (batches_of left) ≡ 0
-none_of left none = length-map left (λ (batch : Vec Move). batch.items) ∙ none
+none_of : (left : List Step) → length left ≡ 0 → length (batches_of left) ≡ 0
+none_of [] none = refl
+none_of (step ∷ left) none = absurd (omega (arith, none))
 
-pub loop-batch-init : goal.loop-batch-init
-loop-batch-init g c =
-    let gives = c.into_iter-batch-iterator.ensures.into_iter_gives in
-    let left : List (Vec Move) = into_iter_items c.into_iter-batch-iterator.result in
-    let long : length left ≡ length c.args.batches.items = ap length gives.0 in
-    let batches : List (List Move) = batches_of c.args.batches.items in
+pub loop-step-init : goal.loop-step-init
+loop-step-init g c =
+    let gives = c.into_iter-step-iterator.ensures.into_iter_gives in
+    let left : List Step = into_iter_items c.into_iter-step-iterator.result in
+    let long : length left ≡ length c.args.steps.items = ap length gives.0 in
+    let batches : List (List Move) = batches_of c.args.steps.items in
     let all : batches ≡ batches_of left = ap batches_of (sym gives.0) in
     record {
       can_next = tt;
       is_finite = tt;
-      len = omega (arith, gives.1, long, c.args.batches.ok);
-      room = omega (arith, long, c.in_ok-outcomes.ensures.capacity, c.in_ok-outcomes.ensures.len, c.args.batches.ok);
+      len = omega (arith, gives.1, long, c.args.steps.ok);
+      room = omega (arith, long, c.in_ok-outcomes.ensures.capacity, c.in_ok-outcomes.ensures.len, c.args.steps.ok);
       told = λ told. told;
       out = λ later are. subst (λ (o : List Outcome). AreOutcomes c.args.store.now.books batches (o ++ later)) (sym c.in_ok-outcomes.ensures.items)
           (subst (λ (b : List (List Move)). AreOutcomes c.args.store.now.books b later) (sym all) are);
@@ -37,17 +37,18 @@ loop-batch-init g c =
       };
     }
 
-pub loop-batch-preserved-in-Ok : goal.loop-batch-preserved-in-Ok
-loop-batch-preserved-in-Ok g c =
-    let now = c.loop-batch.invariant in
-    let batches : List (List Move) = batches_of c.args.batches.items in
-    let outcomes : List Outcome = c.loop-batch.outcomes.items in
+pub loop-step-preserved-in-Ok : goal.loop-step-preserved-in-Ok
+loop-step-preserved-in-Ok g c =
+    let now = c.loop-step.invariant in
+    let batches : List (List Move) = batches_of c.args.steps.items in
+    let outcomes : List Outcome = c.loop-step.outcomes.items in
     let more : List Outcome = c.push_reserved.new.self.items in
-    let batch : List Move = c.in-Some.batch.items in
+    let batch : List Move = c.in-Batch.batch.items in
     let rest : List (List Move) = batches_of (into_iter_items c.next.new.self) in
-    let next : batches_of (into_iter_items c.loop-batch.batch-iterator) ≡ batch ∷ rest = ap batches_of c.in-Some.ensures.steps.0 in
+    let next : batches_of (into_iter_items c.loop-step.step-iterator) ≡ batch ∷ rest =
+    ap batches_of c.in-Some.ensures.steps.0 ∙ ap (λ (step : Step). batches_of (step ∷ into_iter_items c.next.new.self)) c.in-Batch.is in
     let long = ap length c.in-Some.ensures.steps.0 in
-    let was = c.loop-batch.store in
+    let was = c.loop-step.store in
     let store = c.commit.new.self in
     record {
       can_next = tt;
@@ -66,17 +67,18 @@ loop-batch-preserved-in-Ok g c =
           c.in-Ok.recorded c.push_reserved.ensures.items (c.in-Ok.ensures.recorded told config opening) c.in-Ok.ensures.settled;
     }
 
-pub loop-batch-preserved : goal.loop-batch-preserved
-loop-batch-preserved g c =
-    let now = c.loop-batch.invariant in
-    let batches : List (List Move) = batches_of c.args.batches.items in
-    let outcomes : List Outcome = c.loop-batch.outcomes.items in
+pub loop-step-preserved : goal.loop-step-preserved
+loop-step-preserved g c =
+    let now = c.loop-step.invariant in
+    let batches : List (List Move) = batches_of c.args.steps.items in
+    let outcomes : List Outcome = c.loop-step.outcomes.items in
     let more : List Outcome = c.push_reserved-in-Failed.new.self.items in
-    let batch : List Move = c.in-Some.batch.items in
+    let batch : List Move = c.in-Batch.batch.items in
     let rest : List (List Move) = batches_of (into_iter_items c.next.new.self) in
-    let next : batches_of (into_iter_items c.loop-batch.batch-iterator) ≡ batch ∷ rest = ap batches_of c.in-Some.ensures.steps.0 in
+    let next : batches_of (into_iter_items c.loop-step.step-iterator) ≡ batch ∷ rest =
+    ap batches_of c.in-Some.ensures.steps.0 ∙ ap (λ (step : Step). batches_of (step ∷ into_iter_items c.next.new.self)) c.in-Batch.is in
     let long = ap length c.in-Some.ensures.steps.0 in
-    let was = c.loop-batch.store in
+    let was = c.loop-step.store in
     let store = c.commit.new.self in
     record {
       can_next = tt;
@@ -95,49 +97,75 @@ loop-batch-preserved g c =
           Failed c.push_reserved-in-Failed.ensures.items (c.in-Err.ensures.left told config opening);
     }
 
+pub loop-step-preserved-in-Roll : goal.loop-step-preserved-in-Roll
+loop-step-preserved-in-Roll g c =
+    let now = c.loop-step.invariant in
+    let batches : List (List Move) = batches_of c.args.steps.items in
+    let outcomes : List Outcome = c.loop-step.outcomes.items in
+    let rest : List (List Move) = batches_of (into_iter_items c.next.new.self) in
+    let next : batches_of (into_iter_items c.loop-step.step-iterator) ≡ rest =
+    ap batches_of c.in-Some.ensures.steps.0 ∙ ap (λ (step : Step). batches_of (step ∷ into_iter_items c.next.new.self)) c.in-Roll.is in
+    let long = ap length c.in-Some.ensures.steps.0 in
+    let was = c.loop-step.store in
+    let store = c.roll_on.new.store in
+    record {
+      can_next = tt;
+      is_finite = tt;
+      len = omega (arith, now.len, c.in-Some.ensures.steps.1, long);
+      room = omega (arith, now.room, long);
+      told = λ told. now.told (c.roll_on.ensures.told told);
+      out = λ later are. now.out later (subst (λ (b : List (List Move)). AreOutcomes was.books b later) (sym next) (subst (λ (b : List BooksSeen). AreOutcomes b rest later) c.roll_on.ensures.books are));
+      goes = λ told config opening history so.
+          goes_on config opening was.counts store.counts g.L.Log.tears was.end store.end (g.L.Log.seen was.log) (g.L.Log.seen store.log) (g.L.Log.may_leave was.log) (g.L.Log.may_leave store.log) was.whole store.whole
+          was.books store.books history batches outcomes rest (c.roll_on.ensures.stands told config opening)
+          (subst (λ (b : List (List Move)). GoesOn config opening was.counts g.L.Log.tears was.end (g.L.Log.seen was.log) (g.L.Log.may_leave was.log) was.whole was.books history batches outcomes b) next
+          (now.goes (c.roll_on.ensures.told told) config opening history so));
+    }
+
 pub returns-in-Ended-clause-outcomes : goal.returns-in-Ended-clause-outcomes
 returns-in-Ended-clause-outcomes g c =
-    let batches : List (List Move) = batches_of c.args.batches.items in
-    let outcomes : List Outcome = c.loop-batch.outcomes.items in
-    let next = ap batches_of c.in-Some.ensures.steps.0 in
-    next_ended c.args.store.now.books c.loop-batch.store.books c.commit.new.self.books batches (batches_of (into_iter_items c.next.new.self)) c.in-Some.batch.items outcomes c.push_reserved-in-Ended.new.self.items
-    (subst (λ (b : List (List Move)). (later : List Outcome) → AreOutcomes c.loop-batch.store.books b later → AreOutcomes c.args.store.now.books batches (outcomes ++ later)) next c.loop-batch.invariant.out)
+    let batches : List (List Move) = batches_of c.args.steps.items in
+    let outcomes : List Outcome = c.loop-step.outcomes.items in
+    let next = ap batches_of c.in-Some.ensures.steps.0 ∙ ap (λ (step : Step). batches_of (step ∷ into_iter_items c.next.new.self)) c.in-Batch.is in
+    next_ended c.args.store.now.books c.loop-step.store.books c.commit.new.self.books batches (batches_of (into_iter_items c.next.new.self)) c.in-Batch.batch.items outcomes c.push_reserved-in-Ended.new.self.items
+    (subst (λ (b : List (List Move)). (later : List Outcome) → AreOutcomes c.loop-step.store.books b later → AreOutcomes c.args.store.now.books batches (outcomes ++ later)) next c.loop-step.invariant.out)
     c.push_reserved-in-Ended.ensures.items
 
 pub returns-in-Ended-clause-lived : goal.returns-in-Ended-clause-lived
 returns-in-Ended-clause-lived g c = λ told config opening history so.
-    let batches : List (List Move) = batches_of c.args.batches.items in
-    let outcomes : List Outcome = c.loop-batch.outcomes.items in
+    let batches : List (List Move) = batches_of c.args.steps.items in
+    let outcomes : List Outcome = c.loop-step.outcomes.items in
     let more : List Outcome = c.push_reserved-in-Ended.new.self.items in
-    let batch : List Move = c.in-Some.batch.items in
+    let batch : List Move = c.in-Batch.batch.items in
     let rest : List (List Move) = batches_of (into_iter_items c.next.new.self) in
-    let next : batches_of (into_iter_items c.loop-batch.batch-iterator) ≡ batch ∷ rest = ap batches_of c.in-Some.ensures.steps.0 in
-    let was = c.loop-batch.store in
+    let next : batches_of (into_iter_items c.loop-step.step-iterator) ≡ batch ∷ rest =
+    ap batches_of c.in-Some.ensures.steps.0 ∙ ap (λ (step : Step). batches_of (step ∷ into_iter_items c.next.new.self)) c.in-Batch.is in
+    let was = c.loop-step.store in
     let store = c.commit.new.self in
     let out : AreOutcomes c.args.store.now.books batches more = next_ended c.args.store.now.books was.books store.books batches rest batch outcomes more
-    (subst (λ (b : List (List Move)). (later : List Outcome) → AreOutcomes was.books b later → AreOutcomes c.args.store.now.books batches (outcomes ++ later)) next c.loop-batch.invariant.out)
+    (subst (λ (b : List (List Move)). (later : List Outcome) → AreOutcomes was.books b later → AreOutcomes c.args.store.now.books batches (outcomes ++ later)) next c.loop-step.invariant.out)
     c.push_reserved-in-Ended.ensures.items in
     leaves config opening store.counts g.L.Log.tears store.end (g.L.Log.seen store.log) (g.L.Log.may_leave store.log) store.whole store.books history batches more rest
     (goes_unrecorded config opening was.counts store.counts g.L.Log.tears was.end store.end (g.L.Log.seen was.log) (g.L.Log.seen store.log) (g.L.Log.may_leave was.log) (g.L.Log.may_leave store.log) was.whole store.whole
     was.books store.books history batches outcomes more batch rest
     (subst (λ (b : List (List Move)). GoesOn config opening was.counts g.L.Log.tears was.end (g.L.Log.seen was.log) (g.L.Log.may_leave was.log) was.whole was.books history batches outcomes b) next
-    (c.loop-batch.invariant.goes (c.commit.ensures.told told) config opening history so))
+    (c.loop-step.invariant.goes (c.commit.ensures.told told) config opening history so))
     Ended c.push_reserved-in-Ended.ensures.items (c.in-Err.ensures.left told config opening))
     (subst (λ (s : List BooksSeen). AreOutcomes s batches more) so.replayed out)
 
 pub returns-clause-outcomes : goal.returns-clause-outcomes
 returns-clause-outcomes g c =
-    none_next c.args.store.now.books c.loop-batch.store.books (batches_of c.args.batches.items) (batches_of (into_iter_items c.loop-batch.batch-iterator)) c.loop-batch.outcomes.items c.loop-batch.invariant.out
-    (none_of (into_iter_items c.loop-batch.batch-iterator) (omega (arith, c.loop-batch.invariant.len, c.in-None.ensures.steps.0)))
+    none_next c.args.store.now.books c.loop-step.store.books (batches_of c.args.steps.items) (batches_of (into_iter_items c.loop-step.step-iterator)) c.loop-step.outcomes.items c.loop-step.invariant.out
+    (none_of (into_iter_items c.loop-step.step-iterator) (omega (arith, c.loop-step.invariant.len, c.in-None.ensures.steps.0)))
 
 pub returns-clause-lived : goal.returns-clause-lived
 returns-clause-lived g c = λ told config opening history so.
-    let batches : List (List Move) = batches_of c.args.batches.items in
-    let outcomes : List Outcome = c.loop-batch.outcomes.items in
-    let rest : List (List Move) = batches_of (into_iter_items c.loop-batch.batch-iterator) in
-    let store = c.loop-batch.store in
-    let out : AreOutcomes c.args.store.now.books batches outcomes = none_next c.args.store.now.books store.books batches rest outcomes c.loop-batch.invariant.out
-    (none_of (into_iter_items c.loop-batch.batch-iterator) (omega (arith, c.loop-batch.invariant.len, c.in-None.ensures.steps.0))) in
+    let batches : List (List Move) = batches_of c.args.steps.items in
+    let outcomes : List Outcome = c.loop-step.outcomes.items in
+    let rest : List (List Move) = batches_of (into_iter_items c.loop-step.step-iterator) in
+    let store = c.loop-step.store in
+    let out : AreOutcomes c.args.store.now.books batches outcomes = none_next c.args.store.now.books store.books batches rest outcomes c.loop-step.invariant.out
+    (none_of (into_iter_items c.loop-step.step-iterator) (omega (arith, c.loop-step.invariant.len, c.in-None.ensures.steps.0))) in
     leaves config opening store.counts g.L.Log.tears store.end (g.L.Log.seen store.log) (g.L.Log.may_leave store.log) store.whole store.books history batches outcomes rest
-    (c.loop-batch.invariant.goes told config opening history so)
+    (c.loop-step.invariant.goes told config opening history so)
     (subst (λ (s : List BooksSeen). AreOutcomes s batches outcomes) so.replayed out)

@@ -10,17 +10,17 @@ use Rattle.rld_lives.specs.Life.{AreOutcomes, Outcome}
 use Rattle.rld_lives.proofs.Leaving.{GoesOn}
 use Rattle.rld_lives.proofs.living.live.Given as goal
 
-abbrev pub invariant-loop-batch : goal.invariant-loop-batch
-invariant-loop-batch g l = record {
-  can_next : (goal.iterator-loop-batch g).can_next l.batch-iterator;
-  is_finite : (goal.iterator-loop-batch g).is_finite l.batch-iterator;
-  len : into_iter_len l.batch-iterator ≡ length (into_iter_items l.batch-iterator);
-  room : vec_len l.outcomes + length (into_iter_items l.batch-iterator) ≤ vec_capacity l.outcomes;
+abbrev pub invariant-loop-step : goal.invariant-loop-step
+invariant-loop-step g l = record {
+  can_next : (goal.iterator-loop-step g).can_next l.step-iterator;
+  is_finite : (goal.iterator-loop-step g).is_finite l.step-iterator;
+  len : into_iter_len l.step-iterator ≡ length (into_iter_items l.step-iterator);
+  room : vec_len l.outcomes + length (into_iter_items l.step-iterator) ≤ vec_capacity l.outcomes;
   told : IsTrue (g.L.Log.tells l.store.log) → IsTrue (g.L.Log.tells l.fn.store.log);
-  out : (later : List Outcome) → AreOutcomes l.store.books (batches_of (into_iter_items l.batch-iterator)) later
-      → AreOutcomes l.fn.store.books (batches_of l.fn.batches.items) (l.outcomes.items ++ later);
+  out : (later : List Outcome) → AreOutcomes l.store.books (batches_of (into_iter_items l.step-iterator)) later
+      → AreOutcomes l.fn.store.books (batches_of l.fn.steps.items) (l.outcomes.items ++ later);
   goes : IsTrue (g.L.Log.tells l.store.log) → (config : Configuration) (opening : List BooksSeen) (history : List Move)
       → StandsFor config opening l.fn.store.counts g.L.Log.tears l.fn.store.end (g.L.Log.seen l.fn.store.log) (g.L.Log.may_leave l.fn.store.log) l.fn.store.whole l.fn.store.books history []
       → GoesOn config opening l.store.counts g.L.Log.tears l.store.end (g.L.Log.seen l.store.log) (g.L.Log.may_leave l.store.log) l.store.whole l.store.books history
-      (batches_of l.fn.batches.items) l.outcomes.items (batches_of (into_iter_items l.batch-iterator));
+      (batches_of l.fn.steps.items) l.outcomes.items (batches_of (into_iter_items l.step-iterator));
 }

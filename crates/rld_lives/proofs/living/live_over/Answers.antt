@@ -8,7 +8,7 @@ use Rattle.rld_lives.proofs.living.live_over.Goals as goal
 pub returns-in-Ok-clause-lived : goal.returns-in-Ok-clause-lived
 returns-in-Ok-clause-lived g c =
     rw c.into_log.ensures (λ told only opening history has.
-    let batches : List (List Move) = batches_of c.args.batches.items in
+    let batches : List (List Move) = batches_of c.args.steps.items in
     let old = c.in-Ok.opened.store in
     let new = c.live.new.store in
     let so = c.in-Ok.ensures.stands (c.live.ensures.told told) opening history has in

@@ -50,12 +50,12 @@ loop-plan-preserved g c =
           let before = c.live_over-one.ensures.told back in
           let so = now.gone before only premises opening history has in
           one_gone c.args.config.now opening history (plans_of c.args.plans.items) c.loop-plan.told.items c.push_reserved.new.self.items c.live_over-one.result.told (plans_of (into_iter_items c.loop-plan.plan-iterator)) (plans_of rest)
-          (batches_of c.in-Some.plan.batches.items) (g.L.Log.seen c.loop-plan.log) (g.L.Log.seen c.restart.new.self) (ap plans_of next) c.push_reserved.ensures.items so
+          (batches_of c.in-Some.plan.steps.items) (g.L.Log.seen c.loop-plan.log) (g.L.Log.seen c.restart.new.self) (ap plans_of next) c.push_reserved.ensures.items so
           (c.live_over-one.ensures.lived back (now.settled before only) opening so.mid so.has c.in-Some.plan.ending (all premises).0 (g.L.Log.seen c.restart.new.self) (c.restart.ensures.left told));
     }
 
 pub returns-clause-lived : goal.returns-clause-lived
 returns-clause-lived g c = λ told only premises opening history has.
     let rest : List Plan = into_iter_items c.loop-plan.plan-iterator in
-    let none : length (plans_of rest) ≡ 0 = length-map rest (λ (plan : Plan). batches_of plan.batches.items) ∙ (omega (arith, c.loop-plan.invariant.len, c.in-None.ensures.steps.0)) in
+    let none : length (plans_of rest) ≡ 0 = length-map rest (λ (plan : Plan). batches_of plan.steps.items) ∙ (omega (arith, c.loop-plan.invariant.len, c.in-None.ensures.steps.0)) in
     all_gone c.args.config.now opening history (plans_of c.args.plans.items) c.loop-plan.told.items (plans_of rest) (g.L.Log.seen c.loop-plan.log) none (c.loop-plan.invariant.gone told only premises opening history has)
