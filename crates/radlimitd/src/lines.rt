@@ -46,7 +46,7 @@ fn lines_of<F: Files, W: Write, S: Write>(
     let log = LogFile {
         name,
         generation,
-        octets: octets.as_slice(),
+        octets,
     };
     match write_lines(alloc, table.as_slice(), log, writer) {
         Ok(printed) if printed.torn > 0 => {

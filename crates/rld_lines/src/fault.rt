@@ -1,7 +1,7 @@
 use rld_start::Wrong;
 use rld_store::StoreFault;
 use rsl_wire::NoMemory;
-use std::alloc::{AllocError, AllocFailed};
+use std::alloc::AllocError;
 use std::io;
 
 /// Why the lines of a log are not written, or not all.
@@ -34,12 +34,6 @@ impl From<StoreFault> for LinesFault {
 
 impl From<AllocError> for LinesFault {
     fn from(_refused: AllocError) -> LinesFault {
-        LinesFault::NoMemory
-    }
-}
-
-impl<T: Drop> From<AllocFailed<T>> for LinesFault {
-    fn from(_refused: AllocFailed<T>) -> LinesFault {
         LinesFault::NoMemory
     }
 }

@@ -12,23 +12,24 @@ use crate::line::{push_end, push_front};
 use rld_books::ServerBooks;
 use rld_fields as fields;
 use rld_folder::Generation;
+use rld_log::Frames;
 use rld_spelling::Header;
-use rld_start::{Cause, First, Wrong, check_header, unspoilt_frames};
-use rld_store::{Part, Parts, counts_in};
+use rld_start::{Cause, First, Wrong, check_header, check_torn};
+use rld_store::{Part, Parts, StoreFault, counts_in};
 use rsl_accounts::Config;
 use rsl_shard::Move;
 use std::alloc::Global;
 use std::io::Write;
 
 /// The log of a generation, as it was read.
-#[derive(Clone, Copy)]
+#[derive(Drop)]
 pub struct LogFile<'a> {
     /// How its lines name it.
     pub name: &'a str,
     /// The generation that it has the name of.
     pub generation: Generation,
     /// Its octets.
-    pub octets: &'a [u8],
+    pub octets: Vec<u8>,
 }
 
 /// What was found in a log whose lines were written.
@@ -164,6 +165,13 @@ fn write_moves<W: Write>(
     Ok(replay.number.saturating_sub(header.lines))
 }
 
+/// The frames of a log with these octets, in which none is spoilt.
+fn frames_of(octets: Vec<u8>) -> Result<Frames, StoreFault> {
+    let frames = Frames::of(octets)?;
+    check_torn(&frames)?;
+    Ok(frames)
+}
+
 /// Writes the lines of a log, of an era whose file has the octets of `table`.
 ///
 /// Of a log whose generation was not begun there are none. `Table` comes where `table` is damaged,
@@ -179,16 +187,17 @@ pub fn write_lines<W: Write>(
     writer: &mut W,
 ) -> Result<Printed, LinesFault> {
     let config = config_of(alloc, table)?;
-    let frames = unspoilt_frames(alloc, log.octets)?;
-    let moves = match First::of(&frames.payloads)? {
+    let frames = frames_of(log.octets)?;
+    let payloads = frames.payloads(alloc)?;
+    let moves = match First::of(&payloads)? {
         First::Begun(header) => {
             check_header(&header, log.generation, table)?;
-            write_moves(alloc, &config, log.name, header, &frames.payloads, writer)?
+            write_moves(alloc, &config, log.name, header, &payloads, writer)?
         }
         First::Unbegun => 0,
     };
     Ok(Printed {
         moves,
-        torn: log.octets.len().saturating_sub(frames.whole),
+        torn: frames.torn().len(),
     })
 }

@@ -17,7 +17,7 @@ ghost use Rattle.std.specs.Global.{Vec as OneVec};
 
 use rld_log::{Crash, Ending, Log};
 use rld_spelling::Header;
-use rld_store::{Opened, RecordFault, Recorded, Refused, Store};
+use rld_store::{Opened, RecordFault, Recorded, Refused, Store, read_frames};
 use rsl_accounts::Config;
 use rsl_shard::Move;
 use rsl_wire::NoMemory;
@@ -140,7 +140,11 @@ fn live_over<L: Crash + Drop>(
         (option_map (λ (outcomes : OneVec OneOutcome). outcomes.items) result.told)
         (L.Log.may_leave result.log) }
 {
-    match Store::open(alloc, config, log) {
+    let mut log = log;
+    let Ok(frames) = read_frames(alloc, &mut log) else {
+        return OneLife { told: None, log };
+    };
+    match Store::open(alloc, config, log, &frames) {
         Ok(opened) => {
             let Opened { mut store, .. } = opened;
             let told = live(alloc, &mut store, steps).ok();

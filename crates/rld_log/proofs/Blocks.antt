@@ -5,7 +5,7 @@ use Rattle.std.proofs.lemmas.Bool.{cases_lt}
 use Rattle.std.proofs.lemmas.List.{append-nil, take_at, drop_at, length-take-le, get_or-take, get_or_past, take-take}
 use Rattle.std.proofs.lemmas.Nat.{be_bytes_4, from_be_bytes-to_be_bytes_4}
 use Rattle.md5.specs.Md5.{md5, digest_bytes}
-use Rattle.rld_log.specs.Frames.{block, digest, frame, Fits, HasFrame, IsBlock, NoBlock, NoFrame, first, behind}
+use Rattle.rld_log.specs.Frames.{block, digest, Fits, HasFrame, IsBlock, NoBlock, NoFrame, first, behind}
 use Rattle.rld_log.specs.Log.{Shortens}
 
 pub length-digest : (payload : List ℕ) → length (digest payload) ≡ 16

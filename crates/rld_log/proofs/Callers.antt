@@ -5,5 +5,5 @@ pub use Rattle.rld_log.proofs.Readings.{all_fit_more, frames_more}
 -- the parts of a frame
 pub use Rattle.rld_log.proofs.Blocks.{Parts, frame_shape, parts_of}
 -- whole frames are a file of their payloads, and a file has one list of them
-pub use Rattle.rld_log.proofs.Recordings.{ends_there, whole_has}
-pub use Rattle.rld_log.proofs.Readings.{have_one_reading}
+pub use Rattle.rld_log.proofs.Recordings.{whole_has}
+pub use Rattle.rld_log.proofs.Readings.{ends_so, have_one_reading}

@@ -1,10 +1,9 @@
 -- What a crash may leave of a log in memory.
-use Rattle.std.proofs.Common.{◌≡◌, inl, inr, ℕ, List, [], ◌∷◌, ◌++◌, reverse, refl, sym, subst, arith}
+use Rattle.std.proofs.Common.{◌≡◌, inl, inr, ℕ, List, [], ◌∷◌, ◌++◌, refl, sym, subst, arith}
 use Rattle.std.proofs.lemmas.List.{append-nil, reverse-append}
 use Rattle.rld_log.specs.declared.log.Ending.{Ending}
 use Rattle.rld_log.specs.declared.log.Ending.TheVariants.{Kill, PowerLoss}
 use Rattle.rld_log.specs.declared.memory.Step.{Step}
-use Rattle.rld_log.specs.declared.memory.Step.TheVariants as steps
 use Rattle.rld_log.specs.Log.{Appends, Follows, Shortens, Tears}
 use Rattle.rld_log.specs.Memory.{Takes, Reaches, reaches}
 

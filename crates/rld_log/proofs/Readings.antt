@@ -1,12 +1,16 @@
 -- A file is read in one way.
-use Rattle.std.proofs.Common.{◌≡◌, ℕ, ◌+◌, List, [], ◌∷◌, ◌++◌, length, take, refl, sym, ◌∙◌, ap, subst, arith, append_assoc}
-use Rattle.std.specs.List.{flat_map, AllByRecursion}
-use Rattle.std.proofs.lemmas.List.{append-nil, take_at}
+use Rattle.std.proofs.Common.{◌≡◌, ◌≤◌, ℕ, ◌+◌, List, [], ◌∷◌, ◌++◌, length, take, drop, refl, sym, ◌∙◌, ap, subst, arith, append_assoc, length-append}
+use Rattle.std.specs.List.{AllByRecursion}
+use Rattle.std.specs.Coded.{coded_list, coded_ℕ, le_prop}
+use Rattle.std.proofs.Math.Logic.{∥∥₁_elim}
+use Rattle.std.proofs.lemmas.List.{append-nil, drop_at, take_at}
+use denote.Struct.Props.{≡_prop}
+use mathlib.Core.HLevel.{⊥_prop}
 use Rattle.std.proofs.lemmas.List.Concat.{flat_map-append}
-use Rattle.rld_log.specs.Frames.{Fits, HasFrame, HasPayloads, IsDamagedAt, IsTorn, NoFrame, digest, first, frame, frames}
+use Rattle.rld_log.specs.Frames.{EndsAt, Fits, HasFrame, HasPayloads, IsBlock, IsDamagedAt, IsTorn, NoBlock, NoFrame, block, digest, first, frame, frames}
 use Rattle.rld_log.specs.Log.{Detects, Shortens}
 use Rattle.rld_log.specs.Passing.{HasPassed}
-use Rattle.rld_log.proofs.Blocks.{AreSame, frame_shape, no_block_has_none, one_block, shortened, too_short}
+use Rattle.rld_log.proofs.Blocks.{frame_shape, no_block_has_none, one_block, shortened, too_short}
 
 -- octets in which no frame stands have none at their front
 pub torn_has_none : (tail : List ℕ) → IsTorn tail → NoFrame tail
@@ -68,4 +72,63 @@ pub pass_one : (octets rest after payload : List ℕ) (ps : List (List ℕ)) →
 pass_one octets rest after payload ps passed fits is = record {
   parts = passed.parts ∙ ap (λ (x : List ℕ). frames ps ++ x) is ∙ sym (append_assoc (frames ps) (frame payload) after) ∙ ap (λ (x : List ℕ). x ++ after) (sym (frames_more ps payload));
   fit = fits_more ps payload passed.fit fits;
+}
+
+pub passed_size : (octets rest : List ℕ) (ps : List (List ℕ)) (len : ℕ) → HasPassed octets ps rest → len + length rest ≡ length octets → len ≡ length (frames ps)
+passed_size octets rest ps len passed size = omega (arith, size, ap length passed.parts, length-append (frames ps) rest)
+
+-- ---- whole frames, walked by their lengths
+
+-- these of the payloads were found, and the frames of the others are left
+pub record IsLeft (payloads found : List (List ℕ)) (left : List ℕ) : Type 0 where
+  pub rest : List (List ℕ)
+  pub all : payloads ≡ found ++ rest
+  pub left_is : left ≡ frames rest
+  pub fit : AllByRecursion Fits rest
+
+pub left_more : (payloads found : List (List ℕ)) (left sum payload after : List ℕ) → IsBlock sum payload → left ≡ block sum payload ++ after → IsLeft payloads found left → IsLeft payloads (found ++ payload ∷ []) after
+left_more payloads found left sum payload after shape is so = by so.rest so.all so.left_is so.fit
+  where
+    by : (rest : List (List ℕ)) → payloads ≡ found ++ rest → left ≡ frames rest → AllByRecursion Fits rest → IsLeft payloads (found ++ payload ∷ []) after
+    by [] all none fit = absurd (too_short left (omega (arith, ap length none)) sum payload after shape is)
+    by (p ∷ rest) all some fit =
+        let same = one_block left sum payload after (digest p) p (frames rest) shape (frame_shape p fit.0) is some in
+        record {
+          rest = rest;
+          all = all ∙ ap (λ (q : List ℕ). found ++ q ∷ rest) (sym same.payloads) ∙ sym (append_assoc found (payload ∷ []) rest);
+          left_is = same.rests;
+          fit = fit.1;
+        }
+
+pub none_left : (payloads found : List (List ℕ)) (left : List ℕ) → NoBlock left → IsLeft payloads found left → found ≡ payloads
+none_left payloads found left none so = by so.rest so.all so.left_is so.fit
+  where
+    by : (rest : List (List ℕ)) → payloads ≡ found ++ rest → left ≡ frames rest → AllByRecursion Fits rest → found ≡ payloads
+    by [] all is fit = sym (all ∙ append-nil found)
+    by (p ∷ rest) all is fit = absurd (none (digest p) p (frames rest) (frame_shape p fit.0) is)
+
+-- ---- what a file of whole frames is known by
+
+pub ends_within : (file : List ℕ) (len : ℕ) → ∥ EndsAt file len ∥₁ → len ≤ length file
+ends_within file len known = ∥∥₁_elim known le_prop (λ ends. omega (arith, ends.size, ap length ends.has.parts, length-append (frames ends.payloads) ends.has.tail))
+
+pub ends_so : (file : List ℕ) (len : ℕ) → ∥ EndsAt file len ∥₁ → (payloads : List (List ℕ)) → HasPayloads file payloads → len ≡ length (frames payloads)
+ends_so file len known payloads has =
+    ∥∥₁_elim known (≡_prop coded_ℕ _ _) (λ ends. ends.size ∙ ap (λ (l : List (List ℕ)). length (frames l)) (have_one_reading file ends.payloads payloads ends.has has))
+
+torn_is : (file : List ℕ) (len : ℕ) (ends : EndsAt file len) → drop len file ≡ ends.has.tail
+torn_is file len ends = ap (λ (x : List ℕ). drop len x) ends.has.parts ∙ drop_at (frames ends.payloads) ends.has.tail len (sym ends.size)
+
+front_is : (file : List ℕ) (len : ℕ) (ends : EndsAt file len) → take len file ≡ frames ends.payloads
+front_is file len ends = ap (λ (x : List ℕ). take len x) ends.has.parts ∙ take_at (frames ends.payloads) ends.has.tail len (sym ends.size)
+
+pub ends_have : (file front : List ℕ) (len : ℕ) (found : List (List ℕ)) → ∥ EndsAt file len ∥₁ → front ≡ take len file → AllByRecursion Fits found
+    → ((payloads : List (List ℕ)) → AllByRecursion Fits payloads → front ≡ frames payloads → found ≡ payloads) → HasPayloads file found
+ends_have file front len found known is fit so = record {
+  tail = drop len file;
+  parts = ∥∥₁_elim known (≡_prop (coded_list coded_ℕ) _ _) (λ ends.
+      ends.has.parts ∙ ap (λ (l : List (List ℕ)). frames l ++ ends.has.tail) (sym (so ends.payloads ends.has.fit (is ∙ front_is file len ends)))
+      ∙ ap (λ (x : List ℕ). frames found ++ x) (sym (torn_is file len ends)));
+  fit = fit;
+  torn = λ has. ∥∥₁_elim known ⊥_prop (λ ends. ends.has.torn (subst (λ (x : List ℕ). HasFrame x) (torn_is file len ends) has));
 }

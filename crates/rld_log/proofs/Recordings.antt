@@ -1,13 +1,13 @@
--- What opening and recording leave of a log.
-use Rattle.std.proofs.Common.{◌≡◌, ◌⊎◌, inl, inr, ℕ, ◌+◌, ◌-◌, List, [], ◌∷◌, ◌++◌, length, take, refl, sym, ◌∙◌, ap, subst, arith, append_assoc, length-append}
+-- What recording leaves of a log.
+use Rattle.std.proofs.Common.{◌≡◌, ◌⊎◌, inl, inr, ℕ, List, [], ◌∷◌, ◌++◌, length, take, sym, ◌∙◌, ap, subst, append_assoc}
 use Rattle.std.specs.List.{AllByRecursion}
-use Rattle.std.proofs.lemmas.List.{append-nil, take_at, take-append-drop}
+use Rattle.std.proofs.lemmas.List.{append-nil, take_at}
 use Rattle.rld_log.specs.declared.log.Ending.{Ending}
 use Rattle.rld_log.specs.declared.log.Ending.TheVariants.{Kill, PowerLoss}
-use Rattle.rld_log.specs.Frames.{EndsAt, Fits, HasPayloads, IsDamagedAt, IsTorn, frame, frames}
-use Rattle.rld_log.specs.Log.{Appends, Cuts, Detects, Extends, Follows, NoMore, Only, Premise, Tears}
-use Rattle.rld_log.specs.Recording.{HasOpened, IsBeforeOrAfter, IsSettled, LeavesEither}
-use Rattle.rld_log.proofs.Readings.{all_fit_more, frames_more, have_no_reading, have_one_reading, kills_are_detected, nothing_is_torn}
+use Rattle.rld_log.specs.Frames.{EndsAt, Fits, HasPayloads, frame, frames}
+use Rattle.rld_log.specs.Log.{Appends, Cuts, Detects, Extends, Follows, Only, Premise, Tears}
+use Rattle.rld_log.specs.Recording.{IsBeforeOrAfter, IsSettled, LeavesEither}
+use Rattle.rld_log.proofs.Readings.{all_fit_more, frames_more, have_one_reading, kills_are_detected, nothing_is_torn}
 
 -- whole frames are a file
 pub whole_has : (file : List ℕ) (payloads : List (List ℕ)) → AllByRecursion Fits payloads → file ≡ frames payloads → HasPayloads file payloads
@@ -18,33 +18,11 @@ whole_has file payloads fit is = record {
   torn = nothing_is_torn;
 }
 
--- a file ends where the frames of its payloads do
-pub ends_there : (file : List ℕ) (len : ℕ) (payloads : List (List ℕ)) → EndsAt file len → HasPayloads file payloads → len ≡ length (frames payloads)
-ends_there file len payloads ends has = ends.size ∙ ap (λ (l : List (List ℕ)). length (frames l)) (have_one_reading file ends.payloads payloads ends.has has)
-
-pub cut_there : (file : List ℕ) (len : ℕ) (payloads : List (List ℕ)) → EndsAt file len → HasPayloads file payloads → take len file ≡ frames payloads
-cut_there file len payloads ends has =
-    ap (λ (x : List ℕ). take len x) has.parts ∙ take_at (frames payloads) has.tail len (sym (ends_there file len payloads ends has))
-
 -- the outcomes of a call on a file that is the only outcome before it
 follows_only : (file : List ℕ) (step : List ℕ → List ℕ → Type 0) (old new : List ℕ → Type 0) → ((left : List ℕ) → old left → left ≡ file) → Follows step old new
     → (left : List ℕ) → new left → step file left
 follows_only file step old new only follows left reached =
     let from = follows left reached in subst (λ (d : List ℕ). step d left) (only from.0 from.1) from.2
-
--- a crash in the cut of a torn end leaves the payloads
-pub cut_keeps : (file : List ℕ) (len : ℕ) (payloads : List (List ℕ)) → EndsAt file len → HasPayloads file payloads → (left : List ℕ) → Cuts len file left → HasPayloads left payloads
-cut_keeps file len payloads ends has left (inl same) = subst (λ (f : List ℕ). HasPayloads f payloads) (sym same) has
-cut_keeps file len payloads ends has left (inr is) = whole_has left payloads has.fit (is ∙ cut_there file len payloads ends has)
-
-pub open_crash : (file : List ℕ) (len : ℕ) (payloads : List (List ℕ)) (ending : Ending) (old read new : Ending → List ℕ → Type 0) → Only file old → NoMore old read
-    → Follows (Cuts len) (read ending) (new ending) → EndsAt file len → HasPayloads file payloads → (left : List ℕ) → new ending left → HasPayloads left payloads
-open_crash file len payloads ending old read new only fewer follows ends has left reached =
-    cut_keeps file len payloads ends has left (follows_only file (Cuts len) (read ending) (new ending) (λ d l. only ending d (fewer ending d l)) follows left reached)
-
--- a file that ends somewhere is not damaged
-pub not_damaged : (file : List ℕ) (len at : ℕ) → EndsAt file len → IsDamagedAt file at → ⊥
-not_damaged file len at ends damaged = have_no_reading file at ends.payloads damaged ends.has
 
 -- no torn write of a frame passes for one, at each ending under its premise
 detected : (by_power : List ℕ → List ℕ → Type 0) (ending : Ending) → Premise by_power ending → Detects (Tears by_power ending)
@@ -118,24 +96,3 @@ mend_crash old new before payload len fit is either follows left reached =
 pub mended_leaves : (seen cut left : List ℕ) (before : List (List ℕ)) (payload : List ℕ) (len : ℕ) → AllByRecursion Fits before → len ≡ length (frames before) → Extends (frames before) seen
     → cut ≡ take len seen → left ≡ cut → IsBeforeOrAfter before payload left
 mended_leaves seen cut left before payload len fit is more done same = inl (whole_has left before fit (same ∙ done ∙ cut_behind seen before len is more))
-
--- and what opening does
-pub opened_leaves : (seen cut left : List ℕ) (len : ℕ) (before : List (List ℕ)) → EndsAt seen len → HasPayloads seen before → cut ≡ take len seen → left ≡ cut → HasPayloads left before
-opened_leaves seen cut left len before ends has done same = whole_has left before has.fit (same ∙ done ∙ cut_there seen len before ends has)
-
-pub opened_settled : (seen cut new : List ℕ) (may_leave : Ending → List ℕ → Type 0) (len : ℕ) (before : List (List ℕ)) → EndsAt seen len → HasPayloads seen before → cut ≡ take len seen → new ≡ cut → Only cut may_leave
-    → IsSettled new may_leave before
-opened_settled seen cut new may_leave len before ends has done same only = record {
-  whole = same ∙ done ∙ cut_there seen len before ends has;
-  fit = has.fit;
-  durable = λ ending left reached. only ending left reached ∙ sym same;
-}
-
-pub has_opened : (seen octets front : List ℕ) (len all : ℕ) (before : List (List ℕ)) → EndsAt seen len → HasPayloads seen before → octets ≡ seen → front ≡ take len octets
-    → all ≡ length octets → HasOpened seen before front (all - len)
-has_opened seen octets front len all before ends has is cut size =
-    let whole : front ≡ frames before = cut ∙ ap (λ (x : List ℕ). take len x) is ∙ cut_there seen len before ends has in
-    record {
-      whole = whole;
-      size = omega (arith, size, ap length is, ap length whole, ap length has.parts, length-append (frames before) has.tail, ends_there seen len before ends has);
-    }

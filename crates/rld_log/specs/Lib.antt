@@ -5,5 +5,4 @@ pub mod Memory
 pub mod MemorySeen
 pub mod Pacing
 pub mod Passing
-pub mod Reading
 pub mod Recording

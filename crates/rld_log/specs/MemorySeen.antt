@@ -1,7 +1,6 @@
 -- What is seen of a log in memory.
-use Rattle.std.specs.Prelude.{◌≡◌, ℕ, Bool, true, List, []}
+use Rattle.std.specs.Prelude.{◌≡◌, ℕ, true, List, []}
 use Rattle.rld_log.specs.declared.memory.MemoryLog.{MemoryLog}
-use Rattle.rld_log.specs.declared.memory.Step.{Step}
 
 abbrev pub octets_of : MemoryLog → List ℕ
 octets_of log = log.octets.items

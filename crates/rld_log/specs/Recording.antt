@@ -1,5 +1,5 @@
 -- What the calls on a log's frames leave of it.
-use Rattle.std.specs.Prelude.{◌≡◌, ◌⊎◌, ℕ, ◌+◌, List, [], ◌∷◌, ◌++◌, length}
+use Rattle.std.specs.Prelude.{◌≡◌, ◌⊎◌, ℕ, List, [], ◌∷◌, ◌++◌}
 use Rattle.std.specs.List.{AllByRecursion}
 use Rattle.rld_log.specs.declared.log.Ending.{Ending}
 use Rattle.rld_log.specs.Frames.{Fits, HasPayloads, frames}
@@ -10,11 +10,6 @@ pub record IsSettled (seen : List ℕ) (may_leave : Ending → List ℕ → Type
   pub whole : seen ≡ frames payloads
   pub fit : AllByRecursion Fits payloads
   pub durable : Only seen may_leave
-
--- what opening a file of these payloads gives: their frames, and how long its torn end was
-pub record HasOpened (file : List ℕ) (payloads : List (List ℕ)) (octets : List ℕ) (torn : ℕ) : Type 0 where
-  pub whole : octets ≡ frames payloads
-  pub size : length file ≡ length octets + torn
 
 -- a file has the payloads from before a call, with that of the call or without
 abbrev pub IsBeforeOrAfter : (before : List (List ℕ)) → (payload : List ℕ) → List ℕ → Type 0

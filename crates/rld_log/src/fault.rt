@@ -1,7 +1,5 @@
 ghost use Rattle.std.specs.Prelude.{◌≡◌};
 ghost use Rattle.rld_log.specs.declared.fault.LogFault.TheVariants.{NoMemory as no_memory};
-ghost use Rattle.rld_log.specs.declared.fault.ReadFault.TheVariants.{NoMemory as unread};
-ghost use Rattle.rld_log.specs.declared.fault.OpenFault.TheVariants.{Damaged as damaged, Log as log_failed};
 
 use std::alloc::{AllocError, AllocFailed};
 use thiserror::Error;
@@ -48,48 +46,4 @@ impl<T: Drop> From<AllocFailed<T>> for LogFault {
 pub struct Damage {
     /// Where the spoilt frame begins, in octets from the front of the file.
     pub offset: usize,
-}
-
-/// Why the payloads of a file were not read.
-#[derive(Clone, Copy, Debug)]
-pub enum ReadFault {
-    /// Memory was refused.
-    NoMemory,
-    /// The file is damaged.
-    Damaged(Damage),
-}
-
-impl<T: Drop> From<AllocFailed<T>> for ReadFault {
-    ghost from_gives = { λ _ fault. fault ≡ unread };
-
-    fn from(_refused: AllocFailed<T>) -> ReadFault {
-        ReadFault::NoMemory
-    }
-}
-
-/// Why a log was not opened.
-#[derive(Clone, Copy, Debug, PartialEq, Eq, Error)]
-pub enum OpenFault {
-    /// A call of the log failed.
-    #[error("{0}")]
-    Log(LogFault),
-    /// Its file is damaged.
-    #[error("{0}")]
-    Damaged(Damage),
-}
-
-impl From<LogFault> for OpenFault {
-    ghost from_gives = { λ failed fault. fault ≡ log_failed failed };
-
-    fn from(fault: LogFault) -> OpenFault {
-        OpenFault::Log(fault)
-    }
-}
-
-impl From<Damage> for OpenFault {
-    ghost from_gives = { λ damage fault. fault ≡ damaged damage };
-
-    fn from(damage: Damage) -> OpenFault {
-        OpenFault::Damaged(damage)
-    }
 }

@@ -6,18 +6,18 @@ use md5::{Digest, Md5};
 use std::alloc::{AllocError, Global};
 
 /// How many octets a digest has.
-pub const DIGEST_LEN: usize = 16;
+const DIGEST_LEN: usize = 16;
 
 /// How many octets of a frame stand before its payload: its length and its digest.
 pub const HEAD_LEN: usize = 20;
 
 /// What has the shape of a frame, and what stands after it.
 #[derive(Clone, Copy)]
-struct Block<'a> {
+pub(crate) struct Block<'a> {
     /// The octets in the place of the digest.
-    sum: &'a [u8],
-    payload: &'a [u8],
-    rest: &'a [u8],
+    pub(crate) sum: &'a [u8],
+    pub(crate) payload: &'a [u8],
+    pub(crate) rest: &'a [u8],
 }
 
 /// The digest of a payload.
@@ -64,7 +64,7 @@ fn number_at(octets: &[u8]) -> Option<(u32, &[u8])>
 }
 
 /// What has the shape of a frame at the front.
-fn first_block(octets: &[u8]) -> Option<Block<'_>>
+pub(crate) fn first_block(octets: &[u8]) -> Option<Block<'_>>
     ensures some { IfSome result (λ found. octets.now ≡ block found.sum.now found.payload.now ++ found.rest.now) }
     ensures shape { IfSome result (λ found. IsBlock found.sum.now found.payload.now) }
     ensures shorter { IfSome result (λ found. length found.rest.now < length octets.now) }
@@ -87,7 +87,7 @@ fn first_block(octets: &[u8]) -> Option<Block<'_>>
 /// The payload of the frame at the front, and the octets after it. There is none where the octets
 /// are too short for a frame of the length that they begin with, or where the digest is not that of
 /// the payload.
-pub fn first_frame(octets: &[u8]) -> Option<(&[u8], &[u8])>
+pub(crate) fn first_frame(octets: &[u8]) -> Option<(&[u8], &[u8])>
     ensures some { IfSome result (λ found. octets.now ≡ frame found.0.now ++ found.1.now) }
     ensures fits { IfSome result (λ found. Fits found.0.now) }
     ensures shorter { IfSome result (λ found. length found.1.now < length octets.now) }

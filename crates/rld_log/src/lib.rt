@@ -33,13 +33,13 @@ mod reading;
 mod recording;
 mod ticks;
 
-pub use fault::{Damage, LogFault, OpenFault, ReadFault};
+pub use fault::{Damage, LogFault};
 pub use file::FileLog;
-pub use frame::{DIGEST_LEN, HEAD_LEN, first_frame, frame_of};
+pub use frame::{HEAD_LEN, frame_of};
 pub use log::{Crash, Ending, Log};
 pub use memory::{Life, MemoryLog};
 pub use pace::{Pace, Pacing};
 pub use paced_log::PacedLog;
-pub use reading::{payloads, whole_len};
-pub use recording::{Opened, mend, open, record, write};
+pub use reading::Frames;
+pub use recording::{mend, record, write};
 pub use ticks::Ticks;

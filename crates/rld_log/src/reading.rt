@@ -1,14 +1,59 @@
-ghost use Rattle.std.specs.Prelude.{◌≡◌, ℕ, List, length, map, IfErr, IfOk};
-ghost use Rattle.rld_log.specs.Frames.{EndsAt, HasPayloads, IsDamagedAt};
-ghost use Rattle.rld_log.specs.Reading.{IsDamage};
+ghost use Rattle.std.specs.Prelude.{◌≡◌, ◌+◌, ℕ, List, drop, length, map, IfErr, IfOk};
+ghost use Rattle.std.specs.List.{AllByRecursion};
+ghost use Rattle.rld_log.specs.Frames.{EndsAt, Fits, HasPayloads, IsDamagedAt, frames};
 
-use crate::fault::{Damage, ReadFault};
-use crate::frame::{first_frame, has_frame};
-use std::alloc::Global;
+use crate::fault::Damage;
+use crate::frame::{first_block, first_frame, has_frame};
+use std::alloc::{AllocError, Global};
 
-/// The length of the whole frames of a file; what stands after them is a torn end. A file is
-/// damaged where a frame stands after one that was spoilt.
-pub fn whole_len(octets: &[u8]) -> Result<usize, Damage>
+/// The octets of a file, and the length of its whole frames: no digest is made of them again.
+#[derive(Drop)]
+pub struct Frames {
+    octets: Vec<u8>,
+    whole: usize,
+    ghost ends: { ∥ EndsAt octets.items whole ∥₁ },
+}
+
+impl Frames {
+    /// The frames of a file with these octets; what stands after them is a torn end. A file is
+    /// damaged where a frame stands after one that was spoilt.
+    pub fn of(octets: Vec<u8>) -> Result<Frames, Damage>
+        ensures octets { IfOk result (λ found. found.octets.items ≡ octets.items) }
+        ensures damage { IfErr result (λ damage. IsDamagedAt octets.items damage.offset) }
+    {
+        let whole = whole_len(&octets)?;
+        Ok(Frames { octets, whole })
+    }
+
+    /// Their payloads, in their order.
+    pub fn payloads(&self, alloc: Global) -> Result<Vec<&[u8]>, AllocError>
+        ensures { IfOk result (λ found.
+            HasPayloads self.now.octets.items (map (λ payload. payload.now) found.items)) }
+    {
+        let (whole, _torn) = self.octets.split_at(self.whole);
+        payloads_in(alloc, whole)
+    }
+
+    /// How many octets they have.
+    pub fn whole(&self) -> usize
+        ensures is { result ≡ self.now.whole }
+        ensures ends { ∥ EndsAt self.now.octets.items result ∥₁ }
+    {
+        self.whole
+    }
+
+    /// What stands after them: a torn end.
+    pub fn torn(&self) -> &[u8]
+        ensures is { result.now ≡ drop self.now.whole self.now.octets.items }
+        ensures len { length self.now.octets.items ≡ self.now.whole + length result.now }
+    {
+        let (_whole, torn) = self.octets.split_at(self.whole);
+        torn
+    }
+}
+
+/// The length of the whole frames of a file.
+fn whole_len(octets: &[u8]) -> Result<usize, Damage>
     ensures whole { IfOk result (λ len. EndsAt octets.now len) }
     ensures damage { IfErr result (λ damage. IsDamagedAt octets.now damage.offset) }
 {
@@ -23,21 +68,17 @@ pub fn whole_len(octets: &[u8]) -> Result<usize, Damage>
     Ok(len)
 }
 
-/// The payloads of a file, in their order.
-pub fn payloads(alloc: Global, octets: &[u8]) -> Result<Vec<&[u8]>, ReadFault>
-    ensures found { IfOk result (λ found. HasPayloads octets.now (map (λ payload. payload.now) found.items)) }
-    ensures damage { IfErr result (IsDamage octets.now) }
+/// The payloads of whole frames, by their lengths alone.
+fn payloads_in(alloc: Global, octets: &[u8]) -> Result<Vec<&[u8]>, AllocError>
+    ensures { IfOk result (λ found. AllByRecursion Fits (map (λ payload. payload.now) found.items)
+        × ((payloads : List (List ℕ)) → AllByRecursion Fits payloads →
+        octets.now ≡ frames payloads → map (λ payload. payload.now) found.items ≡ payloads)) }
 {
     let mut found = Vec::new(alloc);
     let mut left = octets;
-    while let Some((payload, after)) = first_frame(left) {
-        found.push(payload)?;
-        left = after;
-    }
-    if has_frame(left) {
-        return Err(ReadFault::Damaged(Damage {
-            offset: octets.len() - left.len(),
-        }));
+    while let Some(block) = first_block(left) {
+        found.push(block.payload)?;
+        left = block.rest;
     }
     Ok(found)
 }

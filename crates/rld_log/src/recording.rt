@@ -2,57 +2,14 @@ ghost use Rattle.std.specs.Prelude.{◌≡◌, ◌+◌, ℕ, List, [], ◌∷◌
 ghost use Rattle.std.specs.List.{AllByRecursion};
 ghost use Rattle.rld_log.specs.Frames.{Fits, HasPayloads, IsDamagedAt, frame, frames};
 ghost use Rattle.rld_log.specs.Log.{Adds, Appends, Extends, Follows, NoMore, Only, Premise, Tears};
-ghost use Rattle.rld_log.specs.Recording.{HasOpened, IsSettled, LeavesEither};
+ghost use Rattle.rld_log.specs.Recording.{IsSettled, LeavesEither};
 ghost use Rattle.rld_log.specs.declared.log.Ending.{Ending as OneEnding};
 ghost use Rattle.rld_log.specs.declared.log.Ending.TheVariants.{Kill};
-ghost use Rattle.rld_log.specs.declared.fault.OpenFault.TheVariants.{Damaged};
-ghost use Rattle.rld_log.specs.declared.fault.Damage.{Damage as OneDamage};
 
-use crate::fault::{LogFault, OpenFault};
+use crate::fault::LogFault;
 use crate::frame::frame_of;
 use crate::log::Log;
-use crate::reading::whole_len;
 use std::alloc::Global;
-
-/// A log that was opened.
-#[derive(Drop)]
-pub struct Opened {
-    /// The whole frames that it has: `payloads` reads them.
-    pub octets: Vec<u8>,
-    /// How many octets of a torn end were cut off.
-    pub torn: usize,
-}
-
-/// Opens a log that a crash may have left: reads it, cuts its torn end, and syncs it, so that what
-/// it gives is on the disk. A damaged log is left as it is.
-pub fn open<L: Log>(alloc: Global, log: &mut L) -> Result<Opened, OpenFault>
-    ensures told { IsTrue (L.tells log.new) → IsTrue (L.tells log.old) }
-
-    // What is given are the frames of the file's payloads, and the log has just these.
-    ensures opened { IsTrue (L.tells log.new) → (before : List (List ℕ)) → HasPayloads (L.seen log.old) before →
-        IfOk result (λ opened. HasOpened (L.seen log.old) before opened.octets.items opened.torn) }
-    ensures settled { IsTrue (L.tells log.new) → (before : List (List ℕ)) → HasPayloads (L.seen log.old) before →
-        OnOk result (IsSettled (L.seen log.new) (L.may_leave log.new) before) }
-
-    // A crash at any call leaves the same payloads.
-    ensures crash { IsTrue (L.tells log.new) → Only (L.seen log.old) (L.may_leave log.old) →
-        (before : List (List ℕ)) → HasPayloads (L.seen log.old) before →
-        (ending : OneEnding) (left : List ℕ) → L.may_leave log.new ending left → HasPayloads left before }
-
-    // Damage is reported at its offset, and is never cut off.
-    ensures damage { IsTrue (L.tells log.new) → (damage : OneDamage) → result ≡ Err (Damaged damage) →
-        IsDamagedAt (L.seen log.old) damage.offset }
-    ensures uncut { IsTrue (L.tells log.new) → (at : ℕ) → IsDamagedAt (L.seen log.old) at → L.seen log.new ≡ L.seen log.old }
-    ensures left { IsTrue (L.tells log.new) → (at : ℕ) → IsDamagedAt (L.seen log.old) at → NoMore (L.may_leave log.old) (L.may_leave log.new) }
-{
-    let mut octets = log.read(alloc)?;
-    let len = whole_len(&octets)?;
-    log.cut(len)?;
-    log.sync()?;
-    let torn = octets.len() - len;
-    octets.truncate(len);
-    Ok(Opened { octets, torn })
-}
 
 /// Writes the frame of a payload at the end of the log, and does not sync it: a kill leaves it, and
 /// a loss of power may tear it.

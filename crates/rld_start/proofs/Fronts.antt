@@ -1,16 +1,13 @@
 -- Two frames at the front of octets.
-use Rattle.std.proofs.Common.{◌≡◌, inl, ℕ, ◌<◌, List, [], ◌∷◌, ◌++◌, Bor, append-nil, append_assoc, arith, length, drop, map, refl, sym, ap, subst, ◌∙◌}
+use Rattle.std.proofs.Common.{◌≡◌, ℕ, ◌<◌, List, [], ◌∷◌, ◌++◌, Bor, append-nil, append_assoc, arith, length, drop, map, refl, sym, ap, subst, ◌∙◌}
 use Rattle.std.specs.List.{AllByRecursion}
 use Rattle.rld_log.specs.Frames.{Fits, HasPayloads, NoFrame, digest, first, frame, frames}
-use Rattle.rld_log.specs.declared.fault.Damage.{Damage}
 use Rattle.rld_log.proofs.Callers.{Parts, frame_shape, parts_of}
 use Rattle.rld_spelling.specs.Headers.{header_field, header_octets}
 use Rattle.rld_spelling.specs.declared.header.Header.{Header}
-use Rattle.rld_start.specs.Firsts.{HasTwo, IsBegun, IsSpoilt}
-use Rattle.rld_store.specs.Opening.{AreParts, IsWhyNoFrames}
-use Rattle.rld_store.specs.declared.fault.StoreFault.{StoreFault}
-use Rattle.rld_store.specs.declared.fault.StoreFault.TheVariants.{Damaged}
-use Rattle.rld_store.specs.declared.frames.Parts.{Parts as TwoAndRest}
+use Rattle.rld_start.specs.Firsts.{HasTwo, IsBegun}
+use Rattle.rld_store.specs.Opening.{AreParts}
+use Rattle.rld_store.specs.declared.parts.Parts.{Parts as TwoAndRest}
 
 -- behind one frame at the front stands one rest
 pub same_rest : (octets p x q y : List ℕ) → Fits p → Fits q → octets ≡ frame p ++ x → octets ≡ frame q ++ y → x ≡ y
@@ -58,8 +55,3 @@ parts_are_begun octets payloads parts header has are spelled fits =
       };
       fits = fits;
     }
-
--- where the frames of a log are not read since it is damaged, one is spoilt
-pub spoilt_by : (octets : List ℕ) (fault : StoreFault) (damage : Damage) → IsWhyNoFrames octets fault → fault ≡ Damaged damage
-    → IsSpoilt octets damage.offset
-spoilt_by octets fault damage why is = inl (subst (IsWhyNoFrames octets) is why)

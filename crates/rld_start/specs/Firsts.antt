@@ -1,6 +1,6 @@
 -- What stands at the front of a log.
-use Rattle.std.specs.Prelude.{◌≡◌, ◌⊎◌, ℕ, List, ◌++◌, drop}
-use Rattle.rld_log.specs.Frames.{EndsAt, Fits, IsDamagedAt, frame}
+use Rattle.std.specs.Prelude.{◌≡◌, ℕ, List, ◌++◌, drop}
+use Rattle.rld_log.specs.Frames.{EndsAt, Fits, frame}
 use Rattle.rld_spelling.specs.Headers.{header_field, header_octets}
 use Rattle.rld_spelling.specs.declared.header.Header.{Header}
 use Rattle.rld_start.specs.Lengths.{HasSpoiltLength}
@@ -25,7 +25,7 @@ abbrev pub IsFirst : (octets : List ℕ) → First → Type 0
 IsFirst octets Unbegun = (header snapshot : List ℕ) → HasTwo octets header snapshot → ⊥
 IsFirst octets (Begun header) = IsBegun octets header
 
--- A frame is spoilt here: a whole one follows what has the shape of frames, or its digest is that
--- of a front of what follows its head, and its length is another.
+-- after the whole frames stands one whose digest is that of a front of what follows its head, and whose
+-- length is another
 abbrev pub IsSpoilt : (octets : List ℕ) → (at : ℕ) → Type 0
-IsSpoilt octets at = IsDamagedAt octets at ⊎ (EndsAt octets at × HasSpoiltLength (drop at octets))
+IsSpoilt octets at = ∥ EndsAt octets at ∥₁ × HasSpoiltLength (drop at octets)

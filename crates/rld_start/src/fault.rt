@@ -143,12 +143,6 @@ impl From<FolderFault> for StartFault {
     }
 }
 
-impl From<BadLog> for StartFault {
-    fn from(bad: BadLog) -> StartFault {
-        StartFault::BadLog(bad)
-    }
-}
-
 /// The fault of a file that was opened or made, read, written or synced in vain.
 pub(crate) fn file_fault(file: FileName, fault: FolderFault) -> StartFault {
     match fault {

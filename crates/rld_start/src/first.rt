@@ -4,14 +4,12 @@ ghost use Rattle.std.specs.Prelude.{◌≡◌, ℕ, List, map, IfErr, IfOk};
 ghost use Rattle.rld_log.specs.Frames.{HasPayloads};
 ghost use Rattle.rld_log.specs.declared.fault.Damage.{Damage as OneDamage};
 ghost use Rattle.rld_start.specs.Firsts.{IsFirst, IsSpoilt};
-ghost use Rattle.rld_store.specs.Opening.{HasFrames};
 ghost use Rattle.rld_store.specs.declared.fault.StoreFault.TheVariants.{Damaged as damaged};
 
 use crate::length::has_spoilt_length;
-use rld_log::Damage;
+use rld_log::{Damage, Frames};
 use rld_spelling::Header;
-use rld_store::{Frames, Parts, StoreFault};
-use std::alloc::Global;
+use rld_store::{Parts, StoreFault};
 
 /// What stands at the front of a log.
 #[derive(Clone, Copy)]
@@ -22,23 +20,17 @@ pub enum First {
     Begun(Header),
 }
 
-/// The whole frames of a log in which none is spoilt.
-///
-/// The fault is `Damaged` where a frame was spoilt before a whole one, and where one has a spoilt length
-/// and its whole payload after it. Else what follows the whole frames is a torn end.
-#[tactic(auto, using(crate::proofs::Fronts::spoilt_by))]
-pub fn unspoilt_frames(alloc: Global, octets: &[u8]) -> Result<Frames<'_>, StoreFault>
-    ensures has { IfOk result (λ found.
-        HasFrames octets.now (map (λ payload. payload.now) found.payloads.items) found.whole) }
-    ensures spoilt { IfErr result (λ fault. (damage : OneDamage) → fault ≡ damaged damage →
-        IsSpoilt octets.now damage.offset) }
+/// Makes sure that what follows the whole frames of a log is a torn end. `Damage` comes where a frame
+/// stands there whose length is spoilt, with its whole payload after it.
+pub fn check_torn(frames: &Frames) -> Result<(), Damage>
+    ensures spoilt { IfErr result (λ damage. IsSpoilt frames.now.octets.items damage.offset) }
 {
-    let found = Frames::of(alloc, octets)?;
-    let offset = found.whole;
-    if has_spoilt_length(&octets[offset..]) {
-        return Err(StoreFault::Damaged(Damage { offset }));
+    if has_spoilt_length(frames.torn()) {
+        return Err(Damage {
+            offset: frames.whole(),
+        });
     }
-    Ok(found)
+    Ok(())
 }
 
 impl First {

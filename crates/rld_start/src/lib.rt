@@ -34,7 +34,7 @@ mod wrong;
 pub use changing::{admitted_books, has_same_clients, is_same_era};
 pub use count::{Admitted, Found, sessions_in};
 pub use fault::StartFault;
-pub use first::{First, unspoilt_frames};
+pub use first::{First, check_torn};
 pub use generations::{FolderGenerations, Generations, NextLog};
 pub use header::{check_header, generation_named, next_header};
 pub use new_era::NextEra;

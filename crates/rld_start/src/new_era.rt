@@ -8,7 +8,7 @@ use crate::fault::StartFault;
 use crate::files::{create_log, write_era};
 use crate::header::generation_named;
 use crate::number::next_era;
-use crate::refused::fault_of;
+use crate::refused::log_refused;
 use md5::{Digest, Md5};
 use rld_books::{BlankBooks, ServerBooks};
 use rld_folder::{FileName, Folder, Generation};
@@ -122,6 +122,6 @@ pub(crate) fn begin_era<'a, R: Files<File = File>>(
     let NextEra { header, log, .. } = make_era(files, alloc, folder, names, table, blanks)?;
     match Store::begin_with(alloc, config, header, books, PacedLog::new(log, pacing)) {
         Ok(store) => Ok(NewEra { store, header }),
-        Err(refused) => Err(fault_of(alloc, generation_named(&header), refused)),
+        Err(refused) => Err(log_refused(generation_named(&header), refused.fault)),
     }
 }

@@ -7,23 +7,25 @@ ghost use Rattle.rld_start.specs.Numbers.{IsFirstOrNone};
 
 use crate::fault::StartFault;
 use crate::files::open_log;
-use crate::first::{First, unspoilt_frames};
+use crate::first::{First, check_torn};
 use crate::new_era::FIRST;
 use crate::refused::log_refused;
 use crate::wrong::{Cause, Wrong};
 use rld_folder::{FileName, Folder, Generation, newest_generation};
-use rld_log::{FileLog, Log};
+use rld_log::{FileLog, Frames, Log};
 use rld_spelling::Header;
-use rld_store::StoreFault;
+use rld_store::{StoreFault, read_frames};
 use std::alloc::Global;
 use std::fs::{File, Files};
 
-/// A generation that was begun, and its log. Only `look_at` makes one.
+/// A generation that was begun, its log, and the frames that were read of that. Only `look_at` makes
+/// one.
 #[derive(Drop)]
 pub(crate) struct Begun {
     pub(crate) generation: Generation,
     pub(crate) header: Header,
     pub(crate) log: FileLog,
+    pub(crate) frames: Frames,
 }
 
 /// That the log of a generation was read, and has no whole snapshot: it was not begun. Only `look_at`
@@ -106,24 +108,30 @@ fn look_at<R: Files<File = File>>(
     ensures { IfOk result (IsLookAt generation) }
 {
     let mut log = open_log(files, alloc, folder, generation)?;
-    match first_in(alloc, &mut log) {
-        Ok(First::Begun(header)) => Ok(Look::Begun(Begun {
+    let (frames, first) = match first_in(alloc, &mut log) {
+        Ok(found) => found,
+        Err(fault) => return Err(log_refused(generation, fault)),
+    };
+    match first {
+        First::Begun(header) => Ok(Look::Begun(Begun {
             generation,
             header,
             log,
+            frames,
         })),
-        Ok(First::Unbegun) => Ok(Look::Unbegun(Unbegun { generation })),
-        Err(fault) => Err(log_refused(generation, fault)),
+        First::Unbegun => Ok(Look::Unbegun(Unbegun { generation })),
     }
 }
 
-/// What stands at the front of a log.
-fn first_in<L: Log>(alloc: Global, log: &mut L) -> Result<First, StoreFault>
-    ensures { IsTrue (L.tells log.new) → IfOk result (IsFirst (L.seen log.old)) }
+/// The frames of a log, and what stands at its front.
+fn first_in<L: Log>(alloc: Global, log: &mut L) -> Result<(Frames, First), StoreFault>
+    ensures frames { IsTrue (L.tells log.new) → IfOk result (λ found. found.0.octets.items ≡ L.seen log.new) }
+    ensures first { IsTrue (L.tells log.new) → IfOk result (λ found. IsFirst (L.seen log.old) found.1) }
 {
-    let octets = log.read(alloc)?;
-    let found = unspoilt_frames(alloc, &octets)?;
-    First::of(&found.payloads)
+    let frames = read_frames(alloc, log)?;
+    check_torn(&frames)?;
+    let first = First::of(&frames.payloads(alloc)?)?;
+    Ok((frames, first))
 }
 
 /// Whether a file is no log, or that of the first generation of an era.

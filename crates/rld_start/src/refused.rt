@@ -3,9 +3,7 @@
 use crate::fault::{StartFault, log_fault};
 use crate::wrong::Wrong;
 use rld_folder::{FileName, Generation};
-use rld_log::Log;
-use rld_store::{Refused, StoreFault};
-use std::alloc::Global;
+use rld_store::StoreFault;
 
 /// The fault of the log of a generation that a store refused.
 pub(crate) fn log_refused(generation: Generation, fault: StoreFault) -> StartFault {
@@ -16,13 +14,4 @@ pub(crate) fn log_refused(generation: Generation, fault: StoreFault) -> StartFau
         (None, StoreFault::Log(fault)) => log_fault(file, fault),
         (None, _) => StartFault::Unwritable(file),
     }
-}
-
-/// The same of what the store hands back.
-pub(crate) fn fault_of<L: Log + Drop>(
-    _alloc: Global,
-    generation: Generation,
-    refused: Refused<L>,
-) -> StartFault {
-    log_refused(generation, refused.fault)
 }

@@ -16,7 +16,7 @@ use crate::refused::log_refused;
 use crate::table::boot_of;
 use rld_admit::is_era_file;
 use rld_folder::{FileName, Folder, Generation};
-use rld_log::{FileLog, Log, PacedLog, Pacing};
+use rld_log::{FileLog, Frames, Log, PacedLog, Pacing};
 use rld_store::{Opened, Store};
 use rsl_accounts::Config;
 use std::alloc::Global;
@@ -88,9 +88,11 @@ pub(crate) fn reopen<'a>(
     let Begun {
         generation,
         log,
+        frames,
         ..
     } = begun;
-    let opened = open_store(alloc, config, generation, PacedLog::new(log, pacing))?;
+    let log = PacedLog::new(log, pacing);
+    let opened = open_store(alloc, config, generation, log, &frames)?;
     Ok(Former {
         generation,
         boot: table.boot,
@@ -98,13 +100,15 @@ pub(crate) fn reopen<'a>(
     })
 }
 
-/// Opens the log of a generation as a store.
+/// Opens the log of a generation, of which these frames were read, as a store.
 fn open_store<L: Log + Drop>(
     alloc: Global,
     config: &Config,
     generation: Generation,
     log: L,
+    frames: &Frames,
 ) -> Result<Opened<L>, StartFault>
+    requires { IsTrue (L.tells log) → frames.now.octets.items ≡ L.seen log }
     ensures stands { IfOk result (λ opened. IsTrue (L.tells opened.store.log) →
         (opening : List BooksSeen) (history : List OneMove) →
         HasHistory config.now opening history (L.seen log) →
@@ -112,7 +116,7 @@ fn open_store<L: Log + Drop>(
         (L.seen opened.store.log) (L.may_leave opened.store.log)
         opened.store.whole opened.store.books history []) }
 {
-    match Store::open(alloc, config, log) {
+    match Store::open(alloc, config, log, frames) {
         Ok(opened) => Ok(opened),
         Err(refused) => Err(log_refused(generation, refused.fault)),
     }

@@ -1,7 +1,7 @@
 ghost use Rattle.std.specs.Prelude.{◌≡◌, is_err};
 ghost use Rattle.rld_state.specs.Keeping.{fault_of};
 ghost use Rattle.rld_state.specs.Notices.{archive_notice, roll_notice};
-ghost use Rattle.rld_state.specs.declared.rolled.RollFault.TheVariants.{Start as unmade, Store as unbegun};
+ghost use Rattle.rld_state.specs.declared.rolled.RollFault.TheVariants.{Start as unmade};
 ghost use Rattle.rld_start.specs.declared.fault.StartFault.{StartFault as OneStartFault};
 
 use crate::trouble::{News, Trouble};
@@ -70,14 +70,6 @@ impl From<NoMemory> for RollFault {
 
     fn from(_refused: NoMemory) -> RollFault {
         RollFault::Start(StartFault::NoMemory)
-    }
-}
-
-impl From<StoreFault> for RollFault {
-    ghost from_gives = { λ fault made. made ≡ unbegun fault };
-
-    fn from(fault: StoreFault) -> RollFault {
-        RollFault::Store(fault)
     }
 }
 

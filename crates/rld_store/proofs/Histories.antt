@@ -9,7 +9,7 @@ use Rattle.rld_log.specs.Frames.{EndsAt, Fits, HasPayloads, IsDamagedAt, frames}
 use Rattle.rld_log.specs.Log.{Extends, NoMore, Only}
 use Rattle.rld_log.specs.Recording.{IsBeforeOrAfter, IsSettled, LeavesEither}
 use Rattle.rld_log.specs.declared.log.Ending.{Ending}
-use Rattle.rld_log.proofs.Callers.{ends_there, have_one_reading}
+use Rattle.rld_log.proofs.Callers.{ends_so, have_one_reading}
 use Rattle.rld_spelling.specs.declared.header.Header.{Header}
 use Rattle.rld_spelling.specs.declared.moves.Counts.{Counts}
 use Rattle.rld_store.specs.Generations.{AreOfHistory, HasHistory, IsUnbegun, counts_of}
@@ -39,15 +39,15 @@ pub only_the_payloads : (old new : Ending → List ℕ → Type 0) (before : Lis
 only_the_payloads old new before leaves has ending left reached =
     one_way left before (leaves [] ending (λ l r. inl (has ending l r)) left reached) (leaves (0 ∷ []) ending (λ l r. inl (has ending l r)) left reached)
 
-pub has_before : (file : List ℕ) (old new : Ending → List ℕ → Type 0) (before : List (List ℕ)) → Only file old → NoMore old new → HasPayloads file before
-    → (ending : Ending) (left : List ℕ) → new ending left → HasPayloads left before
-has_before file old new before only fewer has ending left reached = subst (λ (f : List ℕ). HasPayloads f before) (sym (only ending left (fewer ending left reached))) has
+pub has_before : (file : List ℕ) (outcomes : Ending → List ℕ → Type 0) (before : List (List ℕ)) → Only file outcomes → HasPayloads file before
+    → (ending : Ending) (left : List ℕ) → outcomes ending left → HasPayloads left before
+has_before file outcomes before only has ending left reached = subst (λ (f : List ℕ). HasPayloads f before) (sym (only ending left reached)) has
 
-pub extends_whole : (file same : List ℕ) (before : List (List ℕ)) → same ≡ file → HasPayloads file before → Extends (frames before) same
-extends_whole file same before is has = record { tail = has.tail; added = is ∙ has.parts }
+pub extends_whole : (file : List ℕ) (before : List (List ℕ)) → HasPayloads file before → Extends (frames before) file
+extends_whole file before has = record { tail = has.tail; added = has.parts }
 
-pub ends_whole : (file octets : List ℕ) (len : ℕ) (before : List (List ℕ)) → octets ≡ file → EndsAt octets len → HasPayloads file before → len ≡ length (frames before)
-ends_whole file octets len before is ends has = ends_there file len before (subst (λ (f : List ℕ). EndsAt f len) is ends) has
+pub ends_whole : (file octets : List ℕ) (len : ℕ) (before : List (List ℕ)) → octets ≡ file → ∥ EndsAt octets len ∥₁ → HasPayloads file before → len ≡ length (frames before)
+ends_whole file octets len before is ends has = ends_so file len (subst (λ (f : List ℕ). ∥ EndsAt f len ∥₁) is ends) before has
 
 -- ---- faults
 

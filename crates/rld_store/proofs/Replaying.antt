@@ -20,7 +20,7 @@ use Rattle.rld_store.specs.Opening.{AreParts, IsAt, IsBatchAt, IsFirstFault, IsF
 use Rattle.rld_store.specs.declared.fault.Malformed.{Malformed}
 use Rattle.rld_store.specs.declared.fault.StoreFault.{StoreFault}
 use Rattle.rld_store.specs.declared.fault.StoreFault.TheVariants as faults
-use Rattle.rld_store.specs.declared.frames.Parts.{Parts}
+use Rattle.rld_store.specs.declared.parts.Parts.{Parts}
 use Rattle.rld_store.proofs.Batches.{replay_first, replay_more, replay_none, size_more}
 use Rattle.rld_store.proofs.Fronts.{front_size}
 

@@ -21,7 +21,7 @@ use Rattle.rld_store.specs.Generations.{IsGeneration, IsUnbegun, counts_of}
 use Rattle.rld_store.specs.declared.fault.Malformed.{Malformed}
 use Rattle.rld_store.specs.declared.fault.StoreFault.{StoreFault}
 use Rattle.rld_store.specs.declared.fault.StoreFault.TheVariants as faults
-use Rattle.rld_store.specs.declared.frames.Parts.{Parts}
+use Rattle.rld_store.specs.declared.parts.Parts.{Parts}
 
 -- what was found in a generation: its header, the books after its moves, and how many moves those are
 pub record IsFound (begun : List BooksSeen) (moves : List Move) (header found_header : Header)
@@ -37,11 +37,6 @@ IsFoundIn config payloads found_header books count =
     (header : Header) (begun : List BooksSeen) (moves : List Move)
     → IsServerOf config begun → IsGeneration (counts_of config) header begun moves payloads
     → IsFound begun moves header found_header books count
-
--- the whole frames of a log: their payloads, and their length
-pub record HasFrames (file : List ℕ) (payloads : List (List ℕ)) (whole : ℕ) : Type 0 where
-  pub has : HasPayloads file payloads
-  pub size : whole ≡ length (frames payloads)
 
 -- the parts of a generation of these payloads, and where the first two end
 pub record AreParts (payloads : List (List ℕ)) (parts : Parts) : Type 0 where
@@ -80,11 +75,10 @@ IsWhyNoMoves counts end payload (faults.Malformed malformed) =
     IsFirstFault (moves_field counts).read end payload malformed
 IsWhyNoMoves counts end payload _ = ⊥
 
--- why the frames of a log are not read: it is damaged
+-- why the frames of a log are not read: a call of it failed, or it is damaged
 abbrev pub IsWhyNoFrames : (file : List ℕ) → StoreFault → Type 0
 IsWhyNoFrames file (faults.Damaged damage) = IsDamagedAt file damage.offset
-IsWhyNoFrames file faults.NoMemory = Unit {0}
-IsWhyNoFrames file faults.TooLong = Unit {0}
+IsWhyNoFrames file (faults.Log fault) = Unit {0}
 IsWhyNoFrames file _ = ⊥
 
 -- a payload stands after these among those of a log, and ends at this octet of it
@@ -134,10 +128,9 @@ IsWhyUnread counts payloads faults.NoMemory = Unit {0}
 IsWhyUnread counts payloads faults.TooLong = Unit {0}
 IsWhyUnread counts payloads _ = ⊥
 
--- why a log is refused: damage is there, the snapshot is not whole, or a payload is malformed or of
--- other accounts
+-- why a log that was read is refused: the snapshot is not whole, or a payload is malformed or of other
+-- accounts
 abbrev pub IsWhy : Counts → (file : List ℕ) → StoreFault → Type 0
-IsWhy counts file (faults.Damaged damage) = IsDamagedAt file damage.offset
 IsWhy counts file faults.Unbegun = IsUnbegun file
 IsWhy counts file (faults.Malformed malformed) =
     (payloads : List (List ℕ)) × (HasPayloads file payloads × IsMalformed counts payloads malformed)
@@ -146,6 +139,7 @@ IsWhy counts file (faults.Misfit offset fault) =
     × ((header : List ℕ) × BeginsAt payloads (header ∷ []) offset))
 IsWhy counts file (faults.Foreign offset) =
     (payloads : List (List ℕ)) × (HasPayloads file payloads × IsBatchAt payloads offset)
+IsWhy counts file (faults.Damaged damage) = ⊥
 IsWhy counts file _ = Unit {0}
 
 -- a fault of no call of the log

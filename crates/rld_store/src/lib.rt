@@ -14,10 +14,10 @@
 mod basis;
 mod beginning;
 mod fault;
-mod frames;
 pub mod laws;
 mod opening;
 mod part;
+mod parts;
 mod reading;
 mod recorded;
 mod recorder;
@@ -26,8 +26,9 @@ mod stored;
 
 pub use beginning::counts_in;
 pub use fault::{Malformed, RecordFault, Refused, StoreFault};
-pub use frames::{Frames, Parts};
+pub use opening::read_frames;
 pub use part::Part;
+pub use parts::Parts;
 pub use recorded::Recorded;
 pub use recorder::Recorder;
 pub use store::{End, Opened, Store};

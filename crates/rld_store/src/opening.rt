@@ -1,18 +1,18 @@
-//! How a log is opened.
+//! How a log is read and opened.
 
 ghost use Rattle.std.specs.Prelude.{◌≡◌, ◌+◌, ℕ, List, length, IfErr, IfOk, IsTrue, OnOk};
 ghost use Rattle.rld_books.specs.Saved.{IsServerOf};
 ghost use Rattle.rld_log.specs.Frames.{EndsAt, HasPayloads, frames};
-ghost use Rattle.rld_store.specs.Premises.{Only};
+ghost use Rattle.rld_log.specs.Log.{NoMore};
 ghost use Rattle.rld_log.specs.Recording.{IsSettled};
+ghost use Rattle.rld_store.specs.Premises.{Only};
 ghost use Rattle.rld_log.specs.declared.log.Ending.{Ending as OneEnding};
 ghost use Rattle.rld_store.specs.Generations.{counts_of};
-ghost use Rattle.rld_store.specs.Opening.{IsFoundIn, IsOfNoLog, IsWhy, LeavesAsItWas};
+ghost use Rattle.rld_store.specs.Opening.{IsFoundIn, IsOfNoLog, IsWhy, IsWhyNoFrames, LeavesAsItWas};
 
 use crate::fault::StoreFault;
-use crate::frames::Frames;
 use crate::reading::{Reading, read_generation};
-use rld_log::{Log, mend};
+use rld_log::{Frames, Log, mend};
 use rsl_accounts::Config;
 use std::alloc::Global;
 
@@ -27,33 +27,46 @@ pub(crate) struct Restored {
     pub(crate) torn: usize,
 }
 
-/// The generation that octets have, and the length of its whole frames.
-fn generation_in(alloc: Global, config: &Config, octets: &[u8]) -> Result<Restored, StoreFault>
+/// The octets of a log, and how long its whole frames are. The log stays as it is. `Damaged` comes
+/// where a frame was spoilt before a whole one.
+pub fn read_frames<L: Log>(alloc: Global, log: &mut L) -> Result<Frames, StoreFault>
+    ensures told { IsTrue (L.tells log.new) → IsTrue (L.tells log.old) }
+    ensures octets { IsTrue (L.tells log.new) → IfOk result (λ frames. frames.octets.items ≡ L.seen log.old) }
+    ensures same { IsTrue (L.tells log.new) → L.seen log.new ≡ L.seen log.old }
+    ensures crash { IsTrue (L.tells log.new) → NoMore (L.may_leave log.old) (L.may_leave log.new) }
+    ensures why { IsTrue (L.tells log.new) → IfErr result (IsWhyNoFrames (L.seen log.old)) }
+{
+    let octets = log.read(alloc)?;
+    Ok(Frames::of(octets)?)
+}
+
+/// The generation that a log has, and the length of its whole frames.
+fn generation_in(alloc: Global, config: &Config, frames: &Frames) -> Result<Restored, StoreFault>
     ensures server { IfOk result (λ restored. IsServerOf config.now restored.reading.books) }
-    ensures found { IfOk result (λ restored. (before : List (List ℕ)) → HasPayloads octets.now before →
+    ensures found { IfOk result (λ restored. (before : List (List ℕ)) → HasPayloads frames.now.octets.items before →
         IsFoundIn config.now before restored.reading.header restored.reading.books restored.reading.moves) }
-    ensures ends { IfOk result (λ restored. EndsAt octets.now restored.whole) }
-    ensures torn { IfOk result (λ restored. length octets.now ≡ restored.whole + restored.torn) }
-    ensures why { IfErr result (IsWhy (counts_of config.now) octets.now) }
+    ensures ends { IfOk result (λ restored. ∥ EndsAt frames.now.octets.items restored.whole ∥₁) }
+    ensures torn { IfOk result (λ restored. length frames.now.octets.items ≡ restored.whole + restored.torn) }
+    ensures why { IfErr result (IsWhy (counts_of config.now) frames.now.octets.items) }
     ensures unlogged { IfErr result IsOfNoLog }
 {
-    let found = Frames::of(alloc, octets)?;
-    let reading = read_generation(alloc, config, &found.payloads)?;
-    let torn = octets.len() - found.whole;
+    let payloads = frames.payloads(alloc)?;
     Ok(Restored {
-        reading,
-        whole: found.whole,
-        torn,
+        reading: read_generation(alloc, config, &payloads)?,
+        whole: frames.whole(),
+        torn: frames.torn().len(),
     })
 }
 
-/// Opens a log that a crash may have left: makes its moves in the books of its snapshot, cuts its
-/// torn end off, and syncs it. A log that is refused is left as it was.
+/// Opens a log that a crash may have left, and that has these frames: makes its moves in the books of
+/// its snapshot, cuts its torn end off, and syncs it. A log that is refused is left as it was.
 pub(crate) fn restore<L: Log>(
     alloc: Global,
     config: &Config,
     log: &mut L,
+    given: &Frames,
 ) -> Result<Restored, StoreFault>
+    requires { IsTrue (L.tells log.old) → given.now.octets.items ≡ L.seen log.old }
     ensures told { IsTrue (L.tells log.new) → IsTrue (L.tells log.old) }
     ensures server { IfOk result (λ restored. IsServerOf config.now restored.reading.books) }
 
@@ -78,8 +91,7 @@ pub(crate) fn restore<L: Log>(
     ensures untouched { IsTrue (L.tells log.new) → IfErr result (λ fault.
         LeavesAsItWas fault (L.seen log.old) (L.seen log.new) (L.may_leave log.old) (L.may_leave log.new)) }
 {
-    let octets = log.read(alloc)?;
-    let found = generation_in(alloc, config, &octets)?;
+    let found = generation_in(alloc, config, given)?;
     mend(log, found.whole)?;
     Ok(found)
 }

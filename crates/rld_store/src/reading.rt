@@ -12,8 +12,8 @@ ghost use Rattle.rsl_shard.specs.declared.moved.Move.{Move as OneMove};
 
 use crate::beginning::counts_in;
 use crate::fault::StoreFault;
-use crate::frames::{Parts, payload_at};
 use crate::part::Part;
+use crate::parts::{Parts, payload_at};
 use rld_books::ServerBooks;
 use rld_spelling::{Counts, Header};
 use rsl_accounts::Config;

@@ -25,7 +25,7 @@ use crate::opening::{Restored, restore};
 use crate::reading::Reading;
 use crate::recorded::Recorded;
 use rld_books::ServerBooks;
-use rld_log::{Log, mend, record};
+use rld_log::{Frames, Log, mend, record};
 use rld_spelling::{Counts, Header, SpellFault};
 use rsl_accounts::Config;
 use rsl_session::SavedLink;
@@ -146,12 +146,18 @@ impl<L: Log> Store<L> {
         }
     }
 
-    /// Opens a log that a crash may have left: the books are those of its snapshot after the moves
-    /// that it has. Its torn end is cut off and the log is synced.
+    /// Opens a log that a crash may have left, by the frames that were read of it: the books are those
+    /// of its snapshot after the moves that it has. Its torn end is cut off and the log is synced.
     ///
-    /// A log that is damaged, has no whole snapshot, is of another version, or whose snapshot or
-    /// moves do not fit the configuration, is refused by name and left as it was.
-    pub fn open(alloc: Global, config: &Config, log: L) -> Result<Opened<L>, Refused<L>>
+    /// A log that has no whole snapshot, is of another version, or whose snapshot or moves do not fit
+    /// the configuration, is refused by name and left as it was.
+    pub fn open(
+        alloc: Global,
+        config: &Config,
+        log: L,
+        frames: &Frames,
+    ) -> Result<Opened<L>, Refused<L>>
+        requires { IsTrue (L.tells log) → frames.now.octets.items ≡ L.seen log }
         ensures told { IfOk result (λ opened. IsTrue (L.tells opened.store.log) → IsTrue (L.tells log)) }
         ensures server { IfOk result (λ opened. IsServerOf config.now opened.store.books) }
         ensures refused { IfErr result (λ refused. IsTrue (L.tells refused.log) → IsTrue (L.tells log)) }
@@ -187,7 +193,7 @@ impl<L: Log> Store<L> {
     {
         let counts = counts_in(config);
         let mut log = log;
-        match restore(alloc, config, &mut log) {
+        match restore(alloc, config, &mut log, frames) {
             Ok(restored) => {
                 let Restored {
                     reading,

@@ -7,7 +7,8 @@ use crate::shard::move_of;
 use crate::stop::Stop;
 use rld_log::MemoryLog;
 use rld_spelling::Header;
-use rld_store::{Opened, Store};
+use rld_store::{Opened, Refused, Store, read_frames};
+use rsl_accounts::Config;
 use rsl_event::{Act, Event, Note};
 use rsl_shard::{Move, Row};
 use rsl_wire::Octets;
@@ -131,7 +132,7 @@ fn open<R: Print>(
     let before = Vec::from_slice(alloc, log.octets())?;
     let mut log = log;
     for _ in 0..TRIES {
-        match Store::open(alloc, &given.config, log) {
+        match read_and_open(alloc, &given.config, log) {
             Ok(opened) => return tell_opened(page, opened),
             Err(refused) => {
                 page.note("open", refused.log.octets() == before.as_slice())?;
@@ -143,6 +144,19 @@ fn open<R: Print>(
         }
     }
     Err(Stop::NoMemory)
+}
+
+/// Reads a log and opens it.
+fn read_and_open(
+    alloc: Global,
+    config: &Config,
+    log: MemoryLog,
+) -> Result<Opened<MemoryLog>, Refused<MemoryLog>> {
+    let mut log = log;
+    match read_frames(alloc, &mut log) {
+        Ok(frames) => Store::open(alloc, config, log, &frames),
+        Err(fault) => Err(Refused { log, fault }),
+    }
 }
 
 /// Tells what was opened, and hands out its store.

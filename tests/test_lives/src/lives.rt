@@ -5,7 +5,7 @@ use crate::undisturbed::{Run, batch_len, batches_of, config_of, run_of};
 use rld_lives::{Lived, Outcome, Plan, Step, lives};
 use rld_log::{Ending, Life, MemoryLog};
 use rld_spelling::Header;
-use rld_store::{Opened, Store};
+use rld_store::{Opened, Store, read_frames};
 use rsl_accounts::Config;
 use rsl_shard::{Line, Row};
 use std::alloc::Global;
@@ -165,7 +165,9 @@ impl Server {
     /// How many moves a log has. Where it has all of them, what the accounts hold is what they hold
     /// after the run.
     fn moves_in(&self, alloc: Global, octets: &[u8]) -> Result<usize, Fail> {
-        match Store::open(alloc, &self.config, log_of(alloc, octets, &[])?) {
+        let mut log = log_of(alloc, octets, &[])?;
+        let frames = read_frames(alloc, &mut log)?;
+        match Store::open(alloc, &self.config, log, &frames) {
             Ok(opened) => self.check_opened(alloc, &opened),
             Err(_) => Err("not opened")?,
         }

@@ -9,6 +9,7 @@
 #![tactic(auto)]
 
 mod numbers;
+mod opening;
 #[cfg(test)]
 mod paces;
 mod problem;
@@ -16,8 +17,9 @@ mod problem;
 mod tests;
 
 use numbers::{Numbers, payload_of};
+use opening::open;
 use problem::Problem;
-use rld_log::{FileLog, open, record, write};
+use rld_log::{FileLog, record, write};
 use std::alloc::Global;
 use std::env::Args;
 use std::fs::OpenOptions;
@@ -46,9 +48,9 @@ fn run(rt: &HostRuntime) -> Result<(), Problem> {
     };
     let mut log = opened_file(rt, path.as_str())?;
     let opened = open(rt.alloc(), &mut log)?;
-    let found = Numbers::of(&opened.octets);
+    let found = Numbers::of(&opened.payloads(rt.alloc())?);
     let order = if found.in_order { "" } else { " out of order" };
-    println!(rt; "found {} torn {}{order}", found.count, opened.torn)?;
+    println!(rt; "found {} torn {}{order}", found.count, opened.torn().len())?;
     add(rt, &mut log, &mut words, found.count)
 }
 

@@ -1,4 +1,3 @@
-use rld_log::first_frame;
 use std::alloc::{AllocError, Global};
 
 /// How many octets a number has.
@@ -14,18 +13,16 @@ pub struct Numbers {
 }
 
 impl Numbers {
-    /// The numbers of the payloads of whole frames.
-    pub fn of(octets: &[u8]) -> Numbers {
+    /// The numbers of the payloads of a log.
+    pub fn of(payloads: &[&[u8]]) -> Numbers {
         let mut numbers = Numbers {
             count: 0,
             in_order: true,
         };
-        let mut rest = octets;
-        while let Some((payload, after)) = first_frame(rest) {
+        for payload in payloads {
             for number in payload.chunks(WIDTH) {
                 numbers.take(number);
             }
-            rest = after;
         }
         numbers
     }

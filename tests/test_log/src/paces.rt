@@ -1,3 +1,4 @@
+use crate::opening::open;
 use rld_log::*;
 use std::alloc::Global;
 use std::sync::atomic::{AtomicU64, Ordering};
@@ -198,7 +199,7 @@ fn told_and_left(alloc: Global, pace: Pace, calls: u64) -> Result<(u64, usize), 
     let mut memory = log.into_log();
     memory.restart(Ending::Kill);
     let opened = open(alloc, &mut memory)?;
-    Ok((told, payloads(alloc, &opened.octets)?.len()))
+    Ok((told, opened.payloads(alloc)?.len()))
 }
 
 #[test]

@@ -1,4 +1,4 @@
-use rld_log::{LogFault, OpenFault};
+use rld_log::{Damage, LogFault};
 use std::alloc::AllocError;
 use std::io;
 use thiserror::Error;
@@ -12,9 +12,9 @@ pub enum Problem {
     /// The file cannot be opened, or standard output takes nothing.
     #[error("input or output fault")]
     InputOutput,
-    /// The log could not be opened.
+    /// The log is damaged.
     #[error("{0}")]
-    Open(OpenFault),
+    Damaged(Damage),
     /// A call of the log failed.
     #[error("{0}")]
     Log(LogFault),
@@ -26,9 +26,9 @@ impl From<io::Error> for Problem {
     }
 }
 
-impl From<OpenFault> for Problem {
-    fn from(fault: OpenFault) -> Problem {
-        Problem::Open(fault)
+impl From<Damage> for Problem {
+    fn from(damage: Damage) -> Problem {
+        Problem::Damaged(damage)
     }
 }
 

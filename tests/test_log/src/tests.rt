@@ -1,3 +1,5 @@
+use crate::opening::open;
+use crate::problem::Problem;
 use rld_log::*;
 use std::alloc::Global;
 use std::test::Fail;
@@ -30,12 +32,13 @@ fn frames_are_those_of_the_rfc_s_digests(rt: HostRuntime) -> Result<(), Fail> {
     assert_eq!(rt; frame_of(alloc, b"abc")?.as_slice(), ABC.as_slice());
     assert_eq!(rt; frame_of(alloc, b"")?.as_slice(), NONE.as_slice());
     let file = joined(alloc, &[&ABC, &NONE, &ABC[..22]])?;
-    let found = payloads(alloc, &file)?;
+    let frames = Frames::of(file)?;
+    let found = frames.payloads(alloc)?;
     assert_eq!(rt;
         found.as_slice(),
         [b"abc".as_slice(), b"".as_slice()].as_slice()
     );
-    assert_eq!(rt; whole_len(&file), Ok(43));
+    assert_eq!(rt; frames.whole(), 43);
     Ok(())
 }
 
@@ -46,14 +49,13 @@ fn damage_is_named_by_its_offset(rt: HostRuntime) -> Result<(), Fail> {
         let mut spoilt = ABC;
         spoilt[index] ^= 1;
         let file = joined(alloc, &[&ABC, &spoilt, &spoilt, &NONE])?;
-        assert_eq!(rt; whole_len(&file), Err(Damage { offset: 23 }));
         let mut log = log_of(alloc, &file, &[])?;
-        let fault = open(alloc, &mut log).map(|opened| opened.torn);
-        assert_eq!(rt; fault, Err(OpenFault::Damaged(Damage { offset: 23 })));
+        let opened = open(alloc, &mut log);
+        assert!(rt; matches!(opened, Err(Problem::Damaged(Damage { offset: 23 }))));
         assert_eq!(rt; log.octets(), file.as_slice());
         // at the end it looks torn
         let file = joined(alloc, &[&ABC, &spoilt])?;
-        assert_eq!(rt; whole_len(&file), Ok(23));
+        assert_eq!(rt; Frames::of(file)?.whole(), 23);
     }
     Ok(())
 }
@@ -64,8 +66,7 @@ fn a_torn_end_is_cut_and_told(rt: HostRuntime) -> Result<(), Fail> {
     for len in 0..23 {
         let mut log = log_of(alloc, &joined(alloc, &[&ABC, &ABC[..len]])?, &[])?;
         let opened = open(alloc, &mut log)?;
-        assert_eq!(rt; opened.torn, len);
-        assert_eq!(rt; opened.octets.as_slice(), ABC.as_slice());
+        assert_eq!(rt; opened.torn().len(), len);
         assert_eq!(rt; log.octets(), ABC.as_slice());
         record(alloc, &mut log, b"")?;
         assert_eq!(rt; log.octets(), joined(alloc, &[&ABC, &NONE])?.as_slice());
@@ -110,7 +111,7 @@ fn what_was_told_is_found_after_each_crash(rt: HostRuntime) -> Result<(), Fail> 
                 let told = live(alloc, &mut log).saturating_add(3);
                 log.restart(ending);
                 let opened = open(alloc, &mut log)?;
-                let found = payloads(alloc, &opened.octets)?.len();
+                let found = opened.payloads(alloc)?.len();
                 assert!(rt; matches!(found.checked_sub(told), Some(0 | 1)));
                 // a call of three that open the log, then two that record
                 assert_eq!(rt; told as u64, 3 + (calls.max(3) - 3).min(6) / 2);

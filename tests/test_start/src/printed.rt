@@ -14,7 +14,7 @@ pub fn print(rt: &HostRuntime, folder: &str, number: u64) -> io::Result<()> {
     let log = LogFile {
         name: name.as_str(),
         generation: Generation { era: 1, number },
-        octets: octets.as_slice(),
+        octets,
     };
     match write_lines(rt.alloc(), table.as_slice(), log, &mut rt.stdout()) {
         Ok(printed) => println!(rt; "{name}: moves {}, torn {}", printed.moves, printed.torn),

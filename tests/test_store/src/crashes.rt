@@ -62,7 +62,7 @@ fn crash<R: Abort + AllocGlobal>(
     let (answered, log) = live(alloc, &config, log_of(alloc, &[], &[short])?)?;
     // a call that reads and four that begin, then two for each batch
     assert_eq!(rt; answered, (calls.max(5) - 5) / 2);
-    match Store::open(alloc, &config, crashed(log, ending)) {
+    match open(alloc, &config, crashed(log, ending)) {
         Ok(opened) => {
             let more = opened.moves.checked_sub(2 * answered as usize);
             assert!(rt; matches!(more, Some(0 | 2)));

@@ -31,7 +31,7 @@ fn frames(alloc: Global, payloads: &[&str]) -> Result<Vec<u8>, Fail> {
 
 /// Why a log with these octets is not opened. It is left as it was.
 fn fault_of(alloc: Global, octets: &[u8]) -> Result<Option<StoreFault>, Fail> {
-    match Store::open(alloc, &config(alloc)?, log_of(alloc, octets, &[])?) {
+    match open(alloc, &config(alloc)?, log_of(alloc, octets, &[])?) {
         Ok(_) => Ok(None),
         Err(refused) => {
             if refused.log.octets() != octets {

@@ -2,7 +2,7 @@
 
 use rld_log::{Crash, Ending, Life, MemoryLog};
 use rld_spelling::Header;
-use rld_store::{Opened, Store};
+use rld_store::{Opened, Refused, Store, read_frames};
 use rsl_accounts::Config;
 use rsl_event::{Act, Decision, Event, Key, Nas, NasName, Source};
 use rsl_shard::Move;
@@ -100,10 +100,23 @@ pub fn begun_for(alloc: Global, config: &Config, lives: &[Life]) -> Result<Store
     }
 }
 
+/// Reads a log and opens it.
+pub fn open(
+    alloc: Global,
+    config: &Config,
+    log: MemoryLog,
+) -> Result<Opened<MemoryLog>, Refused<MemoryLog>> {
+    let mut log = log;
+    match read_frames(alloc, &mut log) {
+        Ok(frames) => Store::open(alloc, config, log, &frames),
+        Err(fault) => Err(Refused { log, fault }),
+    }
+}
+
 /// A store of a log with these octets, and what was found there.
 pub fn found(alloc: Global, octets: &[u8]) -> Result<Opened<MemoryLog>, Fail> {
     let config = config(alloc)?;
-    match Store::open(alloc, &config, log_of(alloc, octets, &[])?) {
+    match open(alloc, &config, log_of(alloc, octets, &[])?) {
         Ok(opened) => Ok(opened),
         Err(_) => Err("not opened")?,
     }

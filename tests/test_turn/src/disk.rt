@@ -2,7 +2,7 @@
 //! leaves there.
 
 use rld_books::ServerBooks;
-use rld_log::{Crash, Ending, Life, MemoryLog, payloads};
+use rld_log::{Crash, Ending, Frames, Life, MemoryLog};
 use rld_spelling::{Counts, Header};
 use rld_store::Store;
 use rsl_accounts::Config;
@@ -66,7 +66,8 @@ pub(crate) fn batches_of(
     config: &Config,
     log: &MemoryLog,
 ) -> Result<Vec<Vec<Move>>, Fail> {
-    let found = payloads(alloc, log.octets())?;
+    let frames = Frames::of(log.octets().to_vec(alloc)?)?;
+    let found = frames.payloads(alloc)?;
     let [_, _, spelled @ ..] = found.as_slice() else {
         return Err("no generation")?;
     };

@@ -15,7 +15,7 @@ use crate::coming::{coming_of, networks_of, push_sent};
 use crate::disk::{batches_of, left_by, push_moves, store_of};
 use crate::notes::Notes;
 use rld_log::MemoryLog;
-use rld_store::Store;
+use rld_store::{Store, read_frames};
 use rld_turn::{Ending, MemoryPeers, Present, Receiver, RecordFault, Turn, Unwatched, Watch, tick};
 use rsl_accounts::Config;
 use rsl_event::Port;
@@ -343,7 +343,9 @@ fn a_restart_changes_no_answer(rt: HostRuntime) -> Result<(), Fail> {
     let mut store = store_of(alloc, &config, "")?;
     let sent = sent_in_turn(alloc, &config, "ask ask:1025", &mut store)?;
     assert_eq!(rt; sent.as_str(), " accept to 1024, limit to 1025,");
-    let Ok(mut opened) = Store::open(alloc, &config, left_by(store)) else {
+    let mut log = left_by(store);
+    let frames = read_frames(alloc, &mut log)?;
+    let Ok(mut opened) = Store::open(alloc, &config, log, &frames) else {
         return Err("not opened")?;
     };
     let again = sent_in_turn(alloc, &config, "ask ask:1025 ask:1026", &mut opened.store)?;

@@ -1,4 +1,4 @@
-use Rattle.std.proofs.Common.{◌≡◌, ◌++◌, ℕ, List, length, take, drop, ap, sym, ◌∙◌, arith, length-drop, length-take}
+use Rattle.std.proofs.Common.{◌≡◌, ◌++◌, ℕ, List, length, take, drop, ap, sym, ◌∙◌, arith, length-drop}
 use Rattle.rld_log.specs.Frames.{block}
 use Rattle.rld_log.proofs.Blocks.{made, too_long, too_short}
 use Rattle.rld_log.proofs.frame.first_block.Goals as goal

@@ -1,4 +1,4 @@
-use Rattle.std.proofs.Common.{◌≡◌, ap, ◌∙◌}
+use Rattle.std.proofs.Common.{◌≡◌, ◌∙◌}
 use Rattle.rld_log.specs.Frames.{frame}
 use Rattle.rld_log.proofs.Recordings.{still, write_crash}
 use Rattle.rld_log.proofs.recording.write.Goals as goal

@@ -5,7 +5,7 @@ use Rattle.rld_store.proofs.opening.generation_in.Goals as goal
 
 pub returns-clause-found : goal.returns-clause-found
 returns-clause-found c = λ before has header begun moves is of.
-    c.in_ok-reading.ensures.found header begun moves is
+    c.in_ok-read_generation.ensures.found header begun moves is
     (subst (λ (l : List (List ℕ)). IsGeneration (counts_of c.args.config.now) header begun moves l)
-    (have_one_reading c.args.octets.now before (map (λ (payload : Bor (List ℕ)). payload.now) c.in_ok-found.found.payloads.items) has c.in_ok-found.ensures.has.has
+    (have_one_reading c.args.frames.now.octets.items before (map (λ (payload : Bor (List ℕ)). payload.now) c.in_ok-payloads.payloads.items) has c.in_ok-payloads.ensures
     ∙ ap (λ (l : List (Bor (List ℕ))). map (λ (payload : Bor (List ℕ)). payload.now) l) (sym c.deref.ensures.value)) of)

@@ -1,23 +1,10 @@
-//! The frames of a log, and the parts of the generation in them.
+//! The parts of a generation.
 
 ghost use Rattle.std.specs.Prelude.{◌≡◌, ◌<◌, ◌∷◌, length, map, IfErr, IfNone, IfOk, IfSome, Some, slice_get};
-ghost use Rattle.rld_log.specs.Frames.{frames};
-ghost use Rattle.rld_store.specs.Opening.{AreParts, HasFrames, IsWhyNoFrames, IsWhyNoParts};
-ghost use Rattle.rld_store.specs.declared.fault.StoreFault.TheVariants.{TooLong as too_long};
+ghost use Rattle.rld_store.specs.Opening.{AreParts, IsWhyNoParts};
 
 use crate::fault::StoreFault;
 use crate::part::Part;
-use rld_log::{ReadFault, payloads};
-use std::alloc::Global;
-
-/// The whole frames of a log.
-#[derive(Drop)]
-pub struct Frames<'a> {
-    /// Their payloads, in their order.
-    pub payloads: Vec<&'a [u8]>,
-    /// How many octets they have; after them stands a torn end.
-    pub whole: usize,
-}
 
 /// The parts of a generation.
 #[derive(Clone, Copy)]
@@ -51,37 +38,6 @@ fn front_and_rest<'a>(payloads: &'a [&'a [u8]]) -> Option<(&'a [u8], &'a [u8], &
         return None;
     };
     Some((first, second, rest))
-}
-
-/// The length of the frames of these payloads.
-fn frames_len(payloads: &[&[u8]]) -> Result<usize, StoreFault>
-    ensures len { IfOk result (λ len. len ≡ length (frames (map (λ payload. payload.now) payloads.now))) }
-    ensures why { IfErr result (λ fault. fault ≡ too_long) }
-{
-    let mut len = 0;
-    for index in 0..payloads.len() {
-        let part = Part::after(len, payload_at(payloads, index))?;
-        len = part.end;
-    }
-    Ok(len)
-}
-
-impl<'a> Frames<'a> {
-    /// The whole frames of a log with these octets. `Damaged` where a frame was spoilt before a whole
-    /// one.
-    pub fn of(alloc: Global, octets: &'a [u8]) -> Result<Frames<'a>, StoreFault>
-        ensures has { IfOk result (λ found.
-            HasFrames octets.now (map (λ payload. payload.now) found.payloads.items) found.whole) }
-        ensures why { IfErr result (IsWhyNoFrames octets.now) }
-    {
-        let payloads = match payloads(alloc, octets) {
-            Ok(found) => found,
-            Err(ReadFault::NoMemory) => return Err(StoreFault::NoMemory),
-            Err(ReadFault::Damaged(damage)) => return Err(StoreFault::Damaged(damage)),
-        };
-        let whole = frames_len(&payloads)?;
-        Ok(Frames { payloads, whole })
-    }
 }
 
 impl<'a> Parts<'a> {

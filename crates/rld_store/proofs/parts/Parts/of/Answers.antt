@@ -1,6 +1,6 @@
 use Rattle.std.proofs.Common.{List, ℕ, Bor, map}
 use Rattle.rld_store.proofs.Replaying.{parts_are}
-use Rattle.rld_store.proofs.frames.Parts.of.Goals as goal
+use Rattle.rld_store.proofs.parts.Parts.of.Goals as goal
 
 pub returns-clause-are : goal.returns-clause-are
 returns-clause-are c =
