@@ -1,4 +1,4 @@
-use Rattle.std.proofs.Common.{◌≡◌, ℕ, List, refl, sym, subst}
+use Rattle.std.proofs.Common.{ℕ, List, sym, subst}
 use Rattle.rld_log.specs.Frames.{HasPayloads}
 use Rattle.rld_store.proofs.Histories.{ends_whole, extends_whole, has_before, only_the_payloads}
 use Rattle.rld_store.proofs.opening.restore.Goals as goal
