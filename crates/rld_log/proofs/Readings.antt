@@ -1,7 +1,7 @@
 -- A file is read in one way.
-use Rattle.std.proofs.Common.{◌≡◌, ◌≤◌, ℕ, ◌+◌, List, [], ◌∷◌, ◌++◌, length, take, drop, refl, sym, ◌∙◌, ap, subst, arith, append_assoc, length-append}
+use Rattle.std.proofs.Common.{◌≡◌, ◌≤◌, ℕ, ◌+◌, List, [], ◌∷◌, ◌++◌, length, take, drop, refl, sym, ◌∙◌, ap, subst, arith, append_assoc}
 use Rattle.std.specs.List.{AllByRecursion}
-use Rattle.std.specs.Coded.{coded_list, coded_ℕ, le_prop}
+use Rattle.std.specs.Coded.{coded_list, coded_ℕ}
 use Rattle.std.proofs.Math.Logic.{∥∥₁_elim}
 use Rattle.std.proofs.lemmas.List.{append-nil, drop_at, take_at}
 use denote.Struct.Props.{≡_prop}
@@ -74,9 +74,6 @@ pass_one octets rest after payload ps passed fits is = record {
   fit = fits_more ps payload passed.fit fits;
 }
 
-pub passed_size : (octets rest : List ℕ) (ps : List (List ℕ)) (len : ℕ) → HasPassed octets ps rest → len + length rest ≡ length octets → len ≡ length (frames ps)
-passed_size octets rest ps len passed size = omega (arith, size, ap length passed.parts, length-append (frames ps) rest)
-
 -- ---- whole frames, walked by their lengths
 
 -- these of the payloads were found, and the frames of the others are left
@@ -108,9 +105,6 @@ none_left payloads found left none so = by so.rest so.all so.left_is so.fit
     by (p ∷ rest) all is fit = absurd (none (digest p) p (frames rest) (frame_shape p fit.0) is)
 
 -- ---- what a file of whole frames is known by
-
-pub ends_within : (file : List ℕ) (len : ℕ) → ∥ EndsAt file len ∥₁ → len ≤ length file
-ends_within file len known = ∥∥₁_elim known le_prop (λ ends. omega (arith, ends.size, ap length ends.has.parts, length-append (frames ends.payloads) ends.has.tail))
 
 pub ends_so : (file : List ℕ) (len : ℕ) → ∥ EndsAt file len ∥₁ → (payloads : List (List ℕ)) → HasPayloads file payloads → len ≡ length (frames payloads)
 ends_so file len known payloads has =
