@@ -1,4 +1,3 @@
-pub mod Files
 pub mod Names
 pub mod Tables
 pub mod Taken

@@ -3,12 +3,10 @@ use Rattle.std.specs.Prelude.{ℕ, ◌+◌, Bool, false, not, ◌==◌, ◌&&◌
 use Rattle.std.specs.List.{list_any, slice_get}
 use Rattle.std.specs.Net.Addr.{ipv4_octets}
 use Rattle.std.specs.Option.{option_map_or}
-use Rattle.std.specs.Str.{is_utf8}
 use Rattle.std.specs.declared.net.ip_addr.IpAddr.{IpAddr}
 use Rattle.std.specs.declared.net.ip_addr.IpAddr.TheVariants.{V4}
 use Rattle.std.specs.declared.net.ipv4_addr.Ipv4Addr.{Ipv4Addr}
 use Rattle.toml.specs.Data.{Data, table}
-use Rattle.toml.specs.Parse.{parse_document}
 use Rattle.rld_config.specs.declared.archive.Archive.{Archive}
 use Rattle.rld_config.specs.declared.archive.Archive.TheVariants.{Days}
 use Rattle.rld_config.specs.declared.control.ControlSocket.{ControlSocket}
@@ -30,6 +28,7 @@ use Rattle.rld_networks.specs.Networks.{client_of}
 use Rattle.rld_networks.specs.Prefix.{same_prefix}
 use Rattle.rld_networks.specs.declared.network.Network.{Network}
 use Rattle.rld_networks.specs.declared.prefix.Prefix.{Prefix}
+use Rattle.rsl_accounts.specs.File.{file_of}
 use Rattle.rsl_accounts.specs.Configuration.{Configuration, client_number, same_octets}
 use Rattle.rsl_accounts.specs.Version.{is_strict}
 use Rattle.rsl_accounts.specs.declared.client.Client.{Client}
@@ -298,10 +297,6 @@ server_of_file file =
       web = web;
       trust = trust;
     })))))))
-
--- the table that the text is, if it is UTF-8 and TOML
-unfoldable pub file_of : List ℕ → Option Data
-file_of text = if is_utf8 text then option_map table (parse_document text) else None
 
 abbrev pub server_of_parsed : Option Data → Result Server ServerFault
 server_of_parsed None = Err NotToml

@@ -2,10 +2,10 @@
 //! tables `control`, `web` and `trust`.
 ghost use Rattle.std.specs.Prelude.{◌≡◌, ◌≢◌, ◌≤◌, Some, None, map, length, IfOk, IfErr, option_map};
 ghost use Rattle.toml.specs.View.{view};
+ghost use Rattle.rsl_accounts.specs.File.{file_of};
 ghost use Rattle.rld_config.specs.Server.{
   control_in,
   each,
-  file_of,
   head_in,
   listen_in,
   listens_in,
