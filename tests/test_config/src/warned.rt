@@ -2,7 +2,7 @@
 //! after those of the head.
 
 use crate::server_file::text_of;
-use rld_config::{shadowed_client, unknown_client, warnings};
+use rld_config::{shadowed_client, unknown_client, unsigned_client, warnings};
 use rld_networks::{Network, prefix_of};
 use rsl_accounts::Config;
 use std::alloc::Global;
@@ -137,4 +137,38 @@ fn an_operator_is_told_of_networks(rt: HostRuntime) -> Result<(), Fail> {
         both addresses | 192.0.2.0/28 | 1 | 1 | ShadowedClient 192.0.2.9
     ";
     check_rows(&rt, &Networked, rows)
+}
+
+/// The fault of two networks, the second of a client that may sign or not, by the version of the account
+/// file.
+struct Guarded;
+
+impl Subject for Guarded {
+    fn found(&self, alloc: Global, fields: &[&str]) -> Result<String, Fail> {
+        let [version, signed] = fields else {
+            return Err("not a version, and whether a client signs")?;
+        };
+        let times = HEAD.trim_start_matches("\nversion = 1\n");
+        let second = format!(in alloc; "[[client]]\naddress = '192.0.2.3'\nsecret = '0123456789abcdef'\nsigned = {signed}\n")?;
+        let text = format!(in alloc; "version = {version}\n{times}{second}{ACCOUNTS}")?;
+        let Ok(config) = Config::read(alloc, text.as_bytes()) else {
+            return Err("the account file is refused")?;
+        };
+        let networks = [network("2001:db8:1::/48", "1")?, network("2001:db8:3::/48", "3")?];
+        match unsigned_client(&networks, &config) {
+            Some(fault) => shown(alloc, &fault),
+            None => printed(alloc, &"none"),
+        }
+    }
+}
+
+#[test]
+fn networks_of_version_3_stand_for_clients_that_sign(rt: HostRuntime) -> Result<(), Fail> {
+    let rows = "
+        version 3 | 3 | false | UnsignedClient network 2 client
+        it signs | 3 | true | \"none\"
+        version 2 | 2 | false | \"none\"
+        version 1 | 1 | false | \"none\"
+    ";
+    check_rows(&rt, &Guarded, rows)
 }
