@@ -149,12 +149,17 @@ impl Subject for Guarded {
             return Err("not a version, and whether a client signs")?;
         };
         let times = HEAD.trim_start_matches("\nversion = 1\n");
-        let second = format!(in alloc; "[[client]]\naddress = '192.0.2.3'\nsecret = '0123456789abcdef'\nsigned = {signed}\n")?;
+        let second = format!(in alloc;
+            "[[client]]\naddress = '192.0.2.3'\nsecret = '0123456789abcdef'\nsigned = {signed}\n"
+        )?;
         let text = format!(in alloc; "version = {version}\n{times}{second}{ACCOUNTS}")?;
         let Ok(config) = Config::read(alloc, text.as_bytes()) else {
             return Err("the account file is refused")?;
         };
-        let networks = [network("2001:db8:1::/48", "1")?, network("2001:db8:3::/48", "3")?];
+        let networks = [
+            network("2001:db8:1::/48", "1")?,
+            network("2001:db8:3::/48", "3")?,
+        ];
         match unsigned_client(&networks, &config) {
             Some(fault) => shown(alloc, &fault),
             None => printed(alloc, &"none"),
