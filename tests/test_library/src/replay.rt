@@ -291,7 +291,8 @@ impl Subject for Faults {
             ["NoMemory"] => ReplayFault::NoMemory,
             _ => Err("an unknown fault")?,
         };
-        Ok(format!(in alloc; "{fault}, {}", fault.status().number())?)
+        let text = format!(in alloc; "{fault}")?;
+        Ok(format!(in alloc; "{text}, {}", fault.status().number())?)
     }
 }
 

@@ -255,7 +255,9 @@ impl Server {
 
     /// That a log has the books after the run, and how many moves its generation has.
     fn moves_of_last(&self, alloc: Global, octets: &[u8]) -> Result<usize, Fail> {
-        match Store::open(alloc, &self.config, log_of(alloc, octets, &[])?) {
+        let mut log = log_of(alloc, octets, &[])?;
+        let frames = read_frames(alloc, &mut log)?;
+        match Store::open(alloc, &self.config, log, &frames) {
             Ok(opened) if are_same_rows(&opened.store.rows(alloc)?, &self.run.rows) => Ok(
                 opened.moves,
             ),

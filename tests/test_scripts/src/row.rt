@@ -57,6 +57,9 @@ pub(crate) fn replayed(alloc: Global, script: &str) -> io::Result<String> {
     };
     match outcome {
         Ok(()) => Ok(String::from_str(alloc, printed)?),
-        Err(fault) => Ok(format!(in alloc; "{printed}{} {fault}\n", fault.status().number())?),
+        Err(fault) => {
+            let text = format!(in alloc; "{fault}")?;
+            Ok(format!(in alloc; "{printed}{} {text}\n", fault.status().number())?)
+        }
     }
 }

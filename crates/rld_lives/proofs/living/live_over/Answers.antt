@@ -11,14 +11,14 @@ returns-in_default-clause-lived g c = λ told only opening history has.
     leaves_none c.args.config.now opening g.L.Log.tears (g.L.Log.may_leave c.read_frames.new.log) history _
     (λ ending premise left reached. subst (HasHistory c.args.config.now opening history) (sym (only ending left (c.read_frames.ensures.crash told ending left reached))) has)
 
-pub returns-in-Ok-clause-lived : goal.returns-in-Ok-clause-lived
-returns-in-Ok-clause-lived g c =
+pub returns-in-Ok-open-clause-lived : goal.returns-in-Ok-open-clause-lived
+returns-in-Ok-open-clause-lived g c =
     rw c.into_log.ensures (λ told only opening history has.
     let batches : List (List Move) = batches_of c.args.steps.items in
-    let old = c.in-Ok.opened.store in
+    let old = c.in-Ok-open.opened.store in
     let new = c.live.new.store in
-    let told_read = c.in-Ok.ensures.told (c.live.ensures.told told) in
-    let so = c.in-Ok.ensures.stands (c.live.ensures.told told) opening history (subst (HasHistory c.args.config.now opening history) (sym (c.read_frames.ensures.same told_read)) has) in
+    let told_read = c.in-Ok-open.ensures.told (c.live.ensures.told told) in
+    let so = c.in-Ok-open.ensures.stands (c.live.ensures.told told) opening history (subst (HasHistory c.args.config.now opening history) (sym (c.read_frames.ensures.same told_read)) has) in
     leaves_told c.args.config.now opening old.counts g.L.Log.tears old.end (g.L.Log.seen old.log) (g.L.Log.may_leave old.log) (g.L.Log.may_leave new.log) old.whole old.books history batches
     (IsTrue (g.L.Log.tells new.log)) (new ≡ old) c.live.result c.ok-told.result so told c.live.ensures.lived c.live.ensures.err
     (λ same. rw same (leaves_opened c.args.config.now opening old.counts g.L.Log.tears old.end (g.L.Log.seen old.log) (g.L.Log.may_leave old.log) old.whole old.books history batches so))
