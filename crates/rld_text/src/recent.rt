@@ -67,7 +67,8 @@ fn push_minute(out: &mut Vec<u8>, minute: &Minute) -> Result<(), AllocError>
     push_rate(out, minute.rejects)?;
     push_text(out, " rejects/s, ")?;
     push_rate(out, minute.accounting)?;
-    push_text(out, " accounting/s\n")
+    push_text(out, " accounting/s\n")?;
+    Ok(())
 }
 
 /// Writes a number of a minute as a number of a second, with one decimal.
@@ -234,5 +235,6 @@ fn push_sockets_line(out: &mut Vec<u8>, waiting: u64, dropped: u64) -> Result<()
     push_decimal(out, waiting)?;
     push_text(out, " octets wait, ")?;
     push_decimal(out, dropped)?;
-    push_text(out, " datagrams found no room\n")
+    push_text(out, " datagrams found no room\n")?;
+    Ok(())
 }

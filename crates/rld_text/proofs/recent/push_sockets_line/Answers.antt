@@ -1,0 +1,9 @@
+use Rattle.rld_text.specs.Recent.{sockets_line}
+use Rattle.rld_text.proofs.Pieces.{written_5}
+use Rattle.rld_text.proofs.recent.push_sockets_line.Goals as goal
+
+pub returns : goal.returns
+unfolding sockets_line
+returns c =
+    written_5 _ _ _ _ _ _ _ _ _ _ _
+    c.in_ok-push_text.ensures c.in_ok-push_decimal.ensures c.in_ok-push_text-2.ensures c.in_ok-push_decimal-2.ensures c.in_ok-push_text-3.ensures
