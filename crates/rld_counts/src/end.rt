@@ -1,4 +1,4 @@
-ghost use Rattle.std.specs.Prelude.{◌≡◌, ◌<◌, Some, slice_get};
+ghost use Rattle.std.specs.Prelude.{◌≡◌, ◌<◌, Some, drop, slice_get, take};
 ghost use Rattle.rld_counts.specs.Ends.{all_ends, kind_of, name_of, number_of, port_of};
 ghost use Rattle.rld_counts.specs.declared.end.End.{End as OneEnd};
 
@@ -10,7 +10,7 @@ use crate::kind::Kind;
 pub const ENDS: usize = 38;
 
 /// How many of them are of the authentication port: the first ones.
-pub const AUTH_ENDS: usize = 20;
+const AUTH_ENDS: usize = 20;
 
 /// How a datagram ended, with the port that it came to.
 #[derive(Clone, Copy)]
@@ -79,6 +79,20 @@ impl End {
             End::Acct(AcctEnd::AccountingOff),
             End::Acct(AcctEnd::OtherStatus),
         ]
+    }
+
+    /// Those of all ends that are of the authentication port.
+    pub fn of_auth(all: &[End; ENDS]) -> &[End]
+        ensures { result.now ≡ take 20 all.now }
+    {
+        &all[..AUTH_ENDS]
+    }
+
+    /// Those of all ends that are of the accounting port.
+    pub fn of_acct(all: &[End; ENDS]) -> &[End]
+        ensures { result.now ≡ drop 20 all.now }
+    {
+        &all[AUTH_ENDS..]
     }
 
     /// What became of the datagram.

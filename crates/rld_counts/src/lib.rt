@@ -23,7 +23,7 @@ pub use auth_end::AuthEnd;
 pub use cell::Cell;
 pub use client_counts::ClientCounts;
 pub use counts::Counts;
-pub use end::{AUTH_ENDS, ENDS, End};
+pub use end::{ENDS, End};
 pub use ended::Ended;
 pub use histogram::{BUCKETS, Histogram, bound_of};
 pub use kind::Kind;

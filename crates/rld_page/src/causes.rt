@@ -3,7 +3,7 @@
 use crate::ends::words;
 use crate::figures::write_grouped;
 use crate::html::Html;
-use rld_counts::{AUTH_ENDS, Counts, End};
+use rld_counts::{Counts, End};
 use std::alloc::AllocError;
 
 /// Writes how the datagrams ended since the start.
@@ -12,8 +12,8 @@ pub(crate) fn write_causes(html: &mut Html, counts: &Counts) -> Result<(), Alloc
         "<section class=\"rest\"><div class=\"top\"><h2>Datagrams since the start</h2></div>\n<div class=\"wide\">",
     )?;
     let ends = End::all();
-    write_port(html, "Authentication", counts, &ends[..AUTH_ENDS])?;
-    write_port(html, "Accounting", counts, &ends[AUTH_ENDS..])?;
+    write_port(html, "Authentication", counts, End::of_auth(&ends))?;
+    write_port(html, "Accounting", counts, End::of_acct(&ends))?;
     html.markup("</div></section>\n")
 }
 

@@ -1,11 +1,13 @@
 //! What is for people alone: since when a server runs, and what has happened lately; lines of at most 80 columns, but for long names.
 
-ghost use Rattle.std.specs.Prelude.{◌≡◌, ◌++◌, List, IfOk, OnOk, ℕ};
+ghost use Rattle.std.specs.Prelude.{◌≡◌, ◌++◌, List, IfOk, OnOk, codes, drop, take, ℕ};
+ghost use Rattle.rld_counts.specs.Ends.{all_ends};
+ghost use Rattle.rld_look.specs.History.{last_of};
 ghost use Rattle.rld_text.specs.Recent.{break_before, column_after, column_at, count_at, count_words, counts_from, full_line, full_lines, is_shown, len_of, minute_if_any, minute_line, port_line, rate, recent_lines, sockets_if_any, sockets_line, start_line};
 ghost use Rattle.rld_values.specs.Dates.{AreDates};
 
 use crate::sums::{dropped, waiting};
-use rld_counts::{AUTH_ENDS, Counts, End};
+use rld_counts::{Counts, End};
 use rld_look::{AccountLook, Look, Minute, SocketLook};
 use rld_values::{push_age, push_date, push_decimal, push_text, push_word};
 use std::alloc::{AllocError, Global};
@@ -36,11 +38,35 @@ pub(crate) fn push_start(out: &mut Vec<u8>, start: u64, now: u64) -> Result<(), 
 pub(crate) fn push_recent(alloc: Global, out: &mut Vec<u8>, look: &Look) -> Result<(), AllocError>
     ensures { OnOk result (out.new.items ≡ out.old.items ++ recent_lines look.entry.now) }
 {
-    let ends = End::all();
-    push_minute_if_any(out, Minute::last_of(look.minutes.as_slice()))?;
-    push_port(alloc, out, "auth:", &look.counts, &ends[..AUTH_ENDS])?;
-    push_port(alloc, out, "acct:", &look.counts, &ends[AUTH_ENDS..])?;
-    push_fullest(out, look.fullest.as_slice())?;
+    push_last_minute(out, look)?;
+    push_auth(alloc, out, &look.counts)?;
+    push_acct(alloc, out, &look.counts)?;
+    push_full(out, look)?;
+    push_waiting(out, look)?;
+    Ok(())
+}
+
+/// Writes what came in the last whole minute of a look.
+fn push_last_minute(out: &mut Vec<u8>, look: &Look) -> Result<(), AllocError>
+    ensures { OnOk result (out.new.items
+        ≡ out.old.items ++ minute_if_any (last_of look.entry.now.minutes.items)) }
+{
+    push_minute_if_any(out, Minute::last_of(look.minutes.as_slice()))
+}
+
+/// Writes the fullest accounts of a look.
+fn push_full(out: &mut Vec<u8>, look: &Look) -> Result<(), AllocError>
+    ensures { OnOk result (out.new.items
+        ≡ out.old.items ++ full_lines 5 look.entry.now.fullest.items) }
+{
+    push_fullest(out, look.fullest.as_slice())
+}
+
+/// Writes what waits at the sockets of a look.
+fn push_waiting(out: &mut Vec<u8>, look: &Look) -> Result<(), AllocError>
+    ensures { OnOk result (out.new.items
+        ≡ out.old.items ++ sockets_if_any look.entry.now.sockets.items) }
+{
     push_sockets(out, look.sockets.as_slice())
 }
 
@@ -79,6 +105,24 @@ fn push_rate(out: &mut Vec<u8>, count: u64) -> Result<(), AllocError>
     push_decimal(out, count / 60)?;
     push_text(out, ".")?;
     push_decimal(out, count % 60 / 6)
+}
+
+/// Writes the line of the authentication port.
+fn push_auth(alloc: Global, out: &mut Vec<u8>, counts: &Counts) -> Result<(), AllocError>
+    ensures { OnOk result (out.new.items
+        ≡ out.old.items ++ port_line (codes "auth:") counts.now (take 20 all_ends)) }
+{
+    let ends = End::all();
+    push_port(alloc, out, "auth:", counts, End::of_auth(&ends))
+}
+
+/// Writes the line of the accounting port.
+fn push_acct(alloc: Global, out: &mut Vec<u8>, counts: &Counts) -> Result<(), AllocError>
+    ensures { OnOk result (out.new.items
+        ≡ out.old.items ++ port_line (codes "acct:") counts.now (drop 20 all_ends)) }
+{
+    let ends = End::all();
+    push_port(alloc, out, "acct:", counts, End::of_acct(&ends))
 }
 
 /// Writes how many datagrams of a port ended in each of these ways in which any did.

@@ -1,5 +1,6 @@
-ghost use Rattle.std.specs.Prelude.{◌≡◌, ◌++◌, IfOk, OnOk};
-ghost use Rattle.rld_text.specs.Status.{IsStatus, number_lines, recording_line, totals_lines};
+ghost use Rattle.std.specs.Prelude.{◌≡◌, ◌++◌, IfOk, List, OnOk, codes, ℕ};
+ghost use Rattle.rld_text.specs.Status.{IsStatus, number_lines, recording_line, status_of, totals_lines};
+ghost use Rattle.rld_values.specs.Dates.{AreDates};
 
 use crate::build::push_build_line;
 use crate::recent::{push_recent, push_start};
@@ -11,18 +12,34 @@ use std::alloc::{AllocError, Global};
 
 /// What a server says of itself: who it is and whether it records, numbers, a line each, then what has
 /// happened lately, and the line `ok`, which says that it is all. It fails only where memory is refused.
-#[tactic(auto, unfolding(crate::specs::Status::status_of))]
 pub fn status_text(alloc: Global, look: &Look) -> Result<Vec<u8>, AllocError>
     ensures { IfOk result (λ text. IsStatus look.entry.now text.items) }
 {
     let mut text = Vec::new(alloc);
-    push_build_line(&mut text, &look.build)?;
-    push_start(&mut text, look.start, look.now)?;
-    push_recording(&mut text, look.recording)?;
-    push_numbers(alloc, &mut text, look)?;
-    push_recent(alloc, &mut text, look)?;
-    Reply::Done(b"").write(&mut text)?;
+    push_status(alloc, &mut text, look)?;
     Ok(text)
+}
+
+/// Writes what a server says of itself.
+#[tactic(auto, unfolding(crate::specs::Status::status_of))]
+fn push_status(alloc: Global, out: &mut Vec<u8>, look: &Look) -> Result<(), AllocError>
+    ensures { OnOk result ((dates : ℕ → List ℕ) → AreDates dates →
+        out.new.items ≡ out.old.items ++ status_of dates look.entry.now) }
+{
+    push_build_line(out, &look.build)?;
+    push_start(out, look.start, look.now)?;
+    push_recording(out, look.recording)?;
+    push_numbers(alloc, out, look)?;
+    push_recent(alloc, out, look)?;
+    push_end(out)?;
+    Ok(())
+}
+
+/// Writes that it is all.
+fn push_end(out: &mut Vec<u8>) -> Result<(), AllocError>
+    ensures { OnOk result (out.new.items ≡ out.old.items ++ codes "ok\n") }
+{
+    Reply::Done(b"").write(out)
 }
 
 /// Writes whether batches are being recorded.
