@@ -13,7 +13,7 @@ use Rattle.rld_look.specs.declared.look.Recording.TheVariants.{Recorded, Failing
 use Rattle.rld_look.specs.declared.totals.Totals.{Totals}
 use Rattle.rld_values.specs.Dates.{AreDates}
 use Rattle.rld_text.specs.Build.{build_line, proof_word}
-use Rattle.rld_text.specs.Json.{json_string, member_front, number_member, string_member}
+use Rattle.rld_text.specs.Json.{json_string, member_front, number_member}
 use Rattle.rld_text.specs.Metrics.{dropped_after, waiting_after}
 use Rattle.rld_text.specs.Recent.{recent_lines, start_line}
 use Rattle.rld_text.specs.Words.{number_line}
