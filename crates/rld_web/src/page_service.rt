@@ -55,18 +55,6 @@ impl<'a, S: Shown> PageService<'a, S> {
         self.taken = now;
     }
 
-    /// Looks at the accounts if they are asked for, and were not looked at since the last look.
-    fn look_if_asked(&mut self, path: &str)
-        ensures look { self.new.look ≡ self.old.look }
-        ensures place { self.new.place ≡ self.old.place }
-        ensures accounts { IfSome self.old.accounts (λ accounts.
-            self.new.accounts ≡ Some accounts) }
-    {
-        if self.accounts.is_none() && matches!(Path::of(path), Some(Path::Accounts)) {
-            self.accounts = self.server.take_accounts().ok();
-        }
-    }
-
     /// Answers what came to this place from now on.
     pub(crate) fn turn_to(&mut self, place: SocketAddrV4) {
         self.place = place;
@@ -84,10 +72,15 @@ impl<S: Shown> Service for PageService<'_, S> {
         request: &Request<Bytes>,
         response: &mut Response,
     ) -> Result<(), AllocError> {
-        self.look_if_asked(request.uri().path());
         let Some(look) = &self.look else {
             return Err(AllocError);
         };
+        if self.accounts.is_none() && asks_for_accounts(request.uri().path()) {
+            let accounts = self.server.take_accounts().ok();
+            answer(self.alloc, self.place, look, &accounts, request, response)?;
+            self.accounts = accounts;
+            return Ok(());
+        }
         answer(
             self.alloc,
             self.place,
@@ -95,9 +88,13 @@ impl<S: Shown> Service for PageService<'_, S> {
             &self.accounts,
             request,
             response,
-        )?;
-        Ok(())
+        )
     }
+}
+
+/// Whether a path asks for what the accounts hold.
+fn asks_for_accounts(path: &str) -> bool {
+    matches!(Path::of(path), Some(Path::Accounts))
 }
 
 /// Answers a request to the server at this place by a look at it, and at its accounts.
