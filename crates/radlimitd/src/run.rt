@@ -21,6 +21,7 @@ use std::alloc::Global;
 use std::env::Env;
 use std::fs::{File, Files};
 use std::hash::RandomState;
+use std::io::ErrorKind;
 use std::net::{Net, TcpListener, TcpStream};
 use std::sync::Wait;
 use std::thread::Threads;
@@ -69,6 +70,7 @@ where
     let access = access_of(rt, alloc, name, &server.control)?;
     let control = match Control::bind(rt, alloc, paths.control.as_str(), access) {
         Ok(control) => control,
+        Err(error) if error.kind() == ErrorKind::OutOfMemory => return Err(Fault::NoMemory),
         Err(_) => return Err(Fault::Control(String::from_str(alloc, paths.control.as_str())?)),
     };
     let ticks = Ticks::new();
