@@ -1,5 +1,4 @@
--- The configuration of some settings, clients and accounts: the checks that they have to pass, and
--- what is looked up in it.
+-- The configuration of some settings, clients and accounts: its checks, and its look-ups.
 use Rattle.std.specs.Prelude.{◌≡◌, ℕ, Bool, false, ◌||◌, if◌then◌else◌, nat_lt, nat_eq, List, [], ◌∷◌, ◌++◌, ◌*◌, map, position, Option, None, Some, Result, Ok, Err}
 use Rattle.std.specs.Cmp.Lexicographic.{pointwise}
 use Rattle.std.specs.List.{list_any}
@@ -12,7 +11,7 @@ use Rattle.rsl_accounts.specs.declared.settings.Settings.{Settings}
 use Rattle.rsl_accounts.specs.Settings.{rules_of, interim_of}
 use Rattle.rsl_accounts.specs.Walk.{walk_over, first_fault}
 
--- clients and accounts stand in the order of the file, in which they are numbered from 0
+-- clients and accounts are in the order of the file, in which they are numbered from 0
 pub record Configuration : Type 0 where
   pub settings : Settings
   pub clients : List Client
@@ -21,7 +20,7 @@ pub record Configuration : Type 0 where
 abbrev pub same_octets : List ℕ → List ℕ → Bool
 same_octets = pointwise nat_eq
 
--- whether an element stands in the list twice
+-- whether an element is in the list twice
 abbrev pub comes_twice : List (List ℕ) → Bool
 comes_twice [] = false
 comes_twice (x ∷ xs) = list_any (λ later. same_octets later x) xs || comes_twice xs
@@ -44,13 +43,13 @@ checks_of settings clients accounts =
     ∷ fault_if (nat_lt settings.reserve settings.keep) KeepTooLong
     ∷ []
 
--- the checks before memory is taken for the names pass
+-- the checks before memory is allocated for the names pass
 abbrev pub PassesBeforeNames : Settings → List Client → List Entry → Type 0
 PassesBeforeNames settings clients accounts =
     (first_fault (walk_over settings clients accounts) ≡ None)
     × (comes_twice (addresses clients) ≡ false)
 
--- the account, with its times and the seconds between its interim updates
+-- the account, with its times and its interim interval
 abbrev pub with_times : Settings → Entry → Entry
 with_times settings entry =
     record entry { rules = rules_of settings entry; interim = interim_of settings entry }
@@ -69,8 +68,8 @@ configuration_of settings clients accounts =
     (Ok (record
     { settings = settings; clients = clients; accounts = map (with_times settings) accounts }))
 
--- whether an account counts as live for under two of the intervals that its accepts ask for: then
--- one update that is lost lets it lapse
+-- whether an account's live time is under two of its interim intervals: then one lost update lets
+-- its sessions lapse
 abbrev pub has_short_live : Entry → Bool
 has_short_live entry =
     option_map_or (λ seconds. nat_lt entry.rules.live (2 * seconds)) entry.interim false

@@ -4,7 +4,7 @@ use Rattle.std.specs.List.{list_all}
 use Rattle.rsl_accounts.specs.declared.field.Field.{Field}
 use Rattle.rsl_accounts.specs.declared.field.Field.TheVariants.{Version, Shards, ReserveSecs, LiveSecs, GraceSecs, ClosedSecs, KeepSecs, Client, Account, Address, Secret, Name, Password, Signed, Places, Ports, ServiceType, FramedProtocol, SessionTimeout, IdleTimeout, OwnLive, OwnGrace, InterimSecs, Disabled}
 
--- the key under which the field stands in the file
+-- the key of the field in the file
 abbrev pub field_key : Field → List ℕ
 field_key Version = codes "version"
 field_key Shards = codes "shards"
@@ -34,7 +34,7 @@ field_key Disabled = codes "disabled"
 abbrev pub is_between : ℕ → ℕ → ℕ → Bool
 is_between least most number = nat_le least number && nat_le number most
 
--- a number that the field may have
+-- whether the number is within the field's limits
 abbrev pub takes_number : Field → ℕ → Bool
 takes_number Version number = is_between 1 3 number
 takes_number Shards number = is_between 1 4 number
@@ -54,7 +54,7 @@ takes_number OwnGrace number = is_between 1 86400 number
 takes_number InterimSecs number = is_between 60 86400 number
 takes_number _ number = false
 
--- how many tables the field may have
+-- whether this number of tables is within the field's limits
 abbrev pub takes_count : Field → ℕ → Bool
 takes_count Client count = is_between 1 256 count
 takes_count Account count = is_between 1 16384 count
@@ -63,7 +63,7 @@ takes_count _ count = false
 abbrev pub has_no_nul : List ℕ → Bool
 has_no_nul text = list_all (λ octet. not (octet == 0)) text
 
--- each octet is a visible character of ASCII
+-- each octet is a visible ASCII character
 abbrev pub is_visible : List ℕ → Bool
 is_visible text = list_all (λ octet. is_between 33 126 octet) text
 
@@ -71,11 +71,11 @@ is_visible text = list_all (λ octet. is_between 33 126 octet) text
 abbrev pub is_secret : List ℕ → Bool
 is_secret text = is_between 1 128 (length text) && has_no_nul text
 
--- 1 to 64 octets that are visible characters of ASCII
+-- 1 to 64 octets, each a visible ASCII character
 abbrev pub is_name : List ℕ → Bool
 is_name text = is_between 1 64 (length text) && is_visible text
 
--- a text that the field may have
+-- whether the text is within the field's limits
 abbrev pub takes_text : Field → List ℕ → Bool
 takes_text Secret text = is_secret text
 takes_text Password text = is_secret text

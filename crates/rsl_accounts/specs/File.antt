@@ -1,4 +1,5 @@
--- The configuration of an account file: the value of each field or its fault, and the parts that they make.
+-- The configuration of an account file: the value of each field or its fault, and the parts that
+-- they make.
 use Rattle.std.specs.Prelude.{ℕ, pos, Bool, false, ◌&&◌, if◌then◌else◌, List, [], ◌∷◌, length, Option, None, Some, option_map, unwrap_or, ok_or, Result, Ok, Err, is_some}
 use Rattle.std.specs.List.{list_all}
 use Rattle.std.specs.Result.{result_map_both}
@@ -26,12 +27,12 @@ use Rattle.rsl_accounts.specs.Walk.{secret_len_fault}
 unfoldable pub file_of : List ℕ → Option Data
 file_of text = if is_utf8 text then option_map table (parse_document text) else None
 
--- what a table has under the key of a field
+-- the value under the key of a field
 abbrev pub member_in : Data → Field → Option Data
 member_in value field = get (field_key field) value
 
--- the number, the text, the octets of the address, the truth and the tables that a value is, if the
--- field may have them
+-- a value as a number, a text, the octets of an address, a boolean and an array of tables, if it is
+-- within the field's limits
 abbrev pub number_of : Field → Data → Option ℕ
 number_of field (integer (pos number)) = if takes_number field number then Some number else None
 number_of field _ = None
@@ -63,7 +64,7 @@ abbrev pub tables_of : Field → Data → Option (List Data)
 tables_of field (array items) = tables_of_list field (list_of items)
 tables_of field _ = None
 
--- the value of a field that a table must have, and of one that it may leave out, or the fault
+-- the value of a field that a table must have, and of an optional one, or the fault
 abbrev pub required : {T : Type 0} → Field → (Data → Option T) → Option Data → Result T ConfigFault
 required field value_of None = Err (Missing field)
 required field value_of (Some value) = ok_or (value_of value) (BadValue field)
@@ -94,16 +95,16 @@ flag_in value field default =
     result_map_both (λ flag. unwrap_or flag default) (λ fault. fault)
     (optional field boolean_value (member_in value field))
 
--- a client that does not say so is signed in version 3, and not before
+-- whether a client signs: in version 3 unless it says otherwise, before only if it says so
 abbrev pub signed_in : (version : ℕ) → Data → Result Bool ConfigFault
 signed_in version value = flag_in value field.Signed (is_strict version)
 
--- an account that does not say so is not disabled, and only version 3 knows it
+-- whether an account is disabled: only if it says so, and only in version 3
 abbrev pub disabled_in : (version : ℕ) → Data → Result Bool ConfigFault
 disabled_in version value =
     if is_strict version then flag_in value field.Disabled false else Ok false
 
--- the first key that the table may not have; keys are in the order of their octets
+-- `Unknown` of the first key that the table may not have, in the order of octets
 abbrev pub unknown_of : Part → Members → Option ConfigFault
 unknown_of part no_members = None
 unknown_of part (member name value rest) =
@@ -113,21 +114,21 @@ abbrev pub unknown_in : Part → Data → Option ConfigFault
 unknown_in part (table members) = unknown_of part members
 unknown_in part _ = None
 
--- which only version 3 takes for a fault
+-- `Unknown` of the first unknown key, in version 3
 abbrev pub misspelled_in : (version : ℕ) → Part → Data → Option ConfigFault
 misspelled_in version part value = if is_strict version then unknown_in part value else None
 
--- a time of an account's own, or the seconds between interim updates: version 1 knows neither
+-- an account's own time, or the interim interval: version 1 knows neither
 unfoldable pub own_in : (version : ℕ) → Data → Field → Result (Option ℕ) ConfigFault
 own_in version value field = if knows_own_times version then option_in value field else Ok None
 
--- what goes on with a value, or its fault
+-- the function of a value, or its fault
 abbrev pub and_then : {T U : Type 0} → Result T ConfigFault → (T → Result U ConfigFault)
     → Result U ConfigFault
 and_then (Ok value) next = next value
 and_then (Err fault) next = Err fault
 
--- a client's secret, which the version may take for too short
+-- a client's secret, if it is long enough for the version
 unfoldable pub secret_in : (version : ℕ) → Data → Result (List ℕ) ConfigFault
 secret_in version value =
     and_then (text_in value field.Secret) (λ secret.
@@ -164,7 +165,7 @@ client_in version value =
     and_then (signed_in version value) (λ signed.
     Ok (record { address = address; secret = secret; signed = signed })))))
 
--- the times of the rules are filled in later, and so is the file's own `interim_secs`
+-- the times of the rules and the file's own `interim_secs` are filled in later
 unfoldable pub entry_in : (version : ℕ) → Data → Result Entry ConfigFault
 entry_in version value =
     fault_or (misspelled_in version part.Account value)
@@ -194,7 +195,7 @@ entry_in version value =
       disabled = disabled;
     }))))))))))))))
 
--- what each value is, or the first fault
+-- each value, or the first fault
 abbrev pub each : {T : Type 0} → (Data → Result T ConfigFault) → List Data
     → Result (List T) ConfigFault
 each part_in [] = Ok []
@@ -203,8 +204,8 @@ each part_in (value ∷ values) =
     and_then (each part_in values) (λ parts.
     Ok (part ∷ parts)))
 
--- the first fault of the walk over the file, or else what its parts make: first the settings, then
--- how many clients and accounts there are, then each client, then each account
+-- the first fault of the walk over the file, or else the configuration of its parts: first the
+-- settings, then how many clients and accounts there are, then each client, then each account
 unfoldable pub configuration_of_file : Data → Result Configuration ConfigFault
 configuration_of_file file =
     and_then (settings_in file) (λ settings.

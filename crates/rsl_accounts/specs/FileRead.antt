@@ -1,4 +1,4 @@
--- What reading an account file comes to.
+-- The result of reading an account file.
 use Rattle.std.specs.Prelude.{◌≡◌, ℕ, ◌<◌, ◌≤◌, ⊤, List, length, Result, Ok, Err}
 use Rattle.rsl_accounts.specs.Configuration.{Configuration}
 use Rattle.rsl_accounts.specs.File.{configuration_of_text}
@@ -11,7 +11,7 @@ use Rattle.rsl_accounts.specs.declared.file_fault.FileFault.TheVariants.{Unreada
 abbrev pub most_octets : ℕ
 most_octets = 16777216
 
--- refused memory is named as such, and every other fault is the text's
+-- refused memory is `NoMemory`, and every other fault is the text's
 abbrev pub fault_of_config : ConfigFault → FileFault
 fault_of_config config_no_memory = NoMemory
 fault_of_config fault = Config fault

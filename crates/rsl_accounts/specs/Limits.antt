@@ -7,12 +7,12 @@ use Rattle.rsl_accounts.specs.Configuration.{Configuration, addresses, names, co
 use Rattle.rsl_accounts.specs.Settings.{rules_of}
 use Rattle.rsl_accounts.specs.Version.{knows_own_times, least_secret}
 
--- a number of seconds that a rule may have
+-- the seconds of a time of a rule
 pub record IsTime (seconds : ℕ) : Type 0 where
   pub some : 1 ≤ seconds
   pub within_a_day : seconds ≤ 86400
 
--- a number of seconds between interim updates (RFC 2869 section 5.16: at least 60)
+-- the seconds of an interim interval (RFC 2869 section 5.16: at least 60)
 pub record IsInterval (seconds : ℕ) : Type 0 where
   pub a_minute : 60 ≤ seconds
   pub within_a_day : seconds ≤ 86400
@@ -43,13 +43,13 @@ pub record SettingsFit (settings : Settings) : Type 0 where
   pub keep_within_reserve : settings.keep ≤ settings.reserve
   pub interim : knows_own_times settings.version ≡ true → IfSome settings.interim IsInterval
 
--- 1 to 128 octets without NUL, as a secret or a password has
+-- a secret or a password: 1 to 128 octets without NUL
 pub record IsSecret (text : List ℕ) : Type 0 where
   pub some : 1 ≤ length_of text
   pub length : length_of text ≤ 128
   pub no_nul : All (λ octet. octet ≢ 0) text
 
--- 1 to 64 octets that are visible characters of ASCII
+-- a name: 1 to 64 octets, each a visible ASCII character
 pub record IsName (text : List ℕ) : Type 0 where
   pub some : 1 ≤ length_of text
   pub length : length_of text ≤ 64
@@ -67,8 +67,8 @@ pub record IsAccount (settings : Settings) (entry : Entry) : Type 0 where
   pub idle_timeout : IfSome entry.idle_timeout (λ number. 1 ≤ number)
   pub interim : IfSome entry.interim IsInterval
 
--- all of the configuration is within its limits, no address is that of two clients, and no name
--- that of two accounts
+-- all of the configuration is within its limits, and no two clients have one address, and no two
+-- accounts one name
 pub record IsConfiguration (config : Configuration) : Type 0 where
   pub settings : SettingsFit config.settings
   pub a_client : 1 ≤ length_of config.clients

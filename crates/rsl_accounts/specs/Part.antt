@@ -7,7 +7,7 @@ use Rattle.rsl_accounts.specs.declared.part.Part.{Part}
 use Rattle.rsl_accounts.specs.declared.part.Part.TheVariants.{Head, Client, Account}
 use Rattle.rsl_accounts.specs.Field.{field_key}
 
--- the fields whose keys a table may have
+-- the fields that a table may have
 abbrev pub fields_of : Part → List Field
 fields_of Head =
     field.Version ∷ field.Shards ∷ field.ReserveSecs ∷ field.LiveSecs ∷ field.GraceSecs
@@ -18,6 +18,6 @@ fields_of Account =
     ∷ field.FramedProtocol ∷ field.SessionTimeout ∷ field.IdleTimeout ∷ field.OwnLive
     ∷ field.OwnGrace ∷ field.InterimSecs ∷ field.Disabled ∷ []
 
--- whether a table may have a key of this name
+-- whether a table may have this key
 abbrev pub knows : Part → (name : List ℕ) → Bool
 knows part name = list_any (λ field. bytes_eq name (field_key field)) (fields_of part)

@@ -1,4 +1,4 @@
--- What reading a text comes to.
+-- The result of reading a text.
 use Rattle.std.specs.Prelude.{◌≡◌, ℕ, ◌<◌, ◌≤◌, ⊤, List, length, Result, Ok, Err, Vec}
 use Rattle.std.specs.declared.alloc.Global.{Global}
 use Rattle.rsl_accounts.specs.declared.text_fault.TextFault.{TextFault}

@@ -6,7 +6,7 @@ use Rattle.rsl_accounts.specs.declared.rules.Rules.{Rules}
 use Rattle.rsl_accounts.specs.declared.settings.Settings.{Settings}
 use Rattle.rsl_accounts.specs.Version.{knows_own_times}
 
--- a session limit whose times are still to be filled in
+-- a session limit whose times are filled in later
 abbrev pub rules_of_places : (places ports : ℕ) → Rules
 rules_of_places places ports = record {
   places = places;
@@ -18,12 +18,12 @@ rules_of_places places ports = record {
   keep = 0;
 }
 
--- a time of an account: its own where the version knows one, else the file's
+-- a time of an account: its own if the version knows one, else the file's
 abbrev pub own_time : (version : ℕ) → (own : Option ℕ) → (common : ℕ) → ℕ
 own_time version own common = if knows_own_times version then unwrap_or own common else common
 
--- the seconds between the interim updates that an account's accepts ask for: its own, else the
--- file's, and none where the version knows none
+-- the interim interval of an account's accepts: its own, else the file's, and none if the version
+-- knows none
 abbrev pub interim_of : Settings → Entry → Option ℕ
 interim_of settings entry =
     if knows_own_times settings.version then option_or entry.interim settings.interim else None

@@ -3,7 +3,7 @@ use Rattle.std.specs.Prelude.{ℕ, Bool, ◌==◌, nat_le, if◌then◌else◌}
 use Rattle.rsl_accounts.specs.declared.unsigned_rule.UnsignedRule.{UnsignedRule}
 use Rattle.rsl_accounts.specs.declared.unsigned_rule.UnsignedRule.TheVariants.{Trusted, Guarded}
 
--- whether an account can have times of its own, and `interim_secs` is known: from version 2 on
+-- whether an account can have its own times, and `interim_secs` is known: from version 2 on
 abbrev pub knows_own_times : (version : ℕ) → Bool
 knows_own_times version = nat_le 2 version
 
@@ -15,6 +15,6 @@ is_strict version = version == 3
 abbrev pub least_secret : (version : ℕ) → ℕ
 least_secret version = if is_strict version then 16 else 1
 
--- how requests without a Message-Authenticator are taken
+-- how requests without a Message-Authenticator are treated
 abbrev pub unsigned_rule : (version : ℕ) → UnsignedRule
 unsigned_rule version = if is_strict version then Guarded else Trusted

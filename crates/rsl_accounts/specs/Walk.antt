@@ -1,4 +1,5 @@
--- The walk over settings, clients and accounts: in which order their values are checked, and the first fault.
+-- The walk over settings, clients and accounts: the order in which values are checked, and the
+-- first fault.
 use Rattle.std.specs.Prelude.{ℕ, Bool, List, [], ◌∷◌, ◌++◌, if◌then◌else◌, nat_le, length, Option, None, Some}
 use Rattle.std.specs.List.{flat_map}
 use Rattle.rsl_accounts.specs.declared.client.Client.{Client}
@@ -11,7 +12,7 @@ use Rattle.rsl_accounts.specs.declared.settings.Settings.{Settings}
 use Rattle.rsl_accounts.specs.Field.{takes_number, takes_count, takes_text}
 use Rattle.rsl_accounts.specs.Version.{knows_own_times, least_secret}
 
--- the fault of a field, unless it may have its value
+-- the fault of a field, unless its value is right
 abbrev pub fault_unless : (is_right : Bool) → Field → Option ConfigFault
 fault_unless is_right field = if is_right then None else Some (BadValue field)
 
@@ -24,17 +25,17 @@ text_fault field text = fault_unless (takes_text field text) field
 unfoldable pub count_fault : Field → ℕ → Option ConfigFault
 count_fault field count = fault_unless (takes_count field count) field
 
--- the fault of a number that may be left out
+-- the fault of an optional number
 abbrev pub option_fault : Field → Option ℕ → Option ConfigFault
 option_fault field None = None
 option_fault field (Some number) = number_fault field number
 
--- the fault of the seconds between interim updates, which version 1 does not know
+-- the fault of the interim interval, which version 1 does not know
 abbrev pub interim_fault : (version : ℕ) → Option ℕ → Option ConfigFault
 interim_fault version interim =
     if knows_own_times version then option_fault field.InterimSecs interim else None
 
--- the fault of a client's secret of so few octets
+-- the fault of a client's secret with this number of octets
 abbrev pub secret_len_fault : (version length : ℕ) → Option ConfigFault
 secret_len_fault version length = fault_unless (nat_le (least_secret version) length) field.Secret
 
@@ -56,7 +57,7 @@ unfoldable pub count_checks : (clients accounts : ℕ) → List (Option ConfigFa
 count_checks clients accounts =
     count_fault field.Client clients ∷ count_fault field.Account accounts ∷ []
 
--- the checks of a client: any four octets are an address, and a client is signed or is not
+-- the checks of a client: its address and whether it signs cannot be wrong
 unfoldable pub client_checks : (version : ℕ) → Client → List (Option ConfigFault)
 client_checks version client =
     text_fault field.Secret client.secret

@@ -4,8 +4,8 @@ ghost use Rattle.rsl_accounts.specs.Address.{address_of};
 
 use std::net::Ipv4Addr;
 
-/// The octets of an IPv4 address, of which the text is four decimal numbers 0 to 255 without
-/// leading zeros, joined by dots. `None` for any other text.
+/// The octets of an IPv4 address from its text: four decimal numbers 0 to 255 without leading
+/// zeros, joined by dots. `None` for any other text.
 pub fn address_of(text: &[u8]) -> Option<[u8; 4]>
     ensures value { result ≡ address_of text.now }
     ensures dotted { IfSome result (IsDotted text.now) }

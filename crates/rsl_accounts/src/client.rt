@@ -12,7 +12,8 @@ use crate::settings::check_secret_len;
 pub struct Client {
     /// Its IPv4 address.
     pub address: [u8; 4],
-    /// The secret shared with it: 1 to 128 octets of UTF-8 without NUL, and in version 3 at least 16.
+    /// The secret shared with it: 1 to 128 octets of UTF-8 without NUL, and in version 3 at least
+    /// 16.
     pub secret: Secret,
     /// Whether each of its Access-Requests must have a right Message-Authenticator (RFC 3579
     /// section 3.2).
@@ -20,8 +21,7 @@ pub struct Client {
 }
 
 impl Client {
-    /// `BadValue` of the first field with a wrong value: any four octets are an address, and a client
-    /// is signed or is not.
+    /// `BadValue` of the first field with a wrong value. The address and `signed` cannot be wrong.
     #[tactic(auto, unfolding(crate::specs::Walk::client_checks))]
     pub(crate) fn check(&self, version: u64) -> Result<(), ConfigFault>
         ensures { result_err result ≡ first_fault (client_checks version self.now) }

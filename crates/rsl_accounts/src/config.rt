@@ -50,8 +50,8 @@ use rsl_wire::NoMemory;
 use std::alloc::Global;
 use std::marker::Model;
 
-/// Settings, clients and accounts that are within their limits. Clients and accounts are numbered
-/// from 0 in the order of the file.
+/// Settings, clients and accounts within their limits. Clients and accounts are numbered from 0 in
+/// the order of the file.
 #[derive(Drop)]
 pub struct Config {
     settings: Settings,
@@ -74,13 +74,14 @@ impl Model for Config {
 }
 
 impl Config {
-    /// The configuration of these settings, clients and accounts. The rules of each account get its
-    /// times: those of the settings, but in version 2 its own live and grace times where it has
-    /// them. Its Acct-Interim-Interval is in version 2 its own, else that of the settings, and none
+    /// The configuration of these settings, clients and accounts. The rules of each account get the
+    /// times of the settings, or from version 2 on its own live and grace times if it has them.
+    /// From version 2 on its Acct-Interim-Interval is its own, else that of the settings; in
+    /// version 1 it has none.
     /// in version 1.
     ///
     /// The faults come in this order: `BadValue` of the first field of the walk with a wrong value,
-    /// `TwiceClient`, `TwiceAccount`, `KeepTooLong`. `NoMemory` comes where memory is refused, and
+    /// `TwiceClient`, `TwiceAccount`, `KeepTooLong`. `NoMemory` comes if memory is refused, and
     /// only after the walk and `TwiceClient`.
     pub fn make(
         alloc: Global,
@@ -101,9 +102,9 @@ impl Config {
 
     /// The configuration of the text of an account file. The faults come in this order: `NotToml`;
     /// then `Missing` or `BadValue` of the first field of the walk that is absent or has a wrong
-    /// value; then `TwiceClient`, `TwiceAccount` and `KeepTooLong`. `NoMemory` comes where memory
-    /// is refused, before the checks that follow. Keys that are not those of a field are ignored, but
-    /// in version 3 the first of a table is `Unknown`, before its fields and after the version.
+    /// value; then `TwiceClient`, `TwiceAccount` and `KeepTooLong`. `NoMemory` comes if memory is
+    /// refused, before the checks that follow. Unknown keys are ignored; in version 3 the first of
+    /// a table is `Unknown`, before its fields and after the version.
     pub fn read(alloc: Global, text: &[u8]) -> Result<Config, ConfigFault>
         ensures ok { IfOk result (λ config. configuration_of_text text.now ≡ Ok config) }
         ensures fault { IfErr result (λ fault. fault ≢ ConfigFault.NoMemory →
@@ -118,7 +119,7 @@ impl Config {
         Config::assemble(alloc, settings, clients, accounts)
     }
 
-    /// The configuration of what has passed the walk: `make` from `TwiceClient` on.
+    /// The configuration of parts that have passed the walk: `make` from `TwiceClient` on.
     fn assemble(
         alloc: Global,
         settings: Settings,
@@ -150,7 +151,7 @@ impl Config {
         })
     }
 
-    /// The number of the client with the address, if there is one.
+    /// The number of the client with this address, if there is one.
     pub fn client(&self, address: [u8; 4]) -> Option<u32>
         ensures number { result ≡ client_number self.now address }
         ensures limits { IsConfiguration self.now }
@@ -168,8 +169,7 @@ impl Config {
         &self.clients[number as usize]
     }
 
-    /// What HMAC-MD5 makes of the secret of the client with the number, made once for all packets
-    /// that are signed with it.
+    /// The HMAC key of the client's secret, prepared once for all packets.
     pub fn hmac_key(&self, client: u32) -> &HmacKey
         requires { client < length self.now.clients }
         ensures { IfSome (slice_get self.now.clients client) (λ client.
@@ -178,14 +178,14 @@ impl Config {
         &self.keys[client as usize]
     }
 
-    /// How an Access-Request without a Message-Authenticator is taken, of a client that need not sign.
+    /// How an unsigned Access-Request is treated, of a client that need not sign.
     pub fn unsigned_rule(&self) -> UnsignedRule
         ensures { result ≡ unsigned_rule self.now.settings.version }
     {
         unsigned_rule(self.settings.version)
     }
 
-    /// The number of the account with the name, if there is one.
+    /// The number of the account with this name, if there is one.
     pub fn account(&self, name: &[u8]) -> Option<u32>
         ensures number { result ≡ account_number self.now name.now }
         ensures limits { IsConfiguration self.now }
@@ -219,9 +219,8 @@ impl Config {
         self.accounts.len() as u32
     }
 
-    /// The number of the first account whose live time is under two of the intervals that its
-    /// accepts ask for, so that one lost interim update lets its sessions lapse; none if there is no
-    /// such account.
+    /// The number of the first account whose live time is under two of its interim intervals, so
+    /// that one lost interim update lets its sessions lapse.
     pub fn first_short_live(&self) -> Option<u32>
         ensures number { result ≡ position has_short_live self.now.accounts }
         ensures within { IfSome result (λ number. number < length self.now.accounts) }
@@ -231,7 +230,7 @@ impl Config {
         Some(number as u32)
     }
 
-    /// How many such accounts there are.
+    /// How many accounts have a live time under two of their interim intervals.
     pub fn short_lives(&self) -> u32
         ensures number { result ≡ count_by has_short_live self.now.accounts }
         ensures limits { IsConfiguration self.now }
@@ -250,7 +249,7 @@ impl Config {
         self.settings.shards as u32
     }
 
-    /// The number of the shard that an account belongs to.
+    /// The number of the account's shard.
     pub fn shard_of(&self, account: u32) -> u32
         ensures number { result ≡ account % self.now.settings.shards }
         ensures shard { result < self.now.settings.shards }
@@ -259,7 +258,7 @@ impl Config {
     }
 }
 
-/// The index of the first account whose live time is under two intervals.
+/// The index of the first account whose live time is under two of its interim intervals.
 fn position_of_short_live(accounts: &[Entry]) -> Option<usize>
     ensures index { result ≡ position has_short_live accounts.now }
     ensures within { IfSome result (λ index. index < length accounts.now) }
@@ -267,7 +266,7 @@ fn position_of_short_live(accounts: &[Entry]) -> Option<usize>
     accounts.iter().position(|entry| has_short_live(entry))
 }
 
-/// Whether an account's live time is under two of the intervals that its accepts ask for.
+/// Whether an account's live time is under two of its interim intervals.
 fn has_short_live(entry: &Entry) -> bool
     ensures { result ≡ has_short_live entry.now }
 {
@@ -292,7 +291,7 @@ fn has_address(clients: &[Client], address: [u8; 4]) -> bool
     clients.iter().any(|client| address == client.address)
 }
 
-/// Whether two clients have one address.
+/// Whether two clients have the same address.
 fn has_twice(clients: &[Client]) -> bool
     ensures { result ≡ comes_twice (addresses clients.now) }
 {
@@ -304,7 +303,7 @@ fn has_twice(clients: &[Client]) -> bool
     false
 }
 
-/// What HMAC-MD5 makes of the secret of each client. It fails only where memory is refused.
+/// The HMAC key of each client's secret. It fails only if memory is refused.
 #[tactic(auto, using(crate::proofs::Keys::key_steps))]
 fn hmac_keys(alloc: Global, clients: &[Client]) -> Result<Vec<HmacKey>, NoMemory>
     ensures { IfOk result (λ keys. AreKeysOf clients.now keys.items) }

@@ -14,7 +14,8 @@ use crate::secret::Secret;
 use crate::settings::knows_own_times;
 use crate::text::Text;
 
-/// An account. What each login reads of it stands first, as fields lie in memory in their order.
+/// An account. The fields that each login reads come first, since fields lie in memory in their
+/// order.
 #[derive(Drop)]
 pub struct Entry {
     /// The password: 1 to 128 octets of UTF-8 without NUL.
@@ -27,25 +28,25 @@ pub struct Entry {
     pub session_timeout: Option<u32>,
     /// The Idle-Timeout of the account's accepts in seconds (RFC 2865 section 5.28), at least 1.
     pub idle_timeout: Option<u32>,
-    /// The Acct-Interim-Interval of the account's accepts (RFC 2869 section 5.16): the seconds
-    /// between its interim updates, 60 to 86,400. `Config::make` fills in that of the settings where
-    /// the account has none of its own; in version 1 it takes it away.
+    /// The Acct-Interim-Interval of the account's accepts (RFC 2869 section 5.16), in seconds: 60
+    /// to 86,400. `Config::make` fills in that of the settings if the account has none; in version
+    /// 1 it removes it.
     pub interim: Option<u32>,
     /// The session limit.
     pub rules: Rules,
-    /// Whether its logins are rejected. What its sessions send in accounting counts as ever.
+    /// Whether its logins are rejected. Its accounting counts all the same.
     pub disabled: bool,
     /// The User-Name: 1 to 64 octets, each 0x21 to 0x7E.
     pub name: Text,
-    /// The live time of the account's own in seconds, 1 to 86,400; in version 1 it is passed over.
+    /// The account's own live time in seconds, 1 to 86,400; ignored in version 1.
     pub own_live: Option<u64>,
-    /// The grace time of the account's own in seconds, 1 to 86,400; in version 1 it is passed over.
+    /// The account's own grace time in seconds, 1 to 86,400; ignored in version 1.
     pub own_grace: Option<u64>,
 }
 
 impl Entry {
-    /// `BadValue` of the first field with a wrong value, in the order of the walk. The times of its
-    /// own are passed over in a version that does not know them.
+    /// `BadValue` of the first field with a wrong value, in the order of the walk. A version
+    /// without times of an account ignores them.
     #[tactic(auto, using(crate::proofs::Faults::checks_steps), unfolding(crate::specs::Walk::account_checks))]
     pub(crate) fn check(&self, version: u64) -> Result<(), ConfigFault>
         ensures { result_err result ≡ first_fault (account_checks version self.now) }
@@ -54,7 +55,7 @@ impl Entry {
         self.check_own_times(version)
     }
 
-    /// `BadValue` of the first field with a wrong value, of those that each version knows.
+    /// `BadValue` of the first wrong field among those of every version.
     #[tactic(auto, unfolding(crate::specs::Walk::common_checks))]
     fn check_common(&self) -> Result<(), ConfigFault>
         ensures { result_err result ≡ first_fault (common_checks self.now) }
@@ -69,8 +70,7 @@ impl Entry {
         Field::IdleTimeout.check_short(self.idle_timeout)
     }
 
-    /// `BadValue` of the first field with a wrong value, of its own times and the seconds between
-    /// its interim updates.
+    /// `BadValue` of the first wrong field among the account's own times and its interim interval.
     #[tactic(auto, unfolding(crate::specs::Walk::own_checks, crate::specs::Walk::own_times_checks))]
     fn check_own_times(&self, version: u64) -> Result<(), ConfigFault>
         ensures { result_err result ≡ first_fault (own_checks version self.now) }

@@ -9,13 +9,13 @@ use std::alloc::{AllocError, AllocFailed};
 use thiserror::Error;
 
 /// Why there is no configuration. It prints as its name, followed by the key of the field if it has
-/// one: `BadValue keep_secs`, and of a key that is not known its table too: `Unknown client "sigend"`.
+/// one: `BadValue keep_secs`. An unknown key is printed with its table: `Unknown client "sigend"`.
 #[derive(Debug, Drop, Error)]
 pub enum ConfigFault {
     /// The file is not UTF-8 or not TOML.
     #[error("NotToml")]
     NotToml,
-    /// The table may not have a key of this name, in version 3.
+    /// The table has a key of this name, which version 3 does not know.
     #[error("Unknown {0}{1:?}")]
     Unknown(Part, Text),
     /// The field is absent.
@@ -24,10 +24,10 @@ pub enum ConfigFault {
     /// The value of the field is of another type, or outside its limits.
     #[error("BadValue {0}")]
     BadValue(Field),
-    /// Two clients have one address.
+    /// Two clients have the same address.
     #[error("TwiceClient")]
     TwiceClient,
-    /// Two accounts have one name.
+    /// Two accounts have the same name.
     #[error("TwiceAccount")]
     TwiceAccount,
     /// `keep_secs` is more than `reserve_secs`.

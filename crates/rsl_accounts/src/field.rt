@@ -21,7 +21,7 @@ use std::fmt;
 /// The most shards of a server.
 const MAX_SHARDS: u64 = 4;
 
-/// The most that an attribute of an account's accepts can have: 32 bits.
+/// The greatest number of an attribute of an account's accepts: 32 bits.
 const MAX_OPTION: u64 = u32::MAX as u64;
 
 /// The most clients of a file.
@@ -51,7 +51,7 @@ pub enum Field {
     GraceSecs,
     /// Seconds for which a stopped session stays closed.
     ClosedSecs,
-    /// Seconds for which an answer is given again to the repeats of its ask.
+    /// Seconds for which the repeats of an ask get its answer.
     KeepSecs,
     /// The clients, as an array of tables.
     Client,
@@ -79,18 +79,18 @@ pub enum Field {
     SessionTimeout,
     /// The Idle-Timeout of an account's accepts, in seconds.
     IdleTimeout,
-    /// The live time of an account's own, under the key of `LiveSecs`.
+    /// An account's own live time, under the key of `LiveSecs`.
     OwnLive,
-    /// The grace time of an account's own, under the key of `GraceSecs`.
+    /// An account's own grace time, under the key of `GraceSecs`.
     OwnGrace,
-    /// Seconds between the interim updates that accepts ask for, of the file or of an account.
+    /// The interim interval of accepts in seconds, of the file or of an account.
     InterimSecs,
     /// Whether the logins of an account are rejected.
     Disabled,
 }
 
 impl Field {
-    /// The key under which the field stands in the file, as `keep_secs`.
+    /// The key of the field in the file, such as `keep_secs`.
     pub fn key(&self) -> &'static str
         ensures { result.now ≡ field_key self.now }
     {
@@ -122,7 +122,7 @@ impl Field {
         }
     }
 
-    /// Whether the field may have the number.
+    /// Whether the number is within the field's limits.
     pub(crate) fn takes_number(self, number: u64) -> bool
         ensures { result ≡ takes_number self number }
     {
@@ -147,7 +147,7 @@ impl Field {
         }
     }
 
-    /// Whether the field may have this many tables.
+    /// Whether this number of tables is within the field's limits.
     pub(crate) fn takes_count(self, count: usize) -> bool
         ensures { result ≡ takes_count self count }
     {
@@ -158,7 +158,7 @@ impl Field {
         }
     }
 
-    /// Whether the field may have the text.
+    /// Whether the text is within the field's limits.
     pub(crate) fn takes_text(self, text: &[u8]) -> bool
         ensures { result ≡ takes_text self text.now }
     {
@@ -169,7 +169,7 @@ impl Field {
         }
     }
 
-    /// `BadValue` unless the field may have the number.
+    /// `BadValue` unless the number is within the field's limits.
     #[tactic(auto, unfolding(crate::specs::Walk::number_fault))]
     pub(crate) fn check_number(self, number: u64) -> Result<(), ConfigFault>
         ensures { result_err result ≡ number_fault self number }
@@ -181,7 +181,7 @@ impl Field {
         }
     }
 
-    /// `BadValue` unless the field may have the number, or the number is left out.
+    /// `BadValue` unless the number is left out or within the field's limits.
     pub(crate) fn check_option(self, number: Option<u64>) -> Result<(), ConfigFault>
         ensures { result_err result ≡ option_fault self number }
     {
@@ -191,7 +191,7 @@ impl Field {
         }
     }
 
-    /// `BadValue` unless the field may have the number, of 32 bits, or the number is left out.
+    /// `check_option` of a number of 32 bits.
     pub(crate) fn check_short(self, number: Option<u32>) -> Result<(), ConfigFault>
         ensures { result_err result ≡ option_fault self number }
     {
@@ -201,7 +201,7 @@ impl Field {
         }
     }
 
-    /// `BadValue` unless the field may have this many tables.
+    /// `BadValue` unless this number of tables is within the field's limits.
     #[tactic(auto, unfolding(crate::specs::Walk::count_fault))]
     pub(crate) fn check_count(self, count: usize) -> Result<(), ConfigFault>
         ensures { result_err result ≡ count_fault self count }
@@ -213,7 +213,7 @@ impl Field {
         }
     }
 
-    /// `BadValue` unless the field may have the text.
+    /// `BadValue` unless the text is within the field's limits.
     #[tactic(auto, unfolding(crate::specs::Walk::text_fault))]
     pub(crate) fn check_text(self, text: &[u8]) -> Result<(), ConfigFault>
         ensures { result_err result ≡ text_fault self text.now }
@@ -234,7 +234,7 @@ impl fmt::Display for Field {
     }
 }
 
-/// Whether a number is from the least to the most.
+/// Whether a number is from `least` to `most`.
 fn is_between(least: u64, most: u64, number: u64) -> bool
     ensures { result ≡ is_between least most number }
 {
@@ -248,7 +248,7 @@ fn is_secret(text: &[u8]) -> bool
     is_between(1, MAX_SECRET_LEN, text.len() as u64) && has_no_nul(text)
 }
 
-/// Whether the text has 1 to 64 octets, each a visible character of ASCII.
+/// Whether the text has 1 to 64 octets, each a visible ASCII character.
 fn is_name(text: &[u8]) -> bool
     ensures { result ≡ is_name text.now }
 {
@@ -262,7 +262,7 @@ fn has_no_nul(text: &[u8]) -> bool
     text.iter().all(|octet| *octet != 0)
 }
 
-/// Whether each octet is a visible character of ASCII.
+/// Whether each octet is a visible ASCII character.
 fn is_visible(text: &[u8]) -> bool
     ensures { result ≡ is_visible text.now }
 {

@@ -1,5 +1,5 @@
-//! The account file: TOML with the settings at its head, an array of tables `client` and one
-//! `account`.
+//! The account file: TOML with the settings at its head, an array of tables `client` and one of
+//! tables `account`.
 ghost use Rattle.std.specs.Prelude.{◌≡◌, ◌≢◌, Some, None, map, length, IfOk, IfErr};
 ghost use Rattle.std.specs.List.{flat_map};
 ghost use Rattle.toml.specs.View.{view};
@@ -26,7 +26,7 @@ use crate::text::Text;
 use std::alloc::Global;
 use toml::Value;
 
-/// The table that the text is.
+/// The text as a TOML table.
 pub(crate) fn parse(alloc: Global, text: &[u8]) -> Result<Value, ConfigFault>
     ensures ok { IfOk result (λ file. file_of text.now ≡ Some (view file)) }
     ensures fault { IfErr result (λ fault. fault ≢ ConfigFault.NoMemory →
@@ -110,7 +110,7 @@ fn entry(alloc: Global, version: u64, table: &Value) -> Result<Entry, ConfigFaul
     ensures right { IfOk result (λ entry. first_fault (account_checks version entry) ≡ None) }
 {
     check_names(alloc, version, Part::Account, table)?;
-    // these are copied last, so that none is owned where a fault of another field leaves
+    // copied last, so that nothing is owned when a fault of another field returns
     let name = text(table, Field::Name)?;
     let password = text(table, Field::Password)?;
     Ok(Entry {

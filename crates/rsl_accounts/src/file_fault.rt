@@ -1,7 +1,7 @@
 use crate::fault::ConfigFault;
 use thiserror::Error;
 
-/// Why an account file gives no configuration. It prints as a line for whoever wrote the file.
+/// Why an account file gives no configuration. It prints as a line for the author of the file.
 #[derive(Debug, Drop, Error)]
 pub enum FileFault {
     /// The file is not there, or a read of it failed.
@@ -10,7 +10,7 @@ pub enum FileFault {
     /// It has over 16,777,216 octets.
     #[error("bad file: too long")]
     TooLong,
-    /// Its text is refused. It is never `ConfigFault::NoMemory`, which is given as `NoMemory`.
+    /// Its text is refused. It is never `ConfigFault::NoMemory`, which becomes `NoMemory`.
     #[error("bad file: {0}")]
     Config(ConfigFault),
     /// Memory was refused.

@@ -1,4 +1,4 @@
-//! Reading an account file from outside.
+//! Reading an account file.
 ghost use Rattle.std.specs.Prelude.{◌≤◌, IfSome, length};
 ghost use Rattle.rsl_accounts.specs.FileRead.{IsFileRead, most_octets};
 
@@ -13,8 +13,8 @@ use std::io::Read;
 const MAX_FILE_LEN: u32 = 16_777_216;
 
 impl Config {
-    /// The configuration that the account file of this name gives. The faults are those of
-    /// `read_from`; `Unreadable` also comes where the file can't be opened.
+    /// The configuration in the account file of this name. The faults are those of `read_from`;
+    /// `Unreadable` also comes if the file cannot be opened.
     pub fn read_file<F: Files>(files: &F, alloc: Global, name: &str) -> Result<Config, FileFault> {
         match fs::open(files, name) {
             Ok(file) => Config::read_from(alloc, file),
@@ -22,13 +22,12 @@ impl Config {
         }
     }
 
-    /// The configuration that an account file gives, whose octets come from a reader. They are read
-    /// by `crate::read_text`, as a script's are.
+    /// The configuration in an account file whose octets a reader gives, by `crate::read_text`.
     ///
-    /// The faults come in this order: `Unreadable` where a read fails or 33,554,432 reads have come
-    /// to no end, and `TooLong` where there are over 16,777,216 octets, whichever comes first;
-    /// `Config` where `Config::read` refuses the text. `NoMemory` comes where memory is refused,
-    /// before the checks that follow.
+    /// The faults come in this order: `Unreadable` if a read fails or 33,554,432 reads have come to
+    /// no end, and `TooLong` if there are over 16,777,216 octets, whichever comes first; `Config`
+    /// if `Config::read` refuses the text. `NoMemory` comes if memory is refused, before the checks
+    /// that follow.
     pub fn read_from<R: Read + Drop>(alloc: Global, reader: R) -> Result<Config, FileFault>
         ensures { IfSome (R.remaining reader) (λ text. IsFileRead text result) }
     {
@@ -42,7 +41,7 @@ impl Config {
     }
 }
 
-/// The configuration that the octets of an account file give.
+/// The configuration in the octets of an account file.
 fn config_of(alloc: Global, text: &[u8]) -> Result<Config, FileFault>
     requires { length text.now ≤ most_octets }
     ensures { IsFileRead text.now result }

@@ -1,13 +1,14 @@
 //! The accounts that a RADIUS server serves: clients with their secrets, accounts with their
-//! passwords and session limits, and the settings that hold for all of them.
+//! passwords and session limits, and the settings common to all.
 //!
 //! A `Config` is read from an account file by `Config::read`, or made from its parts by
 //! `Config::make`. Each answers exactly what its definition says, `configuration_of_text` of
 //! `specs/File.antt` and `configuration_of` of `specs/Configuration.antt`, or that memory was
 //! refused. `Config::read_file` reads one from a file (`specs/FileRead.antt`), and `read_text` the
-//! text of any file or stream: all octets that its reader gives, and no others, unless there are
-//! more than it may have (`specs/Read.antt`). Every `Config` is within the limits of `specs/Limits.antt`. The order of the checks
-//! stands in `specs/Walk.antt` and, for a file, in `specs/File.antt`, and the values that a field may
+//! text of any file or stream: all octets that its reader gives, unless there are too many
+//! (`specs/Read.antt`). Every `Config` is within the limits of `specs/Limits.antt`. The order of
+//! the checks is in `specs/Walk.antt` and, for a file, in `specs/File.antt`; the values that a
+//! field may have are in `specs/Field.antt`.
 //! have in `specs/Field.antt`.
 #![tactic(auto)]
 

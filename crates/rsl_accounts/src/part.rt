@@ -4,8 +4,8 @@ ghost use Rattle.rsl_accounts.specs.Part.{fields_of, knows};
 use crate::field::Field;
 use std::fmt;
 
-/// A table of the account file. It prints as what stands before one of its keys in a fault: the head
-/// as nothing, and a client as `client` and a blank.
+/// A table of the account file. It prints as the prefix of a key in a fault: nothing for the head,
+/// and `client` and a blank for a client.
 #[derive(Clone, Copy, Debug)]
 pub enum Part {
     /// The head of the file.
@@ -17,7 +17,7 @@ pub enum Part {
 }
 
 impl Part {
-    /// The fields whose keys the table may have.
+    /// The fields that the table may have.
     fn fields(self) -> &'static [Field]
         ensures { result.now ≡ fields_of self }
     {
@@ -52,7 +52,7 @@ impl Part {
         }
     }
 
-    /// Whether the table may have a key of this name.
+    /// Whether the table may have this key.
     pub(crate) fn knows(self, name: &str) -> bool
         ensures { result ≡ knows self name.now }
     {

@@ -20,7 +20,7 @@ pub(crate) const MAX_TIME: u64 = 86_400;
 /// The fewest seconds between interim updates (RFC 2869 section 5.16).
 pub(crate) const MIN_INTERIM: u64 = 60;
 
-/// The session limit of one account: how many places it has, and for how long a place is kept.
+/// The session limit of one account: how many places it has, and how long a place is kept.
 #[derive(Clone, Copy, PartialEq, Eq)]
 pub struct Rules {
     /// Places that the account's sessions may hold at once: 0 to 64.
@@ -35,13 +35,13 @@ pub struct Rules {
     pub grace: u64,
     /// Seconds for which a stopped session stays closed.
     pub closed: u64,
-    /// Seconds for which the answer to an ask is given again to its repeats: at most `reserve`.
+    /// Seconds for which the repeats of an ask get its answer: at most `reserve`.
     pub keep: u64,
 }
 
 impl Rules {
-    /// The session limit of `places` places with `ports` ports each, whose times `Config::make`
-    /// fills in: until then each is 0, and the rules do not fit.
+    /// The session limit of `places` places with `ports` ports each. Every time is 0, so the rules
+    /// do not fit until `Config::make` fills the times in.
     pub fn of_places(places: u64, ports: u64) -> Rules
         ensures { result ≡ rules_of_places places ports }
     {

@@ -9,8 +9,8 @@ use std::alloc::Global;
 use std::fmt;
 use std::marker::Model;
 
-/// A shared secret or a password, which `Debug` does not print: it writes `Secret(..)`. `expose` is
-/// the one way to its octets. A contract sees it as the list of its octets.
+/// A shared secret or a password. `Debug` writes `Secret(..)`, and only `expose` gives its octets.
+/// A contract sees the list of its octets.
 #[derive(Drop)]
 pub struct Secret {
     text: Text,
@@ -25,8 +25,8 @@ impl Model for Secret {
 }
 
 impl Secret {
-    /// A secret with the octets of the text. It fails only where memory is refused, and takes none for
-    /// up to 22 octets.
+    /// A secret with the octets of the text. It fails only if memory is refused, and allocates
+    /// nothing for up to 22 octets.
     pub fn from_str(alloc: Global, text: &str) -> Result<Secret, NoMemory>
         ensures copy { IfOk result (λ secret. secret ≡ text.now) }
         ensures short { length text.now ≤ 22 → IsOk result }
@@ -36,7 +36,7 @@ impl Secret {
         })
     }
 
-    /// The octets of the secret, lent. They are UTF-8, as the type keeps.
+    /// The octets of the secret, in UTF-8.
     pub fn expose(&self) -> &[u8]
         ensures octets { result.now ≡ self.now }
         ensures utf8 { IsUtf8 self.now }
@@ -44,7 +44,8 @@ impl Secret {
         self.text.as_bytes()
     }
 
-    /// An equal secret. It fails only where memory is refused, and takes none for up to 22 octets.
+    /// An equal secret. It fails only if memory is refused, and allocates nothing for up to 22
+    /// octets.
     pub fn try_copy(&self, alloc: Global) -> Result<Secret, NoMemory>
         ensures copy { IfOk result (λ copy. copy ≡ self.now) }
         ensures short { length self.now ≤ 22 → IsOk result }
@@ -60,7 +61,7 @@ impl From<Text> for Secret {
 
     ghost from_gives = { λ text secret. secret ≡ text };
 
-    /// The secret that is the text. This takes no memory.
+    /// The secret that is the text. It allocates nothing.
     fn from(text: Text) -> Secret {
         Secret { text }
     }
@@ -71,7 +72,7 @@ impl From<String> for Secret {
 
     ghost from_gives = { λ text secret. secret ≡ string_bytes text };
 
-    /// The secret that is the text of a `String`. This takes no memory.
+    /// The secret that is the text of a `String`. It allocates nothing.
     fn from(text: String) -> Secret {
         Secret {
             text: Text::from(text),

@@ -23,28 +23,28 @@ use crate::unsigned_rule::UnsignedRule;
 /// The first version of the file's format.
 pub(crate) const MIN_VERSION: u64 = 1;
 
-/// The last one.
+/// The last version of the file's format.
 pub(crate) const MAX_VERSION: u64 = 3;
 
-/// The first version in which an account can have times of its own, and `interim_secs` is known.
+/// The first version with times of an account's own, and with `interim_secs`.
 const OWN_TIMES_VERSION: u64 = 2;
 
-/// The version in which what is left out or misspelled counts on the safe side.
+/// The first version in which what is left out or misspelled counts on the safe side.
 const STRICT_VERSION: u64 = 3;
 
-/// The fewest octets of a client's secret in that version.
+/// The fewest octets of a client's secret from `STRICT_VERSION` on.
 const STRICT_SECRET_LEN: usize = 16;
 
-/// What an account file says once, for all accounts.
+/// The settings of an account file, common to all accounts.
 #[derive(Clone, Copy)]
 pub struct Settings {
-    /// The version of the file's format: 1, 2 or 3. From version 2 on an account can have times of its
-    /// own, and accepts can have an Acct-Interim-Interval. In version 3 a secret has at least 16 octets,
-    /// and unsigned requests are guarded (`UnsignedRule`).
+    /// The version of the file's format: 1, 2 or 3. From version 2 on an account can have its own
+    /// times, and accepts can have an Acct-Interim-Interval. In version 3 a secret has at least 16
+    /// octets, and unsigned requests are guarded (`UnsignedRule`).
     pub version: u64,
     /// How many shards the accounts are spread over: 1 to 4.
     pub shards: u64,
-    /// Seconds for which an accept reserves a place: 1 to 86,400, as each time.
+    /// Seconds for which an accept reserves a place: 1 to 86,400, like every time.
     pub reserve: u64,
     /// Seconds from its last packet for which a session counts as live.
     pub live: u64,
@@ -52,10 +52,10 @@ pub struct Settings {
     pub grace: u64,
     /// Seconds for which a stopped session stays closed.
     pub closed: u64,
-    /// Seconds for which an answer is given again to the repeats of its ask: at most `reserve`.
+    /// Seconds for which the repeats of an ask get its answer: at most `reserve`.
     pub keep: u64,
-    /// Seconds between the interim updates that accepts ask for, where the account has none of its
-    /// own: 60 to 86,400; in version 1 it is passed over.
+    /// The interim interval of accepts in seconds, for accounts without their own: 60 to 86,400;
+    /// ignored in version 1.
     pub interim: Option<u32>,
 }
 
@@ -77,8 +77,8 @@ impl Settings {
 
     ghost use Rattle.rsl_accounts.specs.Settings.{interim_of, rules_of};
 
-    /// The session limit of the account, with its times: its own where the version knows them and
-    /// the account has them, else those of the settings.
+    /// The session limit of the account, with its times: its own if the version knows them and the
+    /// account has them, else those of the settings.
     pub(crate) fn rules_of(&self, entry: &Entry) -> Rules
         ensures { result ≡ rules_of self.now entry.now }
     {
@@ -93,8 +93,8 @@ impl Settings {
         }
     }
 
-    /// The seconds between the interim updates that the account's accepts ask for: its own, else
-    /// those of the settings, and none where the version knows none.
+    /// The interim interval of the account's accepts in seconds: its own, else that of the
+    /// settings, and none if the version knows none.
     pub(crate) fn interim_of(&self, entry: &Entry) -> Option<u32>
         ensures { result ≡ interim_of self.now entry.now }
     {
@@ -106,7 +106,7 @@ impl Settings {
     }
 }
 
-/// `BadValue` of the seconds between interim updates where the version knows them.
+/// `BadValue` of the interim interval, if the version knows it.
 fn check_interim(version: u64, interim: Option<u32>) -> Result<(), ConfigFault>
     ensures { result_err result ≡ interim_fault version interim }
 {
@@ -116,7 +116,7 @@ fn check_interim(version: u64, interim: Option<u32>) -> Result<(), ConfigFault>
     Field::InterimSecs.check_short(interim)
 }
 
-/// Whether an account can have times of its own, and `interim_secs` is known.
+/// Whether an account can have its own times, and `interim_secs` is known.
 pub(crate) fn knows_own_times(version: u64) -> bool
     ensures { result ≡ knows_own_times version }
 {
@@ -130,7 +130,7 @@ pub(crate) fn is_strict(version: u64) -> bool
     version == STRICT_VERSION
 }
 
-/// How requests without a Message-Authenticator are taken.
+/// How requests without a Message-Authenticator are treated.
 pub(crate) fn unsigned_rule(version: u64) -> UnsignedRule
     ensures { result ≡ unsigned_rule version }
 {
@@ -141,7 +141,7 @@ pub(crate) fn unsigned_rule(version: u64) -> UnsignedRule
     }
 }
 
-/// `BadValue` of a client's secret that the version takes for too short.
+/// `BadValue` of a client's secret that is too short for the version.
 pub(crate) fn check_secret_len(version: u64, len: usize) -> Result<(), ConfigFault>
     ensures { result_err result ≡ secret_len_fault version len }
 {
@@ -162,7 +162,7 @@ fn least_secret(version: u64) -> usize
     }
 }
 
-/// A time of an account: its own where the version knows one, else the common one.
+/// A time of an account: its own if it has one that the version knows, else the common one.
 fn own_time(version: u64, own: Option<u64>, common: u64) -> u64
     ensures { result ≡ own_time version own common }
 {

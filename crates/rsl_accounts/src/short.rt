@@ -32,7 +32,7 @@ impl ShortText {
         })
     }
 
-    /// The octets of the text, lent.
+    /// The octets of the text as a slice.
     #[tactic(auto, using(crate::proofs::Texts::text_steps))]
     pub(crate) fn as_bytes(&self) -> &[u8]
         ensures octets { result.now ≡ take self.now.len self.now.octets }
@@ -41,7 +41,7 @@ impl ShortText {
         &self.octets[..usize::from(self.len)]
     }
 
-    /// The text, lent.
+    /// The text as a `str`.
     pub(crate) fn as_str(&self) -> &str
         ensures { result.now ≡ take self.now.len self.now.octets }
     {

@@ -1,4 +1,4 @@
-//! The values of fields in a table of TOML: each with its value, or with the fault of the field.
+//! Fields of a TOML table: each with its value, or with the fault of the field.
 ghost use Rattle.std.specs.Prelude.{
   ◌≡◌,
   ◌≢◌,
@@ -58,14 +58,14 @@ use crate::text::Text;
 use std::alloc::Global;
 use toml::Value;
 
-/// What a table has under the key of a field.
+/// The value under the key of a field.
 fn member(table: &Value, field: Field) -> Option<&Value>
     ensures { option_map (λ value. view value.now) result ≡ member_in (view table.now) field }
 {
     table.get(field.key())
 }
 
-/// What a table has under the key of a field that it must have.
+/// The value under the key of a field that has to be there.
 fn present(table: &Value, field: Field) -> Result<&Value, ConfigFault>
     ensures ok { IfOk result (λ value. member_in (view table.now) field ≡ Some (view value.now)) }
     ensures fault { IfErr result (λ fault.
@@ -77,7 +77,7 @@ fn present(table: &Value, field: Field) -> Result<&Value, ConfigFault>
     }
 }
 
-/// The number that a value is, if the field may have it.
+/// The value as a number, if it is within the field's limits.
 #[tactic(auto, unfolding(crate::specs::Walk::number_fault))]
 fn number_of(value: &Value, field: Field) -> Option<u64>
     ensures value { result ≡ number_of field (view value.now) }
@@ -103,7 +103,7 @@ pub(crate) fn number(table: &Value, field: Field) -> Result<u64, ConfigFault>
     }
 }
 
-/// The number of a field that may be left out.
+/// The number of an optional field.
 #[tactic(auto, unfolding(crate::specs::File::option_in))]
 pub(crate) fn optional_number(table: &Value, field: Field) -> Result<Option<u64>, ConfigFault>
     ensures value { result ≡ option_in (view table.now) field }
@@ -118,7 +118,7 @@ pub(crate) fn optional_number(table: &Value, field: Field) -> Result<Option<u64>
     }
 }
 
-/// The number of a field that may be left out, and whose numbers have 32 bits.
+/// The number of an optional field whose numbers have 32 bits.
 pub(crate) fn short_number(table: &Value, field: Field) -> Result<Option<u32>, ConfigFault>
     requires { (number : ℕ) → number_fault field number ≡ None → number < 2 ^ 32 }
     ensures value { result ≡ option_in (view table.now) field }
@@ -130,7 +130,7 @@ pub(crate) fn short_number(table: &Value, field: Field) -> Result<Option<u32>, C
     }
 }
 
-/// A time of an account's own, which version 1 does not know.
+/// An account's own time, which version 1 does not know.
 #[tactic(auto, unfolding(crate::specs::File::own_in))]
 pub(crate) fn own_time(
     version: u64,
@@ -147,7 +147,7 @@ pub(crate) fn own_time(
     }
 }
 
-/// The seconds between interim updates, which version 1 does not know.
+/// The interim interval in seconds, which version 1 does not know.
 #[tactic(auto, unfolding(crate::specs::File::own_in))]
 pub(crate) fn interim(version: u64, table: &Value) -> Result<Option<u32>, ConfigFault>
     ensures value { result ≡ own_in version (view table.now) Field.InterimSecs }
@@ -161,7 +161,7 @@ pub(crate) fn interim(version: u64, table: &Value) -> Result<Option<u32>, Config
     }
 }
 
-/// The text that a value is, if the field may have it.
+/// The value as a text, if it is within the field's limits.
 #[tactic(auto, unfolding(crate::specs::Walk::text_fault))]
 fn text_of(value: &Value, field: Field) -> Option<&str>
     ensures value { option_copied result ≡ text_of field (view value.now) }
@@ -175,7 +175,7 @@ fn text_of(value: &Value, field: Field) -> Option<&str>
     }
 }
 
-/// The text of a field, lent.
+/// The text of a field.
 #[tactic(auto, unfolding(crate::specs::File::text_in))]
 pub(crate) fn text(table: &Value, field: Field) -> Result<&str, ConfigFault>
     ensures ok { IfOk result (λ text. text_in (view table.now) field ≡ Ok text.now) }
@@ -188,14 +188,14 @@ pub(crate) fn text(table: &Value, field: Field) -> Result<&str, ConfigFault>
     }
 }
 
-/// The octets that a value spells, if it is the text of an address.
+/// The value as the four octets of an address.
 fn address_value(value: &Value) -> Option<[u8; 4]>
     ensures { result ≡ address_value (view value.now) }
 {
     address_of(value.as_str()?.as_bytes())
 }
 
-/// The octets of the address of a client.
+/// The address of a client.
 #[tactic(auto, unfolding(crate::specs::File::address_in))]
 pub(crate) fn address(table: &Value) -> Result<[u8; 4], ConfigFault>
     ensures { result ≡ address_in (view table.now) }
@@ -206,7 +206,7 @@ pub(crate) fn address(table: &Value) -> Result<[u8; 4], ConfigFault>
     }
 }
 
-/// The truth of a field, or `default` where it is left out.
+/// The boolean of a field, or `default` if it is left out.
 #[tactic(auto, unfolding(crate::specs::File::flag_in))]
 fn flag(table: &Value, field: Field, default: bool) -> Result<bool, ConfigFault>
     ensures { result ≡ flag_in (view table.now) field default }
@@ -220,7 +220,8 @@ fn flag(table: &Value, field: Field, default: bool) -> Result<bool, ConfigFault>
     }
 }
 
-/// Whether a client signs its requests. One that does not say so does in version 3, and not before.
+/// Whether a client signs its requests: in version 3 unless it says otherwise, before only if it
+/// says so.
 pub(crate) fn signed(version: u64, table: &Value) -> Result<bool, ConfigFault>
     ensures { result ≡ signed_in version (view table.now) }
 {
@@ -238,7 +239,7 @@ pub(crate) fn disabled(version: u64, table: &Value) -> Result<bool, ConfigFault>
     }
 }
 
-/// The secret of a client, lent.
+/// The secret of a client.
 #[tactic(auto, unfolding(crate::specs::File::secret_in))]
 pub(crate) fn secret(version: u64, table: &Value) -> Result<&str, ConfigFault>
     ensures ok { IfOk result (λ text. secret_in version (view table.now) ≡ Ok text.now) }
@@ -253,7 +254,7 @@ pub(crate) fn secret(version: u64, table: &Value) -> Result<&str, ConfigFault>
     }
 }
 
-/// The first name that a table may not have as a key, in the order of their octets.
+/// The first unknown key of a table, in the order of octets.
 fn unknown_name(part: Part, table: &Value) -> Option<&str>
     ensures some { IfSome result (λ name.
         unknown_in part (view table.now) ≡ Some (ConfigFault.Unknown part name.now)) }
@@ -267,7 +268,7 @@ fn unknown_name(part: Part, table: &Value) -> Option<&str>
     None
 }
 
-/// In version 3 `Unknown` of the first name that a table may not have as a key.
+/// `Unknown` of the first unknown key of a table, in version 3.
 pub(crate) fn check_names(
     alloc: Global,
     version: u64,
@@ -287,7 +288,7 @@ pub(crate) fn check_names(
     }
 }
 
-/// The tables of a field.
+/// The tables under the key of a field.
 #[tactic(auto, unfolding(crate::specs::File::tables_in))]
 pub(crate) fn tables(table: &Value, field: Field) -> Result<&[Value], ConfigFault>
     ensures ok { IfOk result (λ tables.
@@ -301,7 +302,7 @@ pub(crate) fn tables(table: &Value, field: Field) -> Result<&[Value], ConfigFaul
     }
 }
 
-/// The tables that a value is, if the field may have that many.
+/// The value as an array of tables, if their number is within the field's limits.
 fn tables_of(value: &Value, field: Field) -> Option<&[Value]>
     ensures value { option_map (λ tables. map view tables.now) result
         ≡ tables_of field (view value.now) }
@@ -310,7 +311,7 @@ fn tables_of(value: &Value, field: Field) -> Option<&[Value]>
     tables_of_list(value.as_array()?.as_slice(), field)
 }
 
-/// The items of an array, if they are tables and the field may have that many.
+/// The items of an array, if they are tables and their number is within the field's limits.
 #[tactic(auto, unfolding(crate::specs::Walk::count_fault))]
 fn tables_of_list(items: &[Value], field: Field) -> Option<&[Value]>
     ensures value { option_map (λ tables. map view tables.now) result

@@ -23,17 +23,16 @@ use std::marker::Model;
 /// Where the octets of a text are.
 #[derive(Drop)]
 enum Held {
-    /// In the value itself, if they are few.
+    /// In the value itself, if there are at most 22.
     Short(ShortText),
     /// In memory of their own.
     Long(String),
 }
 
-/// A text in UTF-8. A contract sees it as the list of its octets, and not where it lies in memory
-/// or how much room it has.
+/// A text in UTF-8. A contract sees the list of its octets, not its address or its capacity.
 ///
-/// A text of at most 22 octets takes no memory: it lies in the value, as most names and passwords
-/// of accounts do.
+/// A text of at most 22 octets, like most names and passwords of accounts, lies in the value and
+/// allocates nothing.
 #[derive(Drop)]
 pub struct Text {
     held: Held,
@@ -49,7 +48,7 @@ impl Model for Text {
 }
 
 impl Text {
-    /// A copy of the text. It fails only where memory is refused, and takes none for up to 22
+    /// A copy of the text. It fails only if memory is refused, and allocates nothing for up to 22
     /// octets.
     pub fn from_str(alloc: Global, text: &str) -> Result<Text, NoMemory>
         ensures copy { IfOk result (λ copy. copy ≡ text.now) }
@@ -62,7 +61,7 @@ impl Text {
         Ok(Text { held })
     }
 
-    /// The text, lent.
+    /// The text as a `str`.
     pub fn as_str(&self) -> &str
         ensures { result.now ≡ self.now }
     {
@@ -72,7 +71,7 @@ impl Text {
         }
     }
 
-    /// The octets of the text, lent. They are UTF-8, as the type keeps.
+    /// The octets of the text, in UTF-8.
     pub fn as_bytes(&self) -> &[u8]
         ensures octets { result.now ≡ self.now }
         ensures utf8 { IsUtf8 self.now }
@@ -83,7 +82,7 @@ impl Text {
         }
     }
 
-    /// How many octets there are: less than 2^63, as the type keeps.
+    /// The number of octets, below 2^63.
     pub fn len(&self) -> usize
         ensures number { result ≡ length self.now }
         ensures limit { length self.now < 2 ^ 63 }
@@ -101,7 +100,8 @@ impl Text {
         self.len() == 0
     }
 
-    /// An equal text. It fails only where memory is refused, and takes none for up to 22 octets.
+    /// An equal text. It fails only if memory is refused, and allocates nothing for up to 22
+    /// octets.
     pub fn try_copy(&self, alloc: Global) -> Result<Text, NoMemory>
         ensures copy { IfOk result (λ copy. copy ≡ self.now) }
         ensures short { length self.now ≤ 22 → IsOk result }
@@ -120,7 +120,7 @@ impl From<String> for Text {
 
     ghost from_gives = { λ text made. made ≡ string_bytes text };
 
-    /// The text of a `String`. This takes no memory.
+    /// The text of a `String`. It allocates nothing.
     fn from(text: String) -> Text {
         let held = match ShortText::of(text.as_str()) {
             Some(short) => Held::Short(short),

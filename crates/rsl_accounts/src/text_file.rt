@@ -23,7 +23,7 @@ use std::io::{ErrorKind, Read};
 const READ_LEN: usize = 4096;
 
 /// The text of the file of this name, of at most `most` octets. The faults are those of
-/// `read_text`; `Unreadable` also comes where the file can't be opened.
+/// `read_text`; `Unreadable` also comes if the file cannot be opened.
 pub fn read_file<F: Files>(
     files: &F,
     alloc: Global,
@@ -40,8 +40,8 @@ pub fn read_file<F: Files>(
 
 /// All octets that a reader gives, if they are at most `most`.
 ///
-/// `TooLong` comes as soon as there are more, `Unreadable` where a read fails or twice as many reads
-/// as the text may have octets have come to no end, and `NoMemory` where memory is refused. A read
+/// `TooLong` comes as soon as there are more, `Unreadable` if a read fails or if twice as many
+/// reads as the text may have octets come to no end, and `NoMemory` if memory is refused. A read
 /// that is interrupted is tried again, and counts as a read.
 #[tactic(auto, using(crate::proofs::Consumed::consumed_steps))]
 pub fn read_text<R: Read>(alloc: Global, reader: &mut R, most: u32) -> Result<Vec<u8>, TextFault>
@@ -64,7 +64,7 @@ pub fn read_text<R: Read>(alloc: Global, reader: &mut R, most: u32) -> Result<Ve
     Err(TextFault::Unreadable)
 }
 
-/// Puts a piece at the end of a text, unless the text would be too long.
+/// Appends a piece to a text, unless the text would be too long.
 fn append(text: &mut Vec<u8>, piece: &[u8], most: u32) -> Result<(), TextFault>
     requires { vec_len text.old ≤ most }
     ensures short { vec_len text.new ≤ most }

@@ -1,10 +1,11 @@
-/// How an Access-Request is taken that has no Message-Authenticator, of a client that need not sign.
+/// How an Access-Request without a Message-Authenticator is treated, of a client that need not
+/// sign.
 #[derive(Clone, Copy, Debug)]
 pub enum UnsignedRule {
-    /// Like any other, and its answer has none either: in versions 1 and 2.
+    /// Like any other, and its answer is unsigned too: versions 1 and 2.
     Trusted,
-    /// It is dropped where it has a Proxy-State, and each answer to an Access-Request has a
-    /// Message-Authenticator: in version 3. So whoever forges answers by a Proxy-State of their
-    /// choice finds none to begin with (CVE-2024-3596).
+    /// It is dropped if it has a Proxy-State, and every answer to an Access-Request has a
+    /// Message-Authenticator: version 3. So a forger of answers (CVE-2024-3596) gets no answer with
+    /// a Proxy-State of his choice.
     Guarded,
 }

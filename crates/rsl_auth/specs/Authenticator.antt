@@ -19,7 +19,8 @@ unfoldable pub sealed : (packet request_auth secret : List ℕ) → List ℕ
 sealed packet request_auth secret =
     take 4 packet ++ response_authenticator packet request_auth secret ++ drop 20 packet
 
--- an Accounting-Request's: MD5(Code, Identifier, Length, sixteen zero octets, Attributes, Secret)
+-- the Authenticator of an Accounting-Request: MD5(Code, Identifier, Length, sixteen zero octets,
+-- Attributes, Secret)
 abbrev pub accounting_authenticator : (packet secret : List ℕ) → List ℕ
 accounting_authenticator packet secret = response_authenticator packet (replicate 16 0) secret
 

@@ -5,16 +5,16 @@ use Rattle.std.specs.Prelude.{◌≡◌, ℕ, zero, suc, ◌-◌, ◌/◌, ◌%�
 use Rattle.std.specs.List.{starts_with, list_all}
 use Rattle.md5.specs.Md5.{md5}
 
--- how many NULs come after a password: as few as make a multiple of 16 octets, and 16 after the
--- empty one
+-- how many NULs pad a password: the fewest that make a multiple of 16 octets, and 16 for the empty
+-- one
 abbrev pub nuls_after : (length : ℕ) → ℕ
 nuls_after n = if n == 0 then 16 else (16 - n % 16) % 16
 
--- the password and the NULs after it: p1, p2, .. joined
+-- the padded password: p1, p2, .. joined
 abbrev pub padded_password : List ℕ → List ℕ
 padded_password password = password ++ replicate (nuls_after (length password)) 0
 
--- each octet xor the other's at its index
+-- each octet xor the octet at its index in the other list
 abbrev pub xor_octets : List ℕ → List ℕ → List ℕ
 xor_octets [] others = []
 xor_octets (x ∷ octets) [] = []
@@ -60,7 +60,7 @@ is_password_length n = n % 16 == 0 && nat_le 16 n && nat_le n 128
 abbrev pub are_nuls : List ℕ → Bool
 are_nuls octets = list_all (λ octet. octet == 0) octets
 
--- octets are the password and NULs alone after it
+-- octets are the password followed by NULs alone
 abbrev pub IsPadded : (octets password : List ℕ) → Type 0
 IsPadded octets password = (zeros : ℕ) × (octets ≡ password ++ replicate zeros 0)
 

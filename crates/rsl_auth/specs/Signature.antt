@@ -10,7 +10,7 @@ use Rattle.rsl_auth.specs.Hmac.{hmac_md5}
 abbrev pub value_at : (packet : List ℕ) (at : ℕ) → List ℕ
 value_at packet at = take 16 (drop at packet)
 
--- the packet with other octets there
+-- the packet with this value at the offset
 abbrev pub with_value : (packet : List ℕ) (at : ℕ) (value : List ℕ) → List ℕ
 with_value packet at value = take at packet ++ value ++ drop (at + 16) packet
 

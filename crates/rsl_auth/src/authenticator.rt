@@ -12,8 +12,8 @@ use rsl_wire::{AUTHENTICATOR_START, HEADER_LEN};
 
 /// Writes the Response Authenticator, MD5(Code, Identifier, Length, Request Authenticator,
 /// Attributes, Secret), into octets 4 to 19 of a packet (RFC 2865 section 3). The other octets
-/// stay. With sixteen zero octets for `request_auth` it is the Request Authenticator of an
-/// Accounting-Request, which `accounting_ok` finds right (RFC 2866 section 3).
+/// stay. With sixteen zero octets as `request_auth` it writes the Request Authenticator of an
+/// Accounting-Request, which `accounting_ok` accepts (RFC 2866 section 3).
 #[tactic(auto, unfolding(crate::specs::Authenticator::sealed))]
 pub fn seal(packet: &mut [u8], request_auth: &[u8; 16], secret: &[u8])
     requires { 20 ≤ length packet.old }
@@ -28,8 +28,7 @@ pub fn seal(packet: &mut [u8], request_auth: &[u8; 16], secret: &[u8])
     packet[AUTHENTICATOR_START..HEADER_LEN].copy_from_slice(&hasher.finalize());
 }
 
-/// The packet with its Response Authenticator: `seal` of octets that are moved in. It takes no
-/// memory.
+/// `seal` of a packet that is moved in. It allocates nothing.
 pub fn sealed(mut packet: Vec<u8>, request_auth: &[u8; 16], secret: &[u8]) -> Vec<u8>
     requires { 20 ≤ vec_len packet }
     ensures { result.items ≡ sealed packet.items request_auth.now secret.now }

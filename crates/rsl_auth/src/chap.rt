@@ -8,7 +8,7 @@ use md5::{Digest, Md5};
 pub const CHAP_PASSWORD_LEN: usize = 17;
 
 /// The response to a challenge: MD5(CHAP Ident, password, challenge) (RFC 2865 section 5.3). It
-/// takes no memory.
+/// allocates nothing.
 #[tactic(auto, unfolding(crate::specs::Chap::chap_response))]
 pub fn chap_response(ident: u8, password: &[u8], challenge: &[u8]) -> [u8; 16]
     ensures { result ≡ chap_response ident password.now challenge.now }
@@ -21,8 +21,7 @@ pub fn chap_response(ident: u8, password: &[u8], challenge: &[u8]) -> [u8; 16]
 }
 
 /// Whether a CHAP-Password answers a challenge with this password: it has 17 octets, and the last
-/// 16 are MD5(CHAP Ident, password, challenge) (RFC 2865 section 5.3). A value of another length
-/// gives false.
+/// 16 are MD5(CHAP Ident, password, challenge) (RFC 2865 section 5.3).
 #[tactic(auto, unfolding(crate::specs::Chap::matches_chap))]
 pub fn chap_ok(value: &[u8], challenge: &[u8], password: &[u8]) -> bool
     ensures test { result ≡ matches_chap value.now challenge.now password.now }

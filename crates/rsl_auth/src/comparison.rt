@@ -1,17 +1,17 @@
-//! The comparison of digests and passwords, which has no early way out: how long it takes is not to
-//! tell where they differ. No clause speaks of time, and a compiler may make something else of it.
+//! Comparison of digests and passwords without an early exit: its time is not to tell where they
+//! differ. No clause speaks of time, and a compiler may change it.
 ghost use Rattle.std.specs.Prelude.{◌≡◌, ◌↔◌, length};
 ghost use Rattle.std.specs.Str.{bytes_eq};
 
-/// Whether two lists of octets are the same. Of two of one length each octet is looked at, wherever
-/// they differ first.
+/// Whether two lists of octets are equal. If they have one length, every octet is compared,
+/// wherever the first difference is.
 pub(crate) fn same_octets(octets: &[u8], others: &[u8]) -> bool
     ensures { result ≡ bytes_eq octets.now others.now }
 {
     octets.len() == others.len() && differing_bits(octets, others) == 0
 }
 
-/// The bits in which octets differ from the others at their index, of all of them together.
+/// The bits in which any octet differs from the one at its index in the other list.
 fn differing_bits(octets: &[u8], others: &[u8]) -> u8
     requires { length octets.now ≡ length others.now }
     ensures { (result ≡ 0) ↔ (octets.now ≡ others.now) }

@@ -4,21 +4,21 @@ ghost use Rattle.rsl_auth.specs.Hmac.{hmac_md5, key_block, key_xor, padded};
 
 use md5::{Digest, Md5};
 
-/// Octets of a block of MD5 (RFC 2104 section 2).
+/// Octets of an MD5 block (RFC 2104 section 2).
 const BLOCK_LEN: usize = 64;
 
 /// Octets of a digest.
 const DIGEST_LEN: usize = 16;
 
-/// Each octet of the pad of the inner digest, ipad.
+/// Each octet of ipad, the pad of the inner digest.
 const INNER_PAD: u8 = 0x36;
 
-/// Each octet of the pad of the outer digest, opad.
+/// Each octet of opad, the pad of the outer digest.
 const OUTER_PAD: u8 = 0x5c;
 
 /// HMAC-MD5 of a message under a key of any length: MD5(K xor opad, MD5(K xor ipad, message)),
-/// where K is the key, or the digest of a key of more than 64 octets, with zeros after it to 64
-/// octets (RFC 2104 section 2). It takes no memory.
+/// where K is the key, or the digest of a key of more than 64 octets, padded with zeros to 64
+/// octets (RFC 2104 section 2). It allocates nothing.
 pub fn hmac_md5(key: &[u8], message: &[u8]) -> [u8; 16]
     ensures { result ≡ hmac_md5 key.now message.now }
 {
@@ -28,21 +28,20 @@ pub fn hmac_md5(key: &[u8], message: &[u8]) -> [u8; 16]
     key.finished(inner)
 }
 
-/// What HMAC-MD5 makes of a key before any message: the two digests after the key's blocks (RFC
-/// 2104 section 4). Whoever signs again and again with one key keeps this, and spares the digests
-/// of four blocks each time.
+/// A key of HMAC-MD5, prepared: the two digests after the key's blocks (RFC 2104 section 4).
+/// Signing many messages with one key saves four blocks of MD5 each time.
 #[derive(Drop)]
 pub struct HmacKey {
-    /// The digest that was given K xor ipad.
+    /// The digest after K xor ipad.
     inner: Md5,
-    /// The digest that was given K xor opad.
+    /// The digest after K xor opad.
     outer: Md5,
 }
 
 impl HmacKey {
     ghost use Rattle.rsl_auth.specs.Hmac.{IsKeyOf};
 
-    /// What HMAC-MD5 makes of a key of any length. It takes no memory.
+    /// The prepared key of a key of any length. It allocates nothing.
     pub fn new(key: &[u8]) -> HmacKey
         ensures { IsKeyOf key.now result }
     {
@@ -53,7 +52,7 @@ impl HmacKey {
         }
     }
 
-    /// The inner digest before any of the message.
+    /// The inner digest, before any of the message.
     pub(crate) fn begun(&self) -> Md5
         ensures { (key : List ℕ) → IsKeyOf key self.now → Holds result (key_xor key 0x36) }
     {
@@ -72,7 +71,7 @@ impl HmacKey {
     }
 }
 
-/// A digest that was given a key's block xor a pad.
+/// A digest after a key's block xor a pad.
 fn padded_digest(block: &[u8; BLOCK_LEN], pad: u8) -> Md5
     ensures { Holds result (padded block.now pad) }
 {
@@ -92,7 +91,7 @@ fn padded(block: &[u8; BLOCK_LEN], pad: u8) -> [u8; BLOCK_LEN]
     octets
 }
 
-/// The key, or its digest where it is over a block, and zeros after it.
+/// The key, or its digest if it is longer than a block, padded with zeros.
 fn key_block(key: &[u8]) -> [u8; BLOCK_LEN]
     ensures { result ≡ key_block key.now }
 {

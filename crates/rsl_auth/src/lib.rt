@@ -1,8 +1,8 @@
 //! The authenticators, passwords and signatures of RADIUS packets (RFC 2865, RFC 2866, RFC 3579):
-//! each call gives exactly what the RFC's formula over MD5 gives for the octets that it is lent. It
-//! knows octets and nothing of accounts, and promises nothing of MD5's strength. The formulas to
-//! read are in `specs/Authenticator.antt`, `specs/Password.antt`, `specs/Chap.antt`,
-//! `specs/Hmac.antt` and `specs/Signature.antt`.
+//! each call gives exactly what the RFC's formula over MD5 gives for its octets. It knows octets
+//! and nothing of accounts, and promises nothing of MD5's strength. The formulas are in
+//! `specs/Authenticator.antt`, `specs/Password.antt`, `specs/Chap.antt`, `specs/Hmac.antt` and
+//! `specs/Signature.antt`.
 #![tactic(auto)]
 
 mod authenticator;

@@ -34,8 +34,8 @@ use std::alloc::Global;
 /// Octets of a block (RFC 2865 section 5.2).
 const BLOCK_LEN: usize = 16;
 
-/// Octets that are digested in one piece: a block of MD5, in which a secret of up to 48 octets lies
-/// with what stands after it.
+/// Octets that are digested at once: an MD5 block, which holds a secret of up to 48 octets and the
+/// 16 octets after it.
 const PIECE_LEN: usize = 64;
 
 /// The most octets of a password, and of the value that hides it (RFC 2865 section 5.2).
@@ -43,8 +43,8 @@ pub const MAX_PASSWORD_LEN: usize = 128;
 
 /// The User-Password value that hides a password of at most 128 octets: padded with NULs to blocks
 /// of 16, at least one, each xor MD5(Secret, the hidden block before), the first xor MD5(Secret,
-/// Request Authenticator) (RFC 2865 section 5.2). It has 16, 32, .. or 128 octets. It fails only
-/// where memory is refused.
+/// Request Authenticator) (RFC 2865 section 5.2). It has 16, 32, .. or 128 octets. It fails only if
+/// memory is refused.
 pub fn hide(
     alloc: Global,
     password: &[u8],
@@ -63,9 +63,8 @@ pub fn hide(
     hide_blocks(alloc, octets, secret, request_auth)
 }
 
-/// Whether a User-Password value hides this password: it has 16, 32, .. or 128 octets, and those
-/// that it hides are the password and NULs alone after it (RFC 2865 section 5.2). A value of
-/// another length gives false.
+/// Whether a User-Password value hides this password: it has 16, 32, .. or 128 octets, and what it
+/// hides is the password followed by NULs alone (RFC 2865 section 5.2).
 #[tactic(auto, unfolding(crate::specs::Password::matches_password))]
 pub fn pap_ok(value: &[u8], secret: &[u8], request_auth: &[u8; 16], password: &[u8]) -> bool
     ensures test { result ≡ matches_password value.now secret.now request_auth.now password.now }
@@ -79,7 +78,7 @@ pub fn pap_ok(value: &[u8], secret: &[u8], request_auth: &[u8; 16], password: &[
     is_followed_by_nuls(&buffer[..value.len()], password)
 }
 
-/// How many octets a password of n octets has with its NULs.
+/// The padded length of a password.
 fn padded_len(len: usize) -> usize
     requires { len ≤ 128 }
     ensures { result ≡ len + nuls_after len }
@@ -91,7 +90,7 @@ fn padded_len(len: usize) -> usize
     }
 }
 
-/// The password, and NULs after it.
+/// The password, padded with NULs.
 fn pad(password: &[u8]) -> [u8; MAX_PASSWORD_LEN]
     requires { length password.now ≤ 128 }
     ensures { result ≡ password.now ++ replicate (128 - length password.now) 0 }
@@ -159,7 +158,7 @@ fn mask(block: &[u8], secret: &[u8], before: &[u8]) -> [u8; BLOCK_LEN]
     octets
 }
 
-/// MD5(secret, before). Octets that lie in one piece are digested faster.
+/// MD5(secret, before), which is faster for octets that fit one block.
 fn digest_of(secret: &[u8], before: &[u8]) -> [u8; 16]
     ensures { result ≡ md5 (secret.now ++ before.now) }
 {
@@ -183,8 +182,8 @@ fn digest_of_parts(secret: &[u8], before: &[u8]) -> [u8; 16]
     hasher.finalize()
 }
 
-/// Whether octets are the password and NULs alone after it. Where it is no longer than they are,
-/// each octet is looked at, wherever they differ first.
+/// Whether octets are the password followed by NULs alone. If the password is no longer than they
+/// are, every octet is compared, wherever the first difference is.
 fn is_followed_by_nuls(octets: &[u8], password: &[u8]) -> bool
     requires { length octets.now ≤ 128 }
     ensures { result ≡ is_padded octets.now password.now }

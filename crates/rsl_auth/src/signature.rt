@@ -10,11 +10,11 @@ use rsl_wire::{AUTHENTICATOR_START, HEADER_LEN};
 /// Octets of the value of a Message-Authenticator (RFC 3579 section 3.2).
 pub const SIGNATURE_LEN: usize = 16;
 
-/// Writes the value of the Message-Authenticator that stands at `at`: HMAC-MD5 keyed by the secret
-/// over Code, Identifier, Length, `request_auth` and the Attributes, with sixteen zero octets for
-/// the value itself (RFC 3579 section 3.2). The octets before `at` and from `at + 16` on stay. A
-/// request is signed with its own Authenticator, and `signature_ok` then finds it right; a reply is
-/// signed with the request's before it is sealed. It takes no memory.
+/// Writes the value of the Message-Authenticator at offset `at`: HMAC-MD5 keyed by the secret over
+/// Code, Identifier, Length, `request_auth` and the Attributes, with sixteen zero octets for the
+/// value itself (RFC 3579 section 3.2). The other octets stay. A request is signed with its own
+/// Authenticator, and `signature_ok` then accepts it; a reply is signed with the request's before
+/// it is sealed. It allocates nothing.
 pub fn sign(packet: &mut [u8], at: usize, request_auth: &[u8; 16], secret: &[u8])
     requires after_header { 20 ≤ at }
     requires within { at + 16 ≤ length packet.old }
@@ -25,8 +25,8 @@ pub fn sign(packet: &mut [u8], at: usize, request_auth: &[u8; 16], secret: &[u8]
     HmacKey::new(secret).sign(packet, at, request_auth);
 }
 
-/// Whether the Message-Authenticator of a request, of which the value stands at `at`, is right (RFC
-/// 3579 section 3.2). It takes no memory.
+/// Whether the Message-Authenticator of a request, whose value is at offset `at`, is right (RFC
+/// 3579 section 3.2). It allocates nothing.
 pub fn signature_ok(packet: &[u8], at: usize, secret: &[u8]) -> bool
     requires after_header { 20 ≤ at }
     requires within { at + 16 ≤ length packet.now }
@@ -40,7 +40,7 @@ pub fn signature_ok(packet: &[u8], at: usize, secret: &[u8]) -> bool
 impl HmacKey {
     ghost use Rattle.rsl_auth.specs.Hmac.{IsKeyOf};
 
-    /// `sign` with the secret that this is the key of.
+    /// `sign` with the secret of this key.
     pub fn sign(&self, packet: &mut [u8], at: usize, request_auth: &[u8; 16])
         requires after_header { 20 ≤ at }
         requires within { at + 16 ≤ length packet.old }
@@ -51,7 +51,7 @@ impl HmacKey {
         packet[at..at + SIGNATURE_LEN].copy_from_slice(&value);
     }
 
-    /// `signature_ok` with the secret that this is the key of.
+    /// `signature_ok` with the secret of this key.
     #[tactic(auto, unfolding(crate::specs::Signature::is_signed))]
     pub fn is_right(&self, packet: &[u8], at: usize) -> bool
         requires after_header { 20 ≤ at }
@@ -64,7 +64,7 @@ impl HmacKey {
         same_octets(&packet[at..at + SIGNATURE_LEN], &value)
     }
 
-    /// The value that belongs at an offset of a packet.
+    /// The right value of the Message-Authenticator at an offset of a packet.
     fn signature_of(&self, packet: &[u8], at: usize, request_auth: &[u8]) -> [u8; 16]
         requires after_header { 20 ≤ at }
         requires within { at + 16 ≤ length packet.now }

@@ -1,4 +1,4 @@
--- What an Access-Request means (RFC 2865 section 4.1).
+-- The meaning of an Access-Request (RFC 2865 section 4.1).
 use Rattle.std.specs.Prelude.{ℕ, ◌+◌, ◌==◌, ◌&&◌, nat_le, nat_lt, Bool, false, not, List, unwrap_or, option_and_then, if◌then◌else◌, Option, Some, None, Result, Ok, Err}
 use Rattle.rsl_accounts.specs.Configuration.{Configuration}
 use Rattle.rsl_auth.specs.Chap.{matches_chap}
@@ -22,12 +22,12 @@ asks_once attributes =
     && attribute_count USER_PASSWORD attributes + attribute_count CHAP_PASSWORD attributes == 1
     && nat_le (attribute_count CHAP_CHALLENGE attributes) 1
 
--- the CHAP challenge: the CHAP-Challenge where there is one, else the Request Authenticator (RFC
--- 2865 section 5.3)
+-- the CHAP challenge: the CHAP-Challenge if there is one, else the Request Authenticator (RFC 2865
+-- section 5.3)
 abbrev pub challenge_of : List ℕ → List Attribute → List ℕ
 challenge_of authenticator attributes = unwrap_or (first_of CHAP_CHALLENGE attributes) authenticator
 
--- a User-Password or a CHAP-Password shows that the password is known
+-- a User-Password or a CHAP-Password is this password
 abbrev pub shows : (secret authenticator challenge password : List ℕ) (pap chap : Option (List ℕ))
     → Bool
 shows secret authenticator challenge password (Some value) chap =
@@ -36,14 +36,14 @@ shows secret authenticator challenge password None (Some value) =
     matches_chap value challenge password
 shows secret authenticator challenge password None None = false
 
--- the attributes show that the password is known
+-- the attributes show this password
 abbrev pub shows_password : (secret authenticator : List ℕ) → List Attribute → (password : List ℕ)
     → Bool
 shows_password secret authenticator attributes password =
     shows secret authenticator (challenge_of authenticator attributes) password
     (first_of USER_PASSWORD attributes) (first_of CHAP_PASSWORD attributes)
 
--- the account, if its password is shown and it is not disabled
+-- the account, if its password is right and it is not disabled
 abbrev pub if_shown : Configuration → (secret authenticator : List ℕ) → List Attribute
     → (account : ℕ) → Option ℕ
 if_shown config secret authenticator attributes account =
@@ -70,12 +70,12 @@ ask_or_reject source client fields attributes (Some account) =
     (Ask (record { source = source; id = fields.id; authenticator = fields.authenticator })
     (access_server_of client attributes))
 
--- by the cause to drop the request, if there is one
+-- the cause to drop the request, if there is one, else its meaning
 abbrev pub unless_dropped : Option Dropped → Result Meaning Dropped → Result Meaning Dropped
 unless_dropped None meaning = meaning
 unless_dropped (Some dropped) meaning = Err dropped
 
--- a request that is signed, or does not have to be
+-- the meaning of a request that is signed, or need not be
 abbrev pub request_meaning : Configuration → Source → (client : ℕ) → Fields → List Attribute
     → Result Meaning Dropped
 request_meaning config source client fields attributes =
@@ -83,7 +83,8 @@ request_meaning config source client fields attributes =
     else Ok (ask_or_reject source client fields attributes
     (asker config client fields.authenticator attributes))
 
--- by the attributes, or the fault in their list: a malformed list has no Message-Authenticator
+-- the meaning by the attributes or the fault in their list: a malformed list has no
+-- Message-Authenticator
 abbrev pub access_by : Configuration → Source → (client : ℕ) → Fields → Result (List Attribute) ℕ
     → Result Meaning Dropped
 access_by config source client fields (Err at) =
@@ -92,7 +93,7 @@ access_by config source client fields (Ok attributes) =
     unless_dropped (signature_drop config client fields attributes)
     (request_meaning config source client fields attributes)
 
--- what a packet on the authentication port means
+-- the meaning of a packet on the authentication port
 unfoldable pub access_meaning : Configuration → Source → (client : ℕ) → Fields
     → Result Meaning Dropped
 access_meaning config source client fields =

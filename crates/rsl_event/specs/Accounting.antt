@@ -1,4 +1,4 @@
--- What an Accounting-Request means (RFC 2866 section 4.1).
+-- The meaning of an Accounting-Request (RFC 2866 section 4.1).
 use Rattle.std.specs.Prelude.{ℕ, ◌==◌, ◌&&◌, nat_lt, List, [], ◌∷◌, length, take, drop, if◌then◌else◌, Option, Some, None, Result, Ok, Err}
 use Rattle.std.specs.Int.{w64, from_be_bytes}
 use Rattle.std.specs.Option.{option_or}
@@ -27,7 +27,7 @@ class_number boot value =
     then Some (from_be_bytes w64 (drop 8 value))
     else None
 
--- the accept number of the first Class that is this server's; others are passed over
+-- the accept number of the first Class of this server; others are ignored
 abbrev pub class_in : (boot : ℕ) → List Attribute → Option ℕ
 class_in boot [] = None
 class_in boot (attribute ∷ attributes) =
@@ -41,7 +41,7 @@ unless_empty None = None
 unless_empty (Some []) = None
 unless_empty (Some (octet ∷ id)) = Some (octet ∷ id)
 
--- what is noted of a packet
+-- the note of a packet
 abbrev pub note_of : (client number : ℕ) → List Attribute → Note
 note_of client number attributes = record {
   nas = access_server_of client attributes;
@@ -50,7 +50,7 @@ note_of client number attributes = record {
   session = text_of ACCT_SESSION_ID attributes;
 }
 
--- the session of a packet of this status has ended, or goes on
+-- the act of a packet of this status: the session has ended, or goes on
 abbrev pub session_act : (boot client : ℕ) → Status → List Attribute → Act
 session_act boot client statuses.Stop attributes =
     Stop (access_server_of client attributes) (text_of ACCT_SESSION_ID attributes)
@@ -58,7 +58,7 @@ session_act boot client _ attributes =
     Alive (access_server_of client attributes) (text_of ACCT_SESSION_ID attributes)
     (unless_empty (first_of ACCT_MULTI_SESSION_ID attributes)) (class_in boot attributes)
 
--- that is the act of the account that the packet names, if there is one
+-- the act of the account that the packet names, if there is one
 abbrev pub session_meaning : (boot client : ℕ) → Status → List Attribute → (account : Option ℕ)
     → Meaning
 session_meaning boot client status attributes None =
@@ -66,15 +66,15 @@ session_meaning boot client status attributes None =
 session_meaning boot client status attributes (Some account) =
     Own account (session_act boot client status attributes)
 
--- a session's packet names the session
+-- the meaning of a session's packet, which has to name the session
 abbrev pub if_session : Configuration → (boot client : ℕ) → Status → List Attribute
     → Result Meaning Dropped
 if_session config boot client status attributes =
     if length (text_of ACCT_SESSION_ID attributes) == 0 then Err NoSession
     else Ok (session_meaning boot client status attributes (named_account config attributes))
 
--- by the status that has this number, if there is one: at Accounting-On and Accounting-Off the
--- access server has restarted, and the others are of a session
+-- the meaning by the status with this number, if there is one: at Accounting-On and Accounting-Off
+-- the access server has restarted, and the others are of a session
 abbrev pub by_status : Configuration → (boot client number : ℕ) → List Attribute → Option Status
     → Result Meaning Dropped
 by_status config boot client number attributes (Some statuses.AccountingOn) =
@@ -85,20 +85,20 @@ by_status config boot client number attributes (Some status) =
     if_session config boot client status attributes
 by_status config boot client number attributes None = Ok (Stray (note_of client number attributes))
 
--- by the number of the status
+-- the meaning by the number of the status
 unfoldable pub status_meaning : Configuration → (boot client number : ℕ) → List Attribute
     → Result Meaning Dropped
 status_meaning config boot client number attributes =
     by_status config boot client number attributes (status_of number)
 
--- by the Acct-Status-Type, if there is one
+-- the meaning by the Acct-Status-Type, if there is one
 abbrev pub if_status : Configuration → (boot client : ℕ) → List Attribute → Option ℕ
     → Result Meaning Dropped
 if_status config boot client attributes None = Err NoStatus
 if_status config boot client attributes (Some number) =
     status_meaning config boot client number attributes
 
--- by the attributes, or the fault in their list
+-- the meaning by the attributes, or the fault in their list
 abbrev pub accounting_by : Configuration → (boot client : ℕ) → Result (List Attribute) ℕ
     → Result Meaning Dropped
 accounting_by config boot client (Err at) = Err Malformed
@@ -106,7 +106,7 @@ accounting_by config boot client (Ok attributes) =
     if nat_lt MAX_PROXY_STATE_LEN (proxy_len attributes) then Err ProxyTooLong
     else if_status config boot client attributes (number_in (first_of ACCT_STATUS_TYPE attributes))
 
--- what a packet on the accounting port means
+-- the meaning of a packet on the accounting port
 unfoldable pub accounting_meaning : Configuration → (boot client : ℕ) → Fields
     → Result Meaning Dropped
 accounting_meaning config boot client fields =

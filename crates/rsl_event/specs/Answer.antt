@@ -20,21 +20,20 @@ use Rattle.rsl_event.specs.declared.words.Said.{Said}
 use Rattle.rsl_event.specs.declared.words.Said.TheVariants as words
 use Rattle.rsl_event.specs.declared.codes.TheConstants.{ACCESS_ACCEPT, ACCESS_REJECT, ACCOUNTING_RESPONSE, CLASS, PORT_LIMIT, SERVICE_TYPE, FRAMED_PROTOCOL, SESSION_TIMEOUT, IDLE_TIMEOUT, ACCT_INTERIM_INTERVAL, REPLY_MESSAGE}
 
--- the word for a decision on an ask; one that is merely done was not accepted
+-- the word for a decision on an ask; an ask that is done was not accepted
 abbrev pub said_of : Decision → Said
 said_of (decisions.Accept number) = words.Accept number
 said_of decisions.LimitReject = words.LimitReject
 said_of decisions.Done = words.LimitReject
 
--- the word for what is answered to a meaning of this kind; only that for an ask depends on the
--- decision
+-- the word for the answer to a meaning of this kind, which depends on the decision only for an ask
 abbrev pub said_to : MeaningKind → Decision → Said
 said_to kinds.Bare decision = words.Reject
 said_to kinds.Reject decision = words.Reject
 said_to (kinds.Ask account) decision = said_of decision
 said_to kinds.Account decision = words.Account
 
--- the word for what is answered
+-- the word for the answer
 abbrev pub said : Meaning → Decision → Said
 said meaning decision = said_to (kind_of meaning) decision
 
@@ -49,13 +48,12 @@ code_of words.Account = ACCOUNTING_RESPONSE
 abbrev pub number_attribute : (kind number : ℕ) → Attribute
 number_attribute kind number = attribute_of kind (to_be_bytes w32 number)
 
--- such an attribute if there is a number
+-- an attribute of four octets, if there is a number
 abbrev pub optional_attribute : (kind : ℕ) → Option ℕ → List Attribute
 optional_attribute kind None = []
 optional_attribute kind (Some number) = number_attribute kind number ∷ []
 
--- the value of Class: the boot number and the accept number, eight octets each, the high octet
--- first
+-- the value of Class: the boot number and the accept number, eight octets each, high octet first
 abbrev pub class_octets : (boot number : ℕ) → List ℕ
 class_octets boot number = to_be_bytes w64 boot ++ to_be_bytes w64 number
 
@@ -74,30 +72,30 @@ accept_attributes boot number entry =
     ++ optional_attribute IDLE_TIMEOUT entry.idle_timeout
     ++ optional_attribute ACCT_INTERIM_INTERVAL entry.interim
 
--- what a limit reject says
+-- the attributes of a limit reject
 abbrev pub limit_attributes : List Attribute
 limit_attributes = attribute_of REPLY_MESSAGE (codes "Session limit reached") ∷ []
 
--- what a decision on an ask says
+-- the attributes of a decision on an ask
 abbrev pub decided_attributes : Configuration → (boot account : ℕ) → Decision → List Attribute
 decided_attributes config boot account (decisions.Accept number) =
     option_map_or (accept_attributes boot number) (slice_get config.accounts account) []
 decided_attributes config boot account decisions.LimitReject = limit_attributes
 decided_attributes config boot account decisions.Done = limit_attributes
 
--- what the server says in a reply
+-- the server's own attributes in a reply
 abbrev pub said_attributes : Configuration → (boot : ℕ) → MeaningKind → Decision → List Attribute
 said_attributes config boot (kinds.Ask account) decision =
     decided_attributes config boot account decision
 said_attributes config boot _ decision = []
 
--- what a reply repeats of the request's attributes
+-- the request's attributes that a reply repeats
 abbrev pub repeated_attributes : List Attribute → MeaningKind → List Attribute
 repeated_attributes attributes kinds.Bare = []
 repeated_attributes attributes _ = proxy_states attributes
 
--- the attributes of a reply, its Message-Authenticator not yet signed: this stands first, and
--- Proxy-States last, as they came
+-- the attributes of a reply, its Message-Authenticator not yet signed: this comes first, and
+-- Proxy-States last, in their order
 abbrev pub reply_attributes : Configuration → (boot : ℕ) → List Attribute → MeaningKind → Decision
     → List Attribute
 reply_attributes config boot attributes kind decision =

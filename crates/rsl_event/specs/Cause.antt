@@ -11,8 +11,8 @@ use Rattle.rsl_event.specs.declared.codes.TheConstants.{USER_NAME, USER_PASSWORD
 use Rattle.rsl_event.specs.declared.detail.RejectCause.{RejectCause}
 use Rattle.rsl_event.specs.declared.detail.RejectCause.TheVariants.{Malformed, NotOneName, NotOnePassword, SeveralChallenges, UnknownAccount, WrongPassword, DisabledAccount}
 
--- one User-Name, one password of either kind, at most one CHAP-Challenge: the first of these that is
--- not so
+-- the first that does not hold of: one User-Name, one password of either kind, at most one
+-- CHAP-Challenge
 abbrev pub count_cause : List Attribute → Option RejectCause
 count_cause attributes =
     if attribute_count USER_NAME attributes == 1
@@ -22,7 +22,8 @@ count_cause attributes =
     else Some NotOnePassword)
     else Some NotOneName
 
--- there is an account of the name, its password is shown, and it is not disabled
+-- the first that does not hold of: an account of the name, its password, and that it is not
+-- disabled
 abbrev pub asker_cause : Configuration → (client : ℕ) → (authenticator : List ℕ) → List Attribute
     → (account : Option ℕ) → Option RejectCause
 asker_cause config client authenticator attributes None = Some UnknownAccount
@@ -32,14 +33,14 @@ asker_cause config client authenticator attributes (Some account) =
     then (if is_disabled config account then Some DisabledAccount else None)
     else Some WrongPassword
 
--- by the attributes
+-- the cause by the attributes
 abbrev pub listed_cause : Configuration → (client : ℕ) → (authenticator : List ℕ) → List Attribute
     → Option RejectCause
 listed_cause config client authenticator attributes =
     option_or (count_cause attributes)
     (asker_cause config client authenticator attributes (named_account config attributes))
 
--- by the attributes, or the fault in their list
+-- the cause by the attributes, or the fault in their list
 abbrev pub cause_by : Configuration → (client : ℕ) → (authenticator : List ℕ)
     → Result (List Attribute) ℕ → Option RejectCause
 cause_by config client authenticator (Err at) = Some Malformed

@@ -1,4 +1,4 @@
--- What is copied out of a datagram, and takes memory.
+-- What is copied out of a datagram into memory of its own.
 use Rattle.std.specs.Prelude.{Result, Ok, Err}
 use Rattle.rsl_event.specs.declared.event.Act.{Act}
 use Rattle.rsl_event.specs.declared.event.Act.TheVariants.{Ask, Sweep, Tick}

@@ -12,13 +12,14 @@ use Rattle.rsl_event.specs.declared.meaning.Meaning.{Meaning}
 use Rattle.rsl_event.specs.declared.meaning.Meaning.TheVariants.{Bare, Reject}
 use Rattle.rsl_event.specs.declared.meaning.Port.TheVariants.{Auth}
 
--- the cause of a meaning: of a bare reject malformed attributes, of any other another, and else none
+-- the cause of a meaning: malformed attributes for a bare reject, any other for another, and else
+-- none
 abbrev pub IsCauseOf : Meaning → Option RejectCause → Type 0
 IsCauseOf Bare cause = cause ≡ Some Malformed
 IsCauseOf Reject cause = IsSomeAnd cause (λ named. named ≢ Malformed)
 IsCauseOf _ cause = cause ≡ None
 
--- the cause that a detail tells
+-- the cause in a detail
 abbrev pub cause_in : Option Detail → Option RejectCause
 cause_in (Some (Rejected cause)) = Some cause
 cause_in (Some Asks) = None

@@ -1,4 +1,4 @@
--- The kind of a meaning: all of it that its reply hangs on.
+-- The kind of a meaning: all that its reply depends on.
 use Rattle.std.specs.Prelude.{ℕ}
 use Rattle.rsl_event.specs.declared.event.Act.{Act}
 use Rattle.rsl_event.specs.declared.event.Act.TheVariants.{Ask}

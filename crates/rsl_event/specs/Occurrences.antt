@@ -1,4 +1,4 @@
--- What was noted of the attributes of one Type.
+-- The occurrences of the attributes of one Type.
 use Rattle.std.specs.Prelude.{◌≡◌, ℕ, List, Option, option_map}
 use Rattle.std.specs.Borrow.{Bor}
 use Rattle.rsl_wire.specs.Attributes.{Attribute, first_of}

@@ -20,7 +20,7 @@ abbrev pub prepared_in : Result Detailed Dropped → Result Prepared Dropped
 prepared_in (Ok found) = Ok found.prepared
 prepared_in (Err dropped) = Err dropped
 
--- what `prepare` answered is as it is defined
+-- what `prepare` gives is as it is defined
 abbrev pub GivesPrepared : Result Prepared Dropped → Result Meaning Dropped → Type 0
 GivesPrepared (Ok prepared) defined = defined ≡ Ok prepared.meaning
 GivesPrepared (Err dropped) defined = Fails dropped defined
@@ -30,7 +30,7 @@ pub record HasProxyStates (attributes : List ℕ) : Type 0 where
   pub formed : attribute_list attributes ≡ Ok (attributes_in attributes)
   pub short : proxy_len (attributes_in attributes) ≤ MAX_PROXY_STATE_LEN
 
--- an account that something is said of is one of the configuration
+-- the account of a meaning is one of the configuration
 abbrev pub HasAccount : Configuration → Meaning → Type 0
 HasAccount config (Own account act) = account < length config.accounts
 HasAccount config _ = Unit {0}
@@ -56,7 +56,7 @@ IsOfOneAccount (Sweep nas) = ⊥
 IsOfOneAccount Tick = ⊥
 IsOfOneAccount _ = Unit {0}
 
--- what is an account's own is an act of one account
+-- an own act is an act of one account
 abbrev pub HasOwnAct : Meaning → Type 0
 HasOwnAct (Own account act) = IsOfOneAccount act
 HasOwnAct _ = Unit {0}
@@ -67,7 +67,7 @@ pub record IsPrepared (config : Configuration) (prepared : Prepared) : Type 0 wh
   pub account : HasAccount config prepared.meaning
   pub room : HasRoomForReply prepared.packet.attrs.now prepared.meaning
 
--- what a reply can be made to: a packet of a client, with a meaning of this kind
+-- what a reply needs: a packet of a client, with a meaning of this kind
 pub record CanReply (config : Configuration) (client : ℕ) (attributes : List ℕ) (kind : MeaningKind)
     : Type 0 where
   pub known : client < length config.clients

@@ -1,4 +1,4 @@
--- What both kinds of request say: which access server, which account, and what the reply repeats.
+-- What both kinds of request say: the access server, the account, and what the reply repeats.
 use Rattle.std.specs.Prelude.{ℕ, Bool, false, List, [], length, count_by, sum_by, filter, slice_get, unwrap_or, option_and_then, Option, Some, None}
 use Rattle.std.specs.Option.{option_map_or}
 use Rattle.rsl_accounts.specs.Configuration.{Configuration, account_number}
@@ -31,7 +31,7 @@ access_server_of client attributes =
           (first_of NAS_IP_ADDRESS attributes);
     }
 
--- the account that has the first User-Name
+-- the account of the first User-Name
 abbrev pub named_account : Configuration → List Attribute → Option ℕ
 named_account config attributes =
     option_and_then (λ name. account_number config name) (first_of USER_NAME attributes)
@@ -40,7 +40,7 @@ named_account config attributes =
 abbrev pub proxy_states : List Attribute → List Attribute
 proxy_states attributes = filter (is_kind PROXY_STATE) attributes
 
--- how many octets they have, with their headers
+-- the octets of the Proxy-State attributes, with their headers
 abbrev pub proxy_len : List Attribute → ℕ
 proxy_len attributes =
     sum_by (λ attribute. length (attribute_octets attribute)) (proxy_states attributes)

@@ -1,4 +1,4 @@
--- Tests of whether two values are the same. Each says true exactly where they are equal.
+-- Tests of equality: each is true exactly if the two values are equal.
 use Rattle.std.specs.Prelude.{Bool, true, false, ◌&&◌, ◌==◌}
 use Rattle.rsl_accounts.specs.Configuration.{same_octets}
 use Rattle.rsl_event.specs.declared.event.Key.{Key}

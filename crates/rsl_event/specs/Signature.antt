@@ -32,7 +32,7 @@ has_signature attributes = nat_lt 0 (attribute_count MESSAGE_AUTHENTICATOR attri
 unfoldable pub before_signature : List Attribute → List Attribute
 before_signature attributes = before_first (is_kind MESSAGE_AUTHENTICATOR) attributes
 
--- where its value stands in the packet: after the header of 20 octets, those attributes, its Type
+-- the offset of its value in the packet: after the header of 20 octets, those attributes, its Type
 -- and its Length
 abbrev pub signature_offset : List Attribute → ℕ
 signature_offset attributes = 22 + length (list_octets (before_signature attributes))
@@ -44,7 +44,7 @@ has_right_signature fields attributes secret =
     && length (text_of MESSAGE_AUTHENTICATOR attributes) == 16
     && is_signed (packet_octets fields) (signature_offset attributes) secret
 
--- how a configuration takes requests without a Message-Authenticator
+-- how a configuration treats requests without a Message-Authenticator
 abbrev pub rule_of : Configuration → UnsignedRule
 rule_of config = unsigned_rule config.settings.version
 
@@ -52,15 +52,15 @@ abbrev pub is_guarded : UnsignedRule → Bool
 is_guarded Trusted = false
 is_guarded Guarded = true
 
--- a guarded request may have no Proxy-State, which is repeated in the answer: by one of their choice
--- somebody between the two could make a reject into an accept (CVE-2024-3596)
+-- a guarded request may have no Proxy-State, which the answer repeats: with one of his choice, a
+-- man in the middle could turn a reject into an accept (CVE-2024-3596)
 abbrev pub unsigned_drop : UnsignedRule → List Attribute → Option Dropped
 unsigned_drop rule attributes =
     if is_guarded rule && nat_lt 0 (attribute_count PROXY_STATE attributes)
     then Some UnsignedProxy
     else None
 
--- why a request with these attributes is dropped, if it is for its Message-Authenticator
+-- why a request with these attributes is dropped for its Message-Authenticator, if it is
 abbrev pub signature_drop : Configuration → (client : ℕ) → Fields → List Attribute → Option Dropped
 signature_drop config client fields attributes =
     if has_signature attributes
@@ -74,18 +74,18 @@ abbrev pub is_access : Said → Bool
 is_access words.Account = false
 is_access _ = true
 
--- signed where it is to be
+-- signed if it is to be
 abbrev pub signing_if : Bool → Signing
 signing_if false = Plain
 signing_if true = Signed
 
--- the signing of a reply: it is signed where it answers an Access-Request that carried a
+-- the signing of a reply: it is signed if it answers an Access-Request with a
 -- Message-Authenticator, or any under a guard
 abbrev pub reply_signing : UnsignedRule → Said → (request : List Attribute) → Signing
 reply_signing rule word request =
     signing_if (is_access word && (is_guarded rule || has_signature request))
 
--- its Message-Authenticator, before the value is known: the first attribute
+-- a Message-Authenticator as the first attribute, before its value is known
 abbrev pub unsigned_signature : Attribute
 unsigned_signature = attribute_of MESSAGE_AUTHENTICATOR (replicate 16 0)
 
@@ -94,8 +94,8 @@ abbrev pub signature_attributes : Signing → List Attribute
 signature_attributes Plain = []
 signature_attributes Signed = unsigned_signature ∷ []
 
--- a packet, signed if it is to be: the value of its Message-Authenticator stands at octet 22, and
--- the Request Authenticator counts as its Authenticator (RFC 3579 section 3.2)
+-- a packet, signed if it is to be: the value of its Message-Authenticator is at octet 22, and the
+-- Request Authenticator counts as its Authenticator (RFC 3579 section 3.2)
 abbrev pub signed_by : Signing → (packet request_auth secret : List ℕ) → List ℕ
 signed_by Plain packet request_auth secret = packet
 signed_by Signed packet request_auth secret = signed packet 22 request_auth secret

@@ -12,7 +12,7 @@ status_number InterimUpdate = codes.INTERIM_UPDATE
 status_number AccountingOn = codes.ACCOUNTING_ON
 status_number AccountingOff = codes.ACCOUNTING_OFF
 
--- the status that has a number, if there is one
+-- the status with this number, if there is one
 abbrev pub status_of : ℕ → Option Status
 status_of number =
     if number == codes.START then Some Start

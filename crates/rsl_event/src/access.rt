@@ -16,7 +16,7 @@ use rsl_auth::{chap_ok, pap_ok};
 use rsl_wire::Packet;
 use std::alloc::Global;
 
-/// What a packet of this client on the authentication port means, with its detail.
+/// The meaning of a packet of this client on the authentication port, with its detail.
 #[tactic(auto, unfolding(crate::specs::Access::access_meaning))]
 pub(crate) fn access_meaning(
     alloc: Global,
@@ -70,7 +70,7 @@ pub(crate) fn access_meaning(
     Ok((meaning, Detail::Asks))
 }
 
-/// The account that a request asks for, with its password, or why it is rejected.
+/// The account that a request asks for, if its password is right, or why it is rejected.
 #[tactic(auto, unfolding(crate::specs::Access::asker))]
 fn asker(
     config: &Config,
@@ -101,7 +101,7 @@ fn asker(
     Ok(account)
 }
 
-/// Whether the User-Password or the CHAP-Password is right for this password.
+/// Whether the User-Password or the CHAP-Password is this password.
 fn shows_password(
     secret: &[u8],
     authenticator: &[u8; 16],

@@ -24,11 +24,10 @@ use crate::occurrences::Occurrences;
 use crate::request::has_long_proxy_states;
 use rsl_wire::Attrs;
 
-/// The attributes of an Access-Request, and what its meaning hangs on among them, which one walk
-/// finds.
+/// The attributes of an Access-Request, and those that decide its meaning, found in one walk.
 #[derive(Drop)]
 pub(crate) struct AccessAttributes<'a> {
-    /// All of them.
+    /// All attributes.
     pub all: Attrs<'a>,
     /// The User-Names.
     pub names: Occurrences<'a>,
@@ -95,8 +94,8 @@ impl<'a> AccessAttributes<'a> {
         }
     }
 
-    /// The first of the attributes of an ask that does not stand there as often as it has to: exactly one
-    /// User-Name, exactly one password, of either kind, and at most one CHAP-Challenge.
+    /// The first attribute of an ask whose count is wrong: there has to be exactly one User-Name,
+    /// exactly one password, of either kind, and at most one CHAP-Challenge.
     pub(crate) fn count_cause(&self) -> Option<RejectCause>
         ensures cause { result ≡ count_cause self.now.all }
         ensures once { is_none result ≡ asks_once self.now.all }

@@ -30,7 +30,7 @@ use rsl_auth::accounting_ok;
 use rsl_wire::{Attrs, NoMemory, Octets, Packet};
 use std::alloc::Global;
 
-/// What a packet of this client on the accounting port means, with its detail.
+/// The meaning of a packet of this client on the accounting port, with its detail.
 #[tactic(auto, unfolding(crate::specs::Accounting::accounting_meaning))]
 pub(crate) fn accounting_meaning(
     alloc: Global,
@@ -65,7 +65,7 @@ pub(crate) fn accounting_meaning(
     Ok((meaning, Detail::Accounting(Status::from_number(number))))
 }
 
-/// What an accounting packet means whose Acct-Status-Type has this number.
+/// The meaning of an accounting packet with this Acct-Status-Type.
 #[tactic(auto, unfolding(crate::specs::Accounting::status_meaning))]
 fn status_meaning(
     alloc: Global,
@@ -86,7 +86,7 @@ fn status_meaning(
     }
 }
 
-/// What a packet means that reports on a session.
+/// The meaning of a packet that reports on a session.
 fn session_meaning(
     alloc: Global,
     config: &Config,
@@ -109,7 +109,7 @@ fn session_meaning(
     })
 }
 
-/// A session of an account has ended, or goes on.
+/// The act of a session: it has ended, or goes on.
 fn session_act(
     alloc: Global,
     boot: u64,
@@ -134,7 +134,7 @@ fn session_act(
     })
 }
 
-/// The first Acct-Multi-Session-Id, if it is not empty.
+/// The first Acct-Multi-Session-Id, unless it is empty.
 fn bundle_in(alloc: Global, attributes: &Attrs<'_>) -> Result<Option<Octets>, NoMemory>
     ensures { IfOk result (λ bundle.
         bundle ≡ unless_empty (first_of ACCT_MULTI_SESSION_ID attributes.now)) }
@@ -145,7 +145,7 @@ fn bundle_in(alloc: Global, attributes: &Attrs<'_>) -> Result<Option<Octets>, No
     }
 }
 
-/// The accept number of the first Class that is this server's.
+/// The accept number of the first Class of this server.
 fn class_in(boot: u64, attributes: &Attrs<'_>) -> Option<u64>
     ensures { result ≡ class_in boot attributes.now }
 {
@@ -174,7 +174,7 @@ fn class_number(boot: u64, value: &[u8]) -> Option<u64>
     }
 }
 
-/// Eight octets as a number, the high octet first.
+/// Eight octets as a number, high octet first.
 fn number_of(octets: &[u8]) -> u64
     requires { length octets.now ≡ 8 }
     ensures { result ≡ from_be_bytes w64 octets.now }
@@ -184,7 +184,7 @@ fn number_of(octets: &[u8]) -> u64
     ])
 }
 
-/// What is noted of a packet whose Acct-Status-Type has this number.
+/// The note of a packet with this Acct-Status-Type.
 fn note_of(
     alloc: Global,
     client: u32,

@@ -61,14 +61,14 @@ pub const ACCOUNTING_ON: u32 = 7;
 /// Acct-Status-Type Accounting-Off: the access server is about to stop.
 pub const ACCOUNTING_OFF: u32 = 8;
 
-/// The octets of a Class that this server gives: 8 of its boot number, and 8 of the accept number.
+/// Octets of this server's Class: 8 of the boot number, and 8 of the accept number.
 pub const CLASS_LEN: usize = 16;
-/// The most octets of Proxy-State attributes, with their headers, that a request may have: so a
-/// reply has room for them.
+/// The most octets of Proxy-State attributes, with their headers, in a request: a reply has room
+/// for them.
 pub const MAX_PROXY_STATE_LEN: usize = 3900;
 
-// The definitions cite these names, so their numbers are said a second time, from the RFCs' own
-// tables. Codes (RFC 2865 section 4, RFC 2866 section 4).
+// The definitions cite these names, so their numbers are checked against the RFCs' own tables.
+// Codes (RFC 2865 section 4, RFC 2866 section 4).
 const _: () = prove!(
     ACCESS_REQUEST == 1
         && ACCESS_ACCEPT == 2

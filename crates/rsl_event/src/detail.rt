@@ -1,32 +1,32 @@
 use crate::status::Status;
 
-/// Why an Access-Request is rejected. The first cause in this order that is there is named.
+/// Why an Access-Request is rejected: the first cause that applies, in this order.
 #[derive(Clone, Copy, Debug)]
 pub enum RejectCause {
     /// Its attributes are malformed.
     Malformed,
     /// It has no User-Name, or more than one.
     NotOneName,
-    /// It has no password, or more than one, of both kinds together: User-Password and CHAP-Password.
-    /// A request that authenticates otherwise, as by EAP, has none.
+    /// It has no password, or more than one, User-Password and CHAP-Password together. A request
+    /// that authenticates otherwise, such as by EAP, has none.
     NotOnePassword,
     /// It has more than one CHAP-Challenge.
     SeveralChallenges,
     /// No account has its User-Name.
     UnknownAccount,
-    /// Its password is not the account's.
+    /// The password is not the account's.
     WrongPassword,
     /// The account is disabled.
     DisabledAccount,
 }
 
-/// What counters and lines tell of a request, beyond its meaning.
+/// What counters and log lines say of a request beyond its meaning.
 #[derive(Clone, Copy)]
 pub enum Detail {
-    /// An Access-Request that asks for an account with the right password, so that the books decide.
+    /// An Access-Request with the right password of an account; the books decide.
     Asks,
-    /// An Access-Request that is rejected whatever the books hold, by this cause.
+    /// An Access-Request that is rejected for this cause, whatever the books hold.
     Rejected(RejectCause),
-    /// An Accounting-Request of this status, or of one that is not known.
+    /// An Accounting-Request of this status, or of an unknown one.
     Accounting(Option<Status>),
 }

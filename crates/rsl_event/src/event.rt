@@ -7,21 +7,20 @@ use std::alloc::Global;
 /// Where a datagram came from: an IPv4 address and a UDP port.
 #[derive(Clone, Copy, PartialEq, Eq)]
 pub struct Source {
-    /// The IPv4 address, its first octet first.
+    /// The IPv4 address, first octet first.
     pub address: [u8; 4],
     /// The UDP port.
     pub port: u16,
 }
 
-/// What an Access-Request is known by. A packet that is sent again has the same key
-/// (RFC 2865 section 2.5).
+/// The identity of an Access-Request. A retransmission has the same key (RFC 2865 section 2.5).
 #[derive(Clone, Copy, PartialEq, Eq)]
 pub struct Key {
-    /// Where it came from.
+    /// The source of the request.
     pub source: Source,
-    /// Its Identifier.
+    /// The Identifier.
     pub id: u8,
-    /// Its Request Authenticator.
+    /// The Request Authenticator.
     pub authenticator: [u8; 16],
 }
 
@@ -43,7 +42,7 @@ impl Key {
 pub enum Act {
     /// An Access-Request whose password is right.
     Ask {
-        /// What it is known by.
+        /// The key of the request.
         key: Key,
         /// The access server that asks.
         nas: Nas,
@@ -54,10 +53,9 @@ pub enum Act {
         nas: Nas,
         /// The Acct-Session-Id.
         session: Octets,
-        /// The Acct-Multi-Session-Id, which links of one multilink bundle share, where there is
-        /// one.
+        /// The Acct-Multi-Session-Id, which the links of a multilink bundle share, if there is one.
         bundle: Option<Octets>,
-        /// The accept number of this server's Class attribute, where there is one.
+        /// The accept number of this server's Class attribute, if there is one.
         class: Option<u64>,
     },
     /// An Accounting-Request of status Stop: the session has ended.
@@ -79,8 +77,7 @@ pub enum Act {
 impl Act {
     ghost use Rattle.rsl_event.specs.Copied.{ActHoldsOctets};
 
-    /// An equal act. It fails only where memory is refused; one without octets of its own takes
-    /// none.
+    /// An equal act. It fails only if memory is refused.
     pub fn try_copy(&self, alloc: Global) -> Result<Act, NoMemory>
         ensures copy { IfOk result (λ copy. copy ≡ self.now) }
         ensures refused { OnErr result (ActHoldsOctets self.now) }
@@ -108,7 +105,7 @@ impl Act {
     }
 }
 
-/// An alive with equal fields. It fails only where memory is refused.
+/// An alive with equal fields. It fails only if memory is refused.
 fn copy_alive(
     alloc: Global,
     nas: &Nas,
@@ -126,20 +123,19 @@ fn copy_alive(
     })
 }
 
-/// An act, and the moment at which it happened.
+/// An act, and the moment when it happened.
 #[derive(PartialEq, Eq, Drop)]
 pub struct Event {
-    /// Seconds, by the clock of whoever hands them in. A later event may have a lower moment.
+    /// The moment in seconds, by the caller's clock. A later event may have a lower moment.
     pub moment: u64,
-    /// What happened.
+    /// The act.
     pub act: Act,
 }
 
 impl Event {
     ghost use Rattle.rsl_event.specs.Copied.{ActHoldsOctets};
 
-    /// An equal event. It fails only where memory is refused; one without octets of its own takes
-    /// none.
+    /// An equal event. It fails only if memory is refused.
     pub fn try_copy(&self, alloc: Global) -> Result<Event, NoMemory>
         ensures copy { IfOk result (λ copy. copy ≡ self.now) }
         ensures refused { OnErr result (ActHoldsOctets self.now.act) }
@@ -156,8 +152,8 @@ impl Event {
 pub enum Decision {
     /// The ask is accepted, with this accept number.
     Accept(u64),
-    /// The ask is rejected, since the account has no free place.
+    /// The ask is rejected, because the account has no free place.
     LimitReject,
-    /// The event is no ask: there is nothing to decide.
+    /// The event is no ask; there is nothing to decide.
     Done,
 }

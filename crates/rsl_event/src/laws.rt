@@ -2,8 +2,8 @@
 
 ghost use Rattle.rsl_event.specs.Laws.{CausesAreOfRejects};
 
-/// An Access-Request that is understood has a cause exactly where its meaning is a reject: a bare one
-/// that of malformed attributes, any other reject another, and an ask none.
+/// An Access-Request that is understood has a cause exactly if it is rejected: a bare one has the
+/// cause of malformed attributes, any other reject another cause, and an ask none.
 pub fn causes_are_of_rejects()
     ensures { CausesAreOfRejects }
 {}

@@ -2,10 +2,10 @@
 //!
 //! The promise: `prepare` gives the meaning of a datagram that `specs/Meaning.antt` defines, or the
 //! first cause in order for which it is dropped; `reply` gives the octets that `specs/Answer.antt`
-//! defines. Both are functions of what they are given alone: the octets, the port that they came to
-//! and where they came from, the configuration, the boot number, and for a reply the decision. Read
-//! those two files first, and `specs/Access.antt` and `specs/Accounting.antt` for the two ports; what
-//! a client that signs has to send, and which replies are signed, is in `specs/Signature.antt`.
+//! defines. Both are functions of their arguments alone: the octets, the port that they came to,
+//! their source, the configuration, the boot number, and for a reply the decision. Read those two
+//! files first, and `specs/Access.antt` and `specs/Accounting.antt` for the two ports; what a
+//! client that signs has to send, and which replies are signed, is in `specs/Signature.antt`.
 #![tactic(auto)]
 
 mod access;

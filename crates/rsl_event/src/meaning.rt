@@ -16,8 +16,8 @@ pub enum Port {
     Acct,
 }
 
-/// What is noted of an accounting packet that is no account's business: of another status, or of a
-/// name that no account has. What the packet does not have is empty.
+/// The note of an accounting packet that concerns no account: of another status, or with an unknown
+/// name. A field that the packet lacks is empty.
 #[derive(PartialEq, Eq, Drop)]
 pub struct Note {
     /// The access server.
@@ -31,7 +31,7 @@ pub struct Note {
 }
 
 impl Note {
-    /// An equal note. It fails only where memory is refused.
+    /// An equal note. It fails only if memory is refused.
     pub fn try_copy(&self, alloc: Global) -> Result<Note, NoMemory>
         ensures { IfOk result (λ copy. copy ≡ self.now) }
     {
@@ -47,17 +47,17 @@ impl Note {
 /// What a datagram means.
 #[derive(Drop)]
 pub enum Meaning {
-    /// A request on the authentication port whose attributes are malformed: it is rejected, and
-    /// nothing of it is repeated.
+    /// A request on the authentication port whose attributes are malformed: it is rejected, and the
+    /// reply repeats none of them.
     Bare,
-    /// An Access-Request that asks for no account with the right password, or for a disabled one: it is
+    /// An Access-Request without the right password of an account, or for a disabled account: it is
     /// rejected.
     Reject,
     /// An act of one account: an ask, an alive or a stop.
     Own {
         /// The account's number, in the order of the configuration.
         account: u32,
-        /// What happens to it.
+        /// The act.
         act: Act,
     },
     /// Accounting-On or Accounting-Off: the access server has restarted.
@@ -69,8 +69,7 @@ pub enum Meaning {
     Stray(Note),
 }
 
-/// Why a datagram is dropped without an answer. The first cause in this order that is there is
-/// named.
+/// Why a datagram is dropped without an answer: the first cause that applies, in this order.
 #[derive(Clone, Copy, Debug, PartialEq, Eq)]
 pub enum Dropped {
     /// It has fewer than 20 octets.
@@ -86,14 +85,14 @@ pub enum Dropped {
     BadAuthenticator,
     /// Accounting: the attributes are malformed.
     Malformed,
-    /// Access-Request: there is a Message-Authenticator, and not exactly one that has 16 octets and
-    /// is right (RFC 3579 section 3.2).
+    /// Access-Request: there is a Message-Authenticator, but not exactly one of 16 octets that is
+    /// right (RFC 3579 section 3.2).
     BadSignature,
     /// Access-Request of a client that has to sign: the attributes are malformed, or there is no
     /// Message-Authenticator.
     Unsigned,
-    /// Access-Request of a client that need not sign, under a guard (`rsl_accounts::UnsignedRule`): there
-    /// is no Message-Authenticator, and a Proxy-State.
+    /// Access-Request of a client that need not sign, under a guard (`rsl_accounts::UnsignedRule`):
+    /// there is a Proxy-State and no Message-Authenticator.
     UnsignedProxy,
     /// The Proxy-State attributes have over 3,900 octets.
     ProxyTooLong,

@@ -8,8 +8,8 @@ use crate::event::{Act, Decision};
 use crate::meaning::Meaning;
 use crate::words::Said;
 
-/// The kind of a meaning: all of it that its reply hangs on. So a reply can still be made where the
-/// act of the meaning was handed on.
+/// The kind of a meaning: all that its reply depends on. So a reply can be made after the act of
+/// the meaning was moved away.
 #[derive(Clone, Copy)]
 pub enum MeaningKind {
     /// A request whose attributes are malformed.
@@ -23,7 +23,7 @@ pub enum MeaningKind {
 }
 
 impl MeaningKind {
-    /// What is answered to a meaning of this kind, in a word. Only the word for an ask depends on the
+    /// What is answered to a meaning of this kind. Only the answer to an ask depends on the
     /// decision; an ask that is `Done` was not accepted.
     pub fn said(self, decision: Decision) -> Said
         ensures { result ≡ said_to self decision }
@@ -40,7 +40,7 @@ impl MeaningKind {
 }
 
 impl Meaning {
-    /// Its kind.
+    /// The kind of the meaning.
     pub fn kind(&self) -> MeaningKind
         ensures kind { result ≡ kind_of self.now }
         ensures asker { (config : Configuration) → HasAccount config self.now →

@@ -3,14 +3,13 @@ ghost use Rattle.std.specs.Prelude.{◌≡◌, ◌↔◌, IsTrue, IfOk, OnErr};
 use rsl_wire::{NoMemory, Octets};
 use std::alloc::Global;
 
-/// What an access server calls itself in a packet. The three kinds are apart even where their
-/// octets are equal.
+/// The name that an access server gives itself in a packet. Names of different kinds differ even if
+/// their octets are equal.
 #[derive(PartialEq, Eq, Drop)]
 pub enum NasName {
     /// The value of the first NAS-Identifier (RFC 2865 section 5.32), of any length.
     Identifier(Octets),
-    /// The value of the first NAS-IP-Address (RFC 2865 section 5.4), where there is no
-    /// NAS-Identifier.
+    /// The value of the first NAS-IP-Address (RFC 2865 section 5.4), if there is no NAS-Identifier.
     Address(Octets),
     /// The packet has neither.
     Unnamed,
@@ -20,7 +19,7 @@ impl NasName {
     ghost use Rattle.rsl_event.specs.Copied.{IsNamed};
     ghost use Rattle.rsl_event.specs.Same.{same_name};
 
-    /// Whether the two are the same name.
+    /// Whether the names are equal.
     #[tactic(auto, unfolding(crate::specs::Same::same_name))]
     pub fn is_same(&self, other: &NasName) -> bool
         ensures test { result ≡ same_name self.now other.now }
@@ -29,7 +28,7 @@ impl NasName {
         self == other
     }
 
-    /// An equal name. It fails only where memory is refused; no name takes none.
+    /// An equal name. It fails only if memory is refused.
     pub fn try_copy(&self, alloc: Global) -> Result<NasName, NoMemory>
         ensures copy { IfOk result (λ copy. copy ≡ self.now) }
         ensures refused { OnErr result (IsNamed self.now) }
@@ -55,7 +54,7 @@ impl Nas {
     ghost use Rattle.rsl_event.specs.Copied.{IsNamed};
     ghost use Rattle.rsl_event.specs.Same.{same_nas};
 
-    /// Whether the two are the same access server.
+    /// Whether the two are one access server.
     #[tactic(auto, unfolding(crate::specs::Same::same_nas))]
     pub fn is_same(&self, other: &Nas) -> bool
         ensures test { result ≡ same_nas self.now other.now }
@@ -64,7 +63,7 @@ impl Nas {
         self.client == other.client && self.name.is_same(&other.name)
     }
 
-    /// An equal access server. It fails only where memory is refused; an unnamed one takes none.
+    /// An equal access server. It fails only if memory is refused.
     pub fn try_copy(&self, alloc: Global) -> Result<Nas, NoMemory>
         ensures copy { IfOk result (λ copy. copy ≡ self.now) }
         ensures refused { OnErr result (IsNamed self.now.name) }

@@ -2,8 +2,7 @@ ghost use Rattle.std.specs.Prelude.{◌≡◌, ◌+◌, ◌<◌, ◌^◌, [], No
 ghost use Rattle.std.specs.Option.{option_or};
 ghost use Rattle.rsl_event.specs.Occurrences.{value_of};
 
-/// The attributes of one Type among those of a request: how many there are, and the value of the
-/// first.
+/// The attributes of one Type in a request: how many there are, and the value of the first.
 #[derive(Clone, Copy)]
 pub(crate) struct Occurrences<'a> {
     /// How many there are.
@@ -13,7 +12,7 @@ pub(crate) struct Occurrences<'a> {
 }
 
 impl<'a> Occurrences<'a> {
-    /// None yet.
+    /// No occurrence yet.
     pub(crate) fn new() -> Occurrences<'a>
         ensures count { result.count ≡ 0 }
         ensures first { value_of result.first ≡ None }
@@ -24,7 +23,7 @@ impl<'a> Occurrences<'a> {
         }
     }
 
-    /// Notes one more, after those that were noted.
+    /// Counts one more attribute, after those counted before.
     pub(crate) fn push(&mut self, value: &'a [u8])
         requires { self.old.count + 1 < 2 ^ 64 }
         ensures count { self.new.count ≡ self.old.count + 1 }

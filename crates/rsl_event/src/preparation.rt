@@ -20,14 +20,14 @@ use std::alloc::Global;
 pub struct Detailed<'a> {
     /// Its packet, its client and its meaning.
     pub prepared: Prepared<'a>,
-    /// What counters and lines tell of it besides.
+    /// What counters and log lines say of it besides.
     pub detail: Detail,
 }
 
-/// What a datagram means that came from `source` to `port` of the server with this boot number (RFC
-/// 2865 sections 3 and 4.1, RFC 2866 sections 3 and 4.1), or why it is dropped. The first cause in
-/// the order of `Dropped` that is there is named, and `NoMemory` comes only where memory is
-/// refused for a meaning that has octets of its own, after every other check has passed.
+/// The meaning of a datagram that came from `source` to `port` of the server with this boot number
+/// (RFC 2865 sections 3 and 4.1, RFC 2866 sections 3 and 4.1), or why it is dropped: the first
+/// cause that applies, in the order of `Dropped`. `NoMemory` comes only if memory is refused for a
+/// meaning with octets of its own, after every other check.
 pub fn prepare<'a>(
     alloc: Global,
     config: &Config,
@@ -38,22 +38,22 @@ pub fn prepare<'a>(
 ) -> Result<Prepared<'a>, Dropped>
     // The meaning, or the drop, is that of the definition.
     ensures meaning { GivesPrepared result (meaning config.now boot port source datagram.now) }
-    // The packet is the datagram's.
+    // The packet is that of the datagram.
     ensures packet { IfOk result (λ prepared.
         packet_of datagram.now ≡ Ok (fields_of prepared.packet)) }
-    // The client is the source's.
+    // The client is that of the source.
     ensures client { IfOk result (λ prepared.
         client_number config.now source.address ≡ Some prepared.client) }
-    // What is an account's own is an ask, an alive or a stop.
+    // An act of one account is an ask, an alive or a stop.
     ensures own { IfOk result (λ prepared. HasOwnAct prepared.meaning) }
-    // What `reply` asks for.
+    // What `reply` requires.
     ensures prepared { IfOk result (λ prepared. IsPrepared config.now prepared) }
 {
     let detailed = prepare_in_detail(alloc, config, boot, port, source, datagram)?;
     Ok(detailed.prepared)
 }
 
-/// What `prepare` gives of a datagram, with its detail, which the same walk over its attributes finds.
+/// `prepare`, with the detail that the same walk over the attributes finds.
 #[tactic(auto, unfolding(crate::specs::Meaning::meaning))]
 pub fn prepare_in_detail<'a>(
     alloc: Global,

@@ -38,7 +38,7 @@ pub(crate) fn push_accept(draft: &mut Draft, boot: u64, number: u64, entry: &Ent
     push_optional(draft, ACCT_INTERIM_INTERVAL, entry.interim);
 }
 
-/// Writes what a limit reject says.
+/// Writes the Reply-Message of a limit reject.
 pub(crate) fn push_limit_message(draft: &mut Draft)
     requires room { length draft.old.attributes ≤ 18 }
     ensures written { draft.new ≡ with_more draft.old (list_octets limit_attributes) }
@@ -70,8 +70,8 @@ fn push_class(draft: &mut Draft, boot: u64, number: u64)
     draft.push(CLASS, &class_octets(boot, number)).unwrap();
 }
 
-/// The value of the Class of an accept: the boot number and the accept number, eight octets each,
-/// the high octet first (RFC 2865 section 5.25 leaves the value to the server).
+/// The value of the Class of an accept: the boot number and the accept number, high octet first
+/// (RFC 2865 section 5.25 leaves the value to the server).
 ///
 /// | Octets | Field |
 /// |---|---|
@@ -79,7 +79,7 @@ fn push_class(draft: &mut Draft, boot: u64, number: u64)
 /// | 8 to 15 | the accept number |
 pub fn class_octets(boot: u64, number: u64) -> [u8; CLASS_LEN]
     ensures octets { result ≡ class_octets boot number }
-    // An access server that sends it back in accounting is understood.
+    // The server reads the number again when an access server sends the Class back.
     ensures read { class_number boot result ≡ Some number }
 {
     let mut value = [0u8; CLASS_LEN];
@@ -88,7 +88,7 @@ pub fn class_octets(boot: u64, number: u64) -> [u8; CLASS_LEN]
     value
 }
 
-/// Writes an attribute whose value is a number of four octets, the high octet first.
+/// Writes an attribute whose value is a number of four octets, high octet first.
 fn push_number(draft: &mut Draft, kind: u8, number: u32)
     requires { length draft.old.attributes ≤ 66 }
     ensures written { draft.new ≡ with_more draft.old
@@ -98,7 +98,7 @@ fn push_number(draft: &mut Draft, kind: u8, number: u32)
     draft.push(kind, &number.to_be_bytes()).unwrap();
 }
 
-/// Writes such an attribute if there is a number.
+/// Writes an attribute of four octets, if there is a number.
 fn push_optional(draft: &mut Draft, kind: u8, number: Option<u32>)
     requires { length draft.old.attributes ≤ 66 }
     ensures written { draft.new ≡ with_more draft.old

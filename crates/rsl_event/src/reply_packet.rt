@@ -32,16 +32,16 @@ use rsl_auth::{HmacKey, sealed};
 use rsl_wire::{Attrs, Draft, NoMemory, Packet};
 use std::alloc::Global;
 
-/// What is answered to a meaning, in a word. Only the word for an ask depends on the decision; an
-/// ask that is `Done` was not accepted.
+/// What is answered to a meaning. Only the answer to an ask depends on the decision; an ask that is
+/// `Done` was not accepted.
 pub fn said(meaning: &Meaning, decision: Decision) -> Said
     ensures { result ≡ said meaning.now decision }
 {
     meaning.kind().said(decision)
 }
 
-/// Room for the longest reply to a request, taken before its step so that `reply` takes no memory.
-/// It fails only where that room is refused.
+/// A draft with room for the longest reply to a request, allocated before its step so that `reply`
+/// allocates nothing. It fails only if that memory is refused.
 pub fn room(alloc: Global, prepared: &Prepared<'_>) -> Result<Draft, NoMemory>
     ensures { IfOk result (λ draft.
         draft ≡ record { id = prepared.now.packet.id; attributes = [] }) }
@@ -49,9 +49,9 @@ pub fn room(alloc: Global, prepared: &Prepared<'_>) -> Result<Draft, NoMemory>
     room_in(prepared, Vec::new(alloc))
 }
 
-/// Room for the longest reply to a request, in the room of an earlier reply, whose octets are let
-/// go: it takes memory only where there is room for less than 4,096 octets, and fails only where
-/// that is refused. Then the room is let go too.
+/// `room` in the buffer of an earlier reply, whose octets are discarded: it allocates only if the
+/// buffer holds fewer than 4,096 octets, and fails only if that memory is refused; then the buffer
+/// is freed too.
 pub fn room_in(prepared: &Prepared<'_>, earlier: Vec<u8>) -> Result<Draft, NoMemory>
     ensures draft { IfOk result (λ draft.
         draft ≡ record { id = prepared.now.packet.id; attributes = [] }) }
@@ -61,10 +61,10 @@ pub fn room_in(prepared: &Prepared<'_>, earlier: Vec<u8>) -> Result<Draft, NoMem
 }
 
 /// The octets of the reply: Code, the request's Identifier, the attributes, and the Response
-/// Authenticator over them and the client's secret (RFC 2865 section 3). Where it answers an
-/// Access-Request that has a Message-Authenticator, or any under a guard, its own stands first (RFC
-/// 3579 section 3.2), and Proxy-States stand last, as they came (RFC 2865 section 5.33). It takes no memory: the draft
-/// is that of `room` or `room_in`.
+/// Authenticator over them and the client's secret (RFC 2865 section 3). In an answer to an
+/// Access-Request that has a Message-Authenticator, or to any under a guard, its own comes first
+/// (RFC 3579 section 3.2); Proxy-States come last, in their order (RFC 2865 section 5.33). It
+/// allocates nothing: the draft is from `room` or `room_in`.
 pub fn reply(
     prepared: &Prepared<'_>,
     config: &Config,
@@ -89,8 +89,8 @@ pub fn reply(
     )
 }
 
-/// The octets of the reply to a packet of this client whose meaning is of this kind, where the
-/// meaning itself was handed on.
+/// `reply` to a packet whose meaning was moved away: its client and the kind of the meaning are
+/// enough.
 pub fn reply_to(
     request: &Packet<'_>,
     client: u32,
@@ -119,8 +119,8 @@ pub fn reply_to(
     sealed(octets, request_auth, secret)
 }
 
-/// The attributes of a request with a meaning of this kind, and none of a malformed list: only that
-/// of a bare request can be malformed, and the others are not read again.
+/// The attributes of a request, or none of a bare one, whose list is malformed. The others are not
+/// checked again.
 fn attributes_of<'a>(request: &Packet<'a>, kind: MeaningKind) -> Option<Attrs<'a>>
     requires { (kind ≡ kinds.Bare → ⊥) → attribute_list request.now.attrs.now ≡
         Ok (attributes_in request.now.attrs.now) }
@@ -136,8 +136,8 @@ fn attributes_of<'a>(request: &Packet<'a>, kind: MeaningKind) -> Option<Attrs<'a
     }
 }
 
-/// The signing of a reply with this word: it is signed where it answers an Access-Request of which
-/// the well-formed list has a Message-Authenticator, or any under a guard.
+/// Whether a reply is signed: it is if it answers an Access-Request whose well-formed list has a
+/// Message-Authenticator, or any under a guard.
 fn reply_signing(rule: UnsignedRule, word: Said, request: &Option<Attrs<'_>>) -> Signing
     ensures { result ≡ reply_signing rule word (unwrap_or request.now []) }
 {
@@ -153,8 +153,8 @@ fn reply_signing(rule: UnsignedRule, word: Said, request: &Option<Attrs<'_>>) ->
     }
 }
 
-/// The octets of a reply, with the value of its Message-Authenticator, if it has one as its first
-/// attribute, and without the Response Authenticator.
+/// The octets of a reply without the Response Authenticator, with the value of its
+/// Message-Authenticator if it has one, as its first attribute.
 fn finish(
     draft: Draft,
     code: u8,
@@ -188,7 +188,7 @@ fn code_of(said: Said) -> u8
     }
 }
 
-/// Writes what the server says into a draft that has at most a Message-Authenticator.
+/// Writes the server's own attributes into a draft that has at most a Message-Authenticator.
 fn write_said(config: &Config, boot: u64, kind: MeaningKind, decision: Decision, draft: &mut Draft)
     requires asker { HasAsker config.now kind }
     requires room { length draft.old.attributes ≤ 18 }
@@ -202,7 +202,7 @@ fn write_said(config: &Config, boot: u64, kind: MeaningKind, decision: Decision,
     }
 }
 
-/// Writes what the reply repeats of the request: its Proxy-States.
+/// Writes the Proxy-States of the request.
 fn write_repeated(request: &Option<Attrs<'_>>, kind: MeaningKind, draft: &mut Draft)
     requires each { IfSome request.now (AllByRecursion IsAttribute) }
     requires room { (kind ≡ kinds.Bare → ⊥) →
@@ -220,7 +220,7 @@ fn write_repeated(request: &Option<Attrs<'_>>, kind: MeaningKind, draft: &mut Dr
     }
 }
 
-/// Writes what a decision on an ask says.
+/// Writes the attributes of a decision on an ask.
 fn write_decision(config: &Config, boot: u64, account: u32, decision: Decision, draft: &mut Draft)
     requires account { account < length config.now.accounts }
     requires room { length draft.old.attributes ≤ 18 }

@@ -26,7 +26,7 @@ pub(crate) fn access_server_of(
     }
 }
 
-/// The access server of a client by a NAS-Identifier, else by a NAS-IP-Address, else unnamed.
+/// The access server of a client by its NAS-Identifier, else by its NAS-IP-Address, else unnamed.
 pub(crate) fn access_server(
     alloc: Global,
     client: u32,
@@ -50,7 +50,7 @@ pub(crate) fn access_server(
     Ok(Nas { client, name })
 }
 
-/// The number of the account that has a User-Name, if there is one.
+/// The number of the account with this User-Name, if there is one.
 pub(crate) fn account_named(config: &Config, name: Option<&[u8]>) -> Option<u32>
     ensures number { result ≡
         option_and_then (λ found. account_number config.now found) (value_of name.entry) }

@@ -16,11 +16,11 @@ use rsl_accounts::{Config, UnsignedRule};
 use rsl_auth::{HmacKey, SIGNATURE_LEN};
 use rsl_wire::{ATTR_HEADER_LEN, Attrs, HEADER_LEN, Packet};
 
-/// Where the value of a Message-Authenticator that is a packet's first attribute stands: after the
+/// The offset of the value of a Message-Authenticator that is a packet's first attribute: after the
 /// header, its Type and its Length.
 pub(crate) const FIRST_SIGNATURE_OFFSET: usize = HEADER_LEN + ATTR_HEADER_LEN;
 
-/// Why a request with these attributes is dropped, if it is for its Message-Authenticator.
+/// Why a request with these attributes is dropped for its Message-Authenticator, if it is.
 pub(crate) fn signature_drop(
     config: &Config,
     client: u32,
@@ -45,7 +45,7 @@ pub(crate) fn signature_drop(
     }
 }
 
-/// Why a request without a Message-Authenticator is dropped, if it is, of a client that need not sign.
+/// Why an unsigned request of a client that need not sign is dropped, if it is.
 fn unsigned_drop(rule: UnsignedRule, attributes: &AccessAttributes<'_>) -> Option<Dropped>
     ensures { result ≡ unsigned_drop rule attributes.now.all }
 {
@@ -55,8 +55,8 @@ fn unsigned_drop(rule: UnsignedRule, attributes: &AccessAttributes<'_>) -> Optio
     }
 }
 
-/// Whether there is exactly one Message-Authenticator, of 16 octets, and it is that of the packet,
-/// by the key of the secret.
+/// Whether there is exactly one Message-Authenticator, of 16 octets, and it is right by the key of
+/// the secret.
 #[tactic(auto, unfolding(crate::specs::Signature::has_right_signature))]
 fn has_right_signature(
     packet: &Packet<'_>,
@@ -77,7 +77,7 @@ fn has_right_signature(
     key.is_right(packet.octets(), at)
 }
 
-/// How many octets the attributes before the first Message-Authenticator have, or all of them where there
+/// Octets of the attributes before the first Message-Authenticator, or of all attributes if there
 /// is none.
 #[tactic(auto, using(crate::proofs::SignatureLaws::octets_before_step))]
 pub fn octets_before_signature(attributes: &Attrs<'_>) -> usize

@@ -11,7 +11,7 @@ use rsl_accounts::Client;
 use rsl_auth::{HmacKey, SIGNATURE_LEN};
 use rsl_wire::Draft;
 
-/// Whether a packet that is written has a Message-Authenticator (RFC 3579 section 3.2).
+/// Whether a packet to be written has a Message-Authenticator (RFC 3579 section 3.2).
 #[derive(Clone, Copy)]
 pub enum Signing {
     /// It has none.
@@ -21,7 +21,7 @@ pub enum Signing {
 }
 
 impl Signing {
-    /// The signing of an Access-Request of a client: it is signed where the client has to sign.
+    /// The signing of a client's Access-Requests: signed if the client has to sign.
     pub fn of(client: &Client) -> Signing
         ensures { result ≡ signing_if client.now.signed }
     {
@@ -33,7 +33,7 @@ impl Signing {
     }
 
     /// Writes the Message-Authenticator of a signed packet as the first attribute of its draft,
-    /// with zeros for the value. It takes no memory.
+    /// with zeros as its value. It allocates nothing.
     pub fn push(self, draft: &mut Draft)
         requires empty { draft.old.attributes ≡ [] }
         ensures written { draft.new ≡
@@ -48,10 +48,9 @@ impl Signing {
         }
     }
 
-    /// The octets of a packet, where that of a signed one gets the value of its
-    /// Message-Authenticator, with this Request Authenticator (RFC 3579 section 3.2): it is the
-    /// first attribute, so that the packet has at least 38 octets. The key is that of the secret. It
-    /// takes no memory.
+    /// The octets of a packet; a signed one gets the value of its Message-Authenticator, its first
+    /// attribute, with this Request Authenticator and the key of the secret (RFC 3579 section 3.2).
+    /// So a signed packet has at least 38 octets. It allocates nothing.
     pub fn sign(self, octets: Vec<u8>, request_auth: &[u8; 16], key: &HmacKey) -> Vec<u8>
         requires { self ≡ Signing.Signed → 38 ≤ vec_len octets }
         ensures signed { (secret : List ℕ) → IsKeyOf secret key.now →

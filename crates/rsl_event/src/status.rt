@@ -19,7 +19,7 @@ pub enum Status {
 }
 
 impl Status {
-    /// The status that has a number; there is none of any other number.
+    /// The status with this number, or `None` for any other number.
     pub fn from_number(number: u32) -> Option<Status>
         ensures { result ≡ status_of number }
     {
@@ -33,7 +33,7 @@ impl Status {
         }
     }
 
-    /// Its number: `from_number` gives the status again.
+    /// The number of the status, which `from_number` reads.
     pub fn number(self) -> u32
         ensures number { result ≡ status_number self }
         ensures again { status_of result ≡ Some self }

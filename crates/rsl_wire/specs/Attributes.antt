@@ -5,7 +5,7 @@ use Rattle.std.specs.Option.{option_map_or}
 use Rattle.std.specs.Result.{result_unwrap_or}
 use Rattle.std.specs.Int.{w32, from_be_bytes}
 
--- an attribute: its Type, and its Value
+-- an attribute: its Type and its Value
 pub record Attribute : Type 0 where
   pub kind : ℕ
   pub value : List ℕ
@@ -13,11 +13,11 @@ pub record Attribute : Type 0 where
 abbrev pub attribute_of : ℕ → List ℕ → Attribute
 attribute_of kind value = record { kind = kind; value = value }
 
--- its octets: Type, Length of the three together, Value
+-- the octets of an attribute: Type, Length of the three together, Value
 abbrev pub attribute_octets : Attribute → List ℕ
 attribute_octets attribute = attribute.kind ∷ (2 + length attribute.value) ∷ attribute.value
 
--- an attribute that its octets can hold: the Type is an octet, and so is the Length
+-- an attribute that octets can hold: the Type is an octet, and so is the Length
 pub record IsAttribute (attribute : Attribute) : Type 0 where
   pub kind : attribute.kind < 256
   pub value : length attribute.value ≤ 253
@@ -31,7 +31,7 @@ pub record AreAttributes (octets : List ℕ) (attributes : List Attribute) : Typ
   pub each : AllByRecursion IsAttribute attributes
   pub joined : octets ≡ list_octets attributes
 
--- what no attribute begins: the Length is missing, under 2, or past the end of the octets
+-- octets that no attribute begins: the Length is missing, under 2, or past the end of the octets
 abbrev pub BeginsBad : List ℕ → Type 0
 BeginsBad [] = ⊥
 BeginsBad (kind ∷ []) = Unit {0}
@@ -46,7 +46,7 @@ pub record IsBadAt (octets : List ℕ) (at : ℕ) : Type 0 where
   pub offset : at ≡ length (list_octets front)
   pub bad : BeginsBad rest
 
--- the attribute that begins the octets, and the octets after it
+-- the first attribute of the octets, and the octets after it
 abbrev pub first_attribute : List ℕ → Option (Attribute × List ℕ)
 first_attribute [] = None
 first_attribute (kind ∷ []) = None
@@ -54,12 +54,12 @@ first_attribute (kind ∷ len ∷ rest) =
     if nat_lt len 2 || nat_lt (2 + length rest) len then None
     else Some (attribute_of kind (take (len - 2) rest), drop (len - 2) rest)
 
--- an attribute before what was read after it, where a fault's offset is counted from the attribute
+-- an attribute before those read after it, where a fault's offset counts from the attribute
 abbrev pub with_first : Attribute → Result (List Attribute) ℕ → Result (List Attribute) ℕ
 with_first first (Ok rest) = Ok (first ∷ rest)
 with_first first (Err at) = Err (length (attribute_octets first) + at)
 
--- the attributes of the octets, which have at most `most`, or the offset of the first bad one
+-- the attributes of the octets, at most `most`, or the offset of the first bad one
 unfoldable pub list_from : ℕ → List ℕ → Result (List Attribute) ℕ
 list_from most [] = Ok []
 list_from zero (kind ∷ rest) = Err 0

@@ -6,7 +6,7 @@ pub record Begun : Type 0 where
   pub id : ℕ
   pub attributes : List ℕ
 
--- it has room for a whole packet, and its header stands
+-- it has room for a whole packet, and its header is there
 pub record HasRoom (len capacity : ℕ) : Type 0 where
   pub header : 20 ≤ len
   pub whole : len ≤ 4096

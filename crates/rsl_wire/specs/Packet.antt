@@ -7,7 +7,7 @@ use Rattle.std.specs.Int.{w16, from_be_bytes, to_be_bytes}
 use Rattle.rsl_wire.specs.declared.packet.WireFault.{WireFault}
 use Rattle.rsl_wire.specs.declared.packet.WireFault.TheVariants.{Short, BadLength}
 
--- what a packet says: its attributes are octets still
+-- the fields of a packet, with its attributes still as octets
 pub record Fields : Type 0 where
   pub code : ℕ
   pub id : ℕ
@@ -22,7 +22,7 @@ pub record IsPacket (fields : Fields) : Type 0 where
   pub authenticator : length fields.authenticator ≡ 16
   pub whole : 20 + length fields.attributes ≤ 4096
 
--- its octets: Length is that of the whole packet, the high octet first
+-- the octets of a packet: Length is that of the whole, high octet first
 abbrev pub packet_octets : Fields → List ℕ
 packet_octets fields =
     fields.code ∷ fields.id ∷ to_be_bytes w16 (20 + length fields.attributes)
@@ -33,7 +33,7 @@ pub record IsDatagram (datagram : List ℕ) (fields : Fields) (padding : List �
   pub packet : IsPacket fields
   pub octets : datagram ≡ packet_octets fields ++ padding
 
--- what the Length field of a datagram says
+-- the Length field of a datagram
 abbrev pub length_field : List ℕ → ℕ
 length_field datagram = from_be_bytes w16 (slice_index datagram 2 ∷ slice_index datagram 3 ∷ [])
 

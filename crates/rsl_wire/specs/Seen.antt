@@ -1,8 +1,8 @@
--- What a packet that was read is seen as.
+-- How a packet that was read is seen.
 use Rattle.rsl_wire.specs.Packet.{Fields}
 use Rattle.rsl_wire.specs.declared.packet.Packet.{Packet}
 
--- its fields, without where they lie in memory
+-- the fields of a packet, without where they lie in memory
 abbrev pub fields_of : Packet → Fields
 fields_of packet =
     record {

@@ -4,7 +4,7 @@ pub const ATTR_HEADER_LEN: usize = 2;
 /// The greatest length of an attribute's Value (RFC 2865 section 5).
 pub const MAX_VALUE_LEN: usize = 253;
 
-// The numbers of RFC 2865, which definitions have as they stand.
+// The definitions write these numbers of RFC 2865 out.
 const _: () = prove!(ATTR_HEADER_LEN == 2);
 
 const _: () = prove!(MAX_VALUE_LEN == 253);

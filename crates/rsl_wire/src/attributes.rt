@@ -4,7 +4,7 @@ ghost use Rattle.rsl_wire.specs.Attributes.{attribute_of, first_attribute};
 use crate::attr::ATTR_HEADER_LEN;
 use std::marker::Model;
 
-/// The list of attributes is malformed.
+/// The octets are no list of attributes.
 #[derive(Clone, Copy, Debug)]
 pub struct BadAttribute {
     /// The offset, in the octets of the attributes, of the first attribute whose Length is missing,
@@ -12,8 +12,8 @@ pub struct BadAttribute {
     pub at: usize,
 }
 
-/// The attributes of a packet in order, each as its Type and its Value (RFC 2865 section 5). It is
-/// an iterator, and takes no memory: the values lie in the datagram.
+/// The attributes of a packet in order, each as its Type and its Value (RFC 2865 section 5): an
+/// iterator that allocates nothing, since the values lie in the datagram.
 ///
 /// | Octets | Field |
 /// |---|---|
@@ -63,7 +63,7 @@ impl<'a> Attrs<'a> {
       number_in,
     };
 
-    /// The attributes of octets, or where the first bad one is. It takes no memory.
+    /// The attributes in the octets, or the offset of the first bad one.
     pub(crate) fn in_octets(octets: &'a [u8]) -> Result<Attrs<'a>, BadAttribute>
         ensures found { IfOk result (λ attrs. AreAttributes octets.now attrs) }
         ensures only { (attributes : List Attribute) → AreAttributes octets.now attributes →
@@ -76,8 +76,7 @@ impl<'a> Attrs<'a> {
         Attrs::checked(octets)
     }
 
-    /// The attributes of octets, or where the first bad one is, proved against the function that
-    /// reads a list; `in_octets` adds what the grammar says.
+    /// `in_octets`, proved against the function that reads a list.
     fn checked(octets: &'a [u8]) -> Result<Attrs<'a>, BadAttribute>
         ensures { MatchResult result
             (λ attrs. attribute_list octets.now ≡ Ok attrs)
@@ -95,7 +94,7 @@ impl<'a> Attrs<'a> {
         Ok(Attrs { rest: octets })
     }
 
-    /// The attributes of octets that are known to be well formed, which are not read again.
+    /// The attributes in octets that are known to be well formed, without checking them again.
     pub(crate) fn in_formed_octets(octets: &'a [u8]) -> Attrs<'a>
         requires { attribute_list octets.now ≡ Ok (attributes_in octets.now) }
         ensures list { result ≡ attributes_in octets.now }
@@ -104,17 +103,17 @@ impl<'a> Attrs<'a> {
         Attrs { rest: octets }
     }
 
-    /// How many attributes are of this Type, of those that are left.
+    /// How many of the attributes left have this Type.
     ///
     /// Call it on a reference to the list, or as `Attrs::count(&attributes, kind)`: on the list
-    /// itself, Rust takes `count` for the iterator's own.
+    /// itself, Rust takes `Iterator::count`.
     pub fn count(&self, kind: u8) -> usize
         ensures { result ≡ count_by (is_kind kind) self.now }
     {
         self.iter().filter(|(other, _)| *other == kind).count()
     }
 
-    /// The value of the first attribute of this Type, of those that are left.
+    /// The value of the first attribute left that has this Type.
     pub fn first(&self, kind: u8) -> Option<&'a [u8]>
         ensures { option_map (λ value. value.now) result ≡ first_of kind self.now }
     {
@@ -126,9 +125,8 @@ impl<'a> Attrs<'a> {
         None
     }
 
-    /// The value of the first attribute of this Type as a number, the high octet first. There is
-    /// none where no attribute is of this Type, or where that value does not have four octets (RFC
-    /// 2865 section 5).
+    /// The value of the first attribute of this Type as a number, high octet first. `None` if no
+    /// attribute has this Type, or if that value does not have four octets (RFC 2865 section 5).
     pub fn number(&self, kind: u8) -> Option<u32>
         ensures { result ≡ number_in (first_of kind self.now) }
     {
@@ -138,7 +136,7 @@ impl<'a> Attrs<'a> {
         }
     }
 
-    /// An iterator of its own over the attributes that are left.
+    /// A separate iterator over the attributes left.
     pub fn iter(&self) -> Attrs<'a>
         ensures same { result ≡ self.now }
         ensures few { length result < 2 ^ 64 }
@@ -169,7 +167,7 @@ impl<'a> Iterator for Attrs<'a> {
     }
 }
 
-/// The Type and the Value of the attribute that begins the octets, and the octets after it.
+/// The Type and the Value of the first attribute of the octets, and the octets after it.
 fn attribute_at_front(octets: &[u8]) -> Option<(u8, &[u8], &[u8])>
     ensures { MatchOption result (first_attribute octets.now ≡ None) (λ found.
         first_attribute octets.now ≡ Some (attribute_of found.0 found.1.now, found.2.now)) }

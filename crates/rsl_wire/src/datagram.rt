@@ -18,11 +18,11 @@ ghost use Rattle.rsl_wire.specs.Seen.{fields_of};
 
 use crate::packet::{Packet, WireFault};
 
-/// Reads the packet of a datagram (RFC 2865 section 3). Octets past its Length are padding, and are
-/// left out. It takes no memory: the packet lies in the datagram.
+/// Reads the packet of a datagram (RFC 2865 section 3). Octets past its Length are padding and are
+/// left out. It allocates nothing: the packet lies in the datagram.
 ///
-/// `Short` comes exactly where there are fewer than 20 octets, and `BadLength` exactly where there
-/// are 20 and the Length is under 20, over 4,096 or over the octets that came.
+/// `Short` comes exactly if there are fewer than 20 octets, and `BadLength` exactly if there are 20
+/// and the Length is under 20, over 4,096 or over the octets that came.
 pub fn read(datagram: &[u8]) -> Result<Packet<'_>, WireFault>
     // What is read is in the grammar, up to the padding.
     ensures found { IfOk result (λ packet. (padding : List ℕ) ×

@@ -28,8 +28,8 @@ use std::marker::Model;
 #[derive(Clone, Copy, Debug)]
 pub struct TooLong;
 
-/// A packet that is being written: its Identifier and its attributes so far, in room for 4,096
-/// octets that was taken before.
+/// A packet that is being written: its Identifier and its attributes so far, in a buffer of 4,096
+/// octets allocated beforehand.
 #[derive(Drop)]
 pub struct Draft {
     octets: Vec<u8>,
@@ -50,17 +50,17 @@ impl Model for Draft {
 }
 
 impl Draft {
-    /// A packet with an Identifier and no attribute, and room for 4,096 octets. It fails only where
-    /// that room is refused.
+    /// A draft with an Identifier and no attribute, and room for 4,096 octets. It fails only if
+    /// that memory is refused.
     pub fn new(alloc: Global, id: u8) -> Result<Draft, NoMemory>
         ensures { IfOk result (λ draft. draft ≡ record { id = id; attributes = [] }) }
     {
         Draft::in_room(Vec::new(alloc), id)
     }
 
-    /// A packet with an Identifier and no attribute, in the room of earlier octets, which are let
-    /// go: it takes memory only where there is room for less than 4,096 octets, and fails only
-    /// where that is refused. Then the room is let go too.
+    /// A draft with an Identifier and no attribute, in the buffer `room`, whose octets are
+    /// discarded. It allocates only if the buffer holds fewer than 4,096 octets, and fails only if
+    /// that memory is refused; then the buffer is freed too.
     pub fn in_room(room: Vec<u8>, id: u8) -> Result<Draft, NoMemory>
         ensures draft { IfOk result (λ draft. draft ≡ record { id = id; attributes = [] }) }
         ensures enough { 4096 ≤ vec_capacity room → IsOk result }
@@ -74,8 +74,8 @@ impl Draft {
         Ok(Draft { octets })
     }
 
-    /// Writes an attribute after those that are there. `TooLong` comes exactly where the value has
-    /// over 253 octets or the whole packet would have over 4,096, and then the draft is as it was.
+    /// Appends an attribute. `TooLong` comes exactly if the value has over 253 octets or the whole
+    /// packet would have over 4,096; then the draft is as it was.
     pub fn push(&mut self, kind: u8, value: &[u8]) -> Result<(), TooLong>
         ensures fits { IsOk result ↔ ((length value.now ≤ 253) ×
             (20 + length self.old.attributes + (2 + length value.now) ≤ 4096)) }
@@ -95,7 +95,8 @@ impl Draft {
         Ok(())
     }
 
-    /// The octets of the packet (RFC 2865 section 3), with nothing after them. It takes no memory.
+    /// The octets of the packet (RFC 2865 section 3), with nothing after them. It allocates
+    /// nothing.
     pub fn finish(self, code: u8, authenticator: &[u8; 16]) -> Vec<u8>
         ensures { result.items ≡ packet_octets (record {
           code = code;
@@ -110,7 +111,7 @@ impl Draft {
     }
 }
 
-/// Writes octets after those of a list that has room for them.
+/// Appends octets to a buffer that has room for them.
 fn append(octets: &mut Vec<u8>, more: &[u8])
     requires { vec_len octets.old + length more.now ≤ vec_capacity octets.old }
     ensures items { octets.new.items ≡ octets.old.items ++ more.now }
@@ -119,7 +120,7 @@ fn append(octets: &mut Vec<u8>, more: &[u8])
     octets.extend_from_slice(more).unwrap();
 }
 
-/// Writes the octets before the attributes; the Identifier stands there already.
+/// Writes the octets before the attributes, except the Identifier, which is there already.
 fn write_header(octets: &mut [u8], code: u8, authenticator: &[u8; 16])
     requires header { 20 ≤ length octets.old }
     requires whole { length octets.old ≤ 4096 }

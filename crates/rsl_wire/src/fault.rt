@@ -1,6 +1,6 @@
 use std::alloc::{AllocError, AllocFailed};
 
-/// Memory was refused. What the call was lent is as it was, unless the call says otherwise.
+/// Memory was refused. What the call borrowed is unchanged, unless the call says otherwise.
 #[derive(Clone, Copy, Debug)]
 pub struct NoMemory;
 

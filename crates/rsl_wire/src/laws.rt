@@ -1,4 +1,4 @@
-//! Laws over the grammar. Each is the contract of a function that does nothing.
+//! Laws of the grammar. Each is the contract of a function that does nothing.
 
 ghost use Rattle.std.specs.Prelude.{◌≡◌, List, ℕ, ◌++◌};
 ghost use Rattle.std.specs.List.{AllByRecursion};

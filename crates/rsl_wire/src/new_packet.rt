@@ -20,8 +20,8 @@ pub enum BuildFault {
 
 /// The octets of a packet with these fields, and nothing after them (RFC 2865 section 3).
 ///
-/// `TooLong` comes exactly where a value has over 253 octets or the whole would have over 4,096,
-/// before any memory is taken. `NoMemory` comes only where memory is refused.
+/// `TooLong` comes exactly if a value has over 253 octets or the whole would have over 4,096,
+/// before anything is allocated. `NoMemory` comes only if memory is refused.
 pub fn build(
     alloc: Global,
     code: u8,
@@ -64,7 +64,7 @@ fn fits_packet(attributes: &[Attr<'_>]) -> bool
     true
 }
 
-/// A draft that has the attributes.
+/// A draft with the attributes.
 fn written(alloc: Global, id: u8, attributes: &[Attr<'_>]) -> Result<Draft, NoMemory>
     requires { FitsPacket (map seen attributes.now) }
     ensures { IfOk result (λ draft.

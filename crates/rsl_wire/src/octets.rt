@@ -11,17 +11,17 @@ use std::marker::Model;
 /// Where the octets of a string are.
 #[derive(Drop)]
 enum Held {
-    /// In the value itself, if they are few.
+    /// In the value itself, if there are at most 22.
     Short(Short),
     /// In memory of their own.
     Long(Box<Vec<u8>>),
 }
 
-/// A string of octets of any length. A contract sees it as the list of its octets, and not where it
-/// lies in memory or how much room it has.
+/// A string of octets of any length. A contract sees the list of its octets, not its address or its
+/// capacity.
 ///
-/// A copy of at most 22 octets takes no memory: they lie in the value. Most names of access servers
-/// and most session ids are so short.
+/// Up to 22 octets lie in the value, so a copy of them allocates nothing. Most names of access
+/// servers and most session ids are that short.
 pub struct Octets {
     held: Held,
 }
@@ -43,7 +43,7 @@ impl Model for Octets {
 }
 
 impl Octets {
-    /// A copy of the octets. It fails only where memory is refused, and takes none for up to 22
+    /// A copy of the octets. It fails only if memory is refused, and allocates nothing for up to 22
     /// octets.
     pub fn from_slice(alloc: Global, octets: &[u8]) -> Result<Octets, NoMemory>
         ensures copy { IfOk result (λ copy. copy ≡ octets.now) }
@@ -56,7 +56,7 @@ impl Octets {
         Ok(Octets { held })
     }
 
-    /// The octets, lent.
+    /// The octets as a slice.
     pub fn as_slice(&self) -> &[u8]
         ensures { result.now ≡ self.now }
     {
@@ -66,7 +66,7 @@ impl Octets {
         }
     }
 
-    /// How many octets there are.
+    /// The number of octets.
     pub fn len(&self) -> usize
         ensures { result ≡ length self.now }
     {
@@ -80,7 +80,8 @@ impl Octets {
         self.as_slice().is_empty()
     }
 
-    /// An equal string. It fails only where memory is refused, and takes none for up to 22 octets.
+    /// An equal string. It fails only if memory is refused, and allocates nothing for up to 22
+    /// octets.
     pub fn try_copy(&self, alloc: Global) -> Result<Octets, NoMemory>
         ensures copy { IfOk result (λ copy. copy ≡ self.now) }
         ensures short { length self.now ≤ 22 → IsOk result }
@@ -93,7 +94,7 @@ impl Octets {
         }
     }
 
-    /// An equal string, if there is one. It fails only where memory is refused; none takes none.
+    /// An equal string, if there is one. It fails only if memory is refused.
     pub fn try_copy_option(
         alloc: Global,
         octets: &Option<Octets>,

@@ -3,7 +3,7 @@ ghost use Rattle.rsl_wire.specs.Packet.{IsPacket, packet_octets};
 
 use crate::attributes::{Attrs, BadAttribute};
 
-/// Octets of Code, Identifier and Length, after which the Authenticator stands (RFC 2865 section 3).
+/// The offset of the Authenticator, after Code, Identifier and Length (RFC 2865 section 3).
 pub const AUTHENTICATOR_START: usize = 4;
 
 /// Octets of a packet without its attributes, and the least Length (RFC 2865 section 3).
@@ -13,7 +13,7 @@ pub const HEADER_LEN: usize = 20;
 /// packets; this server takes the same on both ports.
 pub const MAX_LEN: usize = 4096;
 
-// The numbers of RFC 2865, which definitions have as they stand.
+// The definitions write these numbers of RFC 2865 out.
 const _: () = prove!(AUTHENTICATOR_START == 4);
 
 const _: () = prove!(HEADER_LEN == 20);
@@ -82,10 +82,11 @@ impl<'a> Packet<'a> {
         self.octets
     }
 
-    /// The attributes of the packet in order, of any Type (RFC 2865 section 5). It takes no memory.
+    /// The attributes of the packet in order, of any Type (RFC 2865 section 5). It allocates
+    /// nothing.
     ///
-    /// `BadAttribute` comes exactly where the octets are no list of attributes: its offset is that
-    /// of the first whose Length is missing, under 2, or past the end.
+    /// `BadAttribute` comes exactly if the octets are no list of attributes; its offset is that of
+    /// the first one whose Length is missing, under 2, or past the end.
     pub fn attributes(&self) -> Result<Attrs<'a>, BadAttribute>
         // The attributes, joined, are the octets.
         ensures found { IfOk result (λ attrs. AreAttributes self.now.attrs.now attrs) }
@@ -101,8 +102,8 @@ impl<'a> Packet<'a> {
         Attrs::in_octets(self.attrs)
     }
 
-    /// The attributes of a packet in which they are known to be well formed, since they were read
-    /// before: `attributes` without reading them again.
+    /// `attributes` of a packet whose attributes have been read before and are well formed, without
+    /// checking them again.
     pub fn well_formed_attributes(&self) -> Attrs<'a>
         requires { attribute_list self.now.attrs.now ≡ Ok (attributes_in self.now.attrs.now) }
         ensures list { result ≡ attributes_in self.now.attrs.now }

@@ -1,6 +1,6 @@
 ghost use Rattle.std.specs.Prelude.{◌≡◌, ◌≤◌, ◌↔◌, IfSome, IsSome, length, take};
 
-/// The most octets that lie in the value: with their number, and with the tag that tells them from
+/// The most octets that lie in the value: with their number, and the tag that tells them from
 /// octets on the heap, they take three words.
 const SHORT_LEN: usize = 22;
 
@@ -30,7 +30,7 @@ impl Short {
         })
     }
 
-    /// The octets, lent.
+    /// The octets as a slice.
     pub(crate) fn as_slice(&self) -> &[u8]
         ensures { result.now ≡ take self.now.len self.now.octets }
     {
