@@ -1,6 +1,6 @@
--- How the inside of a book is seen, and what holds of it: the numbers agree with the links, the
--- places are within the limit, and there is room for every link that may still open and for
--- whatever names an access server.
+-- How the inside of a book is seen, and its invariant: the numbers agree with the links, the places
+-- are within the limit, and there is room for every link that may still open and for whatever names
+-- an access server.
 use Rattle.std.specs.Prelude.{◌≡◌, ◌+◌, ◌*◌, ◌<◌, ◌≤◌, length}
 use Rattle.rsl_accounts.specs.Limits.{RulesFit}
 use Rattle.rsl_session.specs.Book.{Book}

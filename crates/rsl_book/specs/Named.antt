@@ -1,4 +1,4 @@
--- Which indexes of the table of access servers something names.
+-- The indexes of the table of access servers that something names.
 use Rattle.std.specs.Prelude.{ℕ, List, ◌==◌, Bool, ◌||◌}
 use Rattle.std.specs.List.{list_any}
 use Rattle.rsl_links.specs.Named.{named_by_links}

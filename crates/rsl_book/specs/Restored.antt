@@ -1,4 +1,4 @@
--- What is saved of a book, and the book that it is put back as.
+-- What is saved of a book, and the book that is restored from it.
 use Rattle.std.specs.Prelude.{◌≡◌, length, nat_lt, if◌then◌else◌, Option, Some, None, Result, Ok, Err}
 use Rattle.rsl_accounts.specs.declared.rules.Rules.{Rules}
 use Rattle.rsl_session.specs.Ask.{KEPT_ASKS}
@@ -12,7 +12,7 @@ use Rattle.rsl_book.specs.declared.restore_fault.RestoreFault.TheVariants.{TooMa
 abbrev pub saved : RuledBook → Book
 saved ruled = ruled.book
 
--- why a running book is none of an account with these rules: the first of these that it is
+-- why a running book cannot be that of an account with these rules: the first of these reasons
 unfoldable pub misfit : Rules → Book → Option RestoreFault
 misfit rules book =
     if nat_lt KEPT_ASKS (length book.asks) then Some TooManyAsks
@@ -20,7 +20,7 @@ misfit rules book =
     else if nat_lt rules.places (places_in rules book) then Some TooManyPlaces
     else None
 
--- a running book put back under these rules, unless it is none of theirs
+-- a running book restored under these rules, unless it does not fit them
 abbrev pub put_back : Rules → Book → Option RestoreFault → Result RuledBook RestoreFault
 put_back rules book None = Ok (record { rules = rules; book = book })
 put_back rules book (Some fault) = Err fault
@@ -28,13 +28,13 @@ put_back rules book (Some fault) = Err fault
 abbrev pub restored : Rules → Book → Result RuledBook RestoreFault
 restored rules book = put_back rules book (misfit rules book)
 
--- what was saved of a book is put back as that book
+-- a book is restored from what was saved of it
 abbrev pub SavedIsPutBack : Type 0
 SavedIsPutBack =
     (ruled : RuledBook) → misfit ruled.rules ruled.book ≡ None
     → restored ruled.rules (saved ruled) ≡ Ok ruled
 
--- and what is saved of a book that was put back is what it was put back from
+-- a restored book is saved as what it was restored from
 abbrev pub PutBackIsSaved : Type 0
 PutBackIsSaved =
     (rules : Rules) (book : Book) (ruled : RuledBook) → restored rules book ≡ Ok ruled

@@ -1,4 +1,4 @@
--- What the asks and stops that a book keeps stand for: each names its access server by an index of a table.
+-- The asks and stops that a book keeps: each names its access server by an index of a table.
 use Rattle.std.specs.Prelude.{ℕ, List, map, Bool, ◌||◌}
 use Rattle.rsl_event.specs.declared.nas.Nas.{Nas}
 use Rattle.rsl_session.specs.declared.kept.KeptAsk.{KeptAsk}
@@ -9,7 +9,7 @@ use Rattle.rsl_book.specs.declared.kept.DecidedAsk.{DecidedAsk}
 use Rattle.rsl_book.specs.declared.kept.EndedSession.{EndedSession}
 use Rattle.rsl_links.specs.Seen.{server_at}
 
--- what is kept, with its access server itself
+-- a kept ask or stop, with its access server itself
 pub record SeenKept (S : Type 0) : Type 0 where
   pub subject : S
   pub at : ℕ

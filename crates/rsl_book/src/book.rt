@@ -40,10 +40,10 @@ use std::marker::Model;
 ///
 /// A contract sees the rules of the account and the running book: the clock, the links in the order
 /// in which they opened, the next accept number, the last fresh asks and stops, newest first, and
-/// the over count. All memory is taken in `new`.
+/// the over count. `new` allocates all its memory.
 #[derive(Drop)]
 pub struct Book {
-    // Fields lie in memory as they stand here: what an ask or a tick reads first.
+    // Fields lie in memory in this order: what an ask or a tick reads comes first.
     clock: u64,
     accepts: u64,
     rules: Rules,
@@ -66,14 +66,14 @@ impl Model for Book {
     ghost invariant = { IsSound };
 }
 
-/// How much a book stores.
+/// How much a book holds.
 #[derive(Clone, Copy, PartialEq, Eq)]
 pub struct Stored {
-    /// The links, at most the places of the account times its ports.
+    /// The links: at most the places of the account times its ports.
     pub links: u64,
-    /// The fresh asks that are kept for their repeats, at most 8.
+    /// The fresh asks kept for their repeats: at most 8.
     pub kept: u64,
-    /// The stops that are kept, at most 16.
+    /// The stops kept: at most 16.
     pub closed: u64,
 }
 
@@ -87,8 +87,8 @@ fn most_links(rules: &Rules) -> usize
 }
 
 impl Book {
-    /// The book of an account that has had no event, with all the room that it will ever use. It
-    /// fails only where memory is refused.
+    /// The book of an account that has had no event, with all the memory that it will ever use. It
+    /// fails only if memory is refused.
     pub fn new(alloc: Global, rules: Rules) -> Result<Book, NoMemory>
         requires { RulesFit rules }
         ensures made { IfOk result (λ made. made ≡ record { rules = rules; book = new_book }) }
@@ -107,8 +107,8 @@ impl Book {
         })
     }
 
-    /// What an event makes of the book, and the decision on it: `Done` for every event but an ask.
-    /// It takes no memory.
+    /// Steps the book by an event and gives the decision on it: `Done` for every event but an ask.
+    /// It allocates nothing.
     pub fn apply(&mut self, event: Event) -> Decision
         ensures step { (self.new.book, result) ≡ step self.old.rules self.old.book event }
         ensures rules { self.new.rules ≡ self.old.rules }
@@ -123,9 +123,8 @@ impl Book {
         decision
     }
 
-    /// What an event that is lent makes of the book, and the decision on it, as `apply` has them. Of
-    /// the event it copies what the book may keep, before anything changes: where memory is refused
-    /// nothing has changed. It takes memory only for names and ids of more than 22 octets.
+    /// `apply` of a borrowed event. It first copies what the book may keep: if memory is refused,
+    /// nothing has changed. It allocates only for names and ids of more than 22 octets.
     pub fn apply_lent(&mut self, alloc: Global, event: &Event) -> Result<Decision, NoMemory>
         ensures step { IfOk result (λ decision.
             (self.new.book, decision) ≡ step self.old.rules self.old.book event.now) }
@@ -150,7 +149,7 @@ impl Book {
         }
     }
 
-    /// An ask at a moment.
+    /// Steps the book by an ask at a moment.
     fn ask_at(&mut self, moment: u64, key: Key, nas: Nas) -> Decision
         ensures step { (self.new.book, result) ≡
             step self.old.rules self.old.book (record { moment = moment; act = Ask key nas }) }
@@ -163,7 +162,7 @@ impl Book {
         decision
     }
 
-    /// An equal book. It fails only where memory is refused.
+    /// An equal book. It fails only if memory is refused.
     pub fn try_copy(&self, alloc: Global) -> Result<Book, NoMemory>
         ensures { IfOk result (λ copy. copy ≡ self.now) }
     {
@@ -179,7 +178,7 @@ impl Book {
         })
     }
 
-    /// Whether two books are the same: equal rules, and equal values.
+    /// Whether two books are equal: their rules, and all that they hold.
     pub fn same(&self, other: &Book) -> bool
         ensures { IsTrue result ↔ (self.now ≡ other.now) }
     {
@@ -201,7 +200,7 @@ impl Book {
                 .has_same_stops(&self.servers, &other.stops, &other.servers)
     }
 
-    /// What an act does to a book that has come to its moment.
+    /// Steps a book that has come to the moment of an act by that act.
     fn act(&mut self, act: Act) -> Decision
         ensures step { (self.new.book, result) ≡ act_on self.old.rules self.old.book act }
         ensures rules { self.new.rules ≡ self.old.rules }
@@ -229,7 +228,7 @@ impl Book {
         }
     }
 
-    /// What a sweep of an access server at this moment makes of the book, as `apply` does.
+    /// Steps the book by a sweep of an access server at this moment, as `apply` does.
     pub fn sweep(&mut self, moment: u64, nas: &Nas)
         ensures step { (self.new.book, Done) ≡
             step self.old.rules self.old.book (record { moment = moment; act = Sweep nas.now }) }
@@ -243,7 +242,7 @@ impl Book {
         self.open_invariant();
     }
 
-    /// What a tick at this moment makes of the book, as `apply` does.
+    /// Steps the book by a tick at this moment, as `apply` does.
     pub fn tick(&mut self, moment: u64)
         ensures step { (self.new.book, Done) ≡
             step self.old.rules self.old.book (record { moment = moment; act = Tick }) }
@@ -264,7 +263,7 @@ impl Book {
         self.links.places
     }
 
-    /// How many links are reserved: at most 1,024, as many as an account can have.
+    /// The number of reserved links: at most 1,024, the most that an account can have.
     #[tactic(auto, unfolding(rsl_session::specs::Book::reserved_in))]
     pub fn reserved(&self) -> u64
         ensures reserved { result ≡ reserved_in self.now.book }
@@ -273,7 +272,8 @@ impl Book {
         self.links.reserved() as u64
     }
 
-    /// How many links are live at the book's clock: at most 1,024, as many as an account can have.
+    /// The number of live links at the book's clock: at most 1,024, the most that an account can
+    /// have.
     #[tactic(auto, unfolding(rsl_session::specs::Book::live_in))]
     pub fn live(&self) -> u64
         ensures live { result ≡ live_in self.now.rules self.now.book }
@@ -282,7 +282,8 @@ impl Book {
         self.links.live(&self.rules, self.clock) as u64
     }
 
-    /// How many links are stale at the book's clock: at most 1,024, as many as an account can have.
+    /// The number of stale links at the book's clock: at most 1,024, the most that an account can
+    /// have.
     #[tactic(auto, unfolding(rsl_session::specs::Book::stale_in))]
     pub fn stale(&self) -> u64
         ensures stale { result ≡ stale_in self.now.rules self.now.book }
@@ -291,7 +292,7 @@ impl Book {
         self.links.stale(&self.rules, self.clock) as u64
     }
 
-    /// How much the book stores: it never grows past what `new` made room for.
+    /// How much the book holds, which never grows past what `new` made room for.
     pub fn stored(&self) -> Stored
         ensures links { result.links ≡ length self.now.book.links }
         ensures kept { result.kept ≡ length self.now.book.asks }
@@ -314,7 +315,7 @@ impl Book {
         self.clock
     }
 
-    /// How many alives found no place, at most 2^64 - 1.
+    /// The number of alives that found no place, at most 2^64 - 1.
     pub fn over(&self) -> u64
         ensures { result ≡ self.now.book.over }
     {
@@ -322,7 +323,7 @@ impl Book {
     }
 
     /// The rules of the account. They are within the limits of an account's rules, and the places
-    /// that are held are within theirs.
+    /// held are within theirs.
     pub fn rules(&self) -> Rules
         ensures rules { result ≡ self.now.rules }
         ensures fit { RulesFit result }
@@ -331,15 +332,14 @@ impl Book {
         self.rules
     }
 
-    /// Opens the invariant for the prover: the places are within the limit, whatever the book has
-    /// come to.
+    /// Shows the prover the invariant: the places are within the limit.
     fn open_invariant(&self)
         ensures { IsWithinLimit self.now }
     {
         let _ = &self.links;
     }
 
-    /// Comes to a moment: the clock moves, and the links that lapse then are gone.
+    /// Moves the clock to a moment, and ends the links that lapse then.
     fn come_to(&mut self, moment: u64)
         ensures { self.new ≡
             record self.old { book = come_to self.old.rules self.old.book moment } }
@@ -370,7 +370,7 @@ impl Book {
         decision
     }
 
-    /// Accepts a fresh ask, for which there is a place and a number.
+    /// Accepts a fresh ask. There is a place and a number for it.
     fn accept(&mut self, key: Key, nas: Nas) -> Decision
         requires number { self.old.book.accepts < 2 ^ 64 - 1 }
         requires place { places_in self.old.rules self.old.book + 1 ≤ self.old.rules.places }
@@ -442,7 +442,7 @@ impl Book {
         self.links.yielding(&self.servers, &self.rules, self.clock)
     }
 
-    /// A fresh ask for which no place is free, where this link can yield.
+    /// Answers a fresh ask for which no place is free, by letting this link yield.
     fn ask_in_place(&mut self, at: usize, key: Key, nas: Nas) -> Decision
         requires number { self.old.book.accepts < 2 ^ 64 - 1 }
         requires full { self.old.rules.places ≤ places_in self.old.rules self.old.book }
@@ -465,7 +465,7 @@ impl Book {
         self.accept(key, nas)
     }
 
-    /// A fresh ask for which there is an accept number.
+    /// Answers a fresh ask for which there is an accept number.
     fn fresh_ask(&mut self, key: Key, nas: Nas) -> Decision
         requires { self.old.book.accepts < 2 ^ 64 - 1 }
         ensures step { (self.new.book, result) ≡ fresh_ask self.old.rules self.old.book key nas }
@@ -489,14 +489,14 @@ impl Book {
             .repeated(&self.servers, &self.rules, key, self.clock)
     }
 
-    /// How many asks were accepted.
+    /// The number of accepted asks.
     fn accepts(&self) -> u64
         ensures { result ≡ self.now.book.accepts }
     {
         self.accepts
     }
 
-    /// A fresh ask.
+    /// Answers a fresh ask.
     fn answer(&mut self, key: Key, nas: Nas) -> Decision
         ensures step { (self.new.book, result) ≡ ask self.old.rules self.old.book key nas None }
         ensures rules { self.new.rules ≡ self.old.rules }
@@ -508,7 +508,7 @@ impl Book {
         }
     }
 
-    /// An ask.
+    /// Answers an ask.
     fn ask(&mut self, key: Key, nas: Nas) -> Decision
         ensures step { (self.new.book, result) ≡
             ask self.old.rules self.old.book key nas (find
@@ -521,7 +521,7 @@ impl Book {
         }
     }
 
-    /// The link that is bound to the session of this id at an access server.
+    /// The link bound to the session of this id at an access server.
     fn bound_to(&self, nas: &Nas, id: &Octets) -> Option<usize>
         ensures found { IfSome result (λ at. IsFirst (is_link_of
             (record { nas = nas.now; id = id.now })) self.now.book.links at) }
@@ -563,7 +563,7 @@ impl Book {
         self.links.touch_at(&self.servers, at, self.clock, bundle);
     }
 
-    /// Takes a link for the session of this id.
+    /// Binds a reserved link to the session of this id.
     fn take_link(&mut self, at: usize, id: Octets, bundle: Option<Octets>)
         requires { at < length self.old.book.links }
         ensures { self.new ≡ record self.old {
@@ -577,8 +577,8 @@ impl Book {
             .take_at(&self.servers, at, self.clock, id, bundle);
     }
 
-    /// Opens a link with this last touch, if the places then are within the limit, and says whether
-    /// they are. Where they are not, nothing has changed.
+    /// Opens a link with this last touch, if the places are then within the limit, and says whether
+    /// they are. If not, nothing has changed.
     fn open_touched(
         &mut self,
         nas: Nas,
@@ -629,7 +629,7 @@ impl Book {
         }
     }
 
-    /// Opens a link for a session, if the places then are within the limit.
+    /// Opens a link for a session, if the places are then within the limit.
     fn open_link(&mut self, nas: Nas, id: Octets, bundle: Option<Octets>)
         ensures { self.new ≡ record self.old {
           book = open_link self.old.rules self.old.book
@@ -642,7 +642,7 @@ impl Book {
         }
     }
 
-    /// An alive of a session that is bound to no link, and is not closed.
+    /// Steps the book by an alive of a session that is bound to no link, and is not closed.
     fn bind(&mut self, nas: Nas, id: Octets, bundle: Option<Octets>, class: Option<u64>)
         ensures { self.new ≡ record self.old {
           book = bind self.old.rules self.old.book
@@ -656,7 +656,7 @@ impl Book {
         }
     }
 
-    /// An alive.
+    /// Steps the book by an alive.
     fn alive(&mut self, nas: Nas, id: Octets, bundle: Option<Octets>, class: Option<u64>)
         ensures { self.new ≡ record self.old {
           book = alive self.old.rules self.old.book
@@ -674,7 +674,7 @@ impl Book {
         }
     }
 
-    /// A stop.
+    /// Steps the book by a stop.
     fn stop(&mut self, nas: Nas, id: Octets)
         ensures { self.new ≡ record self.old {
           book = stop self.old.book
@@ -697,7 +697,7 @@ impl Book {
         });
     }
 
-    /// A sweep of an access server.
+    /// Steps the book by a sweep of an access server.
     fn sweep_at(&mut self, nas: &Nas)
         ensures { self.new ≡ record self.old { book = sweep self.old.book nas.now } }
     {

@@ -14,7 +14,7 @@ use rsl_wire::{NoMemory, Octets};
 use std::alloc::Global;
 
 /// What a book keeps: an ask with its decision, or the session of a stop. Equal ones have equal
-/// fingerprints, so that most others are told apart from one with one test.
+/// fingerprints, so that one comparison rules out most others.
 pub(crate) trait Subject: Drop {
     ghost print: { Self → ℕ };
 
@@ -22,36 +22,35 @@ pub(crate) trait Subject: Drop {
     fn fingerprint(&self) -> u64
         ensures { result ≡ print self.now };
 
-    /// Whether it is the same as another.
+    /// Whether two subjects are equal.
     fn is_same(&self, other: &Self) -> bool
         ensures { IsTrue result ↔ (self.now ≡ other.now) };
 
-    /// An equal one. It fails only where memory is refused.
+    /// An equal subject. It fails only if memory is refused.
     fn try_copy(&self, alloc: Global) -> Result<Self, NoMemory>
         ensures { IfOk result (λ copy. copy ≡ self.now) };
 }
 
-/// A fresh ask and what was decided, as they are kept for the ask's repeats.
+/// A fresh ask and its decision, kept for the ask's repeats.
 #[derive(Clone, Copy, Drop)]
 pub(crate) struct DecidedAsk {
-    /// What tells it from other asks.
+    /// The key of the ask.
     pub key: Key,
-    /// What was decided.
+    /// The decision.
     pub decision: Decision,
 }
 
-/// The session of a stop, as it is kept to ignore what comes late of it. Its access server is that
-/// of the stop.
+/// The session of a stop, kept to ignore its late packets. Its access server is that of the stop.
 #[derive(Drop)]
 pub(crate) struct EndedSession {
     /// The Acct-Session-Id.
     pub id: Octets,
 }
 
-/// An ask or a stop, as it is kept.
+/// A kept ask or stop.
 #[derive(Drop)]
 pub(crate) struct Kept<S: Subject> {
-    /// What is kept of it.
+    /// The ask or the session.
     pub subject: S,
     /// The clock when it came.
     pub at: u64,
@@ -61,7 +60,7 @@ pub(crate) struct Kept<S: Subject> {
     pub nas: usize,
 }
 
-/// Eight octets as a number, the high octet first.
+/// Eight octets as a number, high octet first.
 fn number_of(octets: &[u8]) -> u64
     requires { length octets.now ≡ 8 }
     ensures { result ≡ from_be_bytes w64 octets.now }
@@ -133,7 +132,7 @@ impl Subject for EndedSession {
 }
 
 impl<S: Subject> Kept<S> {
-    /// Whether it is the same as one of another book.
+    /// Whether it equals one of another book.
     #[tactic(auto, unfolding(crate::specs::Seen::kept_seen))]
     pub(crate) fn is_same(&self, servers: &Servers, other: &Kept<S>, others: &Servers) -> bool
         ensures { IsTrue result ↔ (kept_seen servers.now self.now ≡ kept_seen others.now other.now) }
@@ -144,7 +143,7 @@ impl<S: Subject> Kept<S> {
             && self.swept == other.swept
     }
 
-    /// An equal one. It fails only where memory is refused.
+    /// An equal one. It fails only if memory is refused.
     pub(crate) fn try_copy(&self, alloc: Global) -> Result<Kept<S>, NoMemory>
         ensures { IfOk result (λ copy. copy ≡ self.now) }
     {

@@ -4,7 +4,7 @@ ghost use Rattle.rsl_book.specs.declared.restore_fault.RestoreFault.TheVariants.
 use rsl_wire::NoMemory;
 use thiserror::Error;
 
-/// Why a saved book is none of its account, or that memory was refused.
+/// Why a saved book cannot be restored for its account, or that memory was refused.
 #[derive(Clone, Copy, Debug, PartialEq, Eq, Error)]
 pub enum RestoreFault {
     /// It keeps more than 8 asks.

@@ -19,9 +19,9 @@ use rsl_wire::{NoMemory, Octets};
 use std::alloc::Global;
 use std::marker::Model;
 
-/// The last asks or stops, newest first: one more puts out the oldest where all room is taken.
+/// The last asks or stops, newest first: another replaces the oldest if the ring is full.
 ///
-/// Beside them stand their fingerprints, so that a look-up reads these alone, where none is equal.
+/// Beside them are their fingerprints: a look-up reads these alone, unless one is equal.
 #[derive(Drop)]
 pub(crate) struct Ring<S: Subject> {
     fingerprints: HeapCircularBuffer<u64>,
@@ -41,7 +41,7 @@ impl<S: Subject> Model for Ring<S> {
         buffer (map (λ (one : Kept S). S.print one.subject) s.kept.items) s.kept.capacity };
 }
 
-/// Whether one names an index of the table of access servers.
+/// Whether one of them names this index of the table of access servers.
 #[tactic(auto, unfolding(crate::specs::Named::named_by_kept))]
 fn is_named_in<S: Subject>(all: &[Kept<S>], nas: usize) -> bool
     ensures { result ≡ named_by_kept all.now nas }
@@ -59,8 +59,7 @@ fn sweep_each<S: Subject>(all: &mut [Kept<S>], servers: &Servers, nas: &Nas)
     }
 }
 
-/// Puts equal ones after those of a ring that has room for them. It fails only where memory is
-/// refused.
+/// Appends copies to a ring that has room for them. It fails only if memory is refused.
 #[tactic(auto, using(rsl_links::proofs::Callers::push_steps))]
 fn push_copies<S: Subject>(
     alloc: Global,
@@ -77,7 +76,7 @@ fn push_copies<S: Subject>(
 }
 
 impl<S: Subject> Ring<S> {
-    /// An empty ring, with room for `capacity`. It fails only where memory is refused.
+    /// An empty ring, with room for `capacity`. It fails only if memory is refused.
     pub(crate) fn new(alloc: Global, capacity: usize) -> Result<Ring<S>, NoMemory>
         ensures { IfOk result (λ ring. ring ≡ buffer [] capacity) }
     {
@@ -87,7 +86,7 @@ impl<S: Subject> Ring<S> {
         })
     }
 
-    /// How many there are.
+    /// The number of asks or stops.
     pub(crate) fn len(&self) -> usize
         ensures len { result ≡ length self.now.items }
         ensures within { result ≤ self.now.capacity }
@@ -115,7 +114,7 @@ impl<S: Subject> Ring<S> {
         let _ = self.kept.push_front(kept);
     }
 
-    /// What is kept at an index, where it has this fingerprint.
+    /// What is kept at an index, if it has this fingerprint.
     fn candidate(&self, index: usize, fingerprint: u64) -> Option<&Kept<S>>
         requires { index < length self.now.items }
         ensures found { IfSome result (λ kept. kept.now ≡ get_or self.now.items index kept.now) }
@@ -128,7 +127,7 @@ impl<S: Subject> Ring<S> {
         }
     }
 
-    /// Whether one names an index of the table of access servers.
+    /// Whether one of them names this index of the table of access servers.
     #[tactic(auto, using(crate::proofs::Naming::kept_parts))]
     pub(crate) fn names(&self, nas: usize) -> bool
         ensures { result ≡ named_by_kept self.now.items nas }
@@ -145,7 +144,7 @@ impl<S: Subject> Ring<S> {
         sweep_each(self.kept.make_contiguous(), servers, nas);
     }
 
-    /// Whether what two rings keep at an index is the same.
+    /// Whether two rings keep equal ones at an index.
     fn is_same_at(&self, index: usize, servers: &Servers, other: &Ring<S>, others: &Servers) -> bool
         requires within { index < length self.now.items }
         requires other_within { index < length other.now.items }
@@ -159,7 +158,7 @@ impl<S: Subject> Ring<S> {
         }
     }
 
-    /// Whether two rings keep the same, in the same order.
+    /// Whether two rings keep equal ones in the same order.
     #[tactic(auto, using(rsl_links::proofs::Callers::same_steps), unfolding(crate::specs::Seen::all_seen))]
     fn is_same(&self, servers: &Servers, other: &Ring<S>, others: &Servers) -> bool
         ensures { IsTrue result ↔
@@ -176,7 +175,7 @@ impl<S: Subject> Ring<S> {
         true
     }
 
-    /// An equal ring. It fails only where memory is refused.
+    /// An equal ring. It fails only if memory is refused.
     pub(crate) fn try_copy(&self, alloc: Global) -> Result<Ring<S>, NoMemory>
         ensures { IfOk result (λ copy. copy ≡ self.now) }
     {
@@ -215,7 +214,7 @@ impl Ring<DecidedAsk> {
         None
     }
 
-    /// Whether two rings keep the same asks, in the same order.
+    /// Whether two rings keep equal asks in the same order.
     pub(crate) fn has_same_asks(
         &self,
         servers: &Servers,
@@ -254,7 +253,7 @@ impl Ring<EndedSession> {
         false
     }
 
-    /// Whether two rings keep the same stops, in the same order.
+    /// Whether two rings keep equal stops in the same order.
     pub(crate) fn has_same_stops(
         &self,
         servers: &Servers,

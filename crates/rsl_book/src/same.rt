@@ -1,11 +1,12 @@
-//! Whether two books hold the same: each names its access servers by indexes of its own table.
+//! Whether two books hold the same, though each names its access servers by indexes of its own
+//! table.
 
 ghost use Rattle.std.specs.Prelude.{◌≡◌, ◌↔◌, IsTrue};
 ghost use Rattle.rsl_links.specs.Seen.{links_seen};
 
 use rsl_links::{LinkList, Servers};
 
-/// Whether two books have the same links, in the same order.
+/// Whether two books have equal links in the same order.
 #[tactic(auto, using(rsl_links::proofs::Callers::same_steps), unfolding(rsl_links::specs::Seen::links_seen))]
 pub(crate) fn has_same_links(
     links: &LinkList,

@@ -1,4 +1,4 @@
-//! What a book holds, as it is saved: each link, ask and stop with its access server itself.
+//! The saved form of what a book holds: each link, ask and stop has its access server itself.
 
 ghost use Rattle.std.specs.Prelude.{◌≡◌, IfOk};
 ghost use Rattle.rsl_event.specs.declared.nas.Nas.{Nas};
@@ -13,7 +13,7 @@ use rsl_session::{KeptAsk, KeptStop, SavedHolder, SavedLink, Session};
 use rsl_wire::{NoMemory, Octets};
 use std::alloc::Global;
 
-/// What has a link, as it is saved.
+/// The saved form of what holds a link.
 fn saved_holder(alloc: Global, holder: &Holder) -> Result<SavedHolder, NoMemory>
     ensures { IfOk result (λ saved. (nas : Nas) → saved_holder nas saved ≡
         holder_at nas holder.now) }
@@ -24,7 +24,7 @@ fn saved_holder(alloc: Global, holder: &Holder) -> Result<SavedHolder, NoMemory>
     })
 }
 
-/// A link, as it is saved.
+/// The saved form of a link.
 #[tactic(auto, unfolding(rsl_links::specs::Seen::link_seen, rsl_session::specs::Saved::saved_link))]
 fn saved_link(alloc: Global, servers: &Servers, link: &Link) -> Result<SavedLink, NoMemory>
     ensures { IfOk result (λ saved. saved_link saved ≡ link_seen servers.now link.now) }
@@ -37,7 +37,7 @@ fn saved_link(alloc: Global, servers: &Servers, link: &Link) -> Result<SavedLink
     })
 }
 
-/// The links, as they are saved. It fails only where memory is refused.
+/// The saved form of the links. It fails only if memory is refused.
 #[tactic(auto, using(crate::proofs::OneByOne::stands_steps), unfolding(rsl_links::specs::Seen::links_seen, rsl_session::specs::Saved::saved_links))]
 pub(crate) fn saved_links(
     alloc: Global,
@@ -54,7 +54,7 @@ pub(crate) fn saved_links(
     Ok(saved)
 }
 
-/// A fresh ask, as it is saved.
+/// The saved form of a fresh ask.
 #[tactic(auto, unfolding(crate::specs::Seen::ask_seen))]
 fn saved_ask(alloc: Global, servers: &Servers, ask: &Kept<DecidedAsk>) -> Result<KeptAsk, NoMemory>
     ensures { IfOk result (λ saved. saved ≡ ask_seen servers.now ask.now) }
@@ -68,7 +68,7 @@ fn saved_ask(alloc: Global, servers: &Servers, ask: &Kept<DecidedAsk>) -> Result
     })
 }
 
-/// The last fresh asks, as they are saved. It fails only where memory is refused.
+/// The saved form of the last fresh asks. It fails only if memory is refused.
 #[tactic(auto, using(crate::proofs::OneByOne::saved_steps), unfolding(crate::specs::Seen::asks_seen))]
 pub(crate) fn saved_asks(
     alloc: Global,
@@ -84,7 +84,7 @@ pub(crate) fn saved_asks(
     Ok(saved)
 }
 
-/// A stop, as it is saved.
+/// The saved form of a stop.
 #[tactic(auto, unfolding(crate::specs::Seen::stop_seen))]
 fn saved_stop(
     alloc: Global,
@@ -103,7 +103,7 @@ fn saved_stop(
     })
 }
 
-/// The last stops, as they are saved. It fails only where memory is refused.
+/// The saved form of the last stops. It fails only if memory is refused.
 #[tactic(auto, using(crate::proofs::OneByOne::saved_steps), unfolding(crate::specs::Seen::stops_seen))]
 pub(crate) fn saved_stops(
     alloc: Global,

@@ -9,7 +9,7 @@ use crate::ring::Ring;
 use rsl_event::Nas;
 use rsl_links::{LinkList, Servers};
 
-/// Whether anything names an index of the table.
+/// Whether anything names this index of the table.
 #[tactic(auto, unfolding(crate::specs::Named::is_named))]
 fn is_named(
     links: &LinkList,
@@ -42,8 +42,7 @@ fn free_index(
     names
 }
 
-/// The index of an access server in the table; one that does not stand there yet is put at the
-/// first index that nothing names.
+/// The index of an access server in the table. A new one gets the first index that nothing names.
 pub(crate) fn index_for(
     servers: &mut Servers,
     links: &LinkList,

@@ -7,12 +7,12 @@ use Rattle.rsl_links.specs.declared.link.Holder.TheVariants.{Bound as LinkBound}
 unfoldable pub touched_link : ℕ → Option (List ℕ) → Link → Link
 touched_link now bundle link = record link { bundle = option_or link.bundle bundle; touched = now }
 
--- and how it changes the link that its session takes
+-- how an alive changes the link that its session takes
 unfoldable pub taken_link : ℕ → List ℕ → Option (List ℕ) → Link → Link
 taken_link now id bundle link =
     record link { holder = LinkBound id; bundle = option_or link.bundle bundle; touched = now }
 
--- the bundle that it then has, if it had none; the clock; and the session and the clock
+-- the bundle that the link then has, if it had none; its clock; and its session and clock
 unfoldable pub joined_link : Option (List ℕ) → Link → Link
 joined_link bundle link = record link { bundle = option_or link.bundle bundle }
 

@@ -1,4 +1,4 @@
--- The places that links take, carried as a number beside them; and where they are.
+-- The places that links take, carried as a number beside them; and the positions of links.
 use Rattle.std.specs.Prelude.{◌≡◌, ◌≤◌, List}
 use Rattle.rsl_event.specs.declared.nas.Nas.{Nas}
 use Rattle.rsl_session.specs.Places.{places_of}

@@ -1,11 +1,11 @@
--- A number of an access server's name, by which most others are told apart with one test: equal
+-- A fingerprint of an access server's name, with which one comparison rules out most others: equal
 -- access servers have equal ones.
 use Rattle.std.specs.Prelude.{ℕ, ◌+◌, ◌*◌, ◌%◌, ◌^◌, List, [], ◌∷◌, map}
 use Rattle.rsl_event.specs.declared.nas.Nas.{Nas}
 use Rattle.rsl_event.specs.declared.nas.NasName.{NasName}
 use Rattle.rsl_event.specs.declared.nas.NasName.TheVariants.{Identifier, Address, Unnamed}
 
--- the number that octets make of one that stands before them
+-- the fingerprint of octets after those of a fingerprint
 unfoldable pub fingerprint_with : ℕ → List ℕ → ℕ
 fingerprint_with fingerprint [] = fingerprint
 fingerprint_with fingerprint (octet ∷ octets) = fingerprint_with (((fingerprint * 31) % 2 ^ 32 + octet) % 2 ^ 32) octets

@@ -1,4 +1,4 @@
--- The first element of a list that passes a test, by its index; and a change of the element at an
+-- The index of the first element of a list that passes a test; and a change of the element at an
 -- index.
 use Rattle.std.specs.Prelude.{◌≡◌, ℕ, zero, suc, ◌<◌, List, [], ◌∷◌, Bool, true, false, length, take, get_or}
 use Rattle.std.specs.List.{list_any}

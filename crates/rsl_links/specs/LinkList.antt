@@ -1,7 +1,6 @@
 -- What a contract sees of a list of links: the links in the order in which they opened, and the
--- room for them. Inside, its orders list the slots of the reserved links and of those that are
--- bound, by their last touch, of those that are bound, by their sessions, and of those in a bundle,
--- by it.
+-- room for them. Inside, its orders list the slots of the reserved and of the bound links by their
+-- last touch, of the bound links by their sessions, and of the links in bundles by their bundles.
 use Rattle.std.specs.Prelude.{◌≡◌, ℕ, ◌<◌, ◌≤◌, ◌==◌, ◌&&◌, nat_le, List, [], Bool, true, false, Option, None, Some, vec_capacity, length}
 use Rattle.std.specs.VecDeque.{deque_capacity}
 use Rattle.rsl_session.specs.Same.{same_octets}
@@ -23,14 +22,14 @@ pub record RoomyList : Type 0 where
 abbrev pub list_seen : Inside → RoomyList
 list_seen list = record { items = links_of list.slots; room = vec_capacity list.slots.slots }
 
--- each order has a kind of its own
+-- each order has its own kind
 pub record HaveKinds (orders : Orders) : Type 0 where
   pub reserved : orders.reserved.kind ≡ Reserved
   pub bound : orders.bound.kind ≡ Bound
   pub sessions : orders.sessions.kind ≡ Sessions
   pub bundles : orders.bundles.kind ≡ Bundles
 
--- the orders list the links of their kinds, but for one; and all of them
+-- the orders list the links of their kinds, except one; and all of them
 pub record AreOrdersBut (slots : Slots) (but : ℕ) (orders : Orders) : Type 0 where
   pub reserved : IsRankedBut slots but orders.reserved
   pub bound : IsRankedBut slots but orders.bound
@@ -60,7 +59,7 @@ pub record IsRanked (list : Inside) : Type 0 where
   pub room : HaveOrdersRoom (vec_capacity list.slots.slots) list.orders
 
 -- whether a link at the access server of an index is bound, is bound to the session of this id, is
--- reserved by a number that a class names, or is in the bundle of this id
+-- reserved by the number of a class, or is in the bundle of this id
 unfoldable pub is_bound_at : ℕ → Link → Bool
 is_bound_at nas link = holds_session link.holder && link.nas == nas
 
@@ -86,11 +85,11 @@ is_bundle_id id (Some own) = same_octets own id
 unfoldable pub is_member : ℕ → List ℕ → Link → Bool
 is_member nas id link = link.nas == nas && is_bundle_id id link.bundle
 
--- whether a link is bound, and was touched at this clock or before
+-- whether a link is bound, and its last touch was at this clock or before
 unfoldable pub is_bound_until : ℕ → Link → Bool
 is_bound_until clock link = holds_session link.holder && nat_le link.touched clock
 
--- the bound link that was touched longest ago, and of these the first
+-- the bound link touched longest ago, and of several the first
 pub record IsOldest (links : List Link) (at : ℕ) : Type 0 where
   pub within : at < length links
   pub bound : holds_session (link_at links at).holder ≡ true

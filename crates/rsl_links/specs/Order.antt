@@ -1,6 +1,7 @@
--- An order lists some links of a book, here by their positions, where a book itself keeps their
--- slots: those that are reserved or those that are bound, by their last touch, those that are bound,
--- by their sessions, or those in a bundle, by it. Links that are alike in this stand as they opened.
+-- An order lists some links of a book, here by their positions, while a book itself keeps their
+-- slots: the reserved or the bound links by their last touch, the bound links by their sessions, or
+-- the links in bundles by their bundles. Links with equal sort keys are in the order in which they
+-- opened.
 use Rattle.std.specs.Prelude.{◌≡◌, ◌≢◌, ℕ, ◌<◌, ◌≤◌, List, [], ◌∷◌, get_or, length, ◌==◌, ◌&&◌, Bool, true, false, Option, None, Some}
 use Rattle.std.specs.Ordering.{ordering_then, nat_cmp, is_lt}
 use Rattle.std.specs.declared.cmp.Ordering.{Ordering}
@@ -12,7 +13,7 @@ use Rattle.rsl_links.specs.declared.link.Holder.TheVariants.{Reserved as LinkRes
 use Rattle.rsl_links.specs.declared.order.OrderKind.{OrderKind}
 use Rattle.rsl_links.specs.declared.order.OrderKind.TheVariants.{Reserved, Bound, Sessions, Bundles}
 
--- what an order goes by: numbers, and then the position
+-- the sort key of an order: numbers, and then the position
 abbrev pub Key : Type 0
 Key = List ℕ × ℕ
 
@@ -22,20 +23,20 @@ key_cmp one other = ordering_then (slice_cmp nat_cmp one.0 other.0) (nat_cmp one
 unfoldable pub is_before : Key → Key → Bool
 is_before one other = is_lt (key_cmp one other)
 
--- the ranks of an order that stand before an entry come first
+-- the entries of an order that come before an entry are its first ones
 pub record IsSplit (entry : ℕ → Key) (order : List ℕ) (target : Key) (at : ℕ) : Type 0 where
   pub within : at ≤ length order
   pub before : (k : ℕ) → k < at → is_before (entry (get_or order k 0)) target ≡ true
   pub after : (k : ℕ) → at ≤ k → k < length order
       → is_before (entry (get_or order k 0)) target ≡ false
 
--- where a number stands in a list
+-- the position of a number in a list
 pub record Stands (order : List ℕ) (x : ℕ) : Type 0 where
   pub at : ℕ
   pub within : at < length order
   pub is : get_or order at 0 ≡ x
 
--- a list has exactly the numbers that are listed, each before those that come after it
+-- a list has exactly the listed numbers, in their order
 pub record IsOrder (listed : ℕ → Type 0) (entry : ℕ → Key) (order : List ℕ) : Type 0 where
   pub each : (k : ℕ) → k < length order → listed (get_or order k 0)
   pub rises : (j k : ℕ) → j < k → k < length order
@@ -69,7 +70,7 @@ abbrev pub id_of_bundle : Option (List ℕ) → List ℕ
 id_of_bundle None = []
 id_of_bundle (Some id) = id
 
--- the links of a kind, and what their order goes by: a number, and octets
+-- the links of a kind, and their sort key: a number, and octets
 abbrev pub is_of : OrderKind → Link → Bool
 is_of Reserved link = holds_number link.holder
 is_of Bound link = holds_session link.holder
@@ -91,7 +92,7 @@ order_octets Bundles link = id_of_bundle link.bundle
 abbrev pub order_key : OrderKind → Link → List ℕ
 order_key kind link = order_number kind link ∷ order_octets kind link
 
--- whether a link is of a kind and goes by these
+-- whether a link is of a kind and has this sort key
 unfoldable pub goes_by : OrderKind → ℕ → List ℕ → Link → Bool
 goes_by kind number octets link =
     is_of kind link && order_number kind link == number
@@ -100,20 +101,20 @@ goes_by kind number octets link =
 abbrev pub key_at : OrderKind → List Link → ℕ → Key
 key_at kind links at = (order_key kind (link_at links at), at)
 
--- the positions of the links of a kind, but for one
+-- the positions of the links of a kind, except one
 pub record IsListed (kind : OrderKind) (links : List Link) (but at : ℕ) : Type 0 where
   pub within : at < length links
   pub other : at ≢ but
   pub of_kind : is_of kind (link_at links at) ≡ true
 
--- an order of the links of a kind, but for one; and of all of them
+-- an order of the links of a kind, except one; and of all of them
 abbrev pub IsOrderBut : OrderKind → List Link → ℕ → List ℕ → Type 0
 IsOrderBut kind links but order = IsOrder (IsListed kind links but) (key_at kind links) order
 
 abbrev pub IsOrderOf : OrderKind → List Link → List ℕ → Type 0
 IsOrderOf kind links order = IsOrderBut kind links (length links) order
 
--- whether an order goes by the last touch
+-- whether an order is by the last touch
 abbrev pub is_by_touch : OrderKind → Bool
 is_by_touch Reserved = true
 is_by_touch Bound = true

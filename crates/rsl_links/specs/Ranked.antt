@@ -1,5 +1,6 @@
--- An order as a book keeps it: the slots of the links that it lists. Of two links that are alike in what it goes by, the one
--- with the lower number of its opening comes first, as the one at the lower position does.
+-- An order as a book keeps it: the slots of the links that it lists. Of two links with equal sort
+-- keys, the one with the lower number of its opening comes first, as the one at the lower position
+-- does.
 use Rattle.std.specs.Prelude.{◌≡◌, ℕ, ◌<◌, List, get_or, length, map, true}
 use Rattle.rsl_links.specs.declared.link.Link.{Link}
 use Rattle.rsl_links.specs.declared.order.OrderKind.{OrderKind}
@@ -12,7 +13,7 @@ use Rattle.rsl_links.specs.Slots.{link_in, links_of, opened_in, opened_of}
 abbrev pub slot_key : OrderKind → List Slot → ℕ → Key
 slot_key kind slots at = (order_key kind (link_in slots at), opened_in slots at)
 
--- slots, each before those that come after it
+-- slots in their order
 pub record IsSearchable (kind : OrderKind) (slots : List Slot) (order : List ℕ) : Type 0 where
   pub within : (k : ℕ) → k < length order → get_or order k 0 < length slots
   pub rises : (j k : ℕ) → j < k → k < length order
@@ -24,14 +25,14 @@ pub record IsRankedIn (kind : OrderKind) (links : List Link) (opened : List ℕ)
   pub is : order ≡ map (λ (at : ℕ). get_or opened at 0) positions
   pub in_order : IsOrderBut kind links but positions
 
--- of the links of a kind, but for one; and of all of them
+-- the slots of the links of a kind, except one; and of all of them
 abbrev pub AreRankedBut : OrderKind → Slots → ℕ → List ℕ → Type 0
 AreRankedBut kind slots but order = IsRankedIn kind (links_of slots) (opened_of slots) but order
 
 abbrev pub AreRankedOf : OrderKind → Slots → List ℕ → Type 0
 AreRankedOf kind slots order = AreRankedBut kind slots (length (links_of slots)) order
 
--- an order lists the links of its kind, but for one; and all of them
+-- an order lists the links of its kind, except one; and all of them
 abbrev pub IsRankedBut : Slots → ℕ → Order → Type 0
 IsRankedBut slots but order = AreRankedBut order.kind slots but order.slots.items
 

@@ -1,4 +1,4 @@
--- What a book's links stand for: each names its access server by its index in a table.
+-- What a book's links stand for: each names its access server by an index of a table.
 use Rattle.std.specs.Prelude.{ℕ, List, map, get_or, Option}
 use Rattle.std.specs.Option.{option_map}
 use Rattle.rsl_event.specs.declared.nas.Nas.{Nas}
@@ -16,7 +16,7 @@ unnamed = record { client = 0; name = Unnamed }
 abbrev pub server_at : List Nas → ℕ → Nas
 server_at servers at = get_or servers at unnamed
 
--- what has a link at an access server
+-- what holds a link at an access server
 abbrev pub holder_at : Nas → LinkHolder → Holder
 holder_at nas (LinkReserved number) = Reserved number
 holder_at nas (LinkBound id) = Bound (record { nas = nas; id = id })

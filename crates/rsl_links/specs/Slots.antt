@@ -1,5 +1,5 @@
--- Where a book keeps its links: each in a slot, where it stays until it ends. The sequence has all slots, first those of
--- the links, in the order in which these opened, and then those that are free.
+-- Where a book keeps its links: each in a slot until it ends. The sequence has all slots, first
+-- those of the links, in the order in which they opened, and then the free ones.
 use Rattle.std.specs.Prelude.{◌≡◌, ◌≢◌, ℕ, ◌+◌, ◌<◌, ◌≤◌, List, [], ◌∷◌, ◌++◌, get_or, length, map, take, vec_capacity}
 use Rattle.std.specs.List.{remove}
 use Rattle.std.specs.VecDeque.{deque_capacity}
@@ -9,7 +9,7 @@ use Rattle.rsl_links.specs.declared.slots.Slots.{Slots}
 use Rattle.rsl_links.specs.First.{change_at}
 use Rattle.rsl_links.specs.Order.{no_link}
 
--- what stands in a slot that is free
+-- a free slot
 abbrev pub no_slot : Slot
 no_slot = record { link = no_link; opened = 0 }
 
@@ -20,7 +20,7 @@ link_in slots at = (get_or slots at no_slot).link
 abbrev pub opened_in : List Slot → ℕ → ℕ
 opened_in slots at = (get_or slots at no_slot).opened
 
--- the slots of the links, in the order in which these opened, and the links
+-- the slots of the links, in the order in which they opened, and the links
 abbrev pub opened_of : Slots → List ℕ
 opened_of slots = take slots.count slots.sequence.items
 
@@ -30,13 +30,13 @@ links_in slots opened = map (link_in slots) opened
 abbrev pub links_of : Slots → List Link
 links_of slots = links_in slots.slots.items (opened_of slots)
 
--- the numbers of the openings rise, and the greatest number of all is free
+-- the numbers of the openings rise, and the greatest number of all is unused
 pub record IsRising (slots : List Slot) (opened : List ℕ) : Type 0 where
   pub within : (k : ℕ) → k < length opened → get_or opened k 0 < length slots
   pub rises : (j k : ℕ) → j < k → k < length opened → opened_in slots (get_or opened j 0) < opened_in slots (get_or opened k 0)
   pub below : (k : ℕ) → k < length opened → opened_in slots (get_or opened k 0) < 18446744073709551615
 
--- each slot stands in the sequence once
+-- each slot is in the sequence once
 pub record AreSequenced (slots : List Slot) (sequence : List ℕ) (count : ℕ) : Type 0 where
   pub few : count ≤ length sequence
   pub all : length sequence ≡ length slots
@@ -49,7 +49,7 @@ pub record IsKept (slots : Slots) : Type 0 where
   pub fit : length slots.sequence.items ≤ vec_capacity slots.slots
   pub room : vec_capacity slots.slots ≤ deque_capacity slots.sequence
 
--- the links are as they were, and there is as much room
+-- the links and the room are as they were
 pub record AreSame (old new : Slots) : Type 0 where
   pub kept : IsKept new
   pub opened : opened_of new ≡ opened_of old
@@ -57,7 +57,7 @@ pub record AreSame (old new : Slots) : Type 0 where
   pub links : links_of new ≡ links_of old
   pub room : vec_capacity new.slots ≡ vec_capacity old.slots
 
--- a link is changed where it is
+-- one link is changed
 pub record IsChanged (at : ℕ) (change : Link → Link) (old new : Slots) : Type 0 where
   pub kept : IsKept new
   pub opened : opened_of new ≡ opened_of old
@@ -65,7 +65,7 @@ pub record IsChanged (at : ℕ) (change : Link → Link) (old new : Slots) : Typ
   pub links : links_of new ≡ change_at at change (links_of old)
   pub room : vec_capacity new.slots ≡ vec_capacity old.slots
 
--- a link more, after the others
+-- a link is added after the others
 pub record IsMore (link : Link) (old new : Slots) : Type 0 where
   pub kept : IsKept new
   pub slot : ℕ
@@ -74,7 +74,7 @@ pub record IsMore (link : Link) (old new : Slots) : Type 0 where
   pub links : links_of new ≡ links_of old ++ link ∷ []
   pub room : vec_capacity new.slots ≡ vec_capacity old.slots
 
--- a link less
+-- a link is removed
 pub record IsLess (at : ℕ) (old new : Slots) : Type 0 where
   pub kept : IsKept new
   pub opened : opened_of new ≡ remove (opened_of old) at

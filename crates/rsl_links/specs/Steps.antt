@@ -1,4 +1,4 @@
--- What a found link is, and the parts of the step that the code takes one by one.
+-- The link that a step finds, and the parts of the step that the code takes one by one.
 use Rattle.std.specs.Prelude.{ℕ, ◌+◌, List, ◌++◌, take, drop, Option}
 use Rattle.rsl_event.specs.declared.nas.Nas.{Nas}
 use Rattle.rsl_session.specs.Book.{BookLink, Holder, Reserved, Bound}
@@ -19,6 +19,6 @@ take_here now id bundle link =
     take_for (record { nas = server_of link.nas link.holder; id = id }) now
     (bundle_with (server_of link.nas link.holder) bundle) link
 
--- the links but the one at a position
+-- the links without the one at a position
 unfoldable pub without_at : {A : Type 0} → ℕ → List A → List A
 without_at at xs = take at xs ++ drop (at + 1) xs

@@ -1,8 +1,8 @@
 //! The links of one account, and the access servers that they name.
 //!
-//! A link is found as the definitions find it: the one of a session, the first that an alive may
-//! take, those of a bundle, the one that lapses and the one that was touched longest ago. Orders of
-//! the links lead there, so that no other is looked at. `specs/Seen.antt` says what a link stands
+//! A link is found as the definitions find it: the link of a session, the first that an alive may
+//! take, those of a bundle, the one that lapses and the one touched longest ago. The links are kept
+//! in several orders, so that no other link is looked at. `specs/Seen.antt` says what a link stands
 //! for, `specs/LinkList.antt` and `specs/First.antt` what is found.
 #![tactic(auto)]
 

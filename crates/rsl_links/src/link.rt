@@ -13,7 +13,7 @@ use rsl_event::Nas;
 use rsl_wire::{NoMemory, Octets};
 use std::alloc::Global;
 
-/// What has a link.
+/// What holds a link.
 #[derive(PartialEq, Eq, Drop)]
 pub enum Holder {
     /// The accept number that reserves it.
@@ -23,7 +23,7 @@ pub enum Holder {
 }
 
 impl Holder {
-    /// An equal one. It fails only where memory is refused.
+    /// An equal holder. It fails only if memory is refused.
     pub fn try_copy(&self, alloc: Global) -> Result<Holder, NoMemory>
         ensures { IfOk result (λ copy. copy ≡ self.now) }
     {
@@ -34,21 +34,22 @@ impl Holder {
     }
 }
 
-/// A link of a book. What most look-ups read stands first, so that it lies in one line of memory.
+/// A link of a book. The fields that most look-ups read come first, so that they lie in one cache
+/// line.
 #[derive(Drop)]
 pub struct Link {
     /// Its access server, by its index in the table.
     pub nas: usize,
     /// The clock at its last touch.
     pub touched: u64,
-    /// What has it.
+    /// What holds it.
     pub holder: Holder,
     /// Its bundle, by its Acct-Multi-Session-Id, if it is in one.
     pub bundle: Option<Octets>,
 }
 
 impl Link {
-    /// An equal link. It fails only where memory is refused.
+    /// An equal link. It fails only if memory is refused.
     pub fn try_copy(&self, alloc: Global) -> Result<Link, NoMemory>
         ensures { IfOk result (λ copy. copy ≡ self.now) }
     {
@@ -60,7 +61,7 @@ impl Link {
         })
     }
 
-    /// Whether it is the same as one of another book.
+    /// Whether it equals a link of another book.
     #[tactic(auto, unfolding(crate::specs::Seen::link_seen))]
     pub fn is_same(&self, servers: &Servers, other: &Link, others: &Servers) -> bool
         ensures { IsTrue result ↔ (link_seen servers.now self.now ≡
@@ -96,7 +97,7 @@ impl Link {
         }
     }
 
-    /// Whether it is at an access server.
+    /// Whether it is at this access server.
     #[tactic(auto, unfolding(crate::specs::Seen::link_seen))]
     pub fn is_at(&self, servers: &Servers, nas: &Nas) -> bool
         ensures { result ≡ same_nas (link_seen servers.now self.now).nas nas.now }
@@ -104,7 +105,7 @@ impl Link {
         servers.is_at(self.nas, nas)
     }
 
-    /// Whether it is reserved at the access server of an index, by the number that a class names if
+    /// Whether it is reserved at the access server of this index, and by the number of the class if
     /// there is one.
     #[tactic(auto, unfolding(crate::specs::LinkList::is_for))]
     pub fn is_for(&self, nas: usize, class: Option<u64>) -> bool
@@ -127,7 +128,7 @@ impl Link {
         }
     }
 
-    /// Binds it to the session of this id, which touches it at this clock.
+    /// Binds it to the session of this id, with this clock as its last touch.
     #[tactic(auto, unfolding(crate::specs::Changed::bound_link))]
     pub(crate) fn bind(&mut self, now: u64, id: Octets)
         ensures { self.new ≡ bound_link now id self.old }

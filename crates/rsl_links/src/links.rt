@@ -25,7 +25,7 @@ use std::alloc::Global;
 /// The links of a book, and the places that they take.
 #[derive(Drop)]
 pub struct Links {
-    /// The links of a bundle that share a place.
+    /// How many links of a bundle share a place.
     pub ports: u64,
     /// The links, in the order in which they opened.
     pub list: LinkList,
@@ -33,7 +33,7 @@ pub struct Links {
     pub places: u64,
 }
 
-/// Whether one more link beside `others` of its bundle takes a place more.
+/// Whether another link beside `others` of its bundle takes another place.
 fn takes_a_place(ports: u64, others: usize) -> bool
     requires { 1 ≤ ports }
     ensures { div_ceil (others + 1) ports ≡ div_ceil others ports + (if result then 1 else 0) }
@@ -42,7 +42,7 @@ fn takes_a_place(ports: u64, others: usize) -> bool
 }
 
 impl Links {
-    /// No links, with room for `room`.
+    /// No links, with room for `room`. It fails only if memory is refused.
     pub fn new(alloc: Global, ports: u64, room: usize) -> Result<Links, NoMemory>
         ensures empty { IfOk result (λ links. links.list.items ≡ []) }
         ensures ports { IfOk result (λ links. links.ports ≡ ports) }
@@ -56,8 +56,8 @@ impl Links {
         })
     }
 
-    /// Whether one more link, at an access server of the table and with this bundle, takes a place
-    /// more.
+    /// Whether another link, at an access server of the table and with this bundle, takes another
+    /// place.
     pub fn adds_a_place(&self, servers: &Servers, nas: usize, bundle: &Option<Octets>) -> bool
         requires index { IsIndex servers.now nas }
         requires counted { AreCounted servers.now self.now }
@@ -73,7 +73,7 @@ impl Links {
         }
     }
 
-    /// Whether a place is free once a link ends.
+    /// Whether a place is free once this link ends.
     pub fn frees_a_place(&self, servers: &Servers, at: usize) -> bool
         requires counted { AreCounted servers.now self.now }
         requires within { at < length self.now.list.items }
@@ -90,7 +90,7 @@ impl Links {
         }
     }
 
-    /// Whether a place is free once an alive with this bundle touches a link.
+    /// Whether a place is free once an alive with this bundle touches this link.
     fn joins_a_place(&self, servers: &Servers, at: usize, bundle: &Option<Octets>) -> bool
         requires counted { AreCounted servers.now self.now }
         requires within { at < length self.now.list.items }
@@ -123,7 +123,7 @@ impl Links {
         self.list.remove(at);
     }
 
-    /// Opens a link, for which there is room.
+    /// Opens a link. There is room for it.
     pub fn open(&mut self, servers: &Servers, link: Link)
         requires room { length self.old.list.items < self.old.list.room }
         requires counted { AreCounted servers.now self.old }
@@ -138,7 +138,7 @@ impl Links {
         self.list.push(link);
     }
 
-    /// Touches a link, by an alive that may carry a bundle.
+    /// Touches a link by an alive, which may carry a bundle.
     pub fn touch_at(&mut self, servers: &Servers, at: usize, now: u64, bundle: Option<Octets>)
         requires within { at < length self.old.list.items }
         requires counted { AreCounted servers.now self.old }
@@ -154,7 +154,7 @@ impl Links {
         self.list.renew(at, now);
     }
 
-    /// Takes a link for the session of this id, by an alive that may carry a bundle.
+    /// Binds a reserved link to the session of this id by an alive, which may carry a bundle.
     pub fn take_at(
         &mut self,
         servers: &Servers,
@@ -281,7 +281,7 @@ impl Links {
         }
     }
 
-    /// Equal links, with room for `room`. It fails only where memory is refused.
+    /// Equal links, with room for `room`. It fails only if memory is refused.
     pub fn try_copy(&self, alloc: Global, room: usize) -> Result<Links, NoMemory>
         requires { length self.now.list.items ≤ room }
         ensures links { IfOk result (λ copy. copy.list.items ≡ self.now.list.items) }
@@ -296,7 +296,7 @@ impl Links {
         })
     }
 
-    /// How many of the links are reserved.
+    /// The number of reserved links.
     #[tactic(auto, using(crate::proofs::Tallied::tallied))]
     pub fn reserved(&self) -> usize
         ensures { (servers : List Nas) → result ≡
@@ -306,7 +306,7 @@ impl Links {
         self.list.reserved()
     }
 
-    /// How many of the links are live at this clock: those that are bound and not stale.
+    /// The number of live links at this clock: those that are bound and not stale.
     #[tactic(auto, using(crate::proofs::Tallied::tallied))]
     pub fn live(&self, rules: &Rules, now: u64) -> usize
         requires { RulesFit rules.now }
@@ -316,8 +316,8 @@ impl Links {
         self.list.bound() - self.stale(rules, now)
     }
 
-    /// How many of the links are stale at this clock: of the bound links, those that were touched
-    /// as long ago as a session may be silent.
+    /// The number of stale links at this clock: bound links whose last touch is as long ago as a
+    /// session may be silent.
     #[tactic(auto, using(crate::proofs::Tallied::tallied))]
     pub fn stale(&self, rules: &Rules, now: u64) -> usize
         requires { RulesFit rules.now }

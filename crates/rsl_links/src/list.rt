@@ -1,4 +1,4 @@
-//! The links of a book, with the orders by which those that stand longest are found.
+//! The links of a book, with the orders in which links are found.
 
 ghost use Rattle.std.specs.Prelude.{◌≡◌, ℕ, ◌+◌, ◌<◌, ◌≤◌, [], ◌∷◌, ◌++◌, IfOk, IfSome, IfNone};
 ghost use Rattle.std.specs.Prelude.{count_by, drop, false, get_or, length, take, true};
@@ -35,7 +35,7 @@ struct Orders {
 }
 
 impl Orders {
-    /// Orders of no links, with room for `room`. It fails only where memory is refused.
+    /// Orders of no links, with room for `room`. It fails only if memory is refused.
     fn new(alloc: Global, room: usize) -> Result<Orders, NoMemory>
         ensures kinds { IfOk result HaveKinds }
         ensures empty { IfOk result AreNoOrders }
@@ -49,7 +49,7 @@ impl Orders {
         })
     }
 
-    /// Takes the link at a position out of each order.
+    /// Removes the link at a position from each order.
     fn withdraw(&mut self, slots: &Slots, at: usize)
         requires kept { IsKept slots.now }
         requires within { at < slots.now.count }
@@ -64,7 +64,7 @@ impl Orders {
         self.bundles.withdraw(slots, at);
     }
 
-    /// Puts the link at a position into the orders of its kind.
+    /// Inserts the link at a position into the orders of its kind.
     fn enter(&mut self, slots: &Slots, at: usize)
         requires kept { IsKept slots.now }
         requires within { at < slots.now.count }
@@ -83,10 +83,10 @@ impl Orders {
 
 /// The links of a book, in the order in which they opened.
 ///
-/// The clock never falls, so the link that is touched goes to the end of its order, and those that
-/// lapse, or could yield, stand at the front. A link that ends leaves its orders, where others move
-/// up by a word each; no other link is looked at but those at which an order is halved to find its
-/// rank. A reservation stands in one order alone: one ends or is bound soon after it opened, and
+/// The clock never falls, so a link that is touched goes to the end of its order, and those that
+/// lapse, or could yield, are at the front. A link that ends leaves its orders, where later ones
+/// move up by a word each; the only other links that are looked at are those of the binary search
+/// for its rank. A reservation is in one order alone: it ends or is bound soon after it opened, and
 /// there are at most as many as places.
 #[derive(Drop)]
 pub struct LinkList {
@@ -105,7 +105,7 @@ impl Model for LinkList {
 }
 
 impl LinkList {
-    /// No links, with room for `room`. It fails only where memory is refused.
+    /// No links, with room for `room`. It fails only if memory is refused.
     pub fn new(alloc: Global, room: usize) -> Result<LinkList, NoMemory>
         ensures { IfOk result (λ list. list ≡ record { items = []; room = room }) }
     {
@@ -115,7 +115,7 @@ impl LinkList {
         })
     }
 
-    /// How many links there are.
+    /// The number of links.
     pub fn len(&self) -> usize
         ensures { result ≡ length self.now.items }
     {
@@ -141,7 +141,7 @@ impl LinkList {
         self.orders.enter(&self.slots, at);
     }
 
-    /// Takes a link out.
+    /// Removes a link.
     pub fn remove(&mut self, at: usize)
         requires { at < length self.old.items }
         ensures items { self.new.items ≡ take at self.old.items ++ drop (at + 1) self.old.items }
@@ -151,7 +151,7 @@ impl LinkList {
         self.slots.remove(at);
     }
 
-    /// Touches a link at this clock. What its session and its bundle stand by stays.
+    /// Touches a link at this clock. Its orders by session and by bundle stay.
     pub fn renew(&mut self, at: usize, now: u64)
         requires { at < length self.old.items }
         ensures items { self.new.items ≡ change_at at (renewed_link now) self.old.items }
@@ -164,7 +164,7 @@ impl LinkList {
         self.orders.bound.enter(&self.slots, at);
     }
 
-    /// Binds a link to the session of this id, which touches it at this clock.
+    /// Binds a link to the session of this id, with this clock as its last touch.
     pub fn bind(&mut self, at: usize, now: u64, id: Octets)
         requires { at < length self.old.items }
         ensures items { self.new.items ≡ change_at at (bound_link now id) self.old.items }
@@ -175,7 +175,7 @@ impl LinkList {
         self.orders.enter(&self.slots, at);
     }
 
-    /// Puts a link that is in no bundle into one, if an alive carries it.
+    /// Puts a link that is in no bundle into the one that an alive carries, if any.
     pub fn join(&mut self, at: usize, bundle: Option<Octets>)
         requires { at < length self.old.items }
         ensures items { self.new.items ≡ change_at at (joined_link bundle) self.old.items }
@@ -189,8 +189,8 @@ impl LinkList {
         }
     }
 
-    /// The position of the first link that is bound to the session of this id at the access server
-    /// of an index.
+    /// The position of the first link bound to the session of this id at the access server of an
+    /// index.
     pub fn session(&self, nas: usize, id: &[u8]) -> Option<usize>
         ensures found { IfSome result (λ at. IsFirst (is_held nas id.now) self.now.items at) }
         ensures missed { IfNone result (list_any (is_held nas id.now) self.now.items ≡ false) }
@@ -198,8 +198,8 @@ impl LinkList {
         self.orders.sessions.first_session(&self.slots, nas, id)
     }
 
-    /// The position of the first link that is reserved at the access server of an index, by the
-    /// number that a class names if there is one.
+    /// The position of the first link reserved at the access server of an index, by the number of
+    /// the class if there is one.
     pub fn reservation(&self, nas: usize, class: Option<u64>) -> Option<usize>
         ensures found { IfSome result (λ at. IsFirst (is_for nas class) self.now.items at) }
         ensures missed { IfNone result (list_any (is_for nas class) self.now.items ≡ false) }
@@ -209,21 +209,21 @@ impl LinkList {
             .first_reservation(&self.slots, nas, class)
     }
 
-    /// How many links are reserved.
+    /// The number of reserved links.
     pub fn reserved(&self) -> usize
         ensures { result ≡ count_by (is_of Reserved) self.now.items }
     {
         self.orders.reserved.slots.len()
     }
 
-    /// How many links are bound.
+    /// The number of bound links.
     pub fn bound(&self) -> usize
         ensures { result ≡ count_by (is_of Bound) self.now.items }
     {
         self.orders.bound.slots.len()
     }
 
-    /// How many links are bound, and were touched at this clock or before.
+    /// The number of bound links whose last touch was at this clock or before.
     pub fn bound_until(&self, clock: u64) -> usize
         ensures { result ≡ count_by (is_bound_until clock) self.now.items }
     {
@@ -231,14 +231,14 @@ impl LinkList {
         order.count_before(&self.slots, clock, &[], u64::MAX)
     }
 
-    /// How many links are in the bundle of this id at the access server of an index.
+    /// The number of links in the bundle of this id at the access server of an index.
     pub fn members(&self, nas: usize, id: &[u8]) -> usize
         ensures { result ≡ count_by (is_member nas id.now) self.now.items }
     {
         self.orders.bundles.members(&self.slots, nas, id)
     }
 
-    /// Whether a bound link names an index of the table of access servers.
+    /// Whether a bound link names this index of the table of access servers.
     fn sessions_name(&self, nas: usize) -> bool
         ensures { result ≡ list_any (is_bound_at nas) self.now.items }
     {
@@ -250,7 +250,7 @@ impl LinkList {
         self.slots.slots[order.slots[rank]].link.nas == nas
     }
 
-    /// Whether a link names an index of the table of access servers.
+    /// Whether a link names this index of the table of access servers.
     pub fn names(&self, nas: usize) -> bool
         ensures { result ≡ named_by_links self.now.items nas }
     {
@@ -260,7 +260,7 @@ impl LinkList {
         self.reservation(nas, None).is_some()
     }
 
-    /// A link that lapses at this clock, if there is one: the first in its order.
+    /// The first link that lapses at this clock, if there is one.
     pub fn lapsed(&self, servers: &Servers, rules: &Rules, now: u64) -> Option<usize>
         requires { RulesFit rules.now }
         ensures within { IfSome result (λ at. at < length self.now.items) }
@@ -280,7 +280,7 @@ impl LinkList {
         self.orders.bound.first_lapsed(slots, servers, rules, now)
     }
 
-    /// The bound link that was touched longest ago, and of these the first.
+    /// The bound link touched longest ago, and of several the first.
     pub fn oldest(&self) -> Option<usize>
         ensures found { IfSome result (λ at. IsOldest self.now.items at) }
         ensures missed { IfNone result ((at : ℕ) → at < length self.now.items →
@@ -293,7 +293,7 @@ impl LinkList {
         Some(self.slots.position(order.slots[0]))
     }
 
-    /// Equal links, with room for `room`. It fails only where memory is refused.
+    /// Equal links, with room for `room`. It fails only if memory is refused.
     pub fn try_copy(&self, alloc: Global, room: usize) -> Result<LinkList, NoMemory>
         requires { length self.now.items ≤ room }
         ensures { IfOk result (λ copy. copy ≡ record { items = self.now.items; room = room }) }

@@ -1,4 +1,4 @@
-//! Orders of a book's links: lists of their slots, so that a link is found without a look at each.
+//! Orders of a book's links: sorted lists of their slots, so that a link is found without a scan.
 
 ghost use Rattle.std.specs.Prelude.{◌≡◌, ◌<◌, ◌≤◌, ◌∷◌, [], get_or, length, true, false, IfOk};
 ghost use Rattle.std.specs.Prelude.{IfNone, IfSome, ℕ};
@@ -24,8 +24,8 @@ use rsl_wire::NoMemory;
 use std::alloc::Global;
 use std::collections::VecDeque;
 
-/// Which links an order lists, and by what it goes. Links that are alike in this stand as they
-/// opened.
+/// The links that an order lists, and its sort key. Links with equal keys are in the order in which
+/// they opened.
 #[derive(Clone, Copy)]
 pub(crate) enum OrderKind {
     /// The reserved links, by their last touch.
@@ -41,7 +41,7 @@ pub(crate) enum OrderKind {
 }
 
 impl OrderKind {
-    /// Whether a link is of this kind.
+    /// Whether the order lists a link.
     fn holds(self, link: &Link) -> bool
         ensures { result ≡ is_of self link.now }
     {
@@ -52,7 +52,7 @@ impl OrderKind {
         }
     }
 
-    /// The number that a link of this kind goes by first.
+    /// The first part of a link's sort key: a number.
     fn number(self, link: &Link) -> u64
         ensures { result ≡ order_number self link.now }
     {
@@ -62,7 +62,7 @@ impl OrderKind {
         }
     }
 
-    /// The octets that a link of this kind goes by then.
+    /// The second part of a link's sort key: octets.
     fn octets(self, link: &Link) -> &[u8]
         ensures { result.now ≡ order_octets self link.now }
     {
@@ -73,7 +73,8 @@ impl OrderKind {
         }
     }
 
-    /// Whether the link in a slot stands before what goes by these and opened as this number.
+    /// Whether the link in a slot comes before a link with this sort key that opened as number
+    /// `opened`.
     #[inline(always)]
     #[tactic(auto, unfolding(crate::specs::Order::is_before))]
     fn is_before(self, slot: &Slot, number: u64, octets: &[u8], opened: u64) -> bool
@@ -86,7 +87,7 @@ impl OrderKind {
             .is_lt()
     }
 
-    /// Whether a link is of this kind and goes by these.
+    /// Whether the order lists a link, and it has this sort key.
     #[tactic(auto, unfolding(crate::specs::Order::goes_by))]
     fn goes_by(self, link: &Link, number: u64, octets: &[u8]) -> bool
         ensures { result ≡ goes_by self number octets.now link.now }
@@ -98,14 +99,14 @@ impl OrderKind {
 /// An order of links.
 #[derive(Drop)]
 pub(crate) struct Order {
-    /// Which links it lists, and by what it goes.
+    /// The links that it lists, and its sort key.
     pub kind: OrderKind,
     /// Their slots, each at its rank.
     pub slots: VecDeque<usize>,
 }
 
 impl Order {
-    /// An order of no links, with room for `room`. It fails only where memory is refused.
+    /// An order of no links, with room for `room`. It fails only if memory is refused.
     pub(crate) fn new(alloc: Global, kind: OrderKind, room: usize) -> Result<Order, NoMemory>
         ensures kind { IfOk result (λ order. order.kind ≡ kind) }
         ensures empty { IfOk result (λ order. order.slots.items ≡ []) }
@@ -117,7 +118,7 @@ impl Order {
         })
     }
 
-    /// How many of its links stand before what goes by these and opened as this number.
+    /// The number of its links before a link with this sort key that opened as number `opened`.
     #[inline(always)]
     pub(crate) fn count_before(
         &self,
@@ -147,7 +148,7 @@ impl Order {
         low
     }
 
-    /// The position of its first link that goes by these, if one does.
+    /// The position of its first link with this sort key.
     fn first_of(&self, slots: &Slots, number: u64, octets: &[u8]) -> Option<usize>
         requires kept { IsKept slots.now }
         requires order { IsRankedOf slots.now self.now }
@@ -168,8 +169,8 @@ impl Order {
         }
     }
 
-    /// The position of the first link of an order of sessions that is bound to the session of this
-    /// id at an access server.
+    /// The position of the first link bound to the session of this id at an access server, in an
+    /// order of sessions.
     pub(crate) fn first_session(&self, slots: &Slots, nas: usize, id: &[u8]) -> Option<usize>
         requires kept { IsKept slots.now }
         requires kind { self.now.kind ≡ Sessions }
@@ -181,7 +182,7 @@ impl Order {
         self.first_of(slots, nas as u64, id)
     }
 
-    /// How many links of an order of bundles are in that of this id at an access server.
+    /// The number of links in the bundle of this id at an access server, in an order of bundles.
     pub(crate) fn members(&self, slots: &Slots, nas: usize, id: &[u8]) -> usize
         requires kept { IsKept slots.now }
         requires kind { self.now.kind ≡ Bundles }
@@ -193,8 +194,8 @@ impl Order {
         end - first
     }
 
-    /// The position of the first link of an order of the reserved ones that an alive at an access
-    /// server, with this class, can take. Each is looked at: they are at most as many as places.
+    /// The position of the first link that an alive at an access server, with this class, can take,
+    /// in the order of reserved links. It is a scan: they are at most as many as places.
     pub(crate) fn first_reservation(
         &self,
         slots: &Slots,
@@ -226,7 +227,7 @@ impl Order {
         }
     }
 
-    /// The position of a link that lapses at this clock, if one does: then the first does.
+    /// The position of the first link, if it lapses at this clock. If any lapses, the first does.
     pub(crate) fn first_lapsed(
         &self,
         slots: &Slots,
@@ -249,7 +250,7 @@ impl Order {
         if self.slots.is_empty() {
             return None;
         }
-        // Its slot alone shows whether the link lapses, and only then is its position wanted.
+        // Its slot alone shows whether the link lapses; only then is its position needed.
         let first = self.slots[0];
         if slots.slots[first].link.lapses(servers, rules, now) {
             Some(slots.position(first))
@@ -258,8 +259,8 @@ impl Order {
         }
     }
 
-    /// How many of its links stand before the link in a slot. The link that is touched goes to the
-    /// end of an order by touch, so that rank is tried first.
+    /// The number of its links before the link in a slot. A touched link goes to the end of an
+    /// order by touch, so that rank is tried first.
     fn count_before_link(&self, slots: &Slots, slot: usize) -> usize
         requires within { slot < length slots.now.slots.items }
         requires order { IsSearchable self.now.kind slots.now.slots.items self.now.slots.items }
@@ -281,7 +282,7 @@ impl Order {
         self.count_before(slots, number, octets, own.opened)
     }
 
-    /// The rank of the link at a position. Links are mostly touched in turn, so the first is tried
+    /// The rank of the link at a position. Links are mostly touched in turn, so rank 0 is tried
     /// first.
     fn rank_of(&self, slots: &Slots, at: usize) -> usize
         requires kept { IsKept slots.now }
@@ -298,7 +299,7 @@ impl Order {
         self.count_before_link(slots, slot)
     }
 
-    /// Takes the link at a position out, if it is of its kind.
+    /// Removes the link at a position, if it is of its kind.
     pub(crate) fn withdraw(&mut self, slots: &Slots, at: usize)
         requires kept { IsKept slots.now }
         requires within { at < slots.now.count }
@@ -313,7 +314,7 @@ impl Order {
         }
     }
 
-    /// Puts the link at a position in, if it is of its kind.
+    /// Inserts the link at a position, if it is of its kind.
     pub(crate) fn enter(&mut self, slots: &Slots, at: usize)
         requires kept { IsKept slots.now }
         requires within { at < slots.now.count }
@@ -331,7 +332,7 @@ impl Order {
     }
 }
 
-/// Puts a slot in at a rank, where there is room for it.
+/// Inserts a slot at a rank. There is room for it.
 fn insert_reserved(order: &mut VecDeque<usize>, rank: usize, slot: usize)
     requires within { rank ≤ length order.old.items }
     requires room { length order.old.items < deque_capacity order.old }

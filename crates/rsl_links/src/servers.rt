@@ -9,9 +9,9 @@ use rsl_wire::NoMemory;
 use std::alloc::Global;
 use std::marker::Model;
 
-/// The access servers that a book names. All its room is taken at once.
+/// The access servers that a book names. All its memory is allocated at once.
 ///
-/// Beside each stands its fingerprint, so that most others are told apart from it with one test.
+/// Beside each is its fingerprint, with which one comparison rules out most others.
 #[derive(Drop)]
 pub struct Servers {
     fingerprints: Vec<u32>,
@@ -34,7 +34,7 @@ impl Model for Servers {
         (s.fingerprints.items ≡ fingerprints_of s.table.items) };
 }
 
-/// The fingerprint of octets that follow those of which `start` was made.
+/// The fingerprint of octets after those of the fingerprint `start`.
 #[tactic(auto, using(crate::proofs::Fingerprints::fingerprint_steps))]
 fn fingerprint_with(start: u32, octets: &[u8]) -> u32
     ensures { result ≡ fingerprint_with start octets.now }
@@ -57,7 +57,7 @@ fn fingerprint_of(nas: &Nas) -> u32
     }
 }
 
-/// The access server that stands where none does.
+/// The access server of a free row.
 fn nobody() -> Nas
     ensures { result ≡ unnamed }
 {
@@ -86,7 +86,7 @@ impl Servers {
         })
     }
 
-    /// An equal table. It fails only where memory is refused.
+    /// An equal table. It fails only if memory is refused.
     #[tactic(auto, using(crate::proofs::Lists::copy_steps))]
     pub fn try_copy(&self, alloc: Global) -> Result<Servers, NoMemory>
         ensures { IfOk result (λ copy. copy ≡ self.now) }
@@ -102,7 +102,7 @@ impl Servers {
         })
     }
 
-    /// How many rows there are.
+    /// The number of rows.
     pub fn len(&self) -> usize
         ensures { result ≡ length self.now }
     {
@@ -120,21 +120,21 @@ impl Servers {
         }
     }
 
-    /// Whether an access server is the one at an index.
+    /// Whether this access server is the one at an index.
     pub fn is_at(&self, at: usize, nas: &Nas) -> bool
         ensures { result ≡ same_nas (server_at self.now at) nas.now }
     {
         self.at(at).is_same(nas)
     }
 
-    /// Whether the one at an index is this access server: the same test, the other way round.
+    /// `is_at` with its operands swapped.
     pub fn is_as(&self, nas: &Nas, at: usize) -> bool
         ensures { result ≡ same_nas nas.now (server_at self.now at) }
     {
         nas.is_same(self.at(at))
     }
 
-    /// Index 0, if this access server stands there.
+    /// Index 0, if this access server is there.
     fn first(&self, nas: &Nas) -> Option<usize>
         ensures found { IfSome result (λ at. server_at self.now at ≡ nas.now) }
         ensures index { IfSome result (λ at. IsIndex self.now at) }
@@ -147,7 +147,7 @@ impl Servers {
     }
 
     /// The first index of an access server, if it is in the table. Most accounts log in at one
-    /// access server, so index 0 is tried before any fingerprint is made.
+    /// access server, so index 0 is tried before any fingerprint is computed.
     pub fn find(&self, nas: &Nas) -> Option<usize>
         ensures found { IfSome result (λ at. server_at self.now at ≡ nas.now) }
         ensures index { IfSome result (λ at. IsIndex self.now at) }

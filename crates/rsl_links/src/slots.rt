@@ -1,4 +1,4 @@
-//! Where a book keeps its links, and the order in which they opened.
+//! Where a book keeps its links, with the order in which they opened.
 
 ghost use Rattle.std.specs.Prelude.{◌≡◌, ℕ, ◌<◌, ◌+◌, get_or, length, vec_capacity, IfOk, []};
 ghost use Rattle.rsl_links.specs.Changed.{bound_link, joined_link, renewed_link};
@@ -11,7 +11,7 @@ use rsl_wire::{NoMemory, Octets};
 use std::alloc::Global;
 use std::collections::VecDeque;
 
-/// What a slot has: a link, or what stands there for none.
+/// A slot: a link, or a placeholder.
 #[derive(Drop)]
 pub(crate) struct Slot {
     /// The number of its opening, which is greater for a link that opened later.
@@ -21,7 +21,7 @@ pub(crate) struct Slot {
 }
 
 impl Slot {
-    /// A slot that is free.
+    /// A free slot.
     fn free() -> Slot
         ensures { result ≡ no_slot }
     {
@@ -37,21 +37,21 @@ impl Slot {
 
 /// The links of a book, each in a slot, where it stays until it ends.
 ///
-/// A link that opens or ends moves words of `sequence`, and no link. To find the position of a slot's
-/// link, only those are looked at at which `sequence` is halved.
+/// Opening or ending a link moves words of `sequence`, and no link. The position of a slot's link
+/// is found by binary search in `sequence`.
 #[derive(Drop)]
 pub(crate) struct Slots {
     /// The slots, in no order.
     pub slots: Vec<Slot>,
-    /// All slots: first those of the links, in the order in which these opened, and then those that
-    /// are free.
+    /// All slots: first those of the links, in the order in which they opened, and then the free
+    /// ones.
     pub sequence: VecDeque<usize>,
-    /// How many links there are.
+    /// The number of links.
     pub count: usize,
 }
 
 impl Slots {
-    /// No links, with room for `room`. It fails only where memory is refused.
+    /// No links, with room for `room`. It fails only if memory is refused.
     pub(crate) fn new(alloc: Global, room: usize) -> Result<Slots, NoMemory>
         ensures kept { IfOk result IsKept }
         ensures none { IfOk result (λ slots. opened_of slots ≡ []) }
@@ -83,7 +83,7 @@ impl Slots {
         &self.slots[self.slot(at)].link
     }
 
-    /// How many links opened before the one in a slot.
+    /// The number of links that opened before the one in a slot.
     fn count_before(&self, slot: usize) -> usize
         requires kept { IsKept self.now }
         requires stands { Stands (opened_of self.now) slot }
@@ -104,8 +104,8 @@ impl Slots {
         low
     }
 
-    /// The position of the link in a slot. It is tried first where the link stands if none that
-    /// opened between the first and it has ended.
+    /// The position of the link in a slot. The first guess assumes that none of the links between
+    /// the first one and this one has ended.
     pub(crate) fn position(&self, slot: usize) -> usize
         requires kept { IsKept self.now }
         requires stands { Stands (opened_of self.now) slot }
@@ -122,7 +122,7 @@ impl Slots {
         self.count_before(slot)
     }
 
-    /// Numbers the openings of the links anew, from 0 on.
+    /// Numbers the openings of the links from 0 again.
     fn renumber(&mut self)
         requires kept { IsKept self.old }
         requires few { self.old.count < vec_capacity self.old.slots }
@@ -137,8 +137,8 @@ impl Slots {
         }
     }
 
-    /// The number of the opening that comes next. Once all numbers are used up the openings are
-    /// numbered anew: then each link is looked at, once in 2^64 openings.
+    /// The number of the next opening. Once all numbers are used up, the openings are numbered
+    /// again: a walk over all links, once in 2^64 openings.
     fn next_number(&mut self) -> u64
         requires kept { IsKept self.old }
         requires few { self.old.count < vec_capacity self.old.slots }
@@ -159,7 +159,7 @@ impl Slots {
         self.count as u64
     }
 
-    /// Makes a slot more, which is free.
+    /// Adds a free slot.
     fn grow(&mut self)
         requires kept { IsKept self.old }
         requires room { length self.old.sequence.items < vec_capacity self.old.slots }
@@ -189,7 +189,7 @@ impl Slots {
         self.count += 1;
     }
 
-    /// Takes a link out.
+    /// Removes a link.
     pub(crate) fn remove(&mut self, at: usize)
         requires kept { IsKept self.old }
         requires within { at < self.old.count }
@@ -222,7 +222,7 @@ impl Slots {
         self.slots[slot].link.join(bundle);
     }
 
-    /// Binds a link to the session of this id, which touches it at this clock.
+    /// Binds a link to the session of this id, with this clock as its last touch.
     pub(crate) fn bind(&mut self, at: usize, now: u64, id: Octets)
         requires kept { IsKept self.old }
         requires within { at < self.old.count }

@@ -1,4 +1,4 @@
--- What is held after some events, as one pass over them carries it.
+-- The links that are held after some events, as one pass over the events carries them.
 use Rattle.std.specs.Prelude.{◌≡◌, ℕ, List, [], ◌∷◌, filter, map, max, ◌||◌, not}
 use Rattle.rsl_accounts.specs.declared.rules.Rules.{Rules}
 use Rattle.rsl_session.specs.declared.past_event.PastEvent.{PastEvent}
@@ -15,13 +15,13 @@ use Rattle.rsl_rule.specs.declared.holding.Holding.{Holding}
 unfoldable pub standings : Past → List ℕ → List HeldLink
 standings past links = map (λ link. record { link = link; standing = standing_of link past }) links
 
--- the held links that an event leaves
+-- the held links that an event does not free
 abbrev pub lasting : Rules → PastEvent → Past → List ℕ
 lasting rules entry past =
     filter (λ link. not (ends rules past entry.event link
     || yields link entry.outcome)) (held_links rules past)
 
--- the number of the link that an event took, 0 where it took none
+-- the number of the link that an event took, or 0
 unfoldable pub taken_by : Outcome → ℕ
 taken_by (Took taken) = taken
 taken_by _ = 0
@@ -31,7 +31,7 @@ unfoldable pub furthest_taken : Past → ℕ
 furthest_taken [] = 0
 furthest_taken (entry ∷ past) = max (furthest_taken past) (taken_by entry.outcome)
 
--- what is carried once a past was gone over
+-- what is held after a whole past
 pub record IsHolding (rules : Rules) (past : Past) (holding : Holding) : Type 0 where
   pub each : holding.links.items ≡ standings past (held_links rules past)
   pub now : holding.clock ≡ clock past

@@ -26,7 +26,7 @@ abbrev pub PlacesStayWithinTheLimit : Type 0
 PlacesStayWithinTheLimit = (rules : Rules) (events : List Event) (n : ℕ) → RulesFit rules
     → places_after rules (take n events) ≤ rules.places
 
--- the past of a list of events has its events, newest first, and each did what the rule says by
+-- the past of a list of events has its events, newest first, and each did what the rule says for
 -- what came before it
 abbrev pub PastsFollowTheRule : Type 0
 PastsFollowTheRule = (rules : Rules) (events : List Event)
@@ -39,8 +39,7 @@ OnePastFollowsTheRule = (rules : Rules) (one other : Past) → IsRuled rules one
     → map (λ (entry : PastEvent). entry.event) one ≡ map (λ (entry : PastEvent). entry.event) other
     → one ≡ other
 
--- an alive with no class takes the reservation at its access server that has the lowest number: no
--- class names a lower one
+-- an alive with no class takes the reservation at its access server with the lowest number
 abbrev pub LowestReservationIsTaken : Type 0
 LowestReservationIsTaken =
     (rules : Rules) (events : List Event) (event : Event) (nas : Nas) (link other a b : ℕ)
@@ -48,8 +47,8 @@ LowestReservationIsTaken =
     → number_at link (past_of rules events) ≡ Some a
     → reservation_of rules (past_of rules events) event nas (Some b) ≡ Some other → a ≤ b
 
--- a link that yields to an event was stale then, no stale link was touched before it, and the
--- places after the event are at most the account's
+-- a link that yields to an event was stale, no stale link was touched before it, and the places
+-- after the event are at most the account's
 abbrev pub StaleLinksYield : Type 0
 StaleLinksYield =
     (rules : Rules) (events : List Event) (event : Event) (number link : ℕ) → RulesFit rules
@@ -63,12 +62,12 @@ ClosedSessionsHoldNoLink = (rules : Rules) (events : List Event) (event : Event)
     → is_closed rules (past_of rules events) event session ≡ true
     → link_of rules (past_of rules events) event session ≡ None
 
--- the accept numbers of the fresh asks that were accepted, in the order in which they were given
+-- the accept numbers of the accepted fresh asks, in order
 unfoldable pub accept_numbers : Past → List ℕ
 accept_numbers [] = []
 accept_numbers (entry ∷ past) = accept_numbers past ++ option_to_list (number_of entry.outcome)
 
--- they count up from 0 without a gap
+-- accept numbers count up from 0 without a gap
 abbrev pub AcceptNumbersCountUp : Type 0
 AcceptNumbersCountUp = (rules : Rules) (events : List Event)
     → EachIndex (accept_numbers (past_of rules events))
@@ -79,21 +78,21 @@ abbrev pub key_of : Act → Option Key
 key_of (Ask key nas) = Some key
 key_of _ = None
 
--- a fresh ask of a key was decided so
+-- a fresh ask of a key got this decision
 pub record IsFreshDecision (key : Option Key) (decision : Decision) (entry : PastEvent)
     : Type 0 where
   pub same_key : key_of entry.event.act ≡ key
   pub decided : fresh_decision entry.outcome ≡ Some decision
 
--- what a repeat is answered was decided on a fresh ask of its key before it
+-- a repeat gets the decision of an earlier fresh ask of its key
 abbrev pub RepeatsAreDecidedAsAFreshAsk : Type 0
 RepeatsAreDecidedAsAFreshAsk =
     (rules : Rules) (events : List Event) (event : Event) (decision : Decision)
     → outcome_of rules (past_of rules events) event ≡ Repeated decision
     → Any (IsFreshDecision (key_of event.act) decision) (past_of rules events)
 
--- a tick that is put into a list where no event after it has a lower moment leaves every decision
--- as it was, and the places after each event after it
+-- a tick inserted into a list where no later event has a lower moment leaves every decision as it
+-- was, and the places after each later event
 abbrev pub EarlyTicksChangeNoDecision : Type 0
 EarlyTicksChangeNoDecision =
     (rules : Rules) (events : List Event) (n moment : ℕ) → n ≤ length events

@@ -1,4 +1,4 @@
--- Which events take memory when they are decided: those of which the outcome is looked up.
+-- The events whose decision allocates: those whose outcome is looked up.
 use Rattle.std.specs.Prelude.{List, ◌<◌, length}
 use Rattle.rsl_event.specs.declared.event.Act.{Act}
 use Rattle.rsl_event.specs.declared.event.Act.TheVariants.{Ask, Alive}

@@ -1,4 +1,4 @@
--- How a link stands: what a past says of when the link ends.
+-- How a link stands: what a past says of the link's end.
 use Rattle.std.specs.Prelude.{ℕ, ◌-◌, max, List, Bool, ◌&&◌, ◌||◌, not, nat_le, is_some, is_none, find, Option}
 use Rattle.std.specs.List.{list_all}
 use Rattle.std.specs.Option.{option_map}
@@ -23,19 +23,19 @@ standing_of link past =
 abbrev pub link_where : (HeldLink → Bool) → List HeldLink → Option ℕ
 link_where test held = option_map (λ (one : HeldLink). one.link) (find test held)
 
--- whether a link that stands so is idle when an event comes
+-- whether a link of this standing is idle when an event comes
 abbrev pub is_idle_so : Rules → Event → Standing → Bool
 is_idle_so rules event standing =
     is_some standing.session
     && nat_le rules.live (max standing.clock event.moment - standing.touched)
 
--- whether none of the idle links among some was touched before a moment
+-- whether no idle link among these was touched before a moment
 abbrev pub is_first_so : Rules → Event → List HeldLink → ℕ → Bool
 is_first_so rules event held touched =
     list_all (λ (other : HeldLink). not (is_idle_so rules event other.standing)
     || nat_le touched other.standing.touched) held
 
--- whether a link of some can yield
+-- whether one of these links can yield
 abbrev pub is_yielding_so : Rules → Event → List HeldLink → HeldLink → Bool
 is_yielding_so rules event held one =
     is_idle_so rules event one.standing && is_first_so rules event held one.standing.touched

@@ -26,7 +26,7 @@ use rsl_session::{Outcome, PastEvent, Session};
 use rsl_wire::NoMemory;
 use std::alloc::Global;
 
-/// The link that a session is bound to, of those that are held when its alive comes.
+/// The held link that a session is bound to when its alive comes.
 fn link_of_session(before: &[HeldLink], session: &Session) -> Option<usize>
     ensures { result ≡
         link_where (λ held. is_session held.standing.session session.now) before.now }
@@ -37,7 +37,7 @@ fn link_of_session(before: &[HeldLink], session: &Session) -> Option<usize>
         .map(|held| held.link)
 }
 
-/// Whether an accept number is the one that a class names; no class names any.
+/// Whether an accept number is the one that a class names. Without a class any number is.
 fn is_named(class: Option<u64>, number: Option<u64>) -> bool
     ensures { result ≡ is_number class number }
 {
@@ -57,7 +57,7 @@ fn can_take(history: &[PastEvent], nas: &Nas, class: Option<u64>, held: &HeldLin
         && is_named(class, number_of_link(held.link, history))
 }
 
-/// The reservation that an alive takes.
+/// The reservation that an alive takes, if any.
 fn chosen_reservation(
     history: &[PastEvent],
     before: &[HeldLink],
@@ -73,7 +73,7 @@ fn chosen_reservation(
         .map(|held| held.link)
 }
 
-/// Whether one more link with the event's bundle can open.
+/// Whether another link with the event's bundle can open.
 #[tactic(auto, unfolding(rsl_session::specs::Alive::has_room))]
 fn can_open(
     alloc: Global,
@@ -93,7 +93,7 @@ fn can_open(
     Ok(places_taken(rules.ports, &bundles) <= rules.places)
 }
 
-/// What an alive does once it renews no link and its session is not closed.
+/// What an alive does if it renews no link and its session is not closed.
 fn outcome_of_unbound(
     alloc: Global,
     rules: &Rules,

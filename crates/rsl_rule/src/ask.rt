@@ -40,7 +40,7 @@ fn decision_of_fresh(outcome: Outcome) -> Option<Decision>
     }
 }
 
-/// A fresh ask as it is kept, by the past up to it and the entries since.
+/// A fresh ask as it is kept, from the past up to it and the entries since.
 fn keep_ask(
     alloc: Global,
     history: &[PastEvent],
@@ -63,7 +63,7 @@ fn keep_ask(
     }
 }
 
-/// The last fresh asks of a past, newest first, as many as can be repeated.
+/// The last fresh asks of a past that can be repeated, newest first.
 #[tactic(auto, using(crate::proofs::Kept::asks_steps))]
 fn asks_of(alloc: Global, history: &[PastEvent]) -> Result<Vec<KeptAsk>, NoMemory>
     ensures asks { IfOk result (λ asks. asks.items ≡
@@ -129,7 +129,7 @@ fn accept_count(history: &[PastEvent]) -> u64
     count
 }
 
-/// What a fresh ask does, while there is an accept number for it.
+/// What a fresh ask does, if there is an accept number left for it.
 fn outcome_of_fresh(
     alloc: Global,
     rules: &Rules,

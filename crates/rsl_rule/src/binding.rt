@@ -17,7 +17,7 @@ use rsl_session::{Bundle, Outcome, PastEvent, Session};
 use rsl_wire::NoMemory;
 use std::alloc::Global;
 
-/// Whether the event of a number opened or took a link for a session.
+/// Whether the event with this number opened or took a link for a session.
 #[tactic(auto, unfolding(rsl_session::specs::Binding::binds))]
 fn binds_link(link: usize, number: usize, outcome: Outcome) -> bool
     ensures { result ≡ binds link number outcome }
@@ -43,7 +43,7 @@ fn session_of_act(alloc: Global, act: &Act) -> Result<Option<Session>, NoMemory>
     }
 }
 
-/// The bundle that an alive carries.
+/// The bundle of an alive.
 #[tactic(auto, unfolding(rsl_session::specs::Binding::bundle_of))]
 pub(crate) fn bundle_of_act(alloc: Global, act: &Act) -> Result<Option<Bundle>, NoMemory>
     ensures { IfOk result (λ bundle. bundle ≡ bundle_of act.now) }
@@ -61,7 +61,7 @@ pub(crate) fn bundle_of_act(alloc: Global, act: &Act) -> Result<Option<Bundle>, 
     }
 }
 
-/// The session for which the entry of a number opened or took a link.
+/// The session for which the entry with this number opened or took a link.
 #[tactic(auto, unfolding(rsl_session::specs::Binding::bound_by))]
 fn session_bound(
     alloc: Global,
@@ -78,7 +78,7 @@ fn session_bound(
     }
 }
 
-/// The bundle with which the entry of a number touched a link.
+/// The bundle with which the entry with this number touched a link.
 #[tactic(auto, unfolding(rsl_session::specs::Binding::bundled_by))]
 fn bundle_touched(
     alloc: Global,
@@ -95,7 +95,7 @@ fn bundle_touched(
     }
 }
 
-/// The session that a link is bound to once the entry of a number has come, by the one before.
+/// The session of a link after the entry with this number, from the session before.
 pub(crate) fn session_after(
     alloc: Global,
     bound: Option<Session>,
@@ -111,7 +111,7 @@ pub(crate) fn session_after(
     }
 }
 
-/// The session that a link is bound to, by the first that bound it.
+/// The session of a link: the first that bound it.
 #[tactic(auto, using(crate::proofs::Looking::bound_steps))]
 pub(crate) fn session_of_link(
     alloc: Global,
@@ -129,7 +129,7 @@ pub(crate) fn session_of_link(
     Ok(None)
 }
 
-/// The bundle of a link, by the first that touched it and carried one.
+/// The bundle of a link: the first with which it was touched.
 #[tactic(auto, using(crate::proofs::Looking::bundle_steps))]
 pub(crate) fn bundle_of_link(
     alloc: Global,

@@ -17,7 +17,7 @@ pub(crate) fn clock_of(history: &[PastEvent]) -> u64
     now
 }
 
-/// The clock when an event has come.
+/// The clock once an event has come.
 #[tactic(auto, unfolding(rsl_session::specs::Clock::clock_at))]
 pub(crate) fn clock_with(history: &[PastEvent], event: &Event) -> u64
     ensures { result ≡ clock_at (looking_back history.now) event.now }

@@ -11,7 +11,7 @@ use rsl_session::{KEPT_STOPS, KeptStop, PastEvent, Session};
 use rsl_wire::NoMemory;
 use std::alloc::Global;
 
-/// A stop as it is kept, by the past up to it and the entries since.
+/// A stop as it is kept, from the past up to it and the entries since.
 fn keep_stop(
     alloc: Global,
     history: &[PastEvent],
@@ -34,7 +34,7 @@ fn keep_stop(
     }
 }
 
-/// The last stops of a past, newest first, as many as can close a session.
+/// The last stops of a past that can close a session, newest first.
 #[tactic(auto, using(crate::proofs::Kept::stops_steps))]
 fn stops_of(alloc: Global, history: &[PastEvent]) -> Result<Vec<KeptStop>, NoMemory>
     ensures { IfOk result (λ each. each.items ≡

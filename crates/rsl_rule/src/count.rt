@@ -12,7 +12,7 @@ use rsl_session::{Bundle, PastEvent};
 use rsl_wire::NoMemory;
 use std::alloc::Global;
 
-/// The bundle of each of some links.
+/// The bundles of some links.
 #[tactic(auto, using(crate::proofs::Lists::map_steps), unfolding(rsl_session::specs::Places::bundles))]
 pub(crate) fn bundles_of(
     alloc: Global,
@@ -78,7 +78,7 @@ pub(crate) fn places_taken(ports: u64, bundles: &[Option<Bundle>]) -> u64
     places
 }
 
-/// Whether one more link without a bundle can open beside some links.
+/// Whether another link without a bundle can open beside some links.
 #[tactic(auto, unfolding(rsl_session::specs::Ask::has_place_beside))]
 pub(crate) fn has_place_beside(
     alloc: Global,
@@ -95,10 +95,9 @@ pub(crate) fn has_place_beside(
     Ok(places_taken(rules.ports, &bundles) < rules.places)
 }
 
-/// The places that an account with this past holds, by the session rule. The history is the
-/// account's past, oldest first.
+/// The places that an account with this history, oldest first, holds by the session rule.
 ///
-/// It takes memory for what it looks up, and fails only where memory is refused.
+/// It fails only if memory is refused for what it looks up.
 #[tactic(auto, using(crate::proofs::Memory::links_some), unfolding(rsl_session::specs::Places::places))]
 pub fn places_held(alloc: Global, rules: &Rules, history: &[PastEvent]) -> Result<u64, NoMemory>
     requires { RulesFit rules.now }

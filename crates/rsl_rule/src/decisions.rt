@@ -13,10 +13,9 @@ use rsl_session::{Outcome, PastEvent, Session};
 use rsl_wire::NoMemory;
 use std::alloc::Global;
 
-/// What an event does to an account with this past, by the session rule. The history is the
-/// account's past, oldest first.
+/// What an event does to an account with this history, oldest first, by the session rule.
 ///
-/// It takes memory for what it looks up, and fails only where memory is refused.
+/// It fails only if memory is refused for what it looks up.
 #[tactic(auto, unfolding(rsl_session::specs::Rule::outcome_of))]
 pub fn outcome(
     alloc: Global,
@@ -66,7 +65,7 @@ fn past_after(alloc: Global, rules: &Rules, events: &[Event]) -> Result<Vec<Past
     Ok(history)
 }
 
-/// The decision on an event, by what it did. This takes no memory.
+/// The decision on an event, from what it did. It allocates nothing.
 pub fn decision(outcome: Outcome) -> Decision
     ensures { result ≡ decision_of outcome }
 {
@@ -80,9 +79,9 @@ pub fn decision(outcome: Outcome) -> Decision
     }
 }
 
-/// The decision on each of an account's events, in their order, by the session rule.
+/// The decision on each of an account's events, in order, by the session rule.
 ///
-/// It takes memory for the answer and for what it looks up, and fails only where memory is refused.
+/// It fails only if memory is refused, for the answer or for what it looks up.
 #[tactic(auto, using(crate::proofs::Whole::decided_steps, crate::proofs::Memory::events_some))]
 pub fn decide(alloc: Global, rules: &Rules, events: &[Event]) -> Result<Vec<Decision>, NoMemory>
     requires { RulesFit rules.now }
@@ -100,7 +99,7 @@ pub fn decide(alloc: Global, rules: &Rules, events: &[Event]) -> Result<Vec<Deci
 /// The places that an account holds after its events, by the session rule: never more than its
 /// rules allow.
 ///
-/// It takes memory for what it looks up, and fails only where memory is refused.
+/// It fails only if memory is refused for what it looks up.
 #[tactic(auto, using(crate::proofs::Whole::places_steps, crate::proofs::Memory::events_some))]
 pub fn places(alloc: Global, rules: &Rules, events: &[Event]) -> Result<u32, NoMemory>
     requires { RulesFit rules.now }

@@ -26,7 +26,7 @@ pub(crate) fn numbers_of(alloc: Global, held: &[HeldLink]) -> Result<Vec<usize>,
     Ok(links)
 }
 
-/// Some links but one.
+/// Some links without one of them.
 #[tactic(auto, using(crate::proofs::Lists::filter_steps))]
 pub(crate) fn links_but(alloc: Global, links: &[usize], but: usize) -> Result<Vec<usize>, NoMemory>
     ensures others { IfOk result (λ others. others.items ≡
@@ -42,7 +42,7 @@ pub(crate) fn links_but(alloc: Global, links: &[usize], but: usize) -> Result<Ve
     Ok(others)
 }
 
-/// The links that are held, in the order in which they opened.
+/// The held links, in the order in which they opened.
 #[tactic(auto, using(crate::proofs::Standings::numbers, crate::proofs::Memory::holding_some))]
 pub(crate) fn held_links(
     alloc: Global,
@@ -58,8 +58,7 @@ pub(crate) fn held_links(
     numbers_of(alloc, &holding.links)
 }
 
-/// The links that are still held when an event comes, each as it stands: those that do not lapse
-/// then.
+/// The links that are still held when an event comes: those that do not lapse then.
 pub(crate) fn links_before(
     alloc: Global,
     rules: &Rules,

@@ -27,7 +27,7 @@ pub(crate) struct HeldLink {
     pub standing: Standing,
 }
 
-/// What is held after some events, as one pass over them carries it.
+/// The links that are held after some events, as one pass over the events carries them.
 #[derive(Drop)]
 pub(crate) struct Holding {
     /// The held links, in the order in which they opened.
@@ -38,7 +38,7 @@ pub(crate) struct Holding {
     pub furthest: usize,
 }
 
-/// Whether an act ends a link that stands so.
+/// Whether an act ends a link of this standing.
 #[tactic(auto, unfolding(rsl_session::specs::Held::ended_by, rsl_session::specs::Binding::is_bound_to, crate::specs::Standing::standing_of))]
 fn is_ended_by(history: &[PastEvent], act: &Act, link: usize, standing: &Standing) -> bool
     requires { standing.now ≡ standing_of link (looking_back history.now) }
@@ -51,7 +51,7 @@ fn is_ended_by(history: &[PastEvent], act: &Act, link: usize, standing: &Standin
     }
 }
 
-/// Whether a link that stands so ends at an event.
+/// Whether a link of this standing ends at an event.
 #[tactic(auto, unfolding(rsl_session::specs::Held::ends, rsl_session::specs::Lapse::lapses, rsl_session::specs::Clock::clock_at, crate::specs::Standing::standing_of))]
 fn ends_at(
     rules: &Rules,
@@ -67,7 +67,7 @@ fn ends_at(
     standing.lapses(rules, event) || is_ended_by(history, &event.act, link, standing)
 }
 
-/// Whether a link yields to an event, by what the event did.
+/// Whether an event of this outcome makes a link yield.
 #[tactic(auto, unfolding(rsl_session::specs::Held::yields))]
 fn yields_to(link: usize, outcome: Outcome) -> bool
     ensures { result ≡ yields link outcome }
@@ -78,7 +78,7 @@ fn yields_to(link: usize, outcome: Outcome) -> bool
     }
 }
 
-/// Whether a link that stands so is held no more after the entry that comes next.
+/// Whether the next entry frees a link of this standing.
 fn is_freed_by(
     rules: &Rules,
     history: &[PastEvent],
@@ -94,7 +94,7 @@ fn is_freed_by(
     ends_at(rules, history, &entry.event, link, standing) || yields_to(link, entry.outcome)
 }
 
-/// The held links that the entry that comes next does not free, each as it stands after it.
+/// The held links that the next entry does not free, each as it stands after it.
 fn links_left(
     alloc: Global,
     rules: &Rules,
@@ -119,7 +119,7 @@ fn links_left(
     Ok(left)
 }
 
-/// The number of the link that an event took, 0 where it took none.
+/// The number of the link that an event took, or 0.
 #[tactic(auto, unfolding(crate::specs::Holding::taken_by))]
 fn link_taken(outcome: Outcome) -> usize
     ensures { result ≡ taken_by outcome }
@@ -132,8 +132,8 @@ fn link_taken(outcome: Outcome) -> usize
 
 /// The session that a link is bound to before the entry that opens it.
 ///
-/// There is one only where an alive took the number of a link that had not opened. The rule takes
-/// held links alone, so no past that follows it is gone over here.
+/// There is one only if an alive took the number of a link that had not opened. The rule takes held
+/// links alone, so no past that follows it gets here.
 #[tactic(auto, using(crate::proofs::Carried::unbound))]
 fn session_before(
     alloc: Global,
@@ -152,7 +152,7 @@ fn session_before(
     }
 }
 
-/// How the link that an entry opened stands after it, at the clock that it moved.
+/// The standing of a link after the entry that opened it, at the clock after that entry.
 #[tactic(auto, using(crate::proofs::Carried::opened_stands))]
 fn standing_of_opened(
     alloc: Global,
@@ -178,7 +178,7 @@ fn standing_of_opened(
 }
 
 impl Holding {
-    /// What is held before the first event.
+    /// No link, before the first event.
     #[tactic(auto, using(crate::proofs::Carried::holding_none))]
     fn new(alloc: Global) -> Holding
         ensures { (rules : Rules) → IsHolding rules (looking_back []) result }
@@ -190,7 +190,7 @@ impl Holding {
         }
     }
 
-    /// What is held after the entry that comes next.
+    /// The held links after the next entry.
     fn after(
         self,
         alloc: Global,
@@ -219,7 +219,7 @@ impl Holding {
     }
 }
 
-/// What is held after all of a past.
+/// The held links after a whole past.
 pub(crate) fn holding_after(
     alloc: Global,
     rules: &Rules,

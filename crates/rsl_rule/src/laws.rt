@@ -19,8 +19,8 @@ pub fn places_stay_within_the_limit()
     ensures { PlacesStayWithinTheLimit }
 {}
 
-/// A link that yields to a fresh ask was stale when the ask came, no stale link was touched before
-/// it, and the places held after the ask are at most the account's.
+/// A link that yields to a fresh ask was stale when the ask came, no stale link was touched
+/// earlier, and the places held after the ask are at most the account's.
 pub fn stale_links_yield()
     ensures { StaleLinksYield }
 {}
@@ -31,8 +31,8 @@ pub fn closed_sessions_hold_no_link()
     ensures { ClosedSessionsHoldNoLink }
 {}
 
-/// A tick may be put into a list where none of the events after it has a lower moment: every
-/// decision stays as it was, and so do the places after each event after it.
+/// A tick may be inserted into a list if none of the events after it has a lower moment: every
+/// decision stays, and so do the places after each later event.
 pub fn early_ticks_change_no_decision()
     ensures { EarlyTicksChangeNoDecision }
 {}
@@ -42,13 +42,13 @@ pub fn accept_numbers_count_up()
     ensures { AcceptNumbersCountUp }
 {}
 
-/// A repeat is answered as a fresh ask of its key before it was.
+/// A repeat gets the decision of an earlier fresh ask of its key.
 pub fn repeats_are_decided_as_a_fresh_ask()
     ensures { RepeatsAreDecidedAsAFreshAsk }
 {}
 
-/// The past of a list of events has its events, and each did what the rule says by what came before
-/// it.
+/// The past of a list of events has its events, and each did what the rule says for what came
+/// before.
 pub fn pasts_follow_the_rule()
     ensures { PastsFollowTheRule }
 {}
@@ -58,7 +58,7 @@ pub fn one_past_follows_the_rule()
     ensures { OnePastFollowsTheRule }
 {}
 
-/// An alive with no class takes the reservation that has the lowest accept number.
+/// An alive with no class takes the reservation with the lowest accept number.
 pub fn lowest_reservation_is_taken()
     ensures { LowestReservationIsTaken }
 {}

@@ -1,5 +1,5 @@
-//! The session rule as a plain program. It looks back over the events of an account for each of its
-//! questions.
+//! The session rule as a plain program, which looks back over all events of an account for each
+//! question.
 //!
 //! The promise: `decide` and `places` answer as the definitions of `rsl_session` do. Read its
 //! `specs/Rule.antt` first. The laws of the rule are in [`laws`], as `specs/Laws.antt` states them.

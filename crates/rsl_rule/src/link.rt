@@ -30,7 +30,7 @@ pub(crate) fn accept_number(outcome: Outcome) -> Option<u64>
     }
 }
 
-/// Whether the event of a number opened, took or renewed a link.
+/// Whether the event with this number opened, took or renewed a link.
 #[tactic(auto, unfolding(rsl_session::specs::Binding::touches))]
 pub(crate) fn touches_link(link: usize, number: usize, outcome: Outcome) -> bool
     ensures { result ≡ touches link number outcome }
@@ -42,7 +42,7 @@ pub(crate) fn touches_link(link: usize, number: usize, outcome: Outcome) -> bool
     }
 }
 
-/// The clock when a link was last touched, once an event of a number has moved the clock.
+/// The clock at a link's last touch, after the event with this number has moved the clock.
 pub(crate) fn touch_after(
     link: usize,
     number: usize,
@@ -59,7 +59,7 @@ pub(crate) fn touch_after(
     }
 }
 
-/// The entry of a number.
+/// The entry with this number.
 #[tactic(auto, using(crate::proofs::Looking::entry_steps))]
 fn entry_at(number: usize, history: &[PastEvent]) -> Option<&PastEvent>
     ensures { option_copied result ≡ entry_at number (looking_back history.now) }
@@ -71,7 +71,7 @@ fn entry_at(number: usize, history: &[PastEvent]) -> Option<&PastEvent>
     }
 }
 
-/// Whether an act is at an access server.
+/// Whether an act is of an access server.
 #[tactic(auto, unfolding(rsl_session::specs::Link::nas_of))]
 fn is_act_at(act: &Act, nas: &Nas) -> bool
     ensures { result ≡ is_nas (nas_of act.now) nas.now }

@@ -18,14 +18,14 @@ use std::alloc::Global;
 pub(crate) struct Standing {
     /// The account's clock.
     pub clock: u64,
-    /// The clock when the link was last touched.
+    /// The clock at the link's last touch.
     pub touched: u64,
     /// The session that the link is bound to.
     pub session: Option<Session>,
 }
 
 impl Standing {
-    /// How the link stands after the entry that comes next.
+    /// How the link stands after the next entry.
     #[tactic(auto, using(crate::proofs::Looking::standing_pushed))]
     pub fn after(
         self,
@@ -49,7 +49,7 @@ impl Standing {
         })
     }
 
-    /// Whether the link is bound to the session of this Acct-Session-Id at an access server.
+    /// Whether the link is bound to the session with this Acct-Session-Id at an access server.
     #[tactic(auto, unfolding(rsl_session::specs::Same::same_session))]
     pub fn is_bound_to(&self, nas: &Nas, id: &Octets) -> bool
         ensures { result ≡ is_session self.now.session (record { nas = nas.now; id = id.now }) }
@@ -60,7 +60,7 @@ impl Standing {
         }
     }
 
-    /// Whether the link is idle when an event comes: bound, and its live time is over then.
+    /// Whether the link is idle when an event comes: bound, and its live time is over.
     pub fn is_idle(&self, rules: &Rules, event: &Event) -> bool
         ensures { result ≡ is_idle_so rules.now event.now self.now }
     {

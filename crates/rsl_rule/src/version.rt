@@ -1,6 +1,6 @@
-/// The version of the session rule. Books and moves that were written under another one cannot be gone
-/// on from: what is written carries its version, and a reader refuses any other.
+/// The version of the session rule. What is written of books and moves carries it, and a reader
+/// refuses any other, since one rule cannot go on from the books of another.
 ///
 /// It is raised with each change of what the rule decides on some events, or of what a book holds
-/// after them. A change of words, code or proofs that leaves both as they are does not raise it.
+/// after them. A change of words, code or proofs alone does not raise it.
 pub const SESSION_RULE_VERSION: u64 = 1;

@@ -5,7 +5,7 @@ use crate::holding::HeldLink;
 use rsl_accounts::Rules;
 use rsl_event::Event;
 
-/// Whether none of the idle links was touched before this moment of the account's clock.
+/// Whether no idle link was touched before this moment of the account's clock.
 fn is_touched_first(rules: &Rules, event: &Event, before: &[HeldLink], touched: u64) -> bool
     ensures { result ≡ is_first_so rules.now event.now before.now touched }
 {
@@ -13,8 +13,8 @@ fn is_touched_first(rules: &Rules, event: &Event, before: &[HeldLink], touched: 
         || touched <= other.standing.touched)
 }
 
-/// The link that can yield, of those that are held when an event comes: of the idle ones the one
-/// touched longest ago, and of these the first that opened.
+/// The link that can yield among those held when an event comes: the idle one touched longest ago,
+/// and of several the first that opened.
 pub(crate) fn yielding_link(rules: &Rules, event: &Event, before: &[HeldLink]) -> Option<usize>
     ensures { result ≡ link_where (is_yielding_so rules.now event.now before.now) before.now }
 {

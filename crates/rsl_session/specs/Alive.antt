@@ -20,7 +20,7 @@ use Rattle.rsl_session.specs.Closed.{is_closed}
 unfoldable pub link_of : Rules → Past → Event → Session → Option ℕ
 link_of rules past event session = find (is_bound_to past session) (held_before rules past event)
 
--- whether an accept number is the one that a class names; no class names any
+-- whether an accept number is the one that a class names; without a class any number is
 abbrev pub is_number : Option ℕ → Option ℕ → Bool
 is_number None number = true
 is_number (Some wanted) None = false
@@ -31,20 +31,19 @@ unfoldable pub is_chosen : Past → Nas → Option ℕ → ℕ → Bool
 is_chosen past nas class link =
     is_reserved past link && is_at past nas link && is_number class (number_at link past)
 
--- the reservation that an alive takes: the first in the order in which they opened, which has the
--- lowest number
+-- the reservation that an alive takes: the first that opened, which has the lowest number
 unfoldable pub reservation_of : Rules → Past → Event → Nas → Option ℕ → Option ℕ
 reservation_of rules past event nas class =
     find (is_chosen past nas class) (held_before rules past event)
 
--- whether one more link with the event's bundle can open
+-- whether another link with the event's bundle can open
 unfoldable pub has_room : Rules → Past → Event → Bool
 has_room rules past event =
     nat_le (places_of rules.ports (bundles past (held_before rules past event)
     ++ bundle_of event.act ∷ [])) rules.places
 
--- what an alive does once it renews no link and its session is not closed, by the reservation that
--- it takes
+-- what an alive does if it renews no link and its session is not closed, by the reservation that it
+-- takes
 abbrev pub unbound_outcome : Rules → Past → Event → Option ℕ → Outcome
 unbound_outcome rules past event (Some link) = Took link
 unbound_outcome rules past event None = if has_room rules past event then Opened else Over
@@ -57,7 +56,7 @@ alive_outcome rules past event session class None =
     then Ignored
     else unbound_outcome rules past event (reservation_of rules past event session.nas class)
 
--- how many alives were over, where the count stays at its greatest value
+-- whether an alive found no place
 abbrev pub is_over : Outcome → Bool
 is_over Over = true
 is_over _ = false

@@ -1,8 +1,8 @@
 -- An ask is a repeat if one of the last 8 fresh asks has its key, is less than the keep time old,
 -- and had no sweep of its access server since. It gets the decision of the latest such ask. Every
--- other ask is fresh: it is accepted, and opens a reserved link, where one more place is free.
--- Where none is, the idle link touched longest ago yields, if the places without it leave room for
--- one more; no other link is tried.
+-- other ask is fresh: it is accepted, and opens a reserved link, if another place is free. If none
+-- is, the idle link touched longest ago yields, if the places without it leave room for another; no
+-- other link is tried.
 use Rattle.std.specs.Prelude.{ℕ, ◌+◌, ◌-◌, ◌^◌, List, [], ◌∷◌, filter, Bool, ◌&&◌, ◌==◌, not, nat_lt, nat_le, find, count_by, take, if◌then◌else◌, is_some, Option, Some, None}
 use Rattle.std.specs.List.{list_all, cons_option}
 use Rattle.rsl_accounts.specs.declared.rules.Rules.{Rules}
@@ -37,8 +37,8 @@ fresh_decision (AcceptedInPlace number yielded) = Some (Accept number)
 fresh_decision Refused = Some LimitReject
 fresh_decision _ = None
 
--- a fresh ask as it is kept, with the clock at it and whether its access server is among those
--- swept since
+-- a fresh ask as it is kept, with its clock and whether its access server is among those swept
+-- since
 abbrev pub kept_ask : ℕ → List PastEvent → Act → Option Decision → Option KeptAsk
 kept_ask now since (Ask key nas) (Some decision) =
     Some (record
@@ -67,12 +67,12 @@ repeated_ask rules past event key =
 unfoldable pub accepts : Past → ℕ
 accepts past = count_by (λ entry. is_some (number_of entry.outcome)) past
 
--- whether one more link without a bundle can open beside some links
+-- whether another link without a bundle can open beside some links
 unfoldable pub has_place_beside : Rules → Past → List ℕ → Bool
 has_place_beside rules past links =
     nat_le (places_of rules.ports (bundles past links) + 1) rules.places
 
--- whether one more link without a bundle can open
+-- whether another link without a bundle can open
 unfoldable pub has_a_place : Rules → Past → Event → Bool
 has_a_place rules past event = has_place_beside rules past (held_before rules past event)
 
@@ -85,23 +85,22 @@ unfoldable pub is_touched_first : Past → List ℕ → ℕ → Bool
 is_touched_first past links link =
     list_all (λ other. nat_le (touched_at link past) (touched_at other past)) links
 
--- the link that can yield: of the idle links the one touched longest ago, and of these the first
--- that opened
+-- the link that can yield: the idle link touched longest ago, and of several the first that opened
 unfoldable pub yielding_link : Rules → Past → Event → Option ℕ
 yielding_link rules past event =
     find (is_touched_first past (idle_links rules past event)) (idle_links rules past event)
 
--- the held links but one
+-- the held links without this one
 unfoldable pub held_without : Rules → Past → Event → ℕ → List ℕ
 held_without rules past event link =
     filter (λ other. not (other == link)) (held_before rules past event)
 
--- whether one more link without a bundle can open once this one has ended
+-- whether another link without a bundle can open once this one has ended
 unfoldable pub has_a_place_without : Rules → Past → Event → ℕ → Bool
 has_a_place_without rules past event link =
     has_place_beside rules past (held_without rules past event link)
 
--- what a fresh ask does where no place is free, by the link that can yield
+-- what a fresh ask does if no place is free, by the link that can yield
 abbrev pub unfitting_outcome : Rules → Past → Event → Option ℕ → Outcome
 unfitting_outcome rules past event None = Refused
 unfitting_outcome rules past event (Some link) =
@@ -109,7 +108,7 @@ unfitting_outcome rules past event (Some link) =
     then AcceptedInPlace (accepts past) link
     else Refused
 
--- what a fresh ask does, while there is an accept number for it
+-- what a fresh ask does, if there is an accept number left for it
 unfoldable pub fresh_outcome : Rules → Past → Event → Outcome
 fresh_outcome rules past event =
     if has_a_place rules past event

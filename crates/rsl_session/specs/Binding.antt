@@ -12,13 +12,13 @@ use Rattle.rsl_session.specs.declared.bundle.Bundle.{Bundle}
 use Rattle.rsl_session.specs.Past.{Past}
 use Rattle.rsl_session.specs.Same.{same_session}
 
--- whether the event of a number opened or took a link for a session
+-- whether the event with this number opened or took a link for a session
 unfoldable pub binds : ℕ → ℕ → Outcome → Bool
 binds link number Opened = link == number
 binds link number (Took taken) = link == taken
 binds link number _ = false
 
--- whether the event of a number opened, took or renewed a link
+-- whether the event with this number opened, took or renewed a link
 unfoldable pub touches : ℕ → ℕ → Outcome → Bool
 touches link number (Accepted accept) = link == number
 touches link number (AcceptedInPlace accept yielded) = link == number
@@ -32,13 +32,13 @@ unfoldable pub session_of : Act → Option Session
 session_of (Alive nas session bundle class) = Some (record { nas = nas; id = session })
 session_of _ = None
 
--- the bundle that an alive carries
+-- the bundle of an alive
 unfoldable pub bundle_of : Act → Option Bundle
 bundle_of (Alive nas session bundle class) = option_map (λ id. record { nas = nas; id = id }) bundle
 bundle_of _ = None
 
--- the session for which the entry of a number opened or took a link, and the bundle with which it
--- touched it
+-- the session for which the entry with this number opened or took a link, and the bundle with which
+-- it touched it
 unfoldable pub bound_by : ℕ → ℕ → PastEvent → Option Session
 bound_by link number entry =
     if binds link number entry.outcome then session_of entry.event.act else None
@@ -47,13 +47,13 @@ unfoldable pub bundled_by : ℕ → ℕ → PastEvent → Option Bundle
 bundled_by link number entry =
     if touches link number entry.outcome then bundle_of entry.event.act else None
 
--- the session that a link is bound to, by the first that bound it
+-- the session of a link: the first that bound it
 unfoldable pub session_at : ℕ → Past → Option Session
 session_at link [] = None
 session_at link (entry ∷ past) =
     option_or (session_at link past) (bound_by link (suc (length past)) entry)
 
--- the bundle of a link, by the first that touched it and carried one
+-- the bundle of a link: the first with which it was touched
 unfoldable pub bundle_at : ℕ → Past → Option Bundle
 bundle_at link [] = None
 bundle_at link (entry ∷ past) =

@@ -12,7 +12,7 @@ use Rattle.rsl_session.specs.declared.kept.KeptStop.{KeptStop}
 use Rattle.rsl_session.specs.declared.session.Session.{Session}
 use Rattle.rsl_session.specs.Places.{places_of}
 
--- what has a link: the accept number that reserves it, or the session that it is bound to
+-- what holds a link: the accept number that reserves it, or the session that it is bound to
 pub data Holder : Type 0 where
   Reserved : ℕ → Holder
   Bound : Session → Holder
@@ -37,11 +37,11 @@ pub record Book : Type 0 where
 unfoldable pub new_book : Book
 new_book = record { clock = 0; links = []; accepts = 0; asks = []; stops = []; over = 0 }
 
--- the bundle of each of some links
+-- the bundles of some links
 unfoldable pub bundles_in : List BookLink → List (Option Bundle)
 bundles_in links = map (λ (link : BookLink). link.bundle) links
 
--- the places that are held
+-- the places held
 unfoldable pub places_in : Rules → Book → ℕ
 places_in rules book = places_of rules.ports (bundles_in book.links)
 
@@ -62,7 +62,7 @@ is_live_at rules now link = is_bound link.holder && nat_lt (now - link.touched) 
 unfoldable pub is_stale_at : Rules → ℕ → BookLink → Bool
 is_stale_at rules now link = is_bound link.holder && nat_le rules.live (now - link.touched)
 
--- how many of the links are reserved, live and stale
+-- the numbers of reserved, live and stale links
 unfoldable pub reserved_in : Book → ℕ
 reserved_in book = count_by (λ (link : BookLink). is_reservation link.holder) book.links
 

@@ -1,6 +1,6 @@
--- The laws that join the running book with the rule by looking back, each the contract of a
--- function of `laws`. For every past that follows the rule and every event, the step of the past's
--- book is the book of the past with the event, field by field, and its decision is the rule's.
+-- The laws that join the running book with the rule, each the contract of a function of `laws`. For
+-- every past that follows the rule and every event, the step of the past's book is the book of the
+-- past with the event, field by field, and its decision is the rule's.
 use Rattle.std.specs.Prelude.{◌≡◌, ℕ, ◌*◌, ◌≤◌, List, ◌∷◌, length, take, count_by}
 use Rattle.rsl_accounts.specs.Limits.{RulesFit}
 use Rattle.rsl_accounts.specs.declared.rules.Rules.{Rules}
@@ -52,8 +52,7 @@ abbrev pub DecisionLaw : Type 0
 DecisionLaw = (rules : Rules) (past : Past) (event : Event) → IsRuled rules past
     → (step rules (book_of rules past) event).1 ≡ decision_of (outcome_of rules past event)
 
--- over whole lists of events: a book that began new decides as the rule does, and holds the rule's
--- places
+-- over whole lists of events: a new book decides as the rule does, and holds the rule's places
 abbrev pub BooksDecideAsTheRule : Type 0
 BooksDecideAsTheRule =
     (rules : Rules) (events : List Event)
@@ -86,7 +85,7 @@ LinksAreBounded =
     (rules : Rules) (book : Book) → RulesFit rules → places_in rules book ≤ rules.places
     → (length book.links ≤ rules.places * rules.ports) × (places_in rules book ≤ length book.links)
 
--- and one that keeps at most 8 asks and 16 stops goes on to
+-- a book that keeps at most 8 asks and 16 stops does so after a step
 abbrev pub KeptIsBounded : Type 0
 KeptIsBounded =
     (rules : Rules) (book : Book) (event : Event) → length book.asks ≤ KEPT_ASKS
@@ -94,7 +93,7 @@ KeptIsBounded =
     → (length (step rules book event).0.asks ≤ KEPT_ASKS)
     × (length (step rules book event).0.stops ≤ KEPT_STOPS)
 
--- what the book of a past shows of itself is what the rule counts among the links that are held
+-- the numbers that the book of a past shows are those that the rule counts among its held links
 abbrev pub BooksShowTheRule : Type 0
 BooksShowTheRule = (rules : Rules) (past : Past)
     → (places_in rules (book_of rules past) ≡ places rules past)

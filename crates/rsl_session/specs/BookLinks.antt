@@ -1,4 +1,4 @@
--- What one event asks of the links of a book, and how it changes them.
+-- What an event looks up among the links of a book, and how it changes them.
 use Rattle.std.specs.Prelude.{ℕ, ◌+◌, ◌-◌, List, [], ◌∷◌, filter, Bool, true, false, ◌&&◌, ◌==◌, nat_le, if◌then◌else◌, Option, Some, None}
 use Rattle.std.specs.List.{list_all}
 use Rattle.std.specs.Option.{option_or}
@@ -10,7 +10,7 @@ use Rattle.rsl_session.specs.Same.{same_nas, same_session}
 use Rattle.rsl_session.specs.Places.{places_of}
 use Rattle.rsl_session.specs.Book.{BookLink, Holder, Reserved, Bound, bundles_in, is_stale_at}
 
--- the first element that passes is changed, or taken out
+-- the first element that passes is changed, or removed
 unfoldable pub change_first : {A : Type 0} → (A → Bool) → (A → A) → List A → List A
 change_first passes change [] = []
 change_first passes change (x ∷ xs) =
@@ -20,7 +20,7 @@ unfoldable pub without_first : {A : Type 0} → (A → Bool) → List A → List
 without_first passes [] = []
 without_first passes (x ∷ xs) = if passes x then xs else x ∷ without_first passes xs
 
--- the seconds for which a link stands untouched
+-- the seconds for which an untouched link is held
 abbrev pub time_of : Rules → Holder → ℕ
 time_of rules (Reserved number) = rules.reserve
 time_of rules (Bound session) = rules.live + rules.grace
@@ -37,8 +37,8 @@ is_holder session (Bound other) = same_session other session
 unfoldable pub is_link_of : Session → BookLink → Bool
 is_link_of session link = is_holder session link.holder
 
--- whether a link is a reservation that an alive at an access server can take: of the number that
--- its class names, if it has one
+-- whether a link is a reservation that an alive at an access server can take: by the number of its
+-- class, if it has one
 abbrev pub is_wanted : Option ℕ → Holder → Bool
 is_wanted class (Bound session) = false
 is_wanted None (Reserved number) = true
@@ -47,15 +47,14 @@ is_wanted (Some wanted) (Reserved number) = number == wanted
 unfoldable pub can_be_taken : Nas → Option ℕ → BookLink → Bool
 can_be_taken nas class link = is_wanted class link.holder && same_nas link.nas nas
 
--- whether a link can yield at this clock: it is stale, and none of the stale links was touched
--- before it
+-- whether a link can yield at this clock: it is stale, and no stale link was touched before it
 unfoldable pub can_yield : Rules → ℕ → List BookLink → BookLink → Bool
 can_yield rules now links link =
     is_stale_at rules now link
     && list_all (λ (other : BookLink). nat_le link.touched other.touched)
     (filter (is_stale_at rules now) links)
 
--- whether one more link without a bundle, beside some links, leaves the places within the limit
+-- whether another link without a bundle, beside some links, leaves the places within the limit
 unfoldable pub fits_beside : Rules → List BookLink → Bool
 fits_beside rules links = nat_le (places_of rules.ports (bundles_in links) + 1) rules.places
 

@@ -15,7 +15,7 @@ use Rattle.rsl_session.specs.Closed.{KEPT_STOPS, stops}
 use Rattle.rsl_session.specs.Alive.{over_count}
 use Rattle.rsl_session.specs.Book.{Book, BookLink, Holder, Reserved, Bound}
 
--- what has a link, by its accept number and its session. Where a past follows the rule, a held link
+-- what holds a link, by its accept number and its session. If a past follows the rule, a held link
 -- has one of the two, and an access server: the last case of each of these does not come up.
 abbrev pub holder_of : Option ℕ → Option Session → Holder
 holder_of number (Some session) = Bound session

@@ -24,7 +24,7 @@ use Rattle.rsl_session.specs.Closed.{KEPT_STOPS, closes}
 use Rattle.rsl_session.specs.Book.{Book, BookLink, Reserved, Bound, bundles_in}
 use Rattle.rsl_session.specs.BookLinks.{lapses_at, is_link_of, can_be_taken, can_yield, fits_beside, touch, take_for, change_first, without_first}
 
--- the book come to a moment
+-- the book, come to a moment
 unfoldable pub come_to : Rules → Book → ℕ → Book
 come_to rules book moment =
     record book {
@@ -32,7 +32,7 @@ come_to rules book moment =
       links = filter (λ link. not (lapses_at rules (max book.clock moment) link)) book.links;
     }
 
--- a fresh ask is kept with its decision; only the last 8 are
+-- a fresh ask is kept with its decision, among the last 8
 unfoldable pub keep_ask : Book → Key → Nas → Decision → Book
 keep_ask book key nas decision =
     record book {
@@ -73,13 +73,13 @@ fresh_ask rules book key nas =
     then accept_beside book.links book key nas
     else ask_for_place rules book key nas (find (can_yield rules book.clock book.links) book.links)
 
--- an ask, by the latest of the kept asks that it repeats
+-- an ask, by the latest kept ask that it repeats
 abbrev pub ask : Rules → Book → Key → Nas → Option KeptAsk → Book × Decision
 ask rules book key nas (Some kept) = (book, kept.decision)
 ask rules book key nas None =
     if nat_lt book.accepts (2 ^ 64 - 1) then fresh_ask rules book key nas else refuse book key nas
 
--- an alive that opens a link, if the places then are within the limit; otherwise it is over
+-- an alive that opens a link, if the places are then within the limit; otherwise it is over
 unfoldable pub open_link : Rules → Book → Session → Option Bundle → Book
 open_link rules book session bundle =
     if nat_le (places_of rules.ports (bundles_in book.links ++ bundle ∷ [])) rules.places
@@ -91,8 +91,8 @@ open_link rules book session bundle =
     }
     else record book { over = min (book.over + 1) (2 ^ 64 - 1) }
 
--- an alive that renews no link, and whose session is not closed, by the reservation that it takes:
--- the first
+-- an alive that renews no link, and whose session is not closed, by the first reservation that it
+-- can take
 abbrev pub bind : Rules → Book → Session → Option Bundle → Option ℕ → Option BookLink → Book
 bind rules book session bundle class (Some link) =
     record book {
@@ -110,7 +110,7 @@ alive rules book session bundle class None =
     then book
     else bind rules book session bundle class (find (can_be_taken session.nas class) book.links)
 
--- a stop ends the link of its session, and is kept; only the last 16 are
+-- a stop ends the link of its session, and is kept among the last 16
 unfoldable pub stop : Book → Session → Book
 stop book session =
     record book {
@@ -135,7 +135,7 @@ sweep book nas =
       stops = map (sweep_stop nas) book.stops;
     }
 
--- what an act does to a book that has come to its moment
+-- what an act does to a book that has come to the act's moment
 abbrev pub act_on : Rules → Book → Act → Book × Decision
 act_on rules book (Ask key nas) =
     ask rules book key nas (find (repeats rules key book.clock) book.asks)

@@ -18,8 +18,7 @@ use Rattle.rsl_session.specs.Sweep.{swept_in}
 abbrev pub KEPT_STOPS : ℕ
 KEPT_STOPS = 16
 
--- a stop as it is kept, with the clock at it and whether its access server is among those swept
--- since
+-- a stop as it is kept, with its clock and whether its access server is among those swept since
 abbrev pub kept_stop : ℕ → List PastEvent → Act → Option KeptStop
 kept_stop now since (Stop nas session) =
     Some (record

@@ -34,7 +34,7 @@ ended_by past _ link = false
 unfoldable pub ends : Rules → Past → Event → ℕ → Bool
 ends rules past event link = lapses rules past event link || ended_by past event.act link
 
--- whether a link yields to an event, by what the event did
+-- whether an event of this outcome makes a link yield
 unfoldable pub yields : ℕ → Outcome → Bool
 yields link (AcceptedInPlace number yielded) = link == yielded
 yields link _ = false

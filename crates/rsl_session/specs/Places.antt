@@ -24,16 +24,16 @@ each_bundle (Some bundle ∷ bundles) =
     then each_bundle bundles
     else bundle ∷ each_bundle bundles
 
--- the places of some links, by the bundle of each
+-- the places of some links, by their bundles
 unfoldable pub places_of : ℕ → List (Option Bundle) → ℕ
 places_of ports bundles =
     count_by is_none bundles
     + sum_by (λ bundle. div_ceil (count_by (is_bundle bundle) bundles) ports) (each_bundle bundles)
 
--- the bundle of each of some links
+-- the bundles of some links
 unfoldable pub bundles : Past → List ℕ → List (Option Bundle)
 bundles past some = map (λ link. bundle_at link past) some
 
--- the places that are held
+-- the places held
 unfoldable pub places : Rules → Past → ℕ
 places rules past = places_of rules.ports (bundles past (held_links rules past))

@@ -1,4 +1,4 @@
--- The session rule: what each event of an account does, what is decided on it, and the places held.
+-- The session rule: what each event of an account does, the decision on it, and the places held.
 use Rattle.std.specs.Prelude.{◌≡◌, ℕ, List, [], ◌∷◌, ⊤}
 use Rattle.rsl_accounts.specs.declared.rules.Rules.{Rules}
 use Rattle.rsl_event.specs.declared.event.Act.{Act}
@@ -38,7 +38,7 @@ decision_of _ = Done
 unfoldable pub entry_of : Rules → Past → Event → PastEvent
 entry_of rules past event = record { event = event; outcome = outcome_of rules past event }
 
--- each event of a past did what the rule says, by what came before it
+-- each event of a past did what the rule says for what came before it
 unfoldable pub IsRuled : Rules → Past → Type 0
 IsRuled rules [] = ⊤
 IsRuled rules (entry ∷ past) =

@@ -1,4 +1,4 @@
--- Tests of whether two values are the same. Each says true exactly where they are equal.
+-- Tests of equality: each is true exactly if the two values are equal.
 use Rattle.std.specs.Prelude.{Bool, ◌&&◌}
 use Rattle.rsl_session.specs.declared.session.Session.{Session}
 use Rattle.rsl_session.specs.declared.bundle.Bundle.{Bundle}

@@ -10,7 +10,7 @@ use Rattle.rsl_session.specs.declared.saved.SavedHolder.{SavedHolder}
 use Rattle.rsl_session.specs.declared.saved.SavedHolder.TheVariants as saved
 use Rattle.rsl_session.specs.declared.saved.SavedLink.{SavedLink}
 
--- what had a link at an access server
+-- what held a link at an access server
 abbrev pub saved_holder : Nas → SavedHolder → Holder
 saved_holder nas (saved.Reserved number) = Reserved number
 saved_holder nas (saved.Bound id) = Bound (record { nas = nas; id = id })

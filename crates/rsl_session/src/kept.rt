@@ -7,19 +7,19 @@ pub const KEPT_ASKS: usize = 8;
 /// How many of the last stops can close a session.
 pub const KEPT_STOPS: usize = 16;
 
-// The numbers of the rule, which definitions have as they stand.
+// The definitions write these numbers of the rule out.
 const _: () = prove!(KEPT_ASKS == 8);
 
 const _: () = prove!(KEPT_STOPS == 16);
 
-/// A fresh ask, as it is kept for its repeats.
+/// A fresh ask, kept for its repeats.
 #[derive(PartialEq, Eq, Drop)]
 pub struct KeptAsk {
-    /// What it is known by.
+    /// The key of the ask.
     pub key: Key,
     /// The access server that asked.
     pub nas: Nas,
-    /// What was decided.
+    /// The decision.
     pub decision: Decision,
     /// The account's clock when it came.
     pub at: u64,
@@ -27,7 +27,7 @@ pub struct KeptAsk {
     pub swept: bool,
 }
 
-/// A stop, as it is kept to ignore what comes late of its session.
+/// A stop, kept to ignore late packets of its session.
 #[derive(PartialEq, Eq, Drop)]
 pub struct KeptStop {
     /// The session that was stopped.

@@ -1,5 +1,5 @@
-//! The laws that join the running book with the rule by looking back. Each is the contract of a
-//! function that does nothing.
+//! The laws that join the running book with the rule. Each is the contract of a function that does
+//! nothing.
 //!
 //! The first seven hold for every past that follows the rule and every event: the step of the
 //! past's book is the book of the past with the event, field by field, and the decision is the
@@ -23,56 +23,56 @@ ghost use Rattle.rsl_session.specs.BookLaws.{
   StepsStayWithinTheLimit,
 };
 
-/// The clock law: a book that is stepped by an event has the clock of the past with the event.
+/// The clock law: a book stepped by an event has the clock of the past with the event.
 pub fn clock_law()
     ensures { ClockLaw }
 {}
 
-/// The links law: it has the links that the past with the event holds, in the order in which they
-/// opened, each at its access server, with its accept number or session, its bundle and its last
-/// touch.
+/// The links law: the stepped book has the links that the past with the event holds, in the order
+/// in which they opened, each with its access server, its accept number or session, its bundle and
+/// its last touch.
 pub fn links_law()
     ensures { LinksLaw }
 {}
 
-/// The accept number law: its next accept number is the number of asks that were accepted.
+/// The accept number law: the next accept number is the number of accepted asks.
 pub fn accept_number_law()
     ensures { AcceptNumberLaw }
 {}
 
-/// The kept asks law: it has the last 8 fresh asks, each with its decision, the clock at it, and
-/// whether its access server was swept since.
+/// The kept asks law: the stepped book keeps the last 8 fresh asks, each with its decision, its
+/// clock, and whether its access server was swept since.
 pub fn kept_asks_law()
     ensures { KeptAsksLaw }
 {}
 
-/// The kept stops law: it has the last 16 stops, each with the clock at it, and whether its access
-/// server was swept since.
+/// The kept stops law: the stepped book keeps the last 16 stops, each with its clock, and whether
+/// its access server was swept since.
 pub fn kept_stops_law()
     ensures { KeptStopsLaw }
 {}
 
-/// The over law: it has counted the alives that were over.
+/// The over law: the stepped book has counted the alives that found no place.
 pub fn over_law()
     ensures { OverLaw }
 {}
 
-/// The decision on the event is the one that the rule finds by looking back.
+/// The decision on the event is the rule's.
 pub fn decision_law()
     ensures { DecisionLaw }
 {}
 
-/// Over every list of events: a book that began new decides each as the rule does.
+/// A new book decides every list of events as the rule does.
 pub fn books_decide_as_the_rule()
     ensures { BooksDecideAsTheRule }
 {}
 
-/// Over every list of events: a book that began new is the book of their past.
+/// A new book stepped by any list of events is the book of their past.
 pub fn books_are_those_of_the_past()
     ensures { BooksAreThoseOfThePast }
 {}
 
-/// Over every list of events: a book that began new holds the places that the rule counts.
+/// A new book stepped by any list of events holds the places that the rule counts.
 pub fn books_hold_the_places_of_the_rule()
     ensures { BooksHoldThePlacesOfTheRule }
 {}
@@ -83,7 +83,7 @@ pub fn books_stay_within_the_limit()
     ensures { BooksStayWithinTheLimit }
 {}
 
-/// A step of any book that is within its limit, whatever it holds, leaves it within its limit.
+/// A step of any book within its limit leaves it within its limit.
 pub fn steps_stay_within_the_limit()
     ensures { StepsStayWithinTheLimit }
 {}
@@ -99,7 +99,7 @@ pub fn kept_is_bounded()
     ensures { KeptIsBounded }
 {}
 
-/// What the book of a past shows of itself is what the rule counts among the links that are held:
+/// The numbers that the book of a past shows are those that the rule counts among its held links:
 /// the places, and the reserved, live and stale links.
 pub fn books_show_the_rule()
     ensures { BooksShowTheRule }

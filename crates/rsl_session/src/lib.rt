@@ -1,13 +1,13 @@
 //! The session rule: which links an account holds, how many places they take, and what is decided
 //! on each of its events.
 //!
-//! The rule is written as definitions, in `specs/`, a file per subject. They look back over the
-//! events of one account, each with what it did, and carry nothing on. This crate has the types
-//! that they speak of. Read `specs/Past.antt` first and `specs/Rule.antt` last.
+//! The rule is a set of definitions in `specs/`, a file per subject. They look back over the events
+//! of one account, each with what it did, and carry no state. This crate has the types that they
+//! speak of. Read `specs/Past.antt` first and `specs/Rule.antt` last.
 //!
-//! Beside them stands the running book, which carries on what an account holds: `specs/Book.antt`
-//! and `specs/BookStep.antt`. The functions of [`laws`] join the two. A [`SavedBook`] is one as plain
-//! data: what is written of a book, and what it is put back from (`specs/Saved.antt`).
+//! Beside them is the running book, which carries what an account holds: `specs/Book.antt` and
+//! `specs/BookStep.antt`. The functions of [`laws`] join the two. A [`SavedBook`] is a book as
+//! plain data, for writing and restoring it (`specs/Saved.antt`).
 #![tactic(auto)]
 
 mod bundle;

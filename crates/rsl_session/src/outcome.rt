@@ -1,20 +1,19 @@
 use rsl_event::Decision;
 
-/// What an event did. A link is named by the number of the event that opened it: 1 for the account's
-/// first event.
+/// What an event did. A link is named by the number of the event that opened it, counted from 1.
 #[derive(Clone, Copy)]
 pub enum Outcome {
     /// A fresh ask was accepted with this number, and opened a reserved link.
     Accepted(u64),
-    /// A fresh ask that did not fit was accepted since a stale link yielded, and opened a reserved
-    /// link.
+    /// A fresh ask that did not fit was accepted because a stale link yielded, and opened a
+    /// reserved link.
     AcceptedInPlace {
         /// The accept number.
         number: u64,
         /// The stale link, which yielded and ended.
         yielded: usize,
     },
-    /// A fresh ask was refused, since no place was free.
+    /// A fresh ask was refused, because no place was free.
     Refused,
     /// An ask was a repeat of a fresh ask, and got its decision again.
     Repeated(Decision),
@@ -28,6 +27,6 @@ pub enum Outcome {
     Ignored,
     /// An alive found no place for a new link, and changed nothing.
     Over,
-    /// A stop, sweep or tick: what it ends is said of each link.
+    /// A stop, sweep or tick. The definitions say of each link whether it ends it.
     Passed,
 }

@@ -2,7 +2,7 @@ use crate::{KeptAsk, KeptStop};
 use rsl_event::Nas;
 use rsl_wire::Octets;
 
-/// What had a link.
+/// What held a link.
 #[derive(PartialEq, Eq, Drop)]
 pub enum SavedHolder {
     /// The accept number that reserved it.
@@ -17,7 +17,7 @@ pub enum SavedHolder {
 pub struct SavedLink {
     /// Its access server.
     pub nas: Nas,
-    /// What had it.
+    /// What held it.
     pub holder: SavedHolder,
     /// Its bundle, by its Acct-Multi-Session-Id (RFC 2866 section 5.11), if it was in one. The
     /// bundle is at the link's access server.
@@ -26,9 +26,8 @@ pub struct SavedLink {
     pub touched: u64,
 }
 
-/// All that the book of one account held.
-///
-/// It has no rules: those are the account's, and a book is put back under them.
+/// All that the book of one account held, except its rules: those are the account's, and a book is
+/// restored under them.
 #[derive(PartialEq, Eq, Drop)]
 pub struct SavedBook {
     /// The account's clock, in seconds: the greatest moment so far.

@@ -1,4 +1,4 @@
--- How the inside of a journal is seen: its lines stand in chunks, and there is room in the last.
+-- How the inside of a journal is seen: its lines are in chunks, and the last may have room.
 use Rattle.std.specs.Prelude.{◌≡◌, List, ◌++◌, ◌-◌, length, vec_capacity, vec_items, vec_len}
 use Rattle.std.specs.List.{flat_map}
 use Rattle.rsl_shard.specs.Journal.{JournalSeen}

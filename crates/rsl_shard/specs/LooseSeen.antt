@@ -1,4 +1,4 @@
--- What a contract sees of a part of a journal whose lines stand in chunks still: what a segment has.
+-- What a contract sees of a segment whose lines are still in chunks: what the joined segment has.
 use Rattle.std.specs.Prelude.{ℕ, List}
 use Rattle.rsl_book.specs.RuledBook.{RuledBook}
 use Rattle.rsl_shard.specs.declared.line.Line.{Line}

@@ -1,5 +1,5 @@
--- The moves of shards: which of them a datagram makes, by its meaning, which a shard takes, and what
--- they are to its accounts.
+-- The moves of shards: those that a datagram makes, by its meaning, those that a shard takes, and
+-- what they are to its accounts.
 use Rattle.std.specs.Prelude.{◌≡◌, ℕ, ◌<◌, ◌==◌, ◌%◌, List, filter_map, Option, Some, None, if◌then◌else◌}
 use Rattle.rsl_accounts.specs.Configuration.{Configuration}
 use Rattle.rsl_event.specs.Prepared.{IsOfOneAccount}
@@ -14,8 +14,8 @@ use Rattle.rsl_shard.specs.declared.moved.Move.TheVariants.{Own, Sweep, Tick, St
 use Rattle.rsl_shard.specs.declared.moves.Moves.{Moves}
 use Rattle.rsl_shard.specs.declared.moves.Moves.TheVariants.{Nothing, One, Each}
 
--- The moves of what came at a moment: what is an account's own moves the account's shard, a stray
--- shard 0, and a restart sweeps every shard. All else moves none.
+-- The moves of a meaning at a moment: an own act moves the account's shard, a stray shard 0, and a
+-- restart sweeps every shard. All else moves none.
 abbrev pub moves_of : Configuration → (moment : ℕ) → Meaning → Moves
 moves_of config moment (meanings.Own account act) =
     One (account % config.settings.shards)
@@ -25,7 +25,7 @@ moves_of config moment (meanings.Restart nas) = Each (Sweep moment nas)
 moves_of config moment meanings.Bare = Nothing
 moves_of config moment meanings.Reject = Nothing
 
--- an account of a shard: accounts go to the shards in turn
+-- an account of a shard: accounts are dealt to the shards in turn
 pub record IsOfShard (setup : Setup) (account : ℕ) : Type 0 where
   pub there : account < setup.accounts
   pub of_shard : account % setup.shards ≡ setup.shard
@@ -35,8 +35,8 @@ pub record IsOwn (setup : Setup) (account : ℕ) (event : Event) : Type 0 where
   pub own_account : IsOfShard setup account
   pub act : IsOfOneAccount event.act
 
--- a move that a shard takes: what is one account's own is an ask, an alive or a stop of an account
--- of the shard
+-- a move that a shard takes: an own move has to be an ask, an alive or a stop of one of its
+-- accounts
 abbrev pub IsTaken : Setup → Move → Type 0
 IsTaken setup (Own account event) = IsOwn setup account event
 IsTaken setup _ = Unit {0}
@@ -46,24 +46,24 @@ abbrev pub IsOfAll : Move → Type 0
 IsOfAll (Own account event) = ⊥
 IsOfAll _ = Unit {0}
 
--- a shard that is there takes the move
+-- the shard exists and takes the move
 pub record IsTakenAt (config : Configuration) (shard : ℕ) (moved : Move) : Type 0 where
   pub there : shard < config.settings.shards
   pub taken : IsTaken (setup_of config shard) moved
 
--- the shards of some moves are there, and take them
+-- the shards of some moves exist and take them
 abbrev pub AreTaken : Configuration → Moves → Type 0
 AreTaken config Nothing = Unit {0}
 AreTaken config (One shard moved) = IsTakenAt config shard moved
 AreTaken config (Each moved) = IsOfAll moved
 
--- what a move is to an account of the shard: its own event, a sweep or a tick
+-- the event of a move for an account of the shard: its own event, a sweep or a tick
 abbrev pub event_to : (account : ℕ) → Move → Option Event
 event_to account (Own other event) = if other == account then Some event else None
 event_to account (Sweep moment nas) = Some (record { moment = moment; act = acts.Sweep nas })
 event_to account (Tick moment) = Some (record { moment = moment; act = acts.Tick })
 event_to account (Stray moment note) = None
 
--- an account's own events among lines, in their order
+-- an account's own events among lines, in order
 unfoldable pub own_in : (account : ℕ) → List Line → List Event
 own_in account lines = filter_map (λ line. event_to account line.moved) lines

@@ -1,5 +1,5 @@
--- The books that a journal begins with, told from those that they have become: where they were new
--- they are not kept, since they follow from the rules of those.
+-- The books that a journal begins with, given what they have become: new books are not kept, since
+-- they follow from the rules of those.
 use Rattle.std.specs.Prelude.{List, map}
 use Rattle.rsl_book.specs.RuledBook.{RuledBook}
 use Rattle.rsl_session.specs.Book.{new_book}
@@ -10,7 +10,7 @@ use Rattle.rsl_shard.specs.declared.opening.Opening.TheVariants.{New, Kept}
 abbrev pub as_new : RuledBook → RuledBook
 as_new ruled = record { rules = ruled.rules; book = new_book }
 
--- the books that a journal began with, where they have become these
+-- the books that a journal began with, if they have become these
 abbrev pub opening_of : Opening → (become : List RuledBook) → List RuledBook
 opening_of New become = map as_new become
 opening_of (Kept books) become = books.items

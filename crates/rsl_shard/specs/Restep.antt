@@ -1,6 +1,6 @@
 -- The books of a shard, and what moves make of them.
 --
--- The books stand in the order of their accounts: the first is that of the account with the shard's
+-- The books are in the order of their accounts: the first is that of the account with the shard's
 -- number, and each next account's number is higher by the number of shards. A move steps each book
 -- by what it is to the book's account: an own move that of its account alone, a sweep or a tick
 -- every one, a stray none.
@@ -26,13 +26,13 @@ step_by None ruled = ruled
 step_by (Some event) ruled =
     record { rules = ruled.rules; book = (step ruled.rules ruled.book event).0 }
 
--- the books of the account `first` and of those that follow it in its shard, after a move
+-- the books of the account `first` and of those after it in its shard, after a move
 unfoldable pub moved_from : (first shards : ℕ) → Move → List RuledBook → List RuledBook
 moved_from first shards moved [] = []
 moved_from first shards moved (ruled ∷ books) =
     step_by (event_to first moved) ruled ∷ moved_from (first + shards) shards moved books
 
--- the book of an account among those of `first` and of the accounts that follow it in its shard
+-- the book of an account among those of `first` and of the accounts after it in its shard
 unfoldable pub book_from : (first shards : ℕ) → List RuledBook → (account : ℕ) → Option RuledBook
 book_from first shards [] account = None
 book_from first shards (ruled ∷ books) account =
@@ -46,12 +46,12 @@ book_at setup books account = book_from setup.shard setup.shards books account
 abbrev pub books_after : Setup → List RuledBook → Move → List RuledBook
 books_after setup books moved = moved_from setup.shard setup.shards moved books
 
--- What a move makes of the books of a shard, account by account.
+-- The books of a shard after a move, account by account.
 pub record HaveStepped (setup : Setup) (moved : Move) (old new : List RuledBook) : Type 0 where
   -- each account's book is stepped by what the move is to the account
   pub each : (account : ℕ) → book_at setup new account
       ≡ option_map (step_by (event_to account moved)) (book_at setup old account)
-  -- and it is as it was where that is nothing, as an own move of another account is
+  -- and it is as it was if that is nothing, as for an own move of another account
   pub others : (account : ℕ) → event_to account moved ≡ None
       → book_at setup new account ≡ book_at setup old account
 
@@ -60,7 +60,7 @@ unfoldable pub restep : Setup → (opening : List RuledBook) → List Line → L
 restep setup opening [] = opening
 restep setup opening (line ∷ lines) = restep setup (books_after setup opening line.moved) lines
 
--- the decision on a move: what is one account's own is decided by its book, by a step of it
+-- the decision on a move: an own move is decided by a step of its account's book
 abbrev pub decision_by : Setup → List RuledBook → Move → Decision
 decision_by setup books (Own account event) =
     option_map_or (λ ruled. (step ruled.rules ruled.book event).1) (book_at setup books account)
@@ -84,7 +84,7 @@ new_books_from shards shard number (entry ∷ entries) =
 abbrev pub new_books : Configuration → (shard : ℕ) → List RuledBook
 new_books config shard = new_books_from config.settings.shards shard 0 config.accounts
 
--- What holds of the books of a shard: there is one for each of its accounts, and none holds more
+-- The invariant of the books of a shard: there is one for each of its accounts, and none holds more
 -- than its limit.
 pub record AreBooks (setup : Setup) (books : List RuledBook) : Type 0 where
   pub within : IsSetup setup

@@ -5,7 +5,7 @@ use Rattle.rsl_session.specs.Book.{live_in, places_in, reserved_in, stale_in}
 use Rattle.rsl_shard.specs.Setup.{Setup}
 use Rattle.rsl_shard.specs.declared.row.Row.{Row}
 
--- what an account holds, as its book shows it at the book's own clock
+-- what an account holds at its book's own clock
 abbrev pub row_of : (account : ℕ) → RuledBook → Row
 row_of account ruled = record {
   account = account;
@@ -17,7 +17,7 @@ row_of account ruled = record {
   over = ruled.book.over;
 }
 
--- the rows of the account `first` and of those that follow it in its shard
+-- the rows of the account `first` and of those after it in its shard
 unfoldable pub rows_from : (first shards : ℕ) → List RuledBook → List Row
 rows_from first shards [] = []
 rows_from first shards (ruled ∷ books) =

@@ -35,7 +35,7 @@ new_shard config shard =
       lines = [];
     }
 
--- a shard with one line more
+-- a shard with another line
 abbrev pub with_line : ShardSeen → Move → Decision → ShardSeen
 with_line shard moved decision = record {
   setup = shard.setup;
@@ -49,7 +49,7 @@ abbrev pub cut_off : ShardSeen → ShardSeen
 cut_off shard =
     record { setup = shard.setup; first = total_of shard; opening = books_of shard; lines = [] }
 
--- What is kept of every shard: its journal is one, its books are those of its accounts and none
+-- The invariant of every shard: its journal is one, its books are those of its accounts and none
 -- holds more than its limit, and its lines number less than 2^64.
 pub record IsShard (shard : ShardSeen) : Type 0 where
   pub journal : IsJournal shard.setup shard.opening shard.lines

@@ -50,8 +50,8 @@ use std::marker::Model;
 /// The books of the accounts of one shard, in the order of the accounts' numbers, without a
 /// journal.
 ///
-/// A contract sees the shard's number, how many shards and accounts there are, and each book with
-/// its account's rules.
+/// A contract sees the shard's number, the numbers of shards and accounts, and each book with its
+/// account's rules.
 #[derive(Drop)]
 pub struct Books {
     shard: u32,
@@ -72,7 +72,7 @@ impl Model for Books {
     ghost invariant = { HasBooks };
 }
 
-/// Whether an act is one of one account: an ask, an alive or a stop.
+/// Whether an act concerns one account: an ask, an alive or a stop.
 fn is_of_one_account(act: &Act) -> bool
     ensures { IsTrue result ↔ IsOfOneAccount act.now }
 {
@@ -110,7 +110,7 @@ fn tick_each(books: &mut [Book], moment: u64)
     }
 }
 
-/// Whether these are the same books, one by one.
+/// Whether two lists of books are equal.
 #[tactic(auto, using(crate::proofs::Moving::same_steps))]
 fn are_same(books: &[Book], others: &[Book]) -> bool
     ensures { IsTrue result ↔ (books.now ≡ others.now) }
@@ -138,7 +138,7 @@ fn copies_of(alloc: Global, books: &[Book]) -> Result<Vec<Book>, NoMemory>
     Ok(copies)
 }
 
-/// New books of the same accounts.
+/// New books for the same accounts.
 #[tactic(auto, using(crate::proofs::Moving::copy_steps, std::proofs::lemmas::List::map_push))]
 fn new_again(alloc: Global, books: &[Book]) -> Result<Vec<Book>, NoMemory>
     ensures { IfOk result (λ made. made.items ≡ map as_new books.now) }
@@ -150,8 +150,7 @@ fn new_again(alloc: Global, books: &[Book]) -> Result<Vec<Book>, NoMemory>
     Ok(made)
 }
 
-/// Makes each book a new one of its rules. It lets go of each book's room as it takes that of the
-/// new one.
+/// Replaces each book by a new one of its rules, freeing each before the next is allocated.
 #[tactic(auto, using(crate::proofs::Moving::renew_steps))]
 fn renew_each(alloc: Global, books: &mut [Book]) -> Result<(), NoMemory>
     ensures { OnOk result (books.new ≡ map as_new books.old) }
@@ -163,7 +162,7 @@ fn renew_each(alloc: Global, books: &mut [Book]) -> Result<(), NoMemory>
     Ok(())
 }
 
-/// The rows of an account and of those that follow it in its shard.
+/// The rows of an account and of those after it in its shard.
 fn rows_from(alloc: Global, first: u32, shards: u32, books: &[Book]) -> Result<Vec<Row>, NoMemory>
     requires first { first ≤ 4 }
     requires shards { shards ≤ 4 }
@@ -179,7 +178,7 @@ fn rows_from(alloc: Global, first: u32, shards: u32, books: &[Book]) -> Result<V
     Ok(rows)
 }
 
-/// The new books of the accounts of a shard.
+/// New books for the accounts of a shard.
 fn new_list(alloc: Global, config: &Config, shard: u32) -> Result<Vec<Book>, NoMemory>
     ensures books { IfOk result (λ books. books.items ≡ new_books config.now shard) }
     ensures limit { IfOk result (λ books. All IsWithinLimit books.items) }
@@ -194,8 +193,7 @@ fn new_list(alloc: Global, config: &Config, shard: u32) -> Result<Vec<Book>, NoM
 }
 
 impl Books {
-    /// The books of the accounts of a shard, none of which has had an event. It fails only where
-    /// memory is refused.
+    /// New books for the accounts of a shard. It fails only if memory is refused.
     pub fn new(alloc: Global, config: &Config, shard: u32) -> Result<Books, NoMemory>
         requires { shard < config.now.settings.shards }
         ensures books { IfOk result (λ books. books ≡ new_books_seen config.now shard) }
@@ -225,8 +223,8 @@ impl Books {
         (account / self.shards) as usize
     }
 
-    /// Whether a move can be made: what is one account's own is an ask, an alive or a stop of an
-    /// account of the shard.
+    /// Whether the shard takes a move: an own move has to be an ask, an alive or a stop of one of
+    /// its accounts.
     pub fn takes(&self, moved: &Move) -> bool
         ensures { IsTrue result ↔ IsTaken self.now.setup moved.now }
     {
@@ -250,9 +248,9 @@ impl Books {
         }
     }
 
-    /// Steps the books by a move, which is as it was: what is one account's own steps its book and
-    /// no other, a sweep or a tick each book, a stray none. The decision is that of the account's
-    /// book, and `Done` on every other move. Where memory is refused nothing has changed.
+    /// Steps the books by a borrowed move: an own move steps the book of its account, a sweep or a
+    /// tick each book, a stray none. The decision is that of the account's book, and `Done` on
+    /// every other move. If memory is refused, nothing has changed.
     pub fn step(&mut self, alloc: Global, moved: &Move) -> Result<Decision, NoMemory>
         requires { IsTaken self.old.setup moved.now }
         ensures setup { self.new.setup ≡ self.old.setup }
@@ -270,8 +268,8 @@ impl Books {
         }
     }
 
-    /// Steps the book of an account by an event of its own, which is lent. Where memory is refused
-    /// nothing has changed.
+    /// Steps the book of an account by a borrowed event of its own. If memory is refused, nothing
+    /// has changed.
     fn own_lent(&mut self, alloc: Global, account: u32, event: &Event) -> Result<Decision, NoMemory>
         requires { IsOwn self.old.setup account event.now }
         ensures setup { self.new.setup ≡ self.old.setup }
@@ -321,44 +319,44 @@ impl Books {
         Decision::Done
     }
 
-    /// What the books of a shard have always: there is one for each of its accounts, and none holds
-    /// more than its limit.
+    /// Shows the prover the invariant: there is a book for each account of the shard, and none
+    /// holds more than its limit.
     pub(crate) fn open_invariant(&self)
         ensures { AreBooks self.now.setup self.now.books }
     {
         let _ = &self.list;
     }
 
-    /// Whether these are the same books, one by one.
+    /// Whether these are equal books, one by one.
     pub fn same(&self, books: &[Book]) -> bool
         ensures { IsTrue result ↔ (self.now.books ≡ books.now) }
     {
         are_same(&self.list, books)
     }
 
-    /// What each account of the shard holds, in the order of their numbers. It fails only where
-    /// memory is refused.
+    /// What each account of the shard holds, in the order of their numbers. It fails only if memory
+    /// is refused.
     pub fn rows(&self, alloc: Global) -> Result<Vec<Row>, NoMemory>
         ensures { IfOk result (λ rows. rows.items ≡ rows_of self.now.setup self.now.books) }
     {
         rows_from(alloc, self.shard, self.shards, &self.list)
     }
 
-    /// Equal books, one by one. It fails only where memory is refused.
+    /// Equal books, one by one. It fails only if memory is refused.
     pub(crate) fn copies(&self, alloc: Global) -> Result<Vec<Book>, NoMemory>
         ensures { IfOk result (λ copies. copies.items ≡ self.now.books) }
     {
         copies_of(alloc, &self.list)
     }
 
-    /// New books of the same accounts. It fails only where memory is refused.
+    /// New books for the same accounts. It fails only if memory is refused.
     pub(crate) fn as_new(&self, alloc: Global) -> Result<Vec<Book>, NoMemory>
         ensures { IfOk result (λ made. made.items ≡ map as_new self.now.books) }
     {
         new_again(alloc, &self.list)
     }
 
-    /// New books in place of these. It fails only where memory is refused.
+    /// New books in place of these. It fails only if memory is refused.
     pub(crate) fn into_new(self, alloc: Global) -> Result<Vec<Book>, NoMemory>
         ensures { IfOk result (λ made. made.items ≡ map as_new self.books) }
     {

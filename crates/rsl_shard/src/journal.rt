@@ -23,19 +23,19 @@ use std::alloc::Global;
 use std::marker::Model;
 use std::mem::replace;
 
-/// For how many chunks there is room at first: for a million lines.
+/// The number of chunks with room at first: a million lines.
 const CHUNKS: usize = 1024;
 
-/// The lines of a journal, in chunks: so a line more moves none of those that stand.
+/// The lines of a journal, in chunks, so that another line moves no earlier one.
 ///
-/// A contract sees the lines, and for how many more there is room in the last chunk.
+/// A contract sees the lines, and the room in the last chunk.
 #[derive(Drop)]
 pub(crate) struct Journal {
-    /// The chunks that are full.
+    /// The full chunks.
     full: Vec<Vec<Line>>,
-    /// The chunk in which there may be room.
+    /// The last chunk, which may have room.
     last: Vec<Line>,
-    /// How many lines stand in the chunks that are full.
+    /// The number of lines in the full chunks.
     earlier: usize,
 }
 
@@ -51,7 +51,7 @@ impl Model for Journal {
     ghost invariant = { IsCounted };
 }
 
-/// Moves a chunk's lines after what is there. There is room for them.
+/// Appends a chunk's lines to a list that has room for them.
 fn move_behind(all: &mut Vec<Line>, chunk: &mut Vec<Line>)
     requires { vec_len all.old + vec_len chunk.old ≤ vec_capacity all.old }
     ensures items { all.new.items ≡ all.old.items ++ chunk.old.items }
@@ -65,7 +65,7 @@ fn move_behind(all: &mut Vec<Line>, chunk: &mut Vec<Line>)
     }
 }
 
-/// Moves the lines of chunks, in their order, after what is there. There is room for them.
+/// Appends the lines of chunks, in their order, to a list that has room for them.
 fn join(all: &mut Vec<Line>, chunks: &mut [Vec<Line>])
     requires { vec_len all.old + length (flat_map vec_items chunks.old) ≤ vec_capacity all.old }
     ensures items { all.new.items ≡ all.old.items ++ flat_map vec_items chunks.old }
@@ -77,7 +77,7 @@ fn join(all: &mut Vec<Line>, chunks: &mut [Vec<Line>])
 }
 
 impl Journal {
-    /// No lines. It fails only where memory is refused.
+    /// No lines. It fails only if memory is refused.
     pub(crate) fn new(alloc: Global) -> Result<Journal, NoMemory>
         ensures { IfOk result (λ journal. journal.lines ≡ []) }
     {
@@ -96,9 +96,8 @@ impl Journal {
         self.earlier + self.last.len()
     }
 
-    /// Sees to it that there is room for a line. Where the last chunk is full, the spare room
-    /// becomes the next one, and is taken here if there is none. Where memory is refused the lines
-    /// are as they were.
+    /// Makes room for a line. If the last chunk is full, the spare room becomes the next one, or
+    /// room is allocated if there is no spare. If memory is refused, the lines are as they were.
     #[inline(always)]
     pub(crate) fn make_room(&mut self, alloc: Global, spare: &mut Spare) -> Result<(), NoMemory>
         requires { length self.old.lines < 2 ^ 64 }
@@ -117,7 +116,7 @@ impl Journal {
         Ok(())
     }
 
-    /// Puts a line after the others. There is room for it.
+    /// Appends a line. There is room for it.
     #[inline(always)]
     pub(crate) fn push(&mut self, line: Line)
         requires { 0 < self.old.room }
@@ -126,7 +125,7 @@ impl Journal {
         self.last.push_reserved(line);
     }
 
-    /// Room for all the lines. It fails only where memory is refused.
+    /// Room for all the lines. It fails only if memory is refused.
     fn room_for_all(&self, alloc: Global) -> Result<Vec<Line>, NoMemory>
         requires { length self.now.lines < 2 ^ 64 }
         ensures empty { IfOk result (λ room. room.items ≡ []) }
@@ -135,7 +134,7 @@ impl Journal {
         Ok(Vec::with_capacity(alloc, self.len())?)
     }
 
-    /// Hands out the lines, in room for all of them, and goes on with none.
+    /// Hands out the lines in `room`, which holds them all, and is empty afterwards.
     pub(crate) fn hand_out(&mut self, room: Vec<Line>) -> Vec<Line>
         requires empty { room.items ≡ [] }
         requires room { length self.old.lines ≤ vec_capacity room }
@@ -150,7 +149,7 @@ impl Journal {
         all
     }
 
-    /// The lines, in one piece. It fails only where memory is refused.
+    /// The lines as one list. It fails only if memory is refused.
     pub(crate) fn into_lines(self, alloc: Global) -> Result<Vec<Line>, NoMemory>
         requires { length self.lines < 2 ^ 64 }
         ensures { IfOk result (λ lines. lines.items ≡ self.lines) }

@@ -4,8 +4,8 @@
 //! begins with, and each line has the decision of the books at that point.
 //!
 //! What a journal means is defined in `specs/`: `Moves.antt` says which moves a datagram makes and
-//! which of them concern an account, `Restep.antt` what moves make of the books of a shard, `Journal.antt` what the lines of a
-//! journal are, and `Seen.antt` what is kept of every shard.
+//! which of them concern an account, `Restep.antt` what moves make of the books of a shard,
+//! `Journal.antt` what the lines of a journal are, and `Seen.antt` what holds for every shard.
 #![tactic(auto)]
 
 mod books;

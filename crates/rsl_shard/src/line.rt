@@ -1,7 +1,7 @@
 use crate::moved::Move;
 use rsl_event::Decision;
 
-/// A line of a journal: a move that was made, and what was decided.
+/// A line of a journal: a move that was made, and its decision.
 #[derive(Drop)]
 pub struct Line {
     /// The move.

@@ -8,10 +8,10 @@ use rsl_wire::NoMemory;
 use std::alloc::Global;
 use std::marker::Model;
 
-/// What a cut of a shard needs beside the copies of its books: room for the lines of its journal,
-/// and a journal with none. It is taken before the cut.
+/// The memory that a cut of a shard needs beside the copies of its books, allocated before it: room
+/// for the lines of its journal, and an empty journal.
 ///
-/// A contract sees for how many lines there is room.
+/// A contract sees the number of lines for which there is room.
 #[derive(Drop)]
 pub struct CutRoom {
     pub(crate) lines: Vec<Line>,
@@ -29,7 +29,7 @@ impl Model for CutRoom {
 }
 
 impl CutRoom {
-    /// Room for `lines` lines. It fails only where memory is refused.
+    /// Room for `lines` lines. It fails only if memory is refused.
     pub fn new(alloc: Global, lines: usize) -> Result<CutRoom, NoMemory>
         ensures { IfOk result (λ room. lines ≤ room) }
     {
@@ -40,10 +40,10 @@ impl CutRoom {
     }
 }
 
-/// A part of a shard's journal, which was handed out as the shard kept it: its lines stand in
-/// chunks, beside the room in which they can be joined.
+/// A segment of a shard's journal, handed out in the chunks in which the shard kept it, with room
+/// to join them.
 ///
-/// A contract sees what a segment of it has.
+/// A contract sees what the joined segment has.
 #[derive(Drop)]
 pub struct LooseSegment {
     pub(crate) shard: u32,
@@ -71,7 +71,7 @@ impl Model for LooseSegment {
 }
 
 impl LooseSegment {
-    /// The segment. Its lines are moved together, and no memory is taken.
+    /// The segment. Its lines are moved together without allocating.
     pub fn join(self) -> Segment
         ensures shard { result.shard ≡ self.shard }
         ensures first { result.first ≡ self.first }

@@ -26,17 +26,17 @@ pub enum Move {
         /// The moment, in seconds.
         moment: u64,
     },
-    /// A packet that is no account's, which is noted and changes no book.
+    /// A packet of no account, which is noted and changes no book.
     Stray {
         /// The moment, in seconds.
         moment: u64,
-        /// What is noted of it.
+        /// The note.
         note: Note,
     },
 }
 
 impl Move {
-    /// An equal move. It fails only where memory is refused.
+    /// An equal move. It fails only if memory is refused.
     pub fn try_copy(&self, alloc: Global) -> Result<Move, NoMemory>
         ensures { IfOk result (λ copy. copy ≡ self.now) }
     {

@@ -6,7 +6,7 @@ use crate::moved::Move;
 use rsl_accounts::Config;
 use rsl_event::{Event, Meaning};
 
-/// The moves that a datagram makes, by what it means.
+/// The moves that a datagram makes, from its meaning.
 #[derive(Drop)]
 pub enum Moves {
     /// None: the datagram is answered, and changes and notes nothing.
@@ -23,10 +23,10 @@ pub enum Moves {
 }
 
 impl Moves {
-    /// The moves of what came at a moment, in seconds: what is an account's own moves the account's
+    /// The moves of a meaning that came at a moment, in seconds: an own act moves the account's
     /// shard, a stray shard 0, and a restart sweeps every shard. A reject moves none.
     ///
-    /// The meaning is handed over, so nothing is copied and no memory is taken.
+    /// The meaning is moved in, so nothing is copied or allocated.
     pub fn of(config: &Config, moment: u64, meaning: Meaning) -> Moves
         requires account { HasAccount config.now meaning }
         requires act { HasOwnAct meaning }

@@ -11,15 +11,15 @@ use std::mem::replace;
 /// The books that a journal begins with.
 #[derive(Drop)]
 pub(crate) enum Opening {
-    /// New books. They are not kept: they follow from the rules of what they have become.
+    /// New books. They are not kept, since they follow from the rules of the present books.
     New,
-    /// Books that were kept, in the order of their accounts' numbers.
+    /// Kept books, in the order of their accounts' numbers.
     Kept(Vec<Book>),
 }
 
 impl Opening {
-    /// Hands out the books that a journal begins with, which have become these; the next journal
-    /// begins with others. Where memory is refused nothing has changed.
+    /// Hands out the books that a journal began with, and keeps `next` as those of the next
+    /// journal. If memory is refused, nothing has changed.
     pub(crate) fn hand_out(
         &mut self,
         alloc: Global,
@@ -41,7 +41,7 @@ impl Opening {
         }
     }
 
-    /// The books that a journal began with, which has come to these. It fails only where memory is
+    /// The books that a journal began with, given the present ones. It fails only if memory is
     /// refused.
     pub(crate) fn into_books(self, alloc: Global, present: Books) -> Result<Vec<Book>, NoMemory>
         ensures { IfOk result (λ books. books.items ≡ opening_of self present.books) }

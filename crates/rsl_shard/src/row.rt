@@ -3,7 +3,7 @@ ghost use Rattle.rsl_shard.specs.Rows.{row_of};
 
 use rsl_book::Book;
 
-/// What an account holds, as a line of the report has it.
+/// What an account holds, as a line of the report.
 #[derive(Clone, Copy, PartialEq, Eq)]
 pub struct Row {
     /// The account's number, in file order.
@@ -18,12 +18,12 @@ pub struct Row {
     pub live: u32,
     /// How many of its links are bound and stale.
     pub stale: u32,
-    /// How many of its alives were over, at most 2^64 - 1.
+    /// How many of its alives found no place, at most 2^64 - 1.
     pub over: u64,
 }
 
 impl Row {
-    /// What an account holds, as its book shows it at the book's own clock.
+    /// What an account holds at its book's own clock.
     pub fn of(account: u32, book: &Book) -> Row
         ensures { result ≡ row_of account book.now }
     {

@@ -1,12 +1,12 @@
 use crate::line::Line;
 use rsl_book::Book;
 
-/// A part of a shard's journal, which was handed out: the books that it begins with, and its lines.
+/// A part of a shard's journal that was handed out: the books that it begins with, and its lines.
 #[derive(Drop)]
 pub struct Segment {
     /// The shard's number.
     pub shard: u32,
-    /// How many lines came before, in all earlier segments.
+    /// The number of lines in all earlier segments.
     pub first: u64,
     /// The books before the first line, in the order of their accounts' numbers.
     pub opening: Vec<Book>,

@@ -39,9 +39,9 @@ use std::mem::replace;
 /// The books of the accounts of one shard, with the journal of what was done to them.
 ///
 /// A contract sees what the shard knows of the configuration, how many lines were handed out, the
-/// books that the journal begins with, and its lines. The books are what the lines make of those:
-/// its type keeps it, and that each line's move is one that the shard takes, with the decision of
-/// the books at that point.
+/// books that the journal begins with, and its lines. The type guarantees that the books are what
+/// the lines make of those, and that the shard takes each line's move, with the decision of the
+/// books at that point.
 #[derive(Drop)]
 pub struct Shard {
     books: Books,
@@ -63,7 +63,7 @@ impl Model for Shard {
 }
 
 impl Shard {
-    /// A shard of new books, with no lines. It fails only where memory is refused.
+    /// A shard of new books, with no lines. It fails only if memory is refused.
     pub fn new(alloc: Global, config: &Config, number: u32) -> Result<Shard, NoMemory>
         requires { number < config.now.settings.shards }
         ensures { IfOk result (λ shard. shard ≡ new_shard config.now number) }
@@ -76,17 +76,17 @@ impl Shard {
         })
     }
 
-    /// Whether a move can be made: what is one account's own is an ask, an alive or a stop of an
-    /// account of this shard.
+    /// Whether the shard takes a move: an own move has to be an ask, an alive or a stop of one of
+    /// its accounts.
     pub fn takes(&self, moved: &Move) -> bool
         ensures { IsTrue result ↔ IsTaken self.now.setup moved.now }
     {
         self.books.takes(moved)
     }
 
-    /// Makes a move, and notes it with its decision as the last line of the journal. What is one
-    /// account's own steps its book and no other, a sweep or a tick each book, a stray none. All
-    /// memory is taken before the first book changes: where it is refused, nothing has changed.
+    /// Makes a move, and appends it with its decision to the journal. An own move steps the book of
+    /// its account, a sweep or a tick each book, a stray none. All memory is allocated before the
+    /// first book changes: if it is refused, nothing has changed.
     pub fn step(&mut self, alloc: Global, moved: Move) -> Result<Decision, NoMemory>
         requires takes { IsTaken self.old.setup moved }
         requires room { total_of self.old < 2 ^ 64 - 1 }
@@ -101,11 +101,11 @@ impl Shard {
         self.step_over(alloc, moved, &mut Spare::new(alloc))
     }
 
-    /// Makes a move that is lent, as `step` does, with room for the journal that its caller took
-    /// before. The move is copied for the journal, and so is what a book may keep of it: for names
-    /// and ids of at most 22 octets that takes no memory. Where there is spare room none is taken
-    /// for the line, and none is let go; only where the chunks of the journal pass 1,024, and each
-    /// time that they double, is their list moved. Where memory is refused nothing has changed.
+    /// `step` of a borrowed move, with spare room for the journal. The move is copied for the
+    /// journal, and so is what a book may keep of it: for names and ids of at most 22 octets that
+    /// allocates nothing. With spare room nothing is allocated for the line and nothing freed,
+    /// except that the list of chunks is moved when they pass 1,024, and each time that they
+    /// double. If memory is refused, nothing has changed.
     pub fn step_ready(
         &mut self,
         alloc: Global,
@@ -129,7 +129,7 @@ impl Shard {
         }
     }
 
-    /// Makes a move that is handed over, and becomes that of its line.
+    /// Makes a move, which becomes that of its line.
     fn step_over(
         &mut self,
         alloc: Global,
@@ -147,7 +147,7 @@ impl Shard {
         ensures kept { IsShard self.new }
     {
         self.open_invariant();
-        // Where it fails, the move is freed by a call of `drop`. Left to the end of the function, this
+        // On failure the move is freed by a call of `drop`. Freeing it at the end of the function
         // would cost each step that does not fail.
         if self.journal.make_room(alloc, spare).is_err() {
             drop(moved);
@@ -177,8 +177,8 @@ impl Shard {
         self.books.book(account)
     }
 
-    /// What each account of the shard holds, in the order of their numbers. It fails only where
-    /// memory is refused.
+    /// What each account of the shard holds, in the order of their numbers. It fails only if memory
+    /// is refused.
     pub fn rows(&self, alloc: Global) -> Result<Vec<Row>, NoMemory>
         ensures { IfOk result (λ rows. rows.items ≡ rows_of self.now.setup (books_of self.now)) }
     {
@@ -192,8 +192,8 @@ impl Shard {
         self.journal.len()
     }
 
-    /// The number of lines of all segments so far: those that were handed out, and those of the
-    /// present journal.
+    /// The number of lines of all segments so far: those handed out, and those of the present
+    /// journal.
     pub fn total(&self) -> u64
         ensures total { result ≡ total_of self.now }
         ensures kept { IsShard self.now }
@@ -201,7 +201,7 @@ impl Shard {
         self.first + self.journal.len() as u64
     }
 
-    /// What is kept of a shard, whatever it has come to.
+    /// Shows the prover the invariant of a shard.
     pub fn open_invariant(&self)
         ensures { IsShard self.now }
     {
@@ -209,7 +209,7 @@ impl Shard {
     }
 
     /// Hands out the journal with the books that it began with, and goes on from equal books, with
-    /// no lines. Where memory is refused nothing has changed.
+    /// no lines. If memory is refused, nothing has changed.
     pub fn cut(&mut self, alloc: Global) -> Result<Segment, NoMemory>
         ensures shard { IfOk result (λ segment. segment.shard ≡ self.old.setup.shard) }
         ensures first { IfOk result (λ segment. segment.first ≡ self.old.first) }
@@ -225,10 +225,9 @@ impl Shard {
         Ok(loose.join())
     }
 
-    /// Cuts the shard as `cut` does, with room that its caller took before. The lines stay where
-    /// they are until they are joined, and where there is room for all of them none is taken here
-    /// but for the copy of each book, and for the new books of the first opening. Where memory is
-    /// refused nothing has changed.
+    /// `cut`, with memory allocated before. The lines stay in their chunks until they are joined.
+    /// If `room` holds all of them, only the copy of each book is allocated here, and new books for
+    /// the first opening. If memory is refused, nothing has changed.
     pub fn cut_loose(&mut self, alloc: Global, room: CutRoom) -> Result<LooseSegment, NoMemory>
         ensures shard { IfOk result (λ loose. loose.shard ≡ self.old.setup.shard) }
         ensures first { IfOk result (λ loose. loose.first ≡ self.old.first) }
@@ -259,9 +258,9 @@ impl Shard {
         Ok(loose)
     }
 
-    /// The journal with the books that it began with, where the shard goes on no more. Nothing is
-    /// copied: the lines are moved together, and where the books began new, new ones take the place
-    /// of the shard's, one by one. Where memory is refused the shard is let go.
+    /// The last segment of the shard: the journal with the books that it began with. Nothing is
+    /// copied: the lines are moved together, and if the books began new, new ones replace the
+    /// shard's, one by one. If memory is refused, the shard is freed.
     pub fn into_segment(self, alloc: Global) -> Result<Segment, NoMemory>
         ensures shard { IfOk result (λ segment. segment.shard ≡ self.setup.shard) }
         ensures first { IfOk result (λ segment. segment.first ≡ self.first) }

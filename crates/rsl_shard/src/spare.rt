@@ -6,12 +6,12 @@ use std::alloc::Global;
 use std::marker::Model;
 use std::mem::replace;
 
-/// How many lines stand in a chunk of a journal.
+/// The number of lines in a chunk of a journal.
 const CHUNK: usize = 1024;
 
-/// Room for lines of a journal, which is taken before the step that needs it.
+/// Room for lines of a journal, allocated before the step that needs it.
 ///
-/// A contract sees for how many lines there is room.
+/// A contract sees the number of lines for which there is room.
 #[derive(Drop)]
 pub struct Spare {
     lines: Vec<Line>,
@@ -37,8 +37,8 @@ impl Spare {
         }
     }
 
-    /// Takes room for 1,024 lines, where there is room for fewer. It fails only where that memory
-    /// is refused, and then nothing has changed.
+    /// Makes room for 1,024 lines, unless there is. It fails only if memory is refused, and then
+    /// nothing has changed.
     pub fn fill(&mut self) -> Result<(), NoMemory>
         ensures room { OnOk result (1024 ≤ self.new) }
         ensures kept { self.old ≤ self.new }
@@ -49,7 +49,7 @@ impl Spare {
         Ok(())
     }
 
-    /// Gives the room away.
+    /// Moves the room out.
     pub(crate) fn take(&mut self, alloc: Global) -> Vec<Line>
         ensures items { result.items ≡ [] }
         ensures room { vec_capacity result ≡ self.old }

@@ -1,4 +1,4 @@
-//! A book that is saved, and put back.
+//! Saving and restoring a book.
 
 ghost use Rattle.std.specs.Prelude.{◌≡◌, ◌≢◌, ◌<◌, ◌≤◌, [], ◌∷◌, ◌++◌, IfErr, IfOk, IsTrue, IsFalse, None, Ok, Err, length, take};
 ghost use Rattle.rsl_accounts.specs.Limits.{RulesFit};
@@ -22,7 +22,7 @@ use rsl_session::{KEPT_ASKS, KEPT_STOPS, KeptAsk, KeptStop, SavedBook, SavedHold
 use rsl_wire::{NoMemory, Octets};
 use std::alloc::Global;
 
-/// What has a link that was saved.
+/// The holder of a saved link.
 fn holder_of(alloc: Global, saved: &SavedHolder) -> Result<Holder, NoMemory>
     ensures { IfOk result (λ holder. (nas : Nas) → holder_at nas holder ≡
         saved_holder nas saved.now) }
@@ -34,8 +34,7 @@ fn holder_of(alloc: Global, saved: &SavedHolder) -> Result<Holder, NoMemory>
 }
 
 impl Book {
-    /// All that the book holds, as plain data, from which `restore` puts it back. It fails only
-    /// where memory is refused.
+    /// All that the book holds, as plain data for `restore`. It fails only if memory is refused.
     pub fn save(&self, alloc: Global) -> Result<SavedBook, NoMemory>
         ensures saved { IfOk result (λ kept. saved_book kept ≡ saved self.now) }
         ensures fits { misfit self.now.rules self.now.book ≡ None }
@@ -51,10 +50,11 @@ impl Book {
         })
     }
 
-    /// The book of an account that was saved, with all the room that it will ever use.
+    /// The book that was saved, under the rules of its account, with all the memory that it will
+    /// ever use.
     ///
-    /// Where no book with these rules can hold it, it is refused by the first of the faults in their
-    /// order, and never cut. It is not asked whether any events lead to it: a link may have been
+    /// If no book with these rules can hold it, it is refused with the first of the faults in their
+    /// order, and never cut. Nothing checks whether any events lead to it: a link may have been
     /// touched after the clock.
     pub fn restore(alloc: Global, rules: Rules, saved: &SavedBook) -> Result<Book, RestoreFault>
         requires { RulesFit rules }
@@ -67,7 +67,7 @@ impl Book {
         Book::restore_in(alloc, blank, saved)
     }
 
-    /// `restore` in a book that was made for the account and has had no event. It takes memory only
+    /// `restore` in a book that was made for the account and has had no event. It allocates only
     /// for names and ids of more than 22 octets.
     pub fn restore_in(alloc: Global, blank: Book, saved: &SavedBook) -> Result<Book, RestoreFault>
         requires { blank ≡ record { rules = blank.rules; book = new_book } }
@@ -94,7 +94,7 @@ impl Book {
         Ok(book)
     }
 
-    /// Tells the prover again that the book fits its rules, whatever it has come to.
+    /// Shows the prover again that the book fits its rules.
     fn open_fit(&self)
         ensures { misfit self.now.rules self.now.book ≡ None }
     {
@@ -113,8 +113,7 @@ impl Book {
         self.over = over;
     }
 
-    /// Opens a link as it was saved, if the places then are within the limit, and says whether they
-    /// are.
+    /// Opens a saved link, if the places are then within the limit, and says whether they are.
     fn put_link(&mut self, alloc: Global, saved: &SavedLink) -> Result<bool, NoMemory>
         ensures put { IfOk result (λ fits. IsTrue fits → self.new ≡ record self.old {
           book = record self.old.book {
@@ -131,8 +130,7 @@ impl Book {
         Ok(self.open_touched(nas, holder, bundle, saved.touched))
     }
 
-    /// Opens links as they were saved, if the places then are within the limit, and says whether
-    /// they are.
+    /// Opens saved links, if the places are then within the limit, and says whether they are.
     fn put_links(&mut self, alloc: Global, saved: &[SavedLink]) -> Result<bool, NoMemory>
         requires fit { RulesFit self.old.rules }
         requires none { self.old.book.links ≡ [] }
@@ -153,7 +151,7 @@ impl Book {
         Ok(true)
     }
 
-    /// Keeps a fresh ask as it was saved, in front of the others.
+    /// Keeps a saved fresh ask, in front of the others.
     fn put_ask(&mut self, alloc: Global, saved: &KeptAsk) -> Result<(), NoMemory>
         ensures { IfOk result (λ _. self.new ≡ record self.old {
           book = record self.old.book {
@@ -181,7 +179,7 @@ impl Book {
         Ok(())
     }
 
-    /// Keeps fresh asks as they were saved.
+    /// Keeps saved fresh asks.
     fn put_asks(&mut self, alloc: Global, saved: &[KeptAsk]) -> Result<(), NoMemory>
         requires none { self.old.book.asks ≡ [] }
         requires few { length saved.now ≤ 8 }
@@ -195,7 +193,7 @@ impl Book {
         Ok(())
     }
 
-    /// Keeps a stop as it was saved, in front of the others.
+    /// Keeps a saved stop, in front of the others.
     fn put_stop(&mut self, alloc: Global, saved: &KeptStop) -> Result<(), NoMemory>
         ensures { IfOk result (λ _. self.new ≡ record self.old {
           book = record self.old.book {
@@ -221,7 +219,7 @@ impl Book {
         Ok(())
     }
 
-    /// Keeps stops as they were saved.
+    /// Keeps saved stops.
     fn put_stops(&mut self, alloc: Global, saved: &[KeptStop]) -> Result<(), NoMemory>
         requires none { self.old.book.stops ≡ [] }
         requires few { length saved.now ≤ 16 }

@@ -1,4 +1,4 @@
-//! Books that are given, and what is saved of them.
+//! Books that the caller gives, and their saved form.
 
 ghost use Rattle.std.specs.Prelude.{◌≡◌, ◌<◌, ◌↔◌, All, IfErr, IfOk, IsOk, IsTrue, Some, map, slice_get};
 ghost use Rattle.std.specs.Option.{option_map};
@@ -36,8 +36,8 @@ fn is_book_of(config: &Config, account: u32, book: &Book) -> bool
     false
 }
 
-/// Whether these are books of the accounts of a shard: one of each, in the order of their numbers,
-/// with the account's rules.
+/// Whether these are the books of a shard: one for each of its accounts, in the order of their
+/// numbers, with the account's rules.
 fn are_of_shard(config: &Config, shard: u32, books: &[Book]) -> bool
     requires { shard < config.now.settings.shards }
     ensures own { IsTrue result ↔ (map as_new books.now ≡ new_books config.now shard) }
@@ -59,8 +59,8 @@ fn are_of_shard(config: &Config, shard: u32, books: &[Book]) -> bool
 }
 
 impl Books {
-    /// The books of the accounts of a shard, as they are given: one of each, in the order of the
-    /// accounts' numbers, with the account's rules. Others are handed back.
+    /// The books of a shard: one for each of its accounts, in the order of their numbers, with the
+    /// account's rules. Any others are handed back.
     pub fn from_books(config: &Config, shard: u32, books: Vec<Book>) -> Result<Books, Vec<Book>>
         requires { shard < config.now.settings.shards }
         ensures setup { IfOk result (λ made. made.setup ≡ setup_of config.now shard) }
@@ -80,7 +80,7 @@ impl Books {
         })
     }
 
-    /// What is saved of each book, in the order of the accounts' numbers. It fails only where memory
+    /// The saved form of each book, in the order of the accounts' numbers. It fails only if memory
     /// is refused.
     pub fn save(&self, alloc: Global) -> Result<Vec<SavedBook>, NoMemory>
         ensures { IfOk result (λ kept. map saved_book kept.items ≡ map saved self.now.books) }
@@ -89,7 +89,7 @@ impl Books {
     }
 }
 
-/// What is saved of books, one by one.
+/// The saved form of books, one by one.
 #[tactic(auto, using(rsl_book::proofs::Callers::stands_steps))]
 fn saved_of(alloc: Global, books: &[Book]) -> Result<Vec<SavedBook>, NoMemory>
     ensures { IfOk result (λ kept. map saved_book kept.items ≡ map saved books.now) }
