@@ -3,8 +3,9 @@
 //! takes datagrams from two sockets and answers them.
 //!
 //! This crate has the edges of the process: its first argument, the three streams and the exit
-//! status, which is that of the fault (`exit_code`). What a script says, what the server answers to it
-//! and what is printed is the business of `rsl_replay`, and the running server that of `rsl_serve`.
+//! status, which is that of the fault (`exit_code`). What a script says, what the server answers to
+//! it and what is printed is the business of `rsl_replay`, and the running server that of
+//! `rsl_serve`.
 #![tactic(auto)]
 
 mod arguments;

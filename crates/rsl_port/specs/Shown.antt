@@ -1,7 +1,7 @@
--- The moments that a clock has shown, where it reports them.
+-- The moments that a clock has shown, if it reports them.
 use Rattle.std.specs.Prelude.{◌≡◌, ℕ, ⊤, List, ◌++◌, Option, Some, None}
 
--- a clock has shown these moments more, if it reports what it shows
+-- a clock has shown these further moments, if it reports what it shows
 abbrev pub HasShown : (moments : List ℕ) → (old new : Option (List ℕ)) → Type 0
 HasShown moments old None = ⊤
 HasShown moments None (Some after) = ⊥

@@ -11,7 +11,7 @@ use Rattle.std.specs.declared.net.socket_addr.SocketAddr.TheVariants.{V4, V6}
 use Rattle.rsl_event.specs.declared.event.Source.{Source}
 use Rattle.rsl_port.specs.Told.{Received}
 
--- the address and port of an IPv4 socket; another is no source
+-- the address and port of an IPv4 socket address; any other is no source
 abbrev pub source_in : SocketAddr → Option Source
 source_in (V4 from) = Some (record { address = ipv4_octets (v4_ip from); port = v4_port from })
 source_in (V6 from) = None
@@ -30,12 +30,12 @@ abbrev pub octets_from : (len : ℕ) → Option Source → Option (ℕ × Source
 octets_from len (Some source) = Some (len, source)
 octets_from len None = None
 
--- no datagram where the fault passes, and else a fault of the port
+-- no datagram if the fault passes, and else a fault of the port
 abbrev pub IsFailed : (passing : Bool) → Received → Type 0
 IsFailed true received = received ≡ Ok None
 IsFailed false received = is_err received ≡ true
 
--- a port gives what a read gave, which had room for `room` octets
+-- a port gives what a read gave, into a buffer of `room` octets
 abbrev pub IsReception : (room : ℕ) → Result (ℕ × SocketAddr) Error → Received → Type 0
 IsReception room (Ok read) received = received ≡ Ok (octets_from (min read.0 room) (source_in read.1))
 IsReception room (Err error) received = IsFailed (is_passing (error_kind error)) received

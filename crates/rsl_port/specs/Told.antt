@@ -1,5 +1,5 @@
--- What a port keeps of its own calls: how many there were, how many failed and which went astray.
--- What it tells of its datagrams, where it tells them.
+-- What a port counts of its own calls: how many there were, how many failed and which went astray.
+-- What it tells of its datagrams, if it tells them.
 use Rattle.std.specs.Prelude.{ℕ, ◌+◌, ◌^◌, ◌<◌, ◌==◌, Bool, true, false, ◌&&◌, cond, List, [], ◌∷◌, take, Option, Some, None, Result, Ok, Err, is_err}
 use Rattle.rsl_accounts.specs.Configuration.{same_octets}
 use Rattle.rsl_event.specs.declared.event.Source.{Source}
@@ -7,7 +7,7 @@ use Rattle.rsl_port.specs.declared.datagram_port.Datagram.{Datagram}
 use Rattle.rsl_port.specs.declared.datagram_port.PortFault.{PortFault}
 use Rattle.rsl_port.specs.declared.datagram_port.Numbers.{Numbers}
 
--- the numbers of a port that was not called yet
+-- the numbers of a port that has not been called
 abbrev pub no_numbers : Numbers
 no_numbers = record {
   receives = 0;
@@ -23,7 +23,7 @@ pub record CanReceive (calls : ℕ) (numbers : Numbers) : Type 0 where
   pub receives : numbers.receives + calls < 2 ^ 64
   pub failed : numbers.failed_receives + calls < 2 ^ 64
 
--- nor do `calls` more calls of `send`
+-- `calls` more calls of `send` bring no number over 2^64 - 1
 pub record CanSend (calls : ℕ) (numbers : Numbers) : Type 0 where
   pub sends : numbers.sends + calls < 2 ^ 64
   pub failed : numbers.failed_sends + calls < 2 ^ 64
@@ -33,7 +33,7 @@ pub record CanSend (calls : ℕ) (numbers : Numbers) : Type 0 where
 abbrev pub Received : Type 0
 Received = Result (Option (ℕ × Source)) PortFault
 
--- a call of `receive` is counted, and so is its failure; a datagram's source is the last
+-- a call of `receive` is counted, and so is its failure; a datagram's source becomes the last
 abbrev pub after_receive : Received → Numbers → Numbers
 after_receive (Ok (Some received)) numbers =
     record numbers { receives = numbers.receives + 1; last = Some received.1 }
@@ -56,7 +56,7 @@ after_send to sent numbers = record numbers {
   astray = numbers.astray + cond (is_last to numbers.last) 0 1;
 }
 
--- the datagram that a call of `receive` took, from what then stands in the buffer
+-- the datagram that a call of `receive` took, from what is then in the buffer
 abbrev pub taken_by : Received → (buffer : List ℕ) → List Datagram
 taken_by (Ok (Some received)) buffer =
     record { source = received.1; octets = take received.0 buffer } ∷ []

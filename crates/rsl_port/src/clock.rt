@@ -1,8 +1,8 @@
-//! Clocks, and what lies between the turns of a worker.
+//! Clocks, and the pauses of a worker between its turns.
 
-/// Where a worker gets the moments of the moves that it makes.
+/// A source of the moments of a worker's moves.
 ///
-/// A clock over memory also reports to contracts which moments it showed, in their order. The
+/// A clock in memory also reports to contracts which moments it showed, in their order. The
 /// system's clock reports none.
 pub trait Clock {
     ghost use Rattle.std.specs.Prelude.{ℕ, List, [], ◌∷◌, Option, None};
@@ -15,15 +15,15 @@ pub trait Clock {
         ensures shown { HasShown (result ∷ []) (shown self.old) (shown self.new) };
 }
 
-/// What lies between the turns of a worker that makes ticks.
+/// The pause of a worker between two ticks.
 ///
-/// A pause over memory also reports to contracts what it said last.
+/// A pause in memory also reports to contracts what it answered last.
 pub trait Pause {
     ghost use Rattle.std.specs.Prelude.{◌≡◌, Bool, Option, None, IfSome};
 
     ghost said: { Self → Option Bool } = { λ _. None };
 
-    /// Lets time go by until the next turn is due. Answers false where there shall be none.
+    /// Waits until the next turn is due. Answers false if there is to be none.
     fn pause(&mut self) -> bool
         ensures said { IfSome (said self.new) (λ said. said ≡ result) };
 }

@@ -1,4 +1,4 @@
-//! Ports: where datagrams come from and go to, and what is counted of their calls.
+//! Ports: where datagrams come from and go to, and the counts of their calls.
 
 ghost use Rattle.std.specs.Prelude.{◌≡◌};
 ghost use Rattle.rsl_port.specs.Told.{CanReceive, CanSend, after_receive, after_send, no_numbers};
@@ -10,21 +10,20 @@ use rsl_wire::Octets;
 #[derive(Clone, Copy)]
 pub struct PortFault;
 
-/// A datagram, with the source that it came from or that it goes to.
+/// A datagram, with its source or its destination.
 #[derive(Drop)]
 pub struct Datagram {
     /// The other side's address and port.
     pub source: Source,
-    /// What it holds.
+    /// The octets of the datagram.
     pub octets: Octets,
 }
 
-/// Where datagrams come from and answers go to, as a UDP socket is.
+/// A port that datagrams come from and answers go to, such as a UDP socket.
 ///
-/// A contract sees the numbers that the port keeps of its calls: all that a socket has to give,
-/// which holds a `Numbers`. A port over memory also reports which datagrams it gave, which sends
-/// were tried, and the least room that a `receive` was given, in octets, as long as `tells` is
-/// true.
+/// A contract sees the numbers that the port keeps of its calls; a socket, which holds a `Numbers`,
+/// reports nothing else. A port in memory also reports which datagrams it gave, which sends were
+/// tried, and the least room, in octets, of any `receive`, as long as `tells` is true.
 pub trait DatagramPort {
     ghost use Rattle.std.specs.Prelude.{◌≡◌, ◌≤◌, ℕ, min, Bool, true, false, List, [], ◌∷◌, ◌++◌, length, IfOk, IfSome};
     ghost use Rattle.rsl_port.specs.Told.{CanReceive, CanSend, after_receive, after_send, datagram_of, taken_by};
@@ -41,10 +40,10 @@ pub trait DatagramPort {
 
     ghost room: { Self → ℕ } = { λ _. 0 };
 
-    /// Waits for a datagram for a while, and puts its octets at the start of the buffer. Gives how
-    /// many they are, with the source, or `None` where none has come. A datagram longer than the
-    /// buffer is cut. It fails where the port can give no more, as a socket that the system closed.
-    /// What the port counts of its calls has to stay under 2^64 with this one.
+    /// Waits for a datagram for a limited time, and puts its octets at the start of the buffer.
+    /// Gives their number and the source, or `None` if none has come. A datagram longer than the
+    /// buffer is cut. It fails if the port can give no more, like a socket that the system closed.
+    /// The port's counts of its calls have to stay under 2^64 with this one.
     fn receive(&mut self, buffer: &mut [u8]) -> Result<Option<(usize, Source)>, PortFault>
         requires { CanReceive 1 (numbers self.old) }
         ensures within { IfOk result (λ received. IfSome received (λ found.
@@ -56,8 +55,8 @@ pub trait DatagramPort {
         ensures sent { tells self.new ≡ true → sent self.new ≡ sent self.old }
         ensures room { tells self.new ≡ true → room self.new ≡ min (room self.old) (length buffer.old) };
 
-    /// Sends these octets to a source. Where it fails, nothing is known to have been sent. What
-    /// the port counts of its calls has to stay under 2^64 with this one.
+    /// Sends these octets to a source. On a fault nothing is known of what was sent. The port's
+    /// counts of its calls have to stay under 2^64 with this one.
     fn send(&mut self, octets: &[u8], to: Source) -> Result<(), PortFault>
         requires { CanSend 1 (numbers self.old) }
         ensures numbers { numbers self.new ≡ after_send to result (numbers self.old) }
@@ -68,10 +67,10 @@ pub trait DatagramPort {
         ensures room { tells self.new ≡ true → room self.new ≡ room self.old };
 }
 
-/// What a port counts of its own calls.
+/// The numbers that a port keeps of its own calls.
 ///
-/// A port holds one of these, hands its calls' results to `note_receive` and `note_send`, and gives
-/// it as its `numbers`.
+/// A port has one of these, passes the results of its calls to `note_receive` and `note_send`, and
+/// gives it as its `numbers`.
 #[derive(Clone, Copy)]
 pub struct Numbers {
     /// The calls of `receive`.
@@ -89,7 +88,7 @@ pub struct Numbers {
 }
 
 impl Numbers {
-    /// The numbers of a port that was not called yet.
+    /// The numbers of a port that has not been called.
     pub fn new() -> Numbers
         ensures { result ≡ no_numbers }
     {

@@ -1,8 +1,8 @@
-//! Ports, clocks and pauses: what the receivers and workers of a server are given from outside, and
-//! what they need of them. Both servers stand on them, `radlimit serve` and `radlimitd`. The promise:
-//! a port's numbers count its calls as `specs/Told.antt` says; a port of memory begins with what it is
-//! given, and shows what it kept and counted; the moments that a clock has shown are those of
-//! `specs/Shown.antt`; and what a read of a UDP socket is to a port is exactly `specs/Socket.antt`.
+//! Ports, clocks and pauses: what the receivers and workers of both servers, `radlimit serve` and
+//! `radlimitd`, need from outside. The promise: a port's numbers count its calls as
+//! `specs/Told.antt` says; a port in memory begins with what it is given, and shows what it kept
+//! and counted; the moments that a clock has shown are those of `specs/Shown.antt`; and what a read
+//! of a UDP socket is to a port is exactly `specs/Socket.antt`.
 #![tactic(auto)]
 
 mod clock;

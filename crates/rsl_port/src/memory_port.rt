@@ -6,7 +6,7 @@ use rsl_event::Source;
 use rsl_wire::Octets;
 use std::alloc::Global;
 
-/// What a call of `receive` meets at a port over memory.
+/// The result of a call of `receive` of a port in memory.
 #[derive(Drop)]
 pub enum Coming {
     /// This datagram.
@@ -17,10 +17,10 @@ pub enum Coming {
     Fault,
 }
 
-/// A port over memory, for tests: it gives what it was made with, one after the other, and then
-/// nothing more, and keeps what it gave and what it was handed to send.
+/// A port in memory, for tests: it gives what it was made with, one after the other, and then
+/// nothing, and keeps what it gave and what it was asked to send.
 ///
-/// It tells its datagrams, unless it was refused the memory to keep one.
+/// It tells its datagrams, unless the memory to keep one was refused.
 #[derive(Drop)]
 pub struct MemoryPort {
     alloc: Global,
@@ -35,7 +35,7 @@ pub struct MemoryPort {
 }
 
 impl MemoryPort {
-    /// A port to which this comes. The sends of these numbers, counted from 0, fail.
+    /// A port to which this comes. The sends with the numbers `failing`, counted from 0, fail.
     pub fn new(alloc: Global, coming: Vec<Coming>, failing: Vec<u64>) -> MemoryPort
         ensures coming { result.coming ≡ coming }
         ensures next { result.next ≡ 0 }
@@ -65,28 +65,28 @@ impl MemoryPort {
         self.taken.as_slice()
     }
 
-    /// The datagrams that it was handed to send, those that it failed to send among them.
+    /// The datagrams that it was asked to send, including those that it failed to send.
     pub fn sent(&self) -> &[Datagram]
         ensures { result.now ≡ self.now.sent.items }
     {
         self.sent.as_slice()
     }
 
-    /// Whether it kept all that it gave and was handed.
+    /// Whether it kept all that it gave and was asked to send.
     pub fn is_telling(&self) -> bool
         ensures { result ≡ self.now.telling }
     {
         self.telling
     }
 
-    /// The least room that a `receive` was given, in octets.
+    /// The least room, in octets, of any `receive`.
     pub fn room(&self) -> usize
         ensures { result ≡ self.now.room }
     {
         self.room
     }
 
-    /// The calls that it counted.
+    /// The counts of its calls.
     pub fn numbers(&self) -> Numbers
         ensures { result ≡ self.now.numbers }
     {
@@ -130,7 +130,7 @@ impl MemoryPort {
     }
 }
 
-/// Keeps a datagram, if those before it were kept and there is memory.
+/// Keeps a datagram, if those before it were kept and memory is not refused.
 fn keep(alloc: Global, kept: &mut Vec<Datagram>, telling: &mut bool, source: Source, octets: &[u8])
     ensures telling { telling.new ≡ true → telling.old ≡ true }
     ensures kept { telling.new ≡ true →

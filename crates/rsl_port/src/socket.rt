@@ -1,4 +1,4 @@
-//! What UDP sockets are to ports: the addresses of sources, and what a read gives.
+//! UDP sockets as ports: the addresses of sources, and the results of reads.
 
 ghost use Rattle.std.specs.Prelude.{◌≡◌, ◌≤◌, ℕ, IfOk, IfSome, Some};
 ghost use Rattle.rsl_port.specs.Socket.{IsFailed, IsReception, is_passing, source_in};
@@ -8,7 +8,7 @@ use rsl_event::Source;
 use std::io::{self, ErrorKind};
 use std::net::{Ipv4Addr, SocketAddr, SocketAddrV4};
 
-/// The address and port of a source, as the system takes them.
+/// A source as a `SocketAddr`.
 pub fn socket_addr(source: Source) -> SocketAddr
     ensures { source_in result ≡ Some source }
 {
@@ -16,7 +16,7 @@ pub fn socket_addr(source: Source) -> SocketAddr
     SocketAddr::V4(SocketAddrV4::new(address, source.port))
 }
 
-/// The source with the address and port that the system gave. An IPv6 address is no source.
+/// The source with this address and port. An IPv6 address is no source.
 fn source_in(from: SocketAddr) -> Option<Source>
     ensures { result ≡ source_in from }
 {
@@ -29,11 +29,11 @@ fn source_in(from: SocketAddr) -> Option<Source>
     }
 }
 
-/// What a port gives for what a read of a UDP socket gave, which had room for `room` octets.
+/// What a port gives for a read of a UDP socket into a buffer of `room` octets.
 ///
-/// A datagram is cut to the room. That none came in time, that the wait was interrupted, or that the
-/// system had no memory for it is `None`, and so is a datagram from an IPv6 address; every other fault
-/// of the read is a `PortFault`.
+/// A datagram is cut to the room. `None` if no datagram came in time, the wait was interrupted, the
+/// system had no memory for it, or it is from an IPv6 address. `PortFault` on any other fault of
+/// the read.
 #[tactic(auto, using(crate::proofs::Reading::reading))]
 pub fn reception(
     read: io::Result<(usize, SocketAddr)>,
@@ -51,9 +51,8 @@ pub fn reception(
     }
 }
 
-/// What a port gives for a read that failed. That no datagram came in time, that the wait was
-/// interrupted, or that the system had no memory for it, only ends the turn without a datagram;
-/// every other failure is a `PortFault`.
+/// What a port gives for a failed read: `None` if no datagram came in time, the wait was
+/// interrupted, or the system had no memory for it, and `PortFault` for any other failure.
 fn failure(kind: ErrorKind) -> Result<Option<(usize, Source)>, PortFault>
     ensures failed { IsFailed (is_passing kind) result }
     ensures none { (room : ℕ) → IfOk result (λ received. IfSome received (λ found.

@@ -1,7 +1,7 @@
 use crate::clock::Clock;
 use std::time;
 
-/// The system's clock, in seconds since 1970. Where it can't be read it shows what it showed last.
+/// The system's clock, in seconds since 1970. If it cannot be read, it shows the last moment again.
 #[derive(Drop)]
 pub struct SystemClock<'a, C: time::Clock> {
     clock: &'a C,
@@ -9,7 +9,7 @@ pub struct SystemClock<'a, C: time::Clock> {
 }
 
 impl<'a, C: time::Clock> SystemClock<'a, C> {
-    /// The clock, which showed this last.
+    /// The system's clock, with `last` as the last moment shown.
     pub fn new(clock: &'a C, last: u64) -> SystemClock<'a, C> {
         SystemClock { clock, last }
     }

@@ -30,7 +30,7 @@ AreRight config shard before [] = ⊤
 AreRight config shard before (line ∷ lines) =
     IsRight config shard before line × AreRight config shard (before ++ line ∷ []) lines
 
--- the segment goes on where the lines before it end
+-- the segment follows the lines before it
 pub record Joins (config : Configuration) (shard : ℕ) (before : List Line) (segment : Segment)
     : Type 0 where
   pub of_shard : segment.shard ≡ shard
@@ -38,7 +38,7 @@ pub record Joins (config : Configuration) (shard : ℕ) (before : List Line) (se
   pub count : length before + length segment.lines.items < 2 ^ 64
   pub opening : segment.opening.items ≡ books_by_restep config shard before
 
--- the segments go on where the lines before them end, one after another, and their lines are right
+-- the segments follow the lines before them, one after another, and their lines are right
 unfoldable pub AreJoined : Configuration → (shard : ℕ) → (before : List Line) → List Segment
     → Type 0
 AreJoined config shard before [] = ⊤
@@ -81,8 +81,8 @@ IsFaultOfLines config shard before lines (WrongDecision account position) =
 IsFaultOfLines config shard before lines NoMemory = ⊤
 IsFaultOfLines config shard before lines _ = ⊥
 
--- a fault of the segment of a number: it does not go on where the lines before it end, or it
--- does, and the fault is one of its lines
+-- a fault of the segment with this number: it does not follow the lines before it, or it does, and
+-- the fault is one of its lines
 abbrev pub IsFaultOfSegment : Configuration → (shard : ℕ) → (before : List Line) → (number : ℕ)
     → Segment → AuditFault → Type 0
 IsFaultOfSegment config shard before number segment (Gap named) =
@@ -93,7 +93,7 @@ IsFaultOfSegment config shard before number segment (WrongDecision account posit
 IsFaultOfSegment config shard before number segment NoMemory = ⊤
 IsFaultOfSegment config shard before number segment NotFromEmpty = ⊥
 
--- a fault of the segment of a number, where those ahead of it are joined and right
+-- a fault of the segment with this number, when those before it are joined and right
 pub record IsFaultAt (config : Configuration) (shard : ℕ) (segments : List Segment)
     (fault : AuditFault) (number : ℕ) (segment : Segment) : Type 0 where
   pub joined : AreJoined config shard [] (take number segments)
@@ -105,8 +105,8 @@ abbrev pub IsFaultOfSegments : Configuration → (shard : ℕ) → List Segment 
 IsFaultOfSegments config shard segments fault =
     (number : ℕ) × (segment : Segment) × IsFaultAt config shard segments fault number segment
 
--- The fault is there, and no fault comes before it: how the first segment begins is looked at
--- first, and then one segment after the other, first where it begins and then its lines.
+-- The fault is there, and no fault comes before it: the opening of the first segment is checked
+-- first, and then one segment after the other, first its opening and then its lines.
 abbrev pub IsFirstFault : Configuration → List Segment → AuditFault → Type 0
 IsFirstFault config [] fault = ⊥
 IsFirstFault config (first ∷ segments) NotFromEmpty = BeginsNew config first → ⊥

@@ -1,4 +1,4 @@
--- What the parts of a settling tell one another.
+-- What the parts of a settling give to one another.
 use Rattle.std.specs.Prelude.{◌≡◌, ℕ, ◌<◌, ◌≤◌, ◌⊎◌, ⊤, List, [], slice_get, Option, Some, None}
 use Rattle.std.specs.List.{Contains}
 use Rattle.rsl_accounts.specs.Configuration.{Configuration}
@@ -12,7 +12,7 @@ use Rattle.rsl_record.specs.declared.receipt.Receipt.{Receipt}
 use Rattle.rsl_shard.specs.declared.line.Line.{Line}
 use Rattle.rsl_shard.specs.declared.segment.Segment.{Segment}
 
--- segments of a shard go on where a chain has come to
+-- segments of a shard follow a chain
 abbrev pub GoOn : Chain → List Segment → Type 0
 GoOn chain segments =
     AllGoOn chain.books.setup chain.lines chain.books.books segments
@@ -24,14 +24,14 @@ IsBreak shard Holds (MissingSegment named) = (named ≡ shard) × (Holds → ⊥
 IsBreak shard Holds (Mismatch named position) = ⊥
 IsBreak shard Holds NoMemory = ⊤
 
--- the lowest number that is no shard's and that a segment has, if one has
+-- the lowest number of a segment that is not the number of a shard, if there is one
 abbrev pub IsLowestAstray : (shards : ℕ) → List Segment → Option ℕ → Type 0
 IsLowestAstray shards segments None = (shard : ℕ) → shards ≤ shard → of_shard shard segments ≡ []
 IsLowestAstray shards segments (Some lowest) =
     (shards ≤ lowest) × (of_shard lowest segments ≡ [] → ⊥)
     × ((shard : ℕ) → shards ≤ shard → shard < lowest → of_shard shard segments ≡ [])
 
--- the first shard whose segments don't join
+-- the first shard whose segments do not join
 abbrev pub IsSegmentFault : Configuration → List Segment → CloseFault → Type 0
 IsSegmentFault config segments MissingPass = ⊥
 IsSegmentFault config segments (MissingSegment shard) =
@@ -40,7 +40,7 @@ IsSegmentFault config segments (MissingSegment shard) =
 IsSegmentFault config segments (Mismatch shard position) = ⊥
 IsSegmentFault config segments NoMemory = ⊤
 
--- among a pass's receipts one of this position of a shard isn't the line there
+-- one of a pass's receipts of this position of a shard is not the line there
 pub record IsMismatchIn (lines : List Line) (shard : ℕ) (receipts : List Receipt) (position : ℕ)
     (receipt : Receipt) : Type 0 where
   pub kept : Contains receipts receipt
@@ -68,7 +68,7 @@ abbrev pub IsFaultOfPasses : List Line → (shard : ℕ) → List (List Receipt)
 IsFaultOfPasses lines shard passes fault =
     (pass : List Receipt) × Contains passes pass × IsFaultOfPass lines shard pass fault
 
--- a receipt of a pass is of a number that is no shard's
+-- a receipt of a pass is of a number that is not that of a shard
 pub record IsOfNoShard (shards : ℕ) (receipts : List Receipt) (receipt : Receipt) : Type 0 where
   pub kept : Contains receipts receipt
   pub past : shards ≤ receipt.shard

@@ -1,4 +1,4 @@
--- What a program prints once all was done.
+-- What a program prints at its end.
 use Rattle.std.specs.Prelude.{ℕ, List, ◌++◌, string_bytes}
 use Rattle.rsl_record.specs.declared.output.Output.{Output}
 

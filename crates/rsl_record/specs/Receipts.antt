@@ -1,4 +1,4 @@
--- What receipts tell of the lines of shards.
+-- What receipts say of the lines of shards.
 use Rattle.std.specs.Prelude.{◌≡◌, ℕ, ◌+◌, ◌<◌, ◌≤◌, ◌==◌, List, length, map, filter, slice_get, slice_index, Some}
 use Rattle.std.specs.List.{count_by, flat_map}
 use Rattle.rsl_record.specs.Segments.{shard_lines}
@@ -16,7 +16,7 @@ positions_of shard receipts =
     map (λ (receipt : Receipt). receipt.position)
     (filter (λ (receipt : Receipt). receipt.shard == shard) receipts)
 
--- a position isn't above the one before it
+-- a position is not above the one before it
 pub record FallsAt (positions : List ℕ) (position at : ℕ) : Type 0 where
   pub within : at + 1 < length positions
   pub it : slice_index positions (at + 1) ≡ position

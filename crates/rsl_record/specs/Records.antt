@@ -3,6 +3,6 @@ use Rattle.std.specs.Prelude.{List, ◌++◌}
 use Rattle.rsl_record.specs.declared.record.Record.{Record}
 use Rattle.rsl_shard.specs.declared.segment.Segment.{Segment}
 
--- those that were handed out, in the order given, and then the present journals
+-- the segments that were handed out, in the order given, and then the present journals
 abbrev pub segments_of : Record → List Segment
 segments_of journals = journals.given.now ++ journals.present.now

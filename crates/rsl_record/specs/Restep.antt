@@ -17,11 +17,11 @@ use Rattle.rsl_shard.specs.declared.moved.Move.{Move}
 use Rattle.rsl_shard.specs.declared.moved.Move.TheVariants.{Own}
 use Rattle.std.specs.Prelude.{ℕ}
 
--- the books of a shard after lines, which began new
+-- the books of a shard after lines, beginning with new ones
 unfoldable pub books_by_restep : Configuration → (shard : ℕ) → List Line → List RuledBook
 books_by_restep config shard lines = restep (setup_of config shard) (new_books config shard) lines
 
--- the decision of the rule on a move after some lines; what is no account's own is done
+-- the decision of the rule on a move after some lines, which is `Done` for a move of no account
 abbrev pub rule_decision : Configuration → (before : List Line) → Move → Decision
 rule_decision config before (Own account event) =
     option_map_or

@@ -1,8 +1,8 @@
 -- When the segments of a shard join.
 --
 -- The first begins with the new books of the shard, and no line before it. Each later one begins
--- where the one before it ends: with the books that its lines have led to, and as many lines before
--- it as all those ahead have. The shard takes each of their moves.
+-- where the one before it ends: with the books after its lines, and after as many lines as all
+-- earlier ones have. The shard takes each of their moves.
 use Rattle.std.specs.Prelude.{◌≡◌, ℕ, ◌+◌, ◌≤◌, ◌==◌, ⊤, List, [], ◌∷◌, length, filter, All}
 use Rattle.std.specs.List.{flat_map}
 use Rattle.rsl_accounts.specs.Configuration.{Configuration}
@@ -40,7 +40,7 @@ AllGoOn setup lines books (segment ∷ segments) =
     × AllGoOn setup (lines + length segment.lines.items)
     (restep setup books segment.lines.items) segments
 
--- The segments of a shard join. A number that is no shard's has none.
+-- The segments of a shard join. A number that is not that of a shard has none.
 pub record HasJoined (config : Configuration) (segments : List Segment) (shard : ℕ) : Type 0 where
   pub there : config.settings.shards ≤ shard → of_shard shard segments ≡ []
   pub joined : AllGoOn (setup_of config shard) 0 (new_books config shard)

@@ -1,4 +1,4 @@
--- When a record is settled, and the first fault of one that isn't.
+-- When a record is settled, and the first fault of one that is not.
 --
 -- A record is the passes that were given back, each as the list of its receipts, and the segments
 -- of all shards: those that were handed out, in the order given, and then the present journals.
@@ -13,8 +13,8 @@ use Rattle.rsl_record.specs.declared.close_fault.CloseFault.TheVariants.{Missing
 use Rattle.rsl_record.specs.declared.receipt.Receipt.{Receipt}
 use Rattle.rsl_shard.specs.declared.segment.Segment.{Segment}
 
--- Every pass is given that was opened; the segments of each shard join; each receipt is the line at
--- its position; a pass's receipts of a shard rise; and no two receipts share a position.
+-- Every opened pass is given; the segments of each shard join; each receipt is the line at its
+-- position; a pass's receipts of a shard rise; and no two receipts share a position.
 pub record IsSettled (config : Configuration) (opened : ℕ) (passes : List (List Receipt))
     (segments : List Segment) : Type 0 where
   pub given : length passes ≡ opened
@@ -23,7 +23,7 @@ pub record IsSettled (config : Configuration) (opened : ℕ) (passes : List (Lis
   pub rising : (shard : ℕ) → All (λ pass. IsStrictlyIncreasing (positions_of shard pass)) passes
   pub once : (shard position : ℕ) → times shard position passes ≤ 1
 
--- a receipt of a pass that isn't the line at its position
+-- a receipt of a pass that is not the line at its position
 pub record IsNoLine (segments : List Segment) (shard position : ℕ) (passes : List (List Receipt))
     (pass : List Receipt) (receipt : Receipt) : Type 0 where
   pub given : Contains passes pass

@@ -6,15 +6,15 @@ use Rattle.std.specs.Option.{option_map_or}
 use Rattle.rsl_accounts.specs.Configuration.{Configuration}
 use Rattle.rsl_shard.specs.declared.row.Row.{Row}
 
--- spaces as long as a text is short of a width: none for a text that is longer
+-- the spaces that pad a text to a width: none for a longer text
 abbrev pub spaces_to : (width : ℕ) → (text : List ℕ) → List ℕ
 spaces_to width text = replicate (width - length text) 32
 
--- a text left in 20 characters
+-- a text left-aligned in 20 characters
 abbrev pub name_column : List ℕ → List ℕ
 name_column text = text ++ spaces_to 20 text
 
--- a space, and a text right in 8 characters
+-- a space, and a text right-aligned in 8 characters
 abbrev pub column : List ℕ → List ℕ
 column text = 32 ∷ spaces_to 8 text ++ text
 
@@ -28,7 +28,7 @@ header =
     (codes "places" ∷ codes "held" ∷ codes "reserved" ∷ codes "live" ∷ codes "stale" ∷ codes "over"
     ∷ [])
 
--- the name of the account with a number
+-- the name of the account with this number
 abbrev pub name_of : Configuration → (account : ℕ) → List ℕ
 name_of config account = option_map_or (λ entry. entry.name) (slice_get config.accounts account) []
 

@@ -1,4 +1,4 @@
--- What the parts of an audit tell one another.
+-- What the parts of an audit give to one another.
 use Rattle.std.specs.Prelude.{◌≡◌, ℕ, ◌<◌, ⊤, List, length}
 use Rattle.rsl_accounts.specs.Configuration.{Configuration}
 use Rattle.rsl_record.specs.Audit.{BeginsNew, IsRight, account_of}

@@ -9,9 +9,9 @@ pub enum AuditFault {
     /// The first segment is of no shard, or does not open with the new books of its shard and no
     /// line before it.
     NotFromEmpty,
-    /// The segment with this number, counted from 0, does not go on where the lines before it
-    /// end: it is of another shard, counts other lines before it, has 2^64 lines or more with
-    /// those, or opens with other books.
+    /// The segment with this number, counted from 0, does not follow the lines before it: it is of
+    /// another shard, counts other lines before it, has 2^64 lines or more with those, or opens
+    /// with other books.
     Gap {
         /// The segment's number, from 0.
         segment: u64,

@@ -17,14 +17,13 @@ use rsl_accounts::Config;
 use rsl_shard::{Line, Move, Segment};
 use std::alloc::Global;
 
-/// Whether the record of a shard was kept right: its segments, in the order given, follow one
-/// another from new books, and each line has the decision of the session rule, which looks back
+/// Checks whether the record of a shard was kept right: its segments, in the order given, follow
+/// one another from new books, and each line has the decision of the session rule, which looks back
 /// over the own events of the line's account in all lines before it. A record of no segments was
 /// kept right.
 ///
-/// The walk goes segment by segment, looks at where each begins and then at its lines, and the
-/// first fault that it meets is the answer: `NotFromEmpty`, `Gap` or `WrongDecision`. `NoMemory`
-/// comes where memory is refused.
+/// The walk goes segment by segment, first its opening and then its lines, and ends at the first
+/// fault: `NotFromEmpty`, `Gap` or `WrongDecision`. `NoMemory` comes if memory is refused.
 ///
 /// Books are stepped line by line, since they decide as the rule does: the time grows with the
 /// lines, and the memory with the books alone.
@@ -44,7 +43,7 @@ pub fn audit(alloc: Global, config: &Config, segments: &[Segment]) -> Result<(),
     }
 }
 
-/// The chain of no lines, where a first segment begins so.
+/// The chain of no lines, if the first segment begins there.
 #[tactic(auto, using(crate::proofs::Walking::beginning))]
 fn begin(alloc: Global, config: &Config, first: &Segment) -> Result<Chain, AuditFault>
     ensures begins { OnOk result (BeginsNew config.now first.now) }
@@ -80,7 +79,7 @@ fn walk(
     Ok(())
 }
 
-/// Takes a segment, the one with this number: how it goes on, and then its lines.
+/// Takes the segment with this number: how it follows, and then its lines.
 #[tactic(auto, using(crate::proofs::Walking::fault_of_segment))]
 fn take_segment(
     chain: &mut Chain,
@@ -108,7 +107,7 @@ fn take_segment(
     take_lines(chain, alloc, config, segment.lines.as_slice())
 }
 
-/// Whether a segment goes on where the lines so far end, and has under 2^64 lines with those.
+/// Whether a segment follows the lines so far, and has under 2^64 lines with those.
 #[tactic(auto, using(crate::proofs::Walking::segment_joined))]
 fn goes_on(chain: &Chain, config: &Config, segment: &Segment) -> bool
     ensures joins { (shard : ℕ) (before : List OneLine) →

@@ -8,17 +8,17 @@ use rsl_shard::{Books, Line, Segment};
 use rsl_wire::NoMemory;
 use std::alloc::Global;
 
-/// Where the lines of a shard's segments have led so far.
+/// The state after the lines of a shard's segments so far.
 #[derive(Drop)]
 pub(crate) struct Chain {
-    /// How many lines those are. With those of a last segment they may be over the highest `u64`.
+    /// The number of lines. With those of a last segment it may exceed `u64::MAX`.
     lines: u128,
-    /// What their moves have made of the shard's new books.
+    /// The books: what the moves have made of the shard's new ones.
     books: Books,
 }
 
 impl Chain {
-    /// No line of a shard yet.
+    /// The chain of a shard with no line.
     pub(crate) fn begin(alloc: Global, config: &Config, shard: u32) -> Result<Chain, NoMemory>
         requires { shard < config.now.settings.shards }
         ensures lines { IfOk result (λ chain. chain.lines ≡ 0) }
@@ -37,7 +37,7 @@ impl Chain {
         self.books.shard()
     }
 
-    /// How many lines there are so far.
+    /// The number of lines so far.
     pub(crate) fn lines(&self) -> u128
         ensures { result ≡ self.now.lines }
     {
@@ -52,8 +52,8 @@ impl Chain {
         segment.first as u128 == self.lines && self.books.same(segment.opening.as_slice())
     }
 
-    /// Makes the move of a line, and gives the decision on it; `None` where the shard does not take
-    /// the move, and then nothing has changed.
+    /// Makes the move of a line, and gives the decision on it. `None` if the shard does not take
+    /// the move; then nothing has changed.
     pub(crate) fn take_line(
         &mut self,
         alloc: Global,

@@ -4,19 +4,19 @@ ghost use Rattle.rsl_record.specs.declared.close_fault.CloseFault.TheVariants.{N
 use rsl_wire::NoMemory;
 use std::fmt;
 
-/// Why a record isn't settled, or that memory was refused.
+/// Why a record is not settled, or that memory was refused.
 #[derive(Clone, Copy, Debug)]
 pub enum CloseFault {
-    /// Not as many passes are given as were opened.
+    /// More or fewer passes are given than were opened.
     MissingPass,
-    /// The segments of this shard don't join from its new books, in the order given, or have a move
-    /// that it doesn't take, or there is no such shard. It is the lowest such number.
+    /// The segments of this shard do not join from its new books, in the order given, or have a
+    /// move that it does not take, or there is no such shard. It is the lowest such number.
     MissingSegment {
         /// The shard's number.
         shard: u32,
     },
-    /// A receipt names this position, and is not the line there, or not the only receipt of it, or
-    /// an earlier receipt of its pass names the same or a later position of this shard.
+    /// The receipt at this position is not the line there, or not the only receipt of it, or an
+    /// earlier receipt of its pass has the same or a later position of this shard.
     Mismatch {
         /// The shard's number.
         shard: u32,

@@ -1,7 +1,7 @@
 ghost use Rattle.std.specs.Prelude.{◌≡◌};
 ghost use Rattle.rsl_record.specs.ExitStatus.{number_of};
 
-/// How a program ends, as whoever started it can see.
+/// How a program ends: its exit status.
 #[derive(Clone, Copy)]
 pub enum ExitStatus {
     /// All was done.
@@ -15,8 +15,8 @@ pub enum ExitStatus {
 }
 
 impl ExitStatus {
-    /// The number with which the process ends: 0 where all was done, 1 for wrong input, 2 where a
-    /// call to the system failed, and 3 where memory was refused.
+    /// The exit status of the process: 0 if all was done, 1 for wrong input, 2 if a system call
+    /// failed, and 3 if memory was refused.
     pub fn number(self) -> u8
         ensures { result ≡ number_of self }
     {

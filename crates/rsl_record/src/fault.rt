@@ -1,6 +1,6 @@
 use std::io;
 
-/// A writer failed: a write to it was an error, or it took no octet where there was one to take.
+/// A writer failed: a write gave an error, or took none of the octets.
 #[derive(Clone, Copy, Debug, PartialEq, Eq)]
 pub struct WriteFault;
 

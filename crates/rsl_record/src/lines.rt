@@ -19,7 +19,7 @@ fn is_line(lines: &[&Line], receipt: &Receipt) -> bool
     }
 }
 
-/// The position of a receipt of the shard that isn't the line there.
+/// The position of a receipt of the shard that is not the line there.
 pub(crate) fn first_mismatch(shard: u32, lines: &[&Line], receipts: &[Receipt]) -> Option<u64>
     ensures mismatch { IfSome result (λ position. (receipt : OneReceipt)
         × IsMismatchIn (map (λ line. line.now) lines.now) shard receipts.now position receipt) }

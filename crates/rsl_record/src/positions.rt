@@ -23,7 +23,7 @@ pub(crate) fn push_positions(
     Ok(())
 }
 
-/// The first position that isn't above the one before it.
+/// The first position that is not above the one before it.
 pub(crate) fn first_not_rising(positions: &[u64]) -> Option<u64>
     ensures falls { IfSome result (FallsTo positions.now) }
     ensures rises { IfNone result (IsStrictlyIncreasing positions.now) }
@@ -36,7 +36,7 @@ pub(crate) fn first_not_rising(positions: &[u64]) -> Option<u64>
     None
 }
 
-/// A position that stands more than once, if there is one.
+/// A position that occurs more than once, if there is one.
 #[tactic(auto, using(crate::proofs::Counting::order_steps))]
 pub(crate) fn first_duplicate(mut positions: Vec<u64>) -> Option<u64>
     ensures twice { IfSome result (λ position.

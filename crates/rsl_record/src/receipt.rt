@@ -3,21 +3,21 @@ ghost use Rattle.rsl_record.specs.declared.receipt.Receipt.{Receipt as OneReceip
 
 use rsl_shard::Line;
 
-/// What a caller keeps of a move that it made: the line that the move is in a shard's journal.
+/// What a caller keeps of a move that it made: its line in a shard's journal.
 #[derive(Drop)]
 pub struct Receipt {
     /// The shard's number.
     pub shard: u32,
     /// The line's position, counted from 0 over all segments of the shard.
     pub position: u64,
-    /// The line: the move, and what was decided.
+    /// The line: the move, and its decision.
     pub line: Line,
 }
 
-/// A pass: what holds a caller's receipts, one for each move that it made, in the order of its
-/// calls.
+/// A pass: a caller's receipts, one for each move that it made, in the order of its calls.
 ///
-/// Whatever a pass keeps beside them is no matter of settling. It lends them, so nothing is copied.
+/// What a pass keeps beside them does not matter for settling. The receipts are borrowed, so
+/// nothing is copied.
 pub trait HasReceipts {
     ghost receipts: { Self → List OneReceipt };
 

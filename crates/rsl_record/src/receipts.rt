@@ -21,8 +21,8 @@ use crate::record::Record;
 use rsl_shard::Line;
 use std::alloc::Global;
 
-/// Whether each receipt is the line at its position, and above the one before it of the same pass
-/// and shard, and no two of them share a position.
+/// Checks that each receipt is the line at its position, and above the one before it of the same
+/// pass and shard, and that no two of them share a position.
 #[tactic(auto, using(crate::proofs::Telling::shards_told))]
 pub(crate) fn check_receipts<P: HasReceipts>(
     alloc: Global,
@@ -48,7 +48,7 @@ pub(crate) fn check_receipts<P: HasReceipts>(
     Ok(())
 }
 
-/// Whether each receipt is of a shard. One that isn't is no line of any.
+/// Checks that each receipt is of a shard that there is.
 fn check_numbers<P: HasReceipts>(shards: u32, passes: &[P]) -> Result<(), CloseFault>
     ensures numbers { OnOk result
         (All (All (λ receipt. receipt.shard < shards)) (map P.receipts passes.now)) }
@@ -60,7 +60,7 @@ fn check_numbers<P: HasReceipts>(shards: u32, passes: &[P]) -> Result<(), CloseF
     Ok(())
 }
 
-/// Whether each receipt of a pass is of a shard.
+/// Checks that each receipt of a pass is of a shard that there is.
 fn check_numbers_of(shards: u32, receipts: &[Receipt]) -> Result<(), CloseFault>
     ensures numbers { OnOk result (All (λ receipt. receipt.shard < shards) receipts.now) }
     ensures err { IfErr result (IsNumberFaultOfPass shards receipts.now) }
@@ -76,7 +76,7 @@ fn check_numbers_of(shards: u32, receipts: &[Receipt]) -> Result<(), CloseFault>
     Ok(())
 }
 
-/// Whether the receipts of a shard are its lines, in each pass's order, and each once.
+/// Checks that the receipts of a shard are its lines, in each pass's order, and each once.
 #[tactic(auto, using(crate::proofs::Telling::shard_told))]
 fn check_shard<P: HasReceipts>(
     alloc: Global,
@@ -104,7 +104,7 @@ fn check_shard<P: HasReceipts>(
     }
 }
 
-/// Whether each pass's receipts of a shard are its lines, in order. Their positions are pushed.
+/// Checks that each pass's receipts of a shard are its lines, in order, and pushes their positions.
 #[tactic(auto, using(crate::proofs::Telling::passes_steps))]
 fn check_passes<P: HasReceipts>(
     shard: u32,
@@ -129,7 +129,7 @@ fn check_passes<P: HasReceipts>(
     Ok(())
 }
 
-/// Whether a pass's receipts of a shard are its lines, in order. Their positions are pushed.
+/// Checks that a pass's receipts of a shard are its lines, in order, and pushes their positions.
 #[tactic(auto, using(crate::proofs::Telling::pass_steps))]
 fn check_pass(
     shard: u32,

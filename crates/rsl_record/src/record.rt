@@ -8,17 +8,17 @@ use rsl_shard::{Line, Segment};
 use rsl_wire::NoMemory;
 use std::alloc::Global;
 
-/// A server's record: the segments of all its shards, lent.
+/// A server's record, borrowed: the segments of all its shards.
 #[derive(Clone, Copy)]
 pub(crate) struct Record<'a> {
-    /// The segments that were handed out, those of a shard in the order in which they were.
+    /// The segments that were handed out, those of a shard in order.
     pub given: &'a [Segment],
     /// The shards' present journals.
     pub present: &'a [Segment],
 }
 
 impl<'a> Record<'a> {
-    /// The segments of a shard, in their order. It fails only where memory is refused.
+    /// The segments of a shard, in order. It fails only if memory is refused.
     pub(crate) fn of_shard(&self, alloc: Global, shard: u32) -> Result<Vec<&'a Segment>, NoMemory>
         ensures { IfOk result (λ segments.
             map (λ segment. segment.now) segments.items ≡ of_shard shard (segments_of self.now)) }
@@ -29,7 +29,7 @@ impl<'a> Record<'a> {
         Ok(segments)
     }
 
-    /// All lines of a shard, in the order of its segments. It fails only where memory is refused.
+    /// All lines of a shard, in the order of its segments. It fails only if memory is refused.
     pub(crate) fn lines_of_shard(
         &self,
         alloc: Global,
@@ -43,7 +43,7 @@ impl<'a> Record<'a> {
         Ok(lines)
     }
 
-    /// The lowest number that is no shard's and that a segment has, if one has.
+    /// The lowest number of a segment that is not the number of a shard.
     #[tactic(auto, using(crate::proofs::Chains::astray_empty))]
     pub(crate) fn lowest_astray(&self, shards: u32) -> Option<u32>
         ensures { IsLowestAstray shards (segments_of self.now) result }
@@ -53,7 +53,7 @@ impl<'a> Record<'a> {
     }
 }
 
-/// Pushes those of some segments that are a shard's.
+/// Pushes the segments of a shard.
 fn push_of_shard<'a>(
     shard: u32,
     segments: &'a [Segment],
@@ -70,7 +70,7 @@ fn push_of_shard<'a>(
     Ok(())
 }
 
-/// All lines of some segments, in their order.
+/// All lines of some segments, in order.
 fn lines_of<'a>(alloc: Global, segments: &[&'a Segment]) -> Result<Vec<&'a Line>, NoMemory>
     ensures { IfOk result (λ lines. map (λ line. line.now) lines.items
         ≡ lines_of (map (λ segment. segment.now) segments.now)) }
@@ -93,8 +93,8 @@ fn push_lines<'a>(more: &'a [Line], lines: &mut Vec<&'a Line>) -> Result<(), NoM
     Ok(())
 }
 
-/// The lowest number that is no shard's and that a segment has: one of those found before, or of
-/// these.
+/// The lowest number that is not the number of a shard: the one found before, or one of these
+/// segments.
 #[tactic(auto, using(crate::proofs::Chains::astray_steps))]
 fn lowest_astray(shards: u32, found: Option<u32>, segments: &[Segment]) -> Option<u32>
     ensures { (before : List OneSegment) → IsLowestAstray shards before found →
@@ -107,7 +107,7 @@ fn lowest_astray(shards: u32, found: Option<u32>, segments: &[Segment]) -> Optio
     lowest
 }
 
-/// The lower of a number found before and of this one, if it is no shard's.
+/// The lower of the number found before and this one, if this is not the number of a shard.
 #[tactic(auto, using(crate::proofs::Chains::lower_steps))]
 fn lower(shards: u32, found: Option<u32>, number: u32) -> Option<u32>
     ensures { (before : List OneSegment) (segment : OneSegment) → segment.shard ≡ number →

@@ -1,5 +1,4 @@
-//! Whether two lines are equal, layer by layer: the fields of a line are those of its move, of the
-//! event in it, and of the act in that.
+//! Whether two lines are equal, layer by layer: the move, the event in it, and the act in that.
 ghost use Rattle.std.specs.Prelude.{◌≡◌, ◌↔◌, IsTrue};
 ghost use Rattle.rsl_event.specs.declared.event.Act.TheVariants.{Alive};
 
@@ -128,7 +127,7 @@ fn is_alive(
     }
 }
 
-/// Whether two bundle ids, of which there may be none, are equal.
+/// Whether two optional bundle ids are equal.
 fn same_bundle(bundle: &Option<Octets>, other: &Option<Octets>) -> bool
     ensures { IsTrue result ↔ (bundle.now ≡ other.now) }
 {
@@ -141,7 +140,7 @@ fn same_bundle(bundle: &Option<Octets>, other: &Option<Octets>) -> bool
     }
 }
 
-/// Whether two class numbers, of which there may be none, are equal.
+/// Whether two optional class numbers are equal.
 fn same_class(class: Option<u64>, other: Option<u64>) -> bool
     ensures { IsTrue result ↔ (class ≡ other) }
 {

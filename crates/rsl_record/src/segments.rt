@@ -13,7 +13,7 @@ use rsl_accounts::Config;
 use rsl_shard::{Line, Segment};
 use std::alloc::Global;
 
-/// Whether the segments of each shard join, and no segment is of a number that is no shard's.
+/// Checks that the segments of each shard join, and that each segment is of a shard that there is.
 #[tactic(auto, using(crate::proofs::Chains::segments_steps))]
 pub(crate) fn check_segments(
     alloc: Global,
@@ -33,7 +33,7 @@ pub(crate) fn check_segments(
     }
 }
 
-/// Whether the segments of a shard join.
+/// Checks that the segments of a shard join.
 fn check_shard(
     alloc: Global,
     config: &Config,

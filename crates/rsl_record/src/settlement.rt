@@ -10,23 +10,21 @@ use rsl_accounts::Config;
 use rsl_shard::Segment;
 use std::alloc::Global;
 
-/// Whether a record is settled: every pass is given that was opened, the segments of each shard
-/// join from its new books to its present journal, and the receipts are lines of them, each its
-/// own.
+/// Checks whether a record is settled: every opened pass is given, the segments of each shard join
+/// from its new books to its present journal, and the receipts are lines of them, each its own.
 ///
-/// `opened` is how many passes were opened. `given` are the segments that were handed out, those of
-/// a shard in the order in which they were, and `present` the shards' present journals, one for
-/// each shard. A pass lends its receipts, so nothing is copied.
+/// `opened` is the number of opened passes. `given` are the segments that were handed out, those of
+/// a shard in order, and `present` the shards' present journals, one for each shard.
 ///
-/// The first fault is the answer. `MissingPass` comes where not as many passes are given as were
-/// opened. `MissingSegment` names the lowest shard whose segments don't join, by the lines and the
-/// books that they begin with, or have a move that the shard doesn't take; or a number that is no
-/// shard's. `Mismatch` names a receipt that isn't the line at its position, that isn't above the
-/// one before it of its pass and shard, or whose position another receipt has too. `NoMemory` comes
-/// where memory is refused, and says nothing of the record.
+/// The answer is the first fault. `MissingPass` comes if more or fewer passes are given than were
+/// opened. `MissingSegment` names the lowest shard whose segments do not join, by the lines and the
+/// books that they begin with, or have a move that the shard does not take; or a number that is not
+/// that of a shard. `Mismatch` names a receipt that is not the line at its position, that is not
+/// above the one before it of its pass and shard, or whose position another receipt has too.
+/// `NoMemory` comes if memory is refused, and says nothing of the record.
 ///
-/// The time grows with the lines and with the receipts, of which each shard's positions are sorted
-/// once; the memory with a word for each line and receipt of one shard.
+/// The time grows with the lines and with the receipts, whose positions are sorted once for each
+/// shard; the memory with a word for each line and receipt of one shard.
 #[tactic(auto, using(crate::proofs::Telling::record_told))]
 pub fn settle<P: HasReceipts>(
     alloc: Global,
@@ -53,7 +51,7 @@ pub fn settle<P: HasReceipts>(
     check_receipts(alloc, config.shards(), passes, &journals)
 }
 
-/// Whether there are as many passes as were opened.
+/// Whether every opened pass is given.
 fn are_all(passes: usize, opened: u64) -> bool
     ensures { IsTrue result ↔ (passes ≡ opened) }
 {

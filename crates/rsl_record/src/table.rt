@@ -10,17 +10,16 @@ use rsl_wire::NoMemory;
 use std::alloc::Global;
 use std::io::Write;
 
-/// The line of titles, with its line feed.
+/// The line of titles.
 const HEADER: &str = "name                   places     held reserved     live    stale     over\n";
 
 /// Writes a report: a line of titles, and then a line for each row, in the order given. Each line
-/// ends in a line feed. The account's name stands left in 20 characters, and each of the six
-/// numbers after it is a space and then the number, right in 8 characters; what is longer than its
-/// column stands whole.
+/// ends in a line feed. The account's name is left-aligned in 20 characters, followed by six
+/// columns, each a space and a number right-aligned in 8 characters. A longer name or number is not
+/// cut.
 ///
-/// `WriteFault` comes where the writer failed, and nothing is said of how much was written then. A
-/// line is several small writes, so a writer that pays for each of them is better given through a
-/// buffer. The writer isn't flushed.
+/// `WriteFault` comes if the writer fails; part of the report may have been written. A line is
+/// several small writes, so pass a buffered writer. The writer is not flushed.
 #[tactic(auto, using(crate::proofs::TableLaws::one_more, crate::proofs::TableLaws::all_more))]
 pub fn write_table<W: Write>(
     config: &Config,
@@ -39,7 +38,7 @@ pub fn write_table<W: Write>(
     Ok(())
 }
 
-/// The octets of a report, as `write_table` writes them. It fails only where memory is refused.
+/// The report that `write_table` writes. It fails only if memory is refused.
 pub fn table_of(alloc: Global, config: &Config, rows: &[Row]) -> Result<Vec<u8>, NoMemory>
     requires { All (λ row. row.account < length config.now.accounts) rows.now }
     ensures { IfOk result (λ octets. octets.items ≡ table config.now rows.now) }
@@ -47,7 +46,7 @@ pub fn table_of(alloc: Global, config: &Config, rows: &[Row]) -> Result<Vec<u8>,
     let mut octets = Vec::new(alloc);
     match write_table(config, rows, &mut octets) {
         Ok(()) => Ok(octets),
-        // A write to a list of octets fails only where memory is refused.
+        // A write to a `Vec` fails only if memory is refused.
         Err(WriteFault) => Err(NoMemory),
     }
 }
@@ -86,7 +85,7 @@ fn write_line<W: Write>(name: &str, numbers: &[u64], writer: &mut W) -> Result<(
     Ok(())
 }
 
-/// Writes a name, left in 20 characters.
+/// Writes a name, left-aligned in 20 characters.
 fn write_name<W: Write>(name: &str, writer: &mut W) -> Result<(), WriteFault>
     requires { IsName name.now }
     ensures { OnOk result
@@ -97,7 +96,7 @@ fn write_name<W: Write>(name: &str, writer: &mut W) -> Result<(), WriteFault>
     Ok(())
 }
 
-/// Writes a number of a column: a space, and the number right in 8 characters.
+/// Writes a column: a space, and the number right-aligned in 8 characters.
 fn write_number<W: Write>(number: u64, writer: &mut W) -> Result<(), WriteFault>
     ensures { OnOk result
         (Appends (W.contents writer.old) (W.contents writer.new)

@@ -15,8 +15,7 @@ use Rattle.rsl_script.specs.declared.request.AccessRequest.{AccessRequest}
 use Rattle.rsl_script.specs.declared.request.Method.{Method}
 use Rattle.rsl_script.specs.declared.request.Method.TheVariants.{Pap, Chap}
 
--- the attribute that shows that the password is known: the challenge of a CHAP-Password is the
--- Request Authenticator
+-- the password attribute: the challenge of a CHAP-Password is the Request Authenticator
 abbrev pub password_kind : Method → ℕ
 password_kind Pap = USER_PASSWORD
 password_kind Chap = CHAP_PASSWORD
@@ -26,7 +25,7 @@ password_value Pap request secret = hidden request.password secret (md5 request.
 password_value Chap request secret =
     request.id ∷ chap_response request.id request.password (md5 request.text)
 
--- what the line says, with this value for its password
+-- the attributes of the request, with this value for its password
 unfoldable pub request_attributes : AccessRequest → (password : List ℕ) → List Attribute
 request_attributes request password =
     attribute_of USER_NAME request.name

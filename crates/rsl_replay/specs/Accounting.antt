@@ -15,7 +15,7 @@ abbrev pub class_attributes : (boot : ℕ) → (number : Option ℕ) → List At
 class_attributes boot None = []
 class_attributes boot (Some number) = class_attribute boot number ∷ []
 
--- what the line says, as far as it has it
+-- the attributes of the request, as far as the line has them
 unfoldable pub accounting_attributes : (boot : ℕ) → AccountingRequest → List Attribute
 accounting_attributes boot (Session status nas name session bundle class) =
     number_attribute ACCT_STATUS_TYPE (status_number status)

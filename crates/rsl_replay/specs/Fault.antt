@@ -10,7 +10,7 @@ use Rattle.rsl_accounts.specs.declared.text_fault.TextFault.TheVariants.{Unreada
 use Rattle.rsl_replay.specs.declared.fault.ReplayFault.{ReplayFault}
 use Rattle.rsl_replay.specs.declared.fault.ReplayFault.TheVariants.{Line, TooLong, Config, InputOutput, NoMemory}
 
--- a script whose octets can't be had: a stream that can't be read is a fault of input
+-- a script whose octets cannot be read: a failing stream is a fault of input
 abbrev pub fault_of_text : TextFault → ReplayFault
 fault_of_text text_unreadable = InputOutput
 fault_of_text text_too_long = TooLong
@@ -21,12 +21,12 @@ abbrev pub fault_of_script : ScriptFault → ReplayFault
 fault_of_script (script_line number) = Line number
 fault_of_script script_no_memory = NoMemory
 
--- that memory was refused is named as such, and every other fault is the configuration's
+-- refused memory is `NoMemory`, and every other fault is the configuration's
 abbrev pub fault_of_config : ConfigFault → ReplayFault
 fault_of_config config_no_memory = NoMemory
 fault_of_config fault = Config fault
 
--- the status of a process that ends so: the script is its input
+-- the exit status of a process with this fault: the script is its input
 abbrev pub status_of : ReplayFault → ExitStatus
 status_of (Line number) = WrongInput
 status_of TooLong = WrongInput

@@ -34,19 +34,19 @@ abbrev pub is_refused : Answer → Bool
 is_refused answers.Refused = true
 is_refused _ = false
 
--- the word of the answer to a datagram; what is quiet is a tick
+-- the word of the answer to a datagram; a quiet one is a tick
 abbrev pub answer_word : Option Answer → Word
 answer_word (Some (Reply said octets)) = words.Said said
 answer_word (Some (answers.Dropped dropped)) = words.Dropped dropped
 answer_word (Some answers.Refused) = words.Refused
 answer_word _ = words.Tick
 
--- a line's word by its last answer, which is its datagram's; time that passes is a tick
+-- a line's word by its last answer, which is its datagram's; passing time is a tick
 abbrev pub taken_word : Happening → (last : Option Answer) → Word
 taken_word happenings.Tick last = words.Tick
 taken_word _ last = answer_word last
 
--- the word of a line whose steps have these answers
+-- the word of a line, from the answers to its steps
 abbrev pub word_of : Happening → List Answer → Word
 word_of happening answers =
     if list_any is_refused answers then words.Refused
@@ -56,7 +56,7 @@ word_of happening answers =
 abbrev pub line_text : (number : ℕ) → Word → List ℕ
 line_text number word = decimal number ++ 32 ∷ word_text word ++ 10 ∷ []
 
--- the lines of event lines that are numbered from this number: the first answers are those of the
+-- the printed lines of event lines, numbered from this number: the first answers are those of the
 -- first line's steps
 unfoldable pub printed_from : Configuration → (number : ℕ) → List EventLine → List Answer → List ℕ
 printed_from config number [] answers = []

@@ -1,4 +1,4 @@
--- What a replay writes for the octets of a script, and why it fails.
+-- What a replay writes for a script, and why it fails.
 use Rattle.std.specs.Prelude.{◌≡◌, ℕ, ◌<◌, ◌≤◌, ⊤, List, [], ◌++◌, length, Ok, Err}
 use Rattle.rsl_accounts.specs.Configuration.{Configuration, configuration_of}
 use Rattle.rsl_accounts.specs.declared.fault.ConfigFault.{ConfigFault}
@@ -12,7 +12,7 @@ use Rattle.rsl_replay.specs.declared.fault.ReplayFault.{ReplayFault}
 use Rattle.rsl_replay.specs.declared.fault.ReplayFault.TheVariants.{Line, TooLong, Config, InputOutput, NoMemory}
 use Rattle.rsl_steps.specs.declared.step.Answer.{Answer}
 
--- the most octets that a script may have
+-- the most octets of a script
 abbrev pub most_octets : ℕ
 most_octets = 1048576
 
@@ -21,9 +21,9 @@ abbrev pub replay_boot : ℕ
 replay_boot = 1
 
 -- The text is a right script of a right configuration, and not too long; each step of its event
--- lines has its answer. What is written says for each event line what it was answered, and then
--- for each account what it holds after the steps that were taken: a refused one is as if it had
--- not come.
+-- lines has its answer. What is written says for each event line what it was answered, and then for
+-- each account what it holds after the steps that were made: a refused one counts as if it had not
+-- come.
 pub record IsReplayed (text written : List ℕ) : Type 0 where
   pub script : Contents
   pub config : Configuration

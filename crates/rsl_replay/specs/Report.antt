@@ -1,4 +1,4 @@
--- The report that a replay prints: what each account holds after the steps that were taken, by
+-- The report that a replay prints: what each account holds after the steps that were made, by
 -- looking back over the account's own events among them. No book is carried for that.
 use Rattle.std.specs.Prelude.{ℕ, ◌+◌, List, [], ◌∷◌}
 use Rattle.rsl_accounts.specs.Configuration.{Configuration}
@@ -11,7 +11,7 @@ use Rattle.rsl_shard.specs.declared.row.Row.{Row}
 use Rattle.rsl_steps.specs.Own.{own}
 use Rattle.rsl_steps.specs.declared.step.Step.{Step}
 
--- what an account holds after its own events among steps, which are listed newest first
+-- what an account holds after its own events among steps listed newest first
 abbrev pub row_after : Configuration → (boot : ℕ) → (before : List Step) → (account : ℕ) → Entry
     → Row
 row_after config boot before account entry =

@@ -9,7 +9,7 @@ use Rattle.rsl_steps.specs.Own.{own}
 use Rattle.rsl_steps.specs.Ran.{AreShards, HasBookOf}
 use Rattle.rsl_steps.specs.declared.step.Step.{Step}
 
--- the shards after steps, which are listed newest first, with the book of each account
+-- the shards after steps listed newest first, with the book of each account
 pub record AreShardsAfter (config : Configuration) (boot : ℕ) (before : List Step)
     (shards : List ShardSeen) : Type 0 where
   pub moved : AreShards config boot before shards
@@ -25,7 +25,7 @@ abbrev pub row_at_index : Option (List Row) → (index : ℕ) → Option Row
 row_at_index None index = None
 row_at_index (Some rows) index = slice_get rows index
 
--- the row of an account among the rows of each shard: accounts go to the shards in turn
+-- the row of an account among the rows of each shard: accounts are dealt to the shards in turn
 abbrev pub row_among : (shards : ℕ) → (tables : List (List Row)) → (account : ℕ) → Option Row
 row_among shards tables account =
     row_at_index (slice_get tables (account % shards)) (account / shards)

@@ -1,4 +1,4 @@
--- The steps that event lines stand for.
+-- The steps of event lines.
 use Rattle.std.specs.Prelude.{ℕ, ◌+◌, List, [], ◌∷◌, ◌++◌, map, codes, Option, Some, None}
 use Rattle.std.specs.List.{flat_map, range_with_len}
 use Rattle.rsl_accounts.specs.Configuration.{Configuration, client_number}
@@ -21,8 +21,7 @@ use Rattle.rsl_steps.specs.declared.step.Step.{Step}
 use Rattle.rsl_steps.specs.declared.step.Step.TheVariants as steps
 use Rattle.rsl_steps.specs.declared.step.Step.TheVariants.{Datagram}
 
--- the secret that a packet from an address is made with: its client's, or `none` where no client
--- has the address
+-- the secret for packets from an address: its client's, or `none` if no client has the address
 abbrev pub secret_by : Configuration → (client : Option ℕ) → List ℕ
 secret_by config None = codes "none"
 secret_by config (Some client) = secret_of config client
@@ -30,7 +29,7 @@ secret_by config (Some client) = secret_of config client
 abbrev pub secret_at : Configuration → (address : List ℕ) → List ℕ
 secret_at config address = secret_by config (client_number config address)
 
--- whether an Access-Request from an address is signed: where its client's must be
+-- whether an Access-Request from an address is signed: if its client's must be
 abbrev pub signing_by : Configuration → (client : Option ℕ) → Signing
 signing_by config None = Plain
 signing_by config (Some client) = signing_if (must_sign config client)
@@ -53,11 +52,11 @@ ticks config moment = for_each_shard config (λ shard. steps.Tick shard moment)
 abbrev pub sweeps : Configuration → (moment : ℕ) → Nas → List Step
 sweeps config moment nas = for_each_shard config (λ shard. steps.Sweep shard moment nas)
 
--- the access server of a client: it has no name where the line has no NAS
+-- the access server of a client: it has no name if the line has no NAS
 abbrev pub nas_named : (client : ℕ) → (name : Option (List ℕ)) → Nas
 nas_named client name = record { client = client; name = nas_name_of name None }
 
--- the sweeps before an Accounting-Request from an address: there are none where no client has it
+-- the sweeps before an Accounting-Request from an address: none if no client has it
 abbrev pub sweeps_by : Configuration → (moment : ℕ) → (name : Option (List ℕ)) → (client : Option ℕ)
     → List Step
 sweeps_by config moment name None = []
@@ -81,14 +80,14 @@ steps_at config boot moment (Accounting address request) =
 steps_at config boot moment (Raw address port octets) = datagram moment port address octets ∷ []
 steps_at config boot moment happenings.Tick = ticks config moment
 
--- the steps of a line, to a server with this boot number
+-- the steps of a line, for a server with this boot number
 unfoldable pub steps_of_line : Configuration → (boot : ℕ) → EventLine → List Step
 steps_of_line config boot line = steps_at config boot line.moment line.happening
 
 abbrev pub steps_of_lines : Configuration → (boot : ℕ) → List EventLine → List Step
 steps_of_lines config boot lines = flat_map (steps_of_line config boot) lines
 
--- how many steps a line has
+-- the number of steps of a line
 abbrev pub sweep_count : Configuration → AccountingRequest → (client : Option ℕ) → ℕ
 sweep_count config (Server status nas) (Some client) = config.settings.shards
 sweep_count config _ _ = 0

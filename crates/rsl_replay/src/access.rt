@@ -22,7 +22,7 @@ use rsl_wire::{Draft, NoMemory};
 use std::alloc::Global;
 
 /// The octets of the Access-Request, for a client with this secret (RFC 2865 section 4.1). If it is
-/// signed, a right Message-Authenticator is its first attribute. It fails only where memory is
+/// signed, a right Message-Authenticator is its first attribute. It fails only if memory is
 /// refused.
 pub(crate) fn access_octets(
     alloc: Global,
@@ -50,8 +50,7 @@ fn authenticator(request: &AccessRequest) -> [u8; 16]
     hasher.finalize()
 }
 
-/// The value of the attribute that shows that the password is known, in a packet with this Request
-/// Authenticator, which is that of the request.
+/// The value of the password attribute, in a packet with this Request Authenticator.
 fn password_value(
     alloc: Global,
     request: &AccessRequest,
@@ -95,7 +94,7 @@ fn chap_password(request: &AccessRequest, request_auth: &[u8; 16]) -> [u8; CHAP_
     value
 }
 
-/// Writes what the line says, with this value for its password.
+/// Writes the attributes of the request, with this value for its password.
 fn push_request(draft: &mut Draft, request: &AccessRequest, value: &[u8])
     requires room { length draft.old.attributes ≤ 18 }
     requires short { length value.now ≤ 128 }
@@ -109,7 +108,7 @@ fn push_request(draft: &mut Draft, request: &AccessRequest, value: &[u8])
     push_text(draft, NAS_IDENTIFIER, &request.nas);
 }
 
-/// The Type of the attribute that shows that the password is known.
+/// The Type of the password attribute.
 fn password_kind(method: Method) -> u8
     ensures { result ≡ password_kind method }
 {
@@ -119,7 +118,7 @@ fn password_kind(method: Method) -> u8
     }
 }
 
-/// The octets of the request. If it is signed, its first attribute gets its value.
+/// The octets of the request. If it is signed, its Message-Authenticator gets its value.
 fn finish(draft: Draft, signing: Signing, authenticator: &[u8; 16], secret: &[u8]) -> Vec<u8>
     requires { signing ≡ Signing.Signed → 18 ≤ length draft.attributes }
     ensures { result.items ≡ signed_by signing

@@ -24,7 +24,7 @@ use std::alloc::Global;
 const IDENTIFIER: u8 = 0;
 
 /// The octets of the Accounting-Request, for a client with this secret (RFC 2866 section 4.1). Its
-/// Class, if it has one, is of the server with this boot number. It fails only where memory is
+/// Class, if it has one, is of the server with this boot number. It fails only if memory is
 /// refused.
 pub(crate) fn accounting_octets(
     alloc: Global,

@@ -15,21 +15,20 @@ use thiserror::Error;
 /// Why a script was not replayed. It prints as the text for standard error.
 #[derive(Debug, Drop, Error)]
 pub enum ReplayFault {
-    /// The line with this number is wrong. Every line counts, from 1, and the first wrong one is
-    /// named.
+    /// The line with this number is the first wrong one. Every line counts, from 1.
     #[error("bad script: line {0}")]
     Line(u64),
     /// The script has over 1,048,576 octets. This comes before a wrong line.
     #[error("bad script: too long")]
     TooLong,
-    /// Every line is right, and the configuration lines are refused. It is never
-    /// `ConfigFault::NoMemory`, which is given as `NoMemory`.
+    /// Every line is right, and the configuration is refused. It is never `ConfigFault::NoMemory`,
+    /// which becomes `NoMemory`.
     #[error("bad script: {0}")]
     Config(ConfigFault),
     /// A read or a write failed, or the reader came to no end.
     #[error("input or output fault")]
     InputOutput,
-    /// Memory was refused, outside of a step.
+    /// Memory was refused, except in a step.
     #[error("no memory")]
     NoMemory,
 }
@@ -37,7 +36,7 @@ pub enum ReplayFault {
 impl ReplayFault {
     ghost use Rattle.rsl_replay.specs.Fault.{status_of};
 
-    /// The status with which the process ends.
+    /// The exit status of the process.
     pub fn status(self) -> ExitStatus
         ensures { result ≡ status_of self }
     {

@@ -19,9 +19,8 @@ use rsl_script::{EventLine, Happening};
 use rsl_steps::Answer;
 use std::alloc::{AllocError, Global};
 
-/// The text that is printed of event lines and the answers to their steps, one answer for each step
-/// in order: for each event line its number, counted from 1, a space, its word and a line feed. It
-/// fails only where memory is refused.
+/// The text printed for event lines, given the answers to their steps in order: for each line its
+/// number, counted from 1, a space, its word and a line feed. It fails only if memory is refused.
 pub fn lines_of(
     alloc: Global,
     config: &Config,
@@ -49,7 +48,7 @@ fn write_line(text: &mut String, number: u64, word: Word) -> Result<(), AllocErr
     writeln!(text, "{number} {word}")
 }
 
-/// The word of a line whose steps have these answers.
+/// The word of a line, from the answers to its steps.
 fn word_of(happening: &Happening, answers: &[Answer]) -> Word
     ensures { result ≡ word_of happening.now answers.now }
 {
@@ -62,7 +61,7 @@ fn word_of(happening: &Happening, answers: &[Answer]) -> Word
     }
 }
 
-/// Whether a step was refused.
+/// Whether any step was refused.
 fn is_any_refused(answers: &[Answer]) -> bool
     ensures { result ≡ list_any is_refused answers.now }
 {

@@ -14,22 +14,21 @@ use rsl_steps::run;
 use std::alloc::Global;
 use std::io::{Read, Write};
 
-/// The most octets that a script may have.
+/// The most octets of a script.
 const MAX_SCRIPT_LEN: u32 = 1_048_576;
 
 /// The boot number of a server that replays a script.
 const BOOT: u64 = 1;
 
-/// Reads a script, gives its event lines to the server one after the other, and writes one line for
-/// each; then a report of what each account holds.
+/// Replays a script: gives its event lines to the server one after the other, and writes one line
+/// for each; then a report of what each account holds.
 ///
-/// The faults come in this order, and nothing is written before the last: `InputOutput` where a
-/// read fails or 2,097,152 reads have come to no end, and `TooLong` where the script has over
-/// 1,048,576 octets, whichever comes first; `Line` of the first wrong line; `Config` where the
-/// configuration lines are refused; `InputOutput` where a write fails, after which nothing is said
-/// of how much was written. `NoMemory` comes where memory is refused, before the checks that
-/// follow, and for the report before anything is written; a step whose memory is refused is
-/// answered in its own line.
+/// The faults come in this order, and nothing is written before the last: `InputOutput` if a read
+/// fails or 2,097,152 reads have come to no end, and `TooLong` if the script has over 1,048,576
+/// octets, whichever comes first; `Line` of the first wrong line; `Config` if the configuration is
+/// refused; `InputOutput` if a write fails, after part of it may have been written. `NoMemory`
+/// comes if memory is refused, before the checks that follow, and for the report before anything is
+/// written; a step that is refused memory is answered in its own line.
 #[tactic(auto, using(crate::proofs::Written::read_fault))]
 pub fn replay<R: Read, W: Write>(
     alloc: Global,
@@ -37,14 +36,14 @@ pub fn replay<R: Read, W: Write>(
     writer: &mut W,
 ) -> Result<(), ReplayFault>
     // What is written is what the server answers to the script that was read and what its accounts
-    // hold then, and nothing else.
+    // then hold, and nothing else.
     ensures replayed { OnOk result (IfSome (R.remaining reader.old) (λ text.
         (written : List ℕ) × IsReplayed text written ×
         Appends (W.contents writer.old) (W.contents writer.new) written)) }
-    // A fault of the script is there, and is the first.
+    // A fault of the script is its first.
     ensures fault { IfErr result (λ fault. IfSome (R.remaining reader.old) (λ text.
         IsFaultOf text fault)) }
-    // After every other fault than `InputOutput` nothing was written.
+    // Nothing was written after any fault but `InputOutput`.
     ensures silent { IfErr result (λ fault.
         fault ≢ ReplayFault.InputOutput → Keeps (W.contents writer.old) (W.contents writer.new)) }
 {
@@ -54,7 +53,7 @@ pub fn replay<R: Read, W: Write>(
     Ok(())
 }
 
-/// What is printed for the octets of a script.
+/// What is printed for a script.
 fn replay_text(alloc: Global, text: &[u8]) -> Result<Output, ReplayFault>
     requires { length text.now ≤ most_octets }
     ensures replayed { IfOk result (λ output. IsReplayed text.now (output_octets output)) }

@@ -11,7 +11,7 @@ use rsl_wire::NoMemory;
 use std::alloc::Global;
 
 /// The rows of a report on the shards of a run: one for each account, in the order of their
-/// numbers. It fails only where memory is refused.
+/// numbers. It fails only if memory is refused.
 pub(crate) fn rows_of(
     alloc: Global,
     config: &Config,
@@ -46,7 +46,7 @@ fn tables_of(alloc: Global, shards: &[Shard]) -> Result<Vec<Vec<Row>>, NoMemory>
     Ok(tables)
 }
 
-/// The row of an account among the rows of each shard: accounts go to the shards in turn.
+/// The row of an account among the rows of each shard, over which accounts are dealt in turn.
 #[tactic(auto, using(crate::proofs::ReportLaws::row_steps))]
 fn row_among(shards: u32, tables: &[Vec<Row>], account: u32) -> Row
     requires some { 0 < shards }

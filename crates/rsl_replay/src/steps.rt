@@ -27,14 +27,14 @@ use rsl_steps::Step;
 use rsl_wire::{NoMemory, Octets};
 use std::alloc::Global;
 
-/// The port that every datagram of a script comes from.
+/// The source port of every datagram of a script.
 const SOURCE_PORT: u16 = 1024;
 
-/// The secret of an address that is no client's.
+/// The secret for an address that is no client's.
 const NO_SECRET: &[u8] = b"none";
 
-/// The steps of event lines, in order, to a server with this boot number. It fails only where
-/// memory is refused.
+/// The steps of event lines, in order, for a server with this boot number. It fails only if memory
+/// is refused.
 pub fn steps_of(
     alloc: Global,
     config: &Config,
@@ -52,7 +52,7 @@ pub fn steps_of(
     Ok(steps)
 }
 
-/// Writes the steps of a line after those that are there.
+/// Appends the steps of a line.
 #[tactic(auto, unfolding(crate::specs::Steps::steps_of_line))]
 fn push_line(
     alloc: Global,
@@ -122,7 +122,7 @@ fn accounting_datagram(
     Ok(datagram(moment, Port::Acct, address, octets))
 }
 
-/// A datagram that comes to a port from a client.
+/// A datagram from a client to a port.
 fn datagram(moment: u64, port: Port, address: [u8; 4], octets: Octets) -> Step
     ensures { result ≡ datagram moment port address octets }
 {
@@ -137,7 +137,7 @@ fn datagram(moment: u64, port: Port, address: [u8; 4], octets: Octets) -> Step
     }
 }
 
-/// The secret that a packet from the address is made with.
+/// The secret for packets from an address.
 fn secret_at(config: &Config, address: [u8; 4]) -> &[u8]
     ensures { result.now ≡ secret_at config.now address }
 {
@@ -147,7 +147,7 @@ fn secret_at(config: &Config, address: [u8; 4]) -> &[u8]
     }
 }
 
-/// The signing of an Access-Request from the address: it is signed where it must be.
+/// The signing of an Access-Request from an address: signed if the client must sign.
 fn signing_at(config: &Config, address: [u8; 4]) -> Signing
     ensures { result ≡ signing_at config.now address }
 {
@@ -157,8 +157,8 @@ fn signing_at(config: &Config, address: [u8; 4]) -> Signing
     }
 }
 
-/// Writes the sweeps that stand before an Accounting-Request: those of an access server of a client
-/// that has restarted.
+/// Appends the sweeps before an Accounting-Request: those of an access server of a client that has
+/// restarted.
 fn push_sweeps_before(
     alloc: Global,
     config: &Config,
@@ -182,7 +182,7 @@ fn push_sweeps_before(
     }
 }
 
-/// The access server of a client that a line names, or that has no name.
+/// The access server of a client with this name, or unnamed.
 fn nas_named(alloc: Global, client: u32, name: &Option<AttributeText>) -> Result<Nas, NoMemory>
     ensures { IfOk result (λ nas. nas ≡ nas_named client name.now) }
 {
@@ -193,7 +193,7 @@ fn nas_named(alloc: Global, client: u32, name: &Option<AttributeText>) -> Result
     Ok(Nas { client, name })
 }
 
-/// Writes a sweep of the access server for each shard.
+/// Appends a sweep of the access server for each shard.
 fn push_sweeps(
     alloc: Global,
     config: &Config,
@@ -210,7 +210,7 @@ fn push_sweeps(
     Ok(())
 }
 
-/// Writes a tick for each shard.
+/// Appends a tick for each shard.
 fn push_ticks(config: &Config, moment: u64, steps: &mut Vec<Step>) -> Result<(), NoMemory>
     ensures { OnOk result (steps.new.items ≡ steps.old.items ++ ticks config.now moment) }
 {
@@ -220,7 +220,7 @@ fn push_ticks(config: &Config, moment: u64, steps: &mut Vec<Step>) -> Result<(),
     Ok(())
 }
 
-/// How many steps a line has.
+/// The number of steps of a line.
 #[tactic(auto, unfolding(crate::specs::Steps::step_count))]
 pub(crate) fn step_count(config: &Config, line: &EventLine) -> usize
     ensures count { result ≡ step_count config.now line.now }
@@ -229,7 +229,7 @@ pub(crate) fn step_count(config: &Config, line: &EventLine) -> usize
     step_count_of(config, &line.happening)
 }
 
-/// How many steps a line has that says this.
+/// The number of steps of what happens on a line.
 fn step_count_of(config: &Config, happening: &Happening) -> usize
     ensures { result ≡ step_count_of config.now happening.now }
 {
@@ -240,7 +240,7 @@ fn step_count_of(config: &Config, happening: &Happening) -> usize
     }
 }
 
-/// How many sweeps stand before an Accounting-Request.
+/// The number of sweeps before an Accounting-Request.
 fn sweep_count(config: &Config, request: &AccountingRequest, address: [u8; 4]) -> usize
     ensures count { result ≡
         sweep_count config.now request.now (client_number config.now address) }

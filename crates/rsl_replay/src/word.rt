@@ -1,13 +1,13 @@
 use rsl_event::{Dropped, Said};
 use std::fmt;
 
-/// What is printed of an event line, in a word.
+/// The word printed for an event line.
 #[derive(Clone, Copy)]
 pub(crate) enum Word {
     /// Its datagram was answered: `accept` and the accept number, `reject limit`, `reject` or
     /// `account`.
     Said(Said),
-    /// Its datagram was dropped: `drop` and the name of the reason.
+    /// Its datagram was dropped: `drop` and the name of the cause.
     Dropped(Dropped),
     /// Time has passed: `tick`.
     Tick,

@@ -20,7 +20,7 @@ method_word Chap = codes "chap"
 unfoldable pub text_without_moment : Method → (words : List (List ℕ)) → List ℕ
 text_without_moment method words = join_with_byte 32 (method_word method ∷ words)
 
--- the request that NAS NAME PASSWORD ID say, on a line with this text
+-- the request of the words NAS NAME PASSWORD ID, on a line with this text
 unfoldable pub access_request : Method → (text : List ℕ) → (words : List (List ℕ))
     → Option AccessRequest
 access_request method text (nas ∷ name ∷ password ∷ id ∷ []) = do

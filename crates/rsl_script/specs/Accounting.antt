@@ -1,6 +1,6 @@
 -- The Accounting-Request of a line `start`, `interim`, `stop`, `on` or `off`: its words after the
 -- moment are CLIENT NAS, then for `start`, `interim` and `stop` NAME SESSION, and then for `start`
--- and `interim` multi=M and class=N, where they stand.
+-- and `interim` the optional words multi=M and class=N.
 use Rattle.std.specs.Prelude.{ℕ, List, [], ◌∷◌, Option, None, Some}
 use Rattle.rsl_accounts.specs.Address.{address_of}
 use Rattle.rsl_script.specs.declared.accounting.Ties.{Ties}
@@ -19,7 +19,7 @@ one_tie (Some class) bundle = Some (record { bundle = None; class = Some class }
 one_tie None (Some bundle) = Some (record { bundle = Some bundle; class = None })
 one_tie None None = None
 
--- what multi=M and class=N say, in this order and where they stand
+-- the optional words multi=M and class=N, in this order
 unfoldable pub ties_of : (words : List (List ℕ)) → Option Ties
 ties_of [] = Some (record { bundle = None; class = None })
 ties_of (word ∷ []) = one_tie (read_class word) (read_bundle word)
@@ -44,7 +44,7 @@ session_report status nas (name ∷ session ∷ rest) = do
   Some (Session status nas name session ties.bundle ties.class)
 session_report status nas _ = None
 
--- the report on an access server, after which stands nothing
+-- the report on an access server, with no further words
 unfoldable pub server_report : Status → (nas : Option (List ℕ)) → (words : List (List ℕ))
     → Option AccountingRequest
 server_report status nas [] = Some (Server status nas)

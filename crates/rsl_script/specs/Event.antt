@@ -1,5 +1,4 @@
--- What a line says that happens: its words after the first are its moment, and then those of its
--- verb.
+-- What happens on a line: its words after the first are its moment, and then those of its verb.
 use Rattle.std.specs.Prelude.{ℕ, List, [], ◌∷◌, Option, None, Some}
 use Rattle.rsl_accounts.specs.Address.{address_of}
 use Rattle.rsl_event.specs.declared.meaning.Port.{Port}
@@ -21,7 +20,7 @@ read_raw port (client ∷ hex ∷ []) = do
   Some (happenings.Raw address port octets)
 read_raw port _ = None
 
--- time alone: no word
+-- a tick: no word
 unfoldable pub read_tick : (words : List (List ℕ)) → Option Happening
 read_tick [] = Some happenings.Tick
 read_tick _ = None

@@ -36,7 +36,7 @@ client_line (address ∷ secret ∷ rest) = do
   Some (lines.Client (record { address = address; secret = secret; signed = signed }))
 client_line _ = None
 
--- what an account may have: [PORTS] [live=N] [grace=N], each at most once and in this order
+-- the optional words of an account: [PORTS] [live=N] [grace=N], each at most once and in this order
 unfoldable pub read_options : (words : List (List ℕ)) → Option Options
 read_options words =
     let ports = leading_number (codes "") words in
@@ -46,8 +46,8 @@ read_options words =
     then Some (record { ports = ports.0; live = live.0; grace = grace.0 })
     else None
 
--- an account of one port, if no ports are given, whose other times are those of the settings, and
--- whose accepts have no more attributes
+-- an account with one port, unless ports are given, and the times of the settings, unless it has
+-- its own; its accepts have no further attributes
 abbrev pub account_with : (name password : List ℕ) → (places : ℕ) → Options → Entry
 account_with name password places options = record {
   name = name;
@@ -63,7 +63,7 @@ account_with name password places options = record {
   disabled = false;
 }
 
--- an account: NAME PASSWORD PLACES, and what it may have
+-- an account: NAME PASSWORD PLACES, and its optional words
 unfoldable pub account_line : (words : List (List ℕ)) → Option ScriptLine
 account_line (name ∷ password ∷ places ∷ rest) = do
   places ← read_number places
@@ -85,7 +85,7 @@ said_in (word ∷ rest) = do
   verb ← verb_of word
   said_about verb rest
 
--- what a line says, or nothing where it is wrong
+-- what a line says, or nothing if it is wrong
 unfoldable pub line_of : (octets : List ℕ) → Option ScriptLine
 line_of octets =
     if is_printed octets

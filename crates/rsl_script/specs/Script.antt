@@ -61,7 +61,7 @@ abbrev pub last_of : (first : ℕ) → List ℕ → ℕ
 last_of first [] = first
 last_of first (value ∷ rest) = last_of value rest
 
--- the value of the last line that sets it, or else what it is without one
+-- the value of the last line that sets it, or else `otherwise`
 abbrev pub setting_in : Setting → (otherwise : ℕ) → List ScriptLine → ℕ
 setting_in setting otherwise said = last_of otherwise (filter_map (value_said setting) said)
 
@@ -93,8 +93,8 @@ abbrev pub is_event : Option ScriptLine → Bool
 is_event (Some (lines.Event event)) = true
 is_event _ = false
 
--- whether a line after these is wrong: it says nothing right, or is one of the configuration after
--- an event line
+-- whether a line after these is wrong: it says nothing right, or is a configuration line after an
+-- event line
 abbrev pub is_wrong : (before : List (Option ScriptLine)) → Option ScriptLine → Bool
 is_wrong before None = true
 is_wrong before (Some line) = is_configuration line && list_any is_event before
@@ -111,7 +111,7 @@ abbrev pub unless_wrong : Option ℕ → Contents → Result Contents ScriptFaul
 unless_wrong None said = Ok said
 unless_wrong (Some number) said = Err (faults.Line number)
 
--- the script that a text writes
+-- the script of a text
 unfoldable pub script_of : (text : List ℕ) → Result Contents ScriptFault
 script_of text =
     unless_wrong (first_wrong [] (map line_of (text_lines text)))

@@ -1,4 +1,4 @@
--- What a script holds with one line more.
+-- The contents of a script with another line.
 use Rattle.std.specs.Prelude.{◌&&◌, nat_lt, if◌then◌else◌, ◌++◌, length, Option, None, Some, option_to_list, option_and_then, unwrap_or}
 use Rattle.rsl_accounts.specs.declared.settings.Settings.{Settings}
 use Rattle.rsl_script.specs.declared.line.ScriptLine.{ScriptLine}
@@ -25,7 +25,7 @@ contents_with so_far line = record {
   events = so_far.events ++ option_to_list (event_said line);
 }
 
--- a line of the configuration after an event line is not taken
+-- a configuration line after an event line is not taken
 abbrev pub with_next_line : Contents → ScriptLine → Option Contents
 with_next_line so_far line =
     if is_configuration line && nat_lt 0 (length so_far.events)

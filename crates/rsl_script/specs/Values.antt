@@ -1,5 +1,5 @@
--- The values that a word may write. (`address_of`, the octets of an IPv4 address, is a definition
--- of `rsl_accounts`.)
+-- The values of words. (`address_of`, the octets of an IPv4 address, is a definition of
+-- `rsl_accounts`.)
 use Rattle.std.specs.Prelude.{ℕ, ◌≤◌, ◌^◌, ◌&&◌, nat_lt, nat_le, Bool, if◌then◌else◌, List, [], ◌∷◌, length, take, drop, codes, bytes_eq, Option, None, Some, option_map, option_and_then}
 use Rattle.std.specs.Result.{result_ok}
 use Rattle.std.specs.Str.{all_ascii_digits}
@@ -29,7 +29,7 @@ pub record IsUpTo (most : ℕ) (word : List ℕ) : Type 0 where
   pub some : 1 ≤ length word
   pub fits : length word ≤ most
 
--- the word, where it has 1 to `most` octets
+-- the word, if it has 1 to `most` octets
 unfoldable pub up_to : (most : ℕ) → List ℕ → Option (List ℕ)
 up_to most word = if nat_le 1 (length word) && nat_le (length word) most then Some word else None
 
@@ -41,16 +41,16 @@ read_name word = up_to 253 word
 unfoldable pub read_password : List ℕ → Option (List ℕ)
 read_password word = up_to 128 word
 
--- a NAS-Identifier, or none at `-`
+-- a NAS-Identifier, or none for `-`
 unfoldable pub read_nas : List ℕ → Option (Option (List ℕ))
 read_nas word = if bytes_eq word (codes "-") then Some None else option_map Some (read_name word)
 
--- one pair of hexadecimal digits of either case or more
+-- at least one pair of hexadecimal digits, of either case
 unfoldable pub read_octets : List ℕ → Option (List ℕ)
 read_octets [] = None
 read_octets word = result_ok (decode_of word)
 
--- what stands after this beginning of a word
+-- the rest of a word after this beginning
 unfoldable pub rest_after : (beginning : List ℕ) → List ℕ → Option (List ℕ)
 rest_after beginning word =
     if bytes_eq (take (length beginning) word) beginning
@@ -61,7 +61,7 @@ rest_after beginning word =
 unfoldable pub read_bundle : List ℕ → Option (List ℕ)
 read_bundle word = option_and_then read_name (rest_after (codes "multi=") word)
 
--- the number that a word writes after this beginning
+-- the number in a word after this beginning
 unfoldable pub number_after : (beginning : List ℕ) → List ℕ → Option ℕ
 number_after beginning word = option_and_then read_number (rest_after beginning word)
 
@@ -69,7 +69,7 @@ number_after beginning word = option_and_then read_number (rest_after beginning 
 unfoldable pub read_class : List ℕ → Option ℕ
 read_class word = number_after (codes "class=") word
 
--- the number of the first word, if it writes one after this beginning, and the words that are left
+-- the number in the first word after this beginning, if it has one, and the words that are left
 abbrev pub leading : (words : List (List ℕ)) → (first : Option ℕ) → Option ℕ × List (List ℕ)
 leading words None = (None, words)
 leading [] (Some number) = (None, [])

@@ -16,10 +16,10 @@ use rsl_accounts::{Secret, address_of};
 use rsl_wire::NoMemory;
 use std::alloc::Global;
 
-/// The octets that a line without its moment mostly fits, for which room is taken at once.
+/// Octets of most lines without their moments, for which room is allocated at once.
 const USUAL_LEN: usize = 48;
 
-/// What the words `CLIENT NAS NAME PASSWORD ID` after a moment say.
+/// Reads the words `CLIENT NAS NAME PASSWORD ID` after a moment.
 #[tactic(auto, unfolding(crate::specs::Access::read_access))]
 pub(crate) fn read_access(
     alloc: Global,
@@ -39,7 +39,7 @@ pub(crate) fn read_access(
     }
 }
 
-/// The request that the words `NAS NAME PASSWORD ID` say, on a line with this text.
+/// Reads the words `NAS NAME PASSWORD ID` of a line with this text.
 #[tactic(auto, unfolding(crate::specs::Access::access_request))]
 fn access_request(
     alloc: Global,
@@ -63,7 +63,7 @@ fn access_request(
 }
 
 /// A line without its moment: its first word and the words after the moment, joined by one space.
-/// It fails only where memory is refused.
+/// It fails only if memory is refused.
 #[tactic(auto, unfolding(crate::specs::Access::text_without_moment))]
 fn text_without_moment(alloc: Global, method: Method, words: &[&str]) -> Result<Secret, NoMemory>
     ensures { IfOk result (λ text.

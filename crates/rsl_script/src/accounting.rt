@@ -24,13 +24,13 @@ use std::alloc::Global;
 /// What ties a session to its bundle and to its accept.
 #[derive(Drop)]
 struct Ties {
-    /// The Acct-Multi-Session-Id, where the line has a word `multi=`.
+    /// The Acct-Multi-Session-Id, if the line has a word `multi=`.
     bundle: Option<AttributeText>,
-    /// The number of the Class, where the line has a word `class=`.
+    /// The number of the Class, if the line has a word `class=`.
     class: Option<u64>,
 }
 
-/// What the words after a moment say: `CLIENT NAS`, and then those of the status.
+/// Reads the words after a moment: `CLIENT NAS`, and then those of the status.
 #[tactic(auto, unfolding(crate::specs::Accounting::read_accounting))]
 pub(crate) fn read_accounting(
     alloc: Global,
@@ -50,7 +50,7 @@ pub(crate) fn read_accounting(
     }
 }
 
-/// The report that the words after the access server say.
+/// Reads the words after the access server.
 #[tactic(auto, unfolding(crate::specs::Accounting::report_of))]
 fn report_of(
     alloc: Global,
@@ -68,7 +68,7 @@ fn report_of(
     }
 }
 
-/// The report of the access server itself, which has no more words.
+/// The report of the access server itself, which has no further words.
 #[tactic(auto, unfolding(crate::specs::Accounting::server_report))]
 fn server_report(
     status: Status,
@@ -111,7 +111,7 @@ fn session_report(
     }
 }
 
-/// What ties a session to its bundle and to its accept, which its end does not have.
+/// The ties of a session, which its end does not have.
 #[tactic(auto, unfolding(crate::specs::Accounting::ties_at))]
 fn ties_at(alloc: Global, status: Status, words: &[&str]) -> Result<Ties, LineFault>
     ensures { Reads (ties_at status (map (λ word. word.now) words.now)) result }
@@ -122,7 +122,7 @@ fn ties_at(alloc: Global, status: Status, words: &[&str]) -> Result<Ties, LineFa
     }
 }
 
-/// What the words `multi=M` and `class=N` say, in this order and where they stand.
+/// Reads the optional words `multi=M` and `class=N`, in this order.
 #[tactic(auto, unfolding(crate::specs::Accounting::ties_of))]
 fn ties_of(alloc: Global, words: &[&str]) -> Result<Ties, LineFault>
     ensures { Reads (ties_of (map (λ word. word.now) words.now)) result }
@@ -141,7 +141,7 @@ fn ties_of(alloc: Global, words: &[&str]) -> Result<Ties, LineFault>
     }
 }
 
-/// What one of the two words alone says.
+/// Reads one of the two words.
 fn one_tie(alloc: Global, word: &str) -> Result<Ties, LineFault>
     ensures { Reads (one_tie (read_class word.now) (read_bundle word.now)) result }
 {

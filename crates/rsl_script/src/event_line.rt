@@ -11,26 +11,26 @@ pub struct EventLine {
     pub happening: Happening,
 }
 
-/// What a line says that happens.
+/// What happens on a line.
 #[derive(Drop)]
 pub enum Happening {
     /// An Access-Request comes: `ask` or `chap`.
     Access {
-        /// The address that it comes from.
+        /// The address of its source.
         address: [u8; 4],
-        /// What it says.
+        /// The request.
         request: AccessRequest,
     },
     /// An Accounting-Request comes: `start`, `interim`, `stop`, `on` or `off`.
     Accounting {
-        /// The address that it comes from.
+        /// The address of its source.
         address: [u8; 4],
-        /// What it says.
+        /// The request.
         request: AccountingRequest,
     },
-    /// A datagram comes whose octets are given: `raw-auth` or `raw-acct`.
+    /// A datagram of given octets comes: `raw-auth` or `raw-acct`.
     Raw {
-        /// The address that it comes from.
+        /// The address of its source.
         address: [u8; 4],
         /// The port that it comes to.
         port: Port,

@@ -9,8 +9,7 @@ use thiserror::Error;
 /// Why there is no script. It prints as `line 7` or `no memory`.
 #[derive(Clone, Copy, Debug, Error)]
 pub enum ScriptFault {
-    /// The line with this number is wrong. Every line counts, from 1, and the first wrong one is
-    /// named.
+    /// The line with this number is the first wrong one. Every line counts, from 1.
     #[error("line {0}")]
     Line(u64),
     /// Memory was refused.
@@ -28,7 +27,7 @@ pub(crate) enum LineFault {
 }
 
 impl LineFault {
-    /// The fault of the script whose line with this number it is.
+    /// The fault of a script whose line with this number has this fault.
     pub(crate) fn at(self, number: u64) -> ScriptFault
         ensures { result ≡ script_fault_at number self }
     {

@@ -13,7 +13,7 @@ use rsl_accounts::address_of;
 use rsl_event::Port;
 use std::alloc::Global;
 
-/// What the words after the first word of a line say: `MOMENT`, and then those of its verb.
+/// Reads the words after the first word of a line: `MOMENT`, and then those of its verb.
 #[tactic(auto, unfolding(crate::specs::Event::read_event))]
 pub(crate) fn read_event(
     alloc: Global,
@@ -31,7 +31,7 @@ pub(crate) fn read_event(
     }
 }
 
-/// What the words after the moment of a line say.
+/// Reads the words after the moment of a line.
 #[tactic(auto, unfolding(crate::specs::Event::read_happening))]
 fn read_happening(alloc: Global, verb: EventVerb, words: &[&str]) -> Result<Happening, LineFault>
     ensures { Reads (read_happening verb (map (λ word. word.now) words.now)) result }
@@ -44,7 +44,7 @@ fn read_happening(alloc: Global, verb: EventVerb, words: &[&str]) -> Result<Happ
     }
 }
 
-/// The datagram that the words `CLIENT HEX` say.
+/// The datagram of the words `CLIENT HEX`.
 #[tactic(auto, unfolding(crate::specs::Event::read_raw))]
 fn read_raw(alloc: Global, port: Port, words: &[&str]) -> Result<Happening, LineFault>
     ensures { Reads (read_raw port (map (λ word. word.now) words.now)) result }
@@ -59,7 +59,7 @@ fn read_raw(alloc: Global, port: Port, words: &[&str]) -> Result<Happening, Line
     }
 }
 
-/// Time alone, which has no more words.
+/// A tick, which has no further words.
 #[tactic(auto, unfolding(crate::specs::Event::read_tick))]
 fn read_tick(words: &[&str]) -> Result<Happening, LineFault>
     ensures { Reads (read_tick (map (λ word. word.now) words.now)) result }

@@ -1,13 +1,13 @@
 //! The script of a replay: a text whose first lines are the settings, clients and accounts of a
-//! configuration, and whose further lines say what happens and when.
+//! configuration, and whose other lines say what happens and when.
 //!
 //! `Script::read` answers exactly what its definition says, `script_of` of `specs/Script.antt`: the
 //! script of a text whose lines are all right, or the number of its first wrong line; or it answers
-//! that memory was refused. What a line says stands in `specs/Line.antt`, and after it
-//! `specs/Event.antt`, `specs/Access.antt` and `specs/Accounting.antt`; the values of words in
+//! that memory was refused. What a line says is in `specs/Line.antt`, and then in
+//! `specs/Event.antt`, `specs/Access.antt` and `specs/Accounting.antt`; the values of words are in
 //! `specs/Values.antt`.
 //!
-//! docs/SCRIPTS.md has the one table of lines, and their rules.
+//! docs/SCRIPTS.md has the table of lines, and their rules.
 #![tactic(auto)]
 
 mod access;

@@ -1,4 +1,4 @@
-//! What a request carries in an attribute: octets whose number the attribute limits.
+//! Attribute values of a request: octets whose number the attribute limits.
 ghost use Rattle.std.specs.Prelude.{◌≡◌, IfOk};
 ghost use Rattle.rsl_script.specs.Reads.{Reads};
 ghost use Rattle.rsl_script.specs.Values.{IsUpTo, read_name, read_password, up_to};
@@ -10,8 +10,8 @@ use rsl_wire::{MAX_VALUE_LEN, NoMemory, Octets};
 use std::alloc::Global;
 use std::marker::Model;
 
-/// A text that fits an attribute: 1 to 253 octets (RFC 2865 section 5). A contract sees it as the
-/// list of its octets.
+/// A text that fits an attribute: 1 to 253 octets (RFC 2865 section 5). A contract sees the list of
+/// its octets.
 #[derive(Drop)]
 pub struct AttributeText {
     octets: Octets,
@@ -29,7 +29,7 @@ impl Model for AttributeText {
 }
 
 impl AttributeText {
-    /// The text that a word is, where it fits.
+    /// The text of a word, if it fits.
     #[tactic(auto, unfolding(crate::specs::Values::read_name, crate::specs::Values::up_to))]
     pub(crate) fn read(alloc: Global, word: &str) -> Result<AttributeText, LineFault>
         ensures { Reads (read_name word.now) result }
@@ -42,7 +42,7 @@ impl AttributeText {
         })
     }
 
-    /// Its octets, lent.
+    /// The octets of the text.
     pub fn as_slice(&self) -> &[u8]
         ensures octets { result.now ≡ self.now }
         ensures limits { IsUpTo 253 self.now }
@@ -50,7 +50,7 @@ impl AttributeText {
         self.octets.as_slice()
     }
 
-    /// Its octets as an octet string of their own. It fails only where memory is refused.
+    /// The octets of the text, copied. It fails only if memory is refused.
     pub fn to_octets(&self, alloc: Global) -> Result<Octets, NoMemory>
         ensures { IfOk result (λ copy. copy ≡ self.now) }
     {
@@ -59,7 +59,7 @@ impl AttributeText {
 }
 
 /// A password that a User-Password can hide: 1 to 128 octets (RFC 2865 section 5.2). It is a
-/// secret. A contract sees it as the list of its octets.
+/// secret. A contract sees the list of its octets.
 #[derive(Drop)]
 pub struct Password {
     secret: Secret,
@@ -77,7 +77,7 @@ impl Model for Password {
 }
 
 impl Password {
-    /// The password that a word is, where it fits.
+    /// The password of a word, if it fits.
     #[tactic(auto, unfolding(crate::specs::Values::read_password, crate::specs::Values::up_to))]
     pub(crate) fn read(alloc: Global, word: &str) -> Result<Password, LineFault>
         ensures { Reads (read_password word.now) result }
@@ -90,7 +90,7 @@ impl Password {
         })
     }
 
-    /// The octets of the password, lent.
+    /// The octets of the password.
     pub fn expose(&self) -> &[u8]
         ensures octets { result.now ≡ self.now }
         ensures limits { IsUpTo 128 self.now }

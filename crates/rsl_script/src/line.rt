@@ -22,7 +22,7 @@ use rsl_accounts::{Client, Entry, Rules, Secret, Text, address_of};
 use rsl_wire::NoMemory;
 use std::alloc::Global;
 
-/// What the line of an account may have after its places.
+/// The optional words of an account's line.
 #[derive(Clone, Copy)]
 struct Options {
     /// Its ports.
@@ -44,7 +44,7 @@ pub(crate) enum ScriptLine {
     Client(Client),
     /// There is this account.
     Account(Entry),
-    /// This happens.
+    /// An event happens.
     Event(EventLine),
 }
 
@@ -67,7 +67,7 @@ impl ScriptLine {
     }
 }
 
-/// What the words of a line say.
+/// Reads the words of a line.
 #[tactic(auto, unfolding(crate::specs::Line::said_in))]
 fn said_in(alloc: Global, words: &[&str]) -> Result<ScriptLine, LineFault>
     ensures { Reads (said_in (map (λ word. word.now) words.now)) result }
@@ -81,7 +81,7 @@ fn said_in(alloc: Global, words: &[&str]) -> Result<ScriptLine, LineFault>
     }
 }
 
-/// What the words after the first say.
+/// Reads the words after the first.
 #[tactic(auto, unfolding(crate::specs::Line::said_about))]
 fn said_about(alloc: Global, verb: Verb, words: &[&str]) -> Result<ScriptLine, LineFault>
     ensures { Reads (said_about verb (map (λ word. word.now) words.now)) result }
@@ -151,7 +151,7 @@ fn account_line(alloc: Global, words: &[&str]) -> Result<ScriptLine, LineFault>
     }
 }
 
-/// What an account may have: `[PORTS] [live=N] [grace=N]`, in this order.
+/// The optional words of an account: `[PORTS] [live=N] [grace=N]`, in this order.
 #[tactic(auto, unfolding(crate::specs::Line::read_options))]
 fn read_options(words: &[&str]) -> Option<Options>
     ensures { result ≡ read_options (map (λ word. word.now) words.now) }
@@ -165,8 +165,8 @@ fn read_options(words: &[&str]) -> Option<Options>
     Some(Options { ports, live, grace })
 }
 
-/// An account of one port, if no ports are given, whose other times are those of the settings. It
-/// fails only where memory is refused.
+/// An account with one port, unless ports are given, and the times of the settings, unless it has
+/// its own. It fails only if memory is refused.
 fn account_with(
     alloc: Global,
     name: &str,

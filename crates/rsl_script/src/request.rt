@@ -5,7 +5,7 @@ use crate::limited::{AttributeText, Password};
 use rsl_accounts::Secret;
 use rsl_event::Status;
 
-/// How a request shows that it knows the password.
+/// How a request shows the password.
 #[derive(Clone, Copy)]
 pub enum Method {
     /// By a User-Password: the line `ask`.
@@ -29,10 +29,10 @@ impl Method {
 /// The Access-Request of a line `ask` or `chap` (RFC 2865 section 4.1).
 #[derive(Drop)]
 pub struct AccessRequest {
-    /// How it shows that it knows the password.
+    /// How it shows the password.
     pub method: Method,
     /// The line without its moment, its words joined by one space. Its MD5 is the Request
-    /// Authenticator: the same words at another moment are the same packet, sent again. It has the
+    /// Authenticator, so the same words at another moment are a retransmission. It has the
     /// password, so it is a secret too.
     pub text: Secret,
     /// The NAS-Identifier, if there is one.
@@ -59,12 +59,12 @@ pub enum AccountingRequest {
         name: AttributeText,
         /// The Acct-Session-Id.
         session: AttributeText,
-        /// The Acct-Multi-Session-Id, where the line has a word `multi=`.
+        /// The Acct-Multi-Session-Id, if the line has a word `multi=`.
         bundle: Option<AttributeText>,
-        /// The number of the Class, where the line has a word `class=`.
+        /// The number of the Class, if the line has a word `class=`.
         class: Option<u64>,
     },
-    /// It reports that the access server has restarted: `on` or `off`.
+    /// It reports a restart of the access server: `on` or `off`.
     Server {
         /// Accounting-On or Accounting-Off.
         status: Status,

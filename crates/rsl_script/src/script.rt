@@ -13,21 +13,20 @@ use std::alloc::Global;
 /// A script whose lines are all right.
 #[derive(Drop)]
 pub struct Script {
-    /// The settings: the last `set` of each counts.
+    /// The settings. The last `set` of each counts.
     pub settings: Settings,
     /// The clients, in the order of their lines.
     pub clients: Vec<Client>,
     /// The accounts, in the order of their lines. The times of their rules are 0, for the
-    /// configuration to fill in; `live=N` and `grace=N` of a line are times of the account's own.
+    /// configuration to fill in; `live=N` and `grace=N` of a line are the account's own times.
     pub accounts: Vec<Entry>,
     /// What happens, in the order of its lines.
     pub events: Vec<EventLine>,
 }
 
 impl Script {
-    /// The script that a text writes: it holds exactly what its lines say. `Line` is given where a
-    /// line is wrong, with the number of the first that is, and never else. `NoMemory` comes where
-    /// memory is refused before that.
+    /// The script of a text: exactly what its lines say. `Line` comes exactly if a line is wrong,
+    /// with the number of the first. `NoMemory` comes if memory is refused before that.
     pub fn read(alloc: Global, text: &[u8]) -> Result<Script, ScriptFault>
         ensures script { IfOk result (λ script. script_of text.now ≡ Ok (contents script)) }
         ensures line { IfErr result (λ fault.
@@ -42,7 +41,7 @@ impl Script {
         Ok(script)
     }
 
-    /// A script without lines, which has the settings of a script that gives none.
+    /// The script of no lines, with the default settings.
     #[tactic(auto, unfolding(crate::specs::Script::contents_of))]
     fn new(alloc: Global) -> Script
         ensures { contents result ≡ contents_of [] }
@@ -75,7 +74,7 @@ impl Script {
         self.take(ScriptLine::read(alloc, line)?)
     }
 
-    /// Takes what a line says. A line of the configuration after an event line is wrong.
+    /// Adds what a line says. A configuration line after an event line is wrong.
     fn take(&mut self, line: ScriptLine) -> Result<(), LineFault>
         ensures taken { OnOk result (with_next_line (contents self.old) line ≡
             Some (contents self.new)) }

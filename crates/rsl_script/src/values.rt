@@ -18,8 +18,8 @@ use hex::FromHexError;
 use rsl_wire::Octets;
 use std::alloc::Global;
 
-/// The number that a word of decimal digits writes, where it is under 2^64. Leading zeros are
-/// allowed; `None` for every other word.
+/// The number of a word of decimal digits, if it is under 2^64. Leading zeros are allowed; `None`
+/// for any other word.
 #[tactic(auto, using(crate::proofs::Numbers::number_of_parsed))]
 pub fn read_number(word: &str) -> Option<u64>
     ensures { result ≡ read_number word.now }
@@ -30,7 +30,7 @@ pub fn read_number(word: &str) -> Option<u64>
     word.parse().ok()
 }
 
-/// The number 0 to 255 that a word writes.
+/// The number of a word, if it is 0 to 255.
 #[tactic(auto, unfolding(crate::specs::Values::read_id))]
 pub(crate) fn read_id(word: &str) -> Option<u8>
     ensures { result ≡ read_id word.now }
@@ -38,7 +38,7 @@ pub(crate) fn read_id(word: &str) -> Option<u8>
     u8::try_from(read_number(word)?).ok()
 }
 
-/// The NAS-Identifier that a word writes, or none at `-`.
+/// The NAS-Identifier of a word, or none for `-`.
 #[tactic(auto, unfolding(crate::specs::Values::read_nas))]
 pub(crate) fn read_nas(alloc: Global, word: &str) -> Result<Option<AttributeText>, LineFault>
     ensures { Reads (read_nas word.now) result }
@@ -49,7 +49,7 @@ pub(crate) fn read_nas(alloc: Global, word: &str) -> Result<Option<AttributeText
     }
 }
 
-/// The octets that one pair of hexadecimal digits of either case or more write.
+/// The octets of a word of at least one pair of hexadecimal digits, of either case.
 #[tactic(auto, unfolding(crate::specs::Values::read_octets))]
 pub(crate) fn read_octets(alloc: Global, word: &str) -> Result<Octets, LineFault>
     ensures { Reads (read_octets word.now) result }
@@ -64,7 +64,7 @@ pub(crate) fn read_octets(alloc: Global, word: &str) -> Result<Octets, LineFault
     }
 }
 
-/// What stands after this beginning of a word.
+/// The rest of a word after this beginning.
 #[tactic(auto, using(crate::proofs::RestAfter::rest_after_stripped))]
 fn rest_after<'a>(beginning: &str, word: &'a str) -> Option<&'a str>
     ensures { option_copied result ≡ rest_after beginning.now word.now }
@@ -80,7 +80,7 @@ pub(crate) fn read_bundle(alloc: Global, word: &str) -> Result<AttributeText, Li
     AttributeText::read(alloc, rest_after("multi=", word).ok_or(LineFault::Wrong)?)
 }
 
-/// The number that a word writes after this beginning.
+/// The number in a word after this beginning.
 #[tactic(auto, unfolding(crate::specs::Values::number_after))]
 fn number_after(beginning: &str, word: &str) -> Option<u64>
     ensures { result ≡ number_after beginning.now word.now }
@@ -96,8 +96,7 @@ pub(crate) fn read_class(word: &str) -> Option<u64>
     number_after("class=", word)
 }
 
-/// The number of the first word, if it writes one after this beginning, and the words that are
-/// left.
+/// The number in the first word after this beginning, if it has one, and the words that are left.
 #[tactic(auto, unfolding(crate::specs::Values::leading_number))]
 pub(crate) fn leading_number<'a, 'b>(
     beginning: &str,

@@ -24,7 +24,7 @@ pub(crate) enum EventVerb {
     Access(Method),
     /// An Accounting-Request comes.
     Accounting(Status),
-    /// A datagram comes to this port, whose octets are given.
+    /// A datagram of given octets comes to this port.
     Raw(Port),
     /// Time passes.
     Tick,
@@ -33,7 +33,7 @@ pub(crate) enum EventVerb {
 /// A setting that a script may give.
 #[derive(Clone, Copy)]
 pub(crate) enum Setting {
-    /// How many shards there are.
+    /// The number of shards.
     Shards,
     /// Seconds for which an accept reserves a place.
     Reserve,
@@ -43,7 +43,7 @@ pub(crate) enum Setting {
     Grace,
     /// Seconds for which a stopped session stays closed.
     Closed,
-    /// Seconds for which an answer is given again.
+    /// Seconds for which the repeats of an ask get its answer.
     Keep,
 }
 
@@ -70,7 +70,7 @@ pub(crate) fn verb_of(word: &str) -> Option<Verb>
     }
 }
 
-/// The setting of a name.
+/// The setting of this name.
 #[tactic(auto, unfolding(crate::specs::Verb::setting_of))]
 pub(crate) fn setting_of(word: &str) -> Option<Setting>
     ensures { result ≡ setting_of word.now }

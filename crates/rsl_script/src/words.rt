@@ -5,10 +5,10 @@ use rsl_wire::NoMemory;
 use std::alloc::Global;
 use std::str;
 
-/// The words that a line mostly has at most, for which room is taken at once.
+/// Words of most lines at most, for which room is allocated at once.
 const USUAL_WORDS: usize = 8;
 
-/// The words of a line, which is cut at each space. It fails only where memory is refused.
+/// The words of a line, split at each space. It fails only if memory is refused.
 pub(crate) fn line_words(alloc: Global, line: &str) -> Result<Vec<&str>, NoMemory>
     ensures { IfOk result (λ words. map (λ word. word.now) words.items ≡ line_words line.now) }
 {
@@ -17,7 +17,7 @@ pub(crate) fn line_words(alloc: Global, line: &str) -> Result<Vec<&str>, NoMemor
     Ok(words)
 }
 
-/// The line as a text, where each octet is a visible character of ASCII or a space.
+/// The line as a text, if each octet is a visible ASCII character or a space.
 #[tactic(auto, using(crate::proofs::Printed::printed_is_utf8))]
 pub(crate) fn text_of(line: &[u8]) -> Option<&str>
     ensures text { IfSome result (λ text. text.now ≡ line.now) }

@@ -12,15 +12,15 @@ use Rattle.rsl_record.specs.declared.close_fault.CloseFault.TheVariants.{NoMemor
 use Rattle.rsl_serve.specs.declared.fault.ServeFault.{ServeFault}
 use Rattle.rsl_serve.specs.declared.fault.ServeFault.TheVariants.{Usage, Unreadable, Config, InputOutput, NoMemory}
 
--- a file that is too long is given as one that can't be read
+-- a file that is too long counts as one that cannot be read
 abbrev pub fault_of_file : FileFault → ServeFault
 fault_of_file file_unreadable = Unreadable
 fault_of_file file_too_long = Unreadable
 fault_of_file (file_config fault) = Config fault
 fault_of_file file_no_memory = NoMemory
 
--- of a pass, a receiver and the closing of a service, refused memory is named as such; what else
--- ends these is input or output
+-- refused memory of a pass, a receiver and the closing of a service is `NoMemory`; their other
+-- faults are input or output
 abbrev pub fault_of_pass : PassFault → ServeFault
 fault_of_pass pass_no_memory = NoMemory
 fault_of_pass fault = InputOutput
@@ -33,7 +33,7 @@ abbrev pub fault_of_close : CloseFault → ServeFault
 fault_of_close close_no_memory = NoMemory
 fault_of_close fault = InputOutput
 
--- the status of a process that ends so: the arguments and the file are its input
+-- the exit status of a process with this fault: the arguments and the file are its input
 abbrev pub status_of : ServeFault → ExitStatus
 status_of Usage = WrongInput
 status_of Unreadable = WrongInput

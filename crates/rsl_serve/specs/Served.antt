@@ -30,8 +30,8 @@ pub record HasClosed (config : Configuration) (auth acct ticks : List Receipt) :
   pub segments : List Segment
   pub closed : IsClosed config (auth ∷ acct ∷ ticks ∷ []) [] segments
 
--- What is printed: what the receivers did, a line for each, and the report of a configuration, whose
--- service was then closed with these passes of its three workers.
+-- What is printed: what the receivers did, a line for each, and the report of a configuration,
+-- whose service was then closed with these passes of its three workers.
 pub record IsServed (config : Configuration) (turns : ℕ) (auth_pass acct_pass ticks_pass : List Receipt)
     (written : List ℕ) : Type 0 where
   pub auth : Counts
@@ -43,7 +43,7 @@ pub record IsServed (config : Configuration) (turns : ℕ) (auth_pass acct_pass 
   pub closed : HasClosed config auth_pass acct_pass ticks_pass
   pub printed : written ≡ counts_line (codes "auth") auth ++ counts_line (codes "acct") acct ++ report
 
--- so of some passes
+-- `IsServed` of some passes
 pub record HasServed (config : Configuration) (turns : ℕ) (written : List ℕ) : Type 0 where
   pub auth_pass : List Receipt
   pub acct_pass : List Receipt

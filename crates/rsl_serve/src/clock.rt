@@ -8,10 +8,10 @@ const PAUSE_SECS: u64 = 1;
 
 const _: () = prove!(PAUSE_SECS == 1);
 
-/// When a server starts, and how long it works.
+/// When a server starts, and how many turns it takes.
 #[derive(Clone, Copy)]
 pub(crate) struct RunTime {
-    /// The seconds since 1970 at its start, which are also its service's boot number.
+    /// Its start in seconds since 1970, which is also its boot number.
     pub boot: u64,
     /// The turns that each receiver takes.
     pub turns: u64,
@@ -33,8 +33,8 @@ impl RunTime {
         }
     }
 
-    /// Waits until the second of the start is over, so that a server that starts after this one has
-    /// another boot number. Where the clock can't be read it waits for a second.
+    /// Waits until the second of the start is over, so that the next server has another boot
+    /// number. If the clock cannot be read, it waits for a second.
     pub(crate) fn await_next_second<C: time::Clock>(&self, clock: &C) {
         let passed = match clock.since_1970() {
             Ok(time) if time.as_secs() != self.boot => return,
@@ -45,7 +45,7 @@ impl RunTime {
     }
 }
 
-/// A second between two turns of the worker that makes ticks, until both receivers have ended.
+/// A pause of a second between two ticks, until both receivers have ended.
 #[derive(Drop)]
 pub(crate) struct EverySecond<'a, C: time::Clock> {
     clock: &'a C,
@@ -53,7 +53,7 @@ pub(crate) struct EverySecond<'a, C: time::Clock> {
 }
 
 impl<'a, C: time::Clock> EverySecond<'a, C> {
-    /// Pauses by a clock, until the receivers have ended.
+    /// A pause by this clock, until the receivers have ended.
     pub(crate) fn new(clock: &'a C, shutdown: &'a Shutdown) -> EverySecond<'a, C> {
         EverySecond { clock, shutdown }
     }

@@ -12,26 +12,24 @@ use std::alloc::{AllocError, AllocFailed};
 use std::io;
 use thiserror::Error;
 
-/// Why a server has not started, or has not ended well. It prints as the text for standard error,
-/// but for `Usage`.
+/// Why a server has not started, or has not ended well. Except `Usage`, it prints as the text for
+/// standard error.
 #[derive(Debug, Drop, Error)]
 pub enum ServeFault {
-    /// The arguments are wrong. They are looked at before anything else. The program prints its own
-    /// line of usage for it.
+    /// The arguments are wrong, which is checked first. The program prints its own usage line.
     #[error("wrong arguments")]
     Usage,
     /// The account file is not there, a read of it failed, or it has over 16,777,216 octets.
     #[error("bad file: unreadable")]
     Unreadable,
-    /// The account file is refused. It is never `ConfigFault::NoMemory`, which is given as
-    /// `NoMemory`.
+    /// The account file is refused. It is never `ConfigFault::NoMemory`, which becomes `NoMemory`.
     #[error("bad file: {0}")]
     Config(ConfigFault),
-    /// A socket or a write failed, the clock could not be read at the start, or what the callers
-    /// kept of their moves is not what the journals hold.
+    /// A socket or a write failed, the clock could not be read at the start, or the callers'
+    /// receipts are not what the journals hold.
     #[error("input or output fault")]
     InputOutput,
-    /// Memory was refused, outside of a step.
+    /// Memory was refused, except in a step.
     #[error("no memory")]
     NoMemory,
 }
@@ -39,7 +37,7 @@ pub enum ServeFault {
 impl ServeFault {
     ghost use Rattle.rsl_serve.specs.Fault.{status_of};
 
-    /// The status with which the process ends.
+    /// The exit status of the process.
     pub fn status(self) -> ExitStatus
         ensures { result ≡ status_of self }
     {

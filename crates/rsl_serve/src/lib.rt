@@ -1,13 +1,13 @@
-//! The running server: two receivers on two UDP sockets and a worker that makes ticks, each on a
-//! thread of its own, over one service.
+//! The running server: two receivers on two UDP sockets and a worker that makes ticks, each on its
+//! own thread, over one service.
 //!
 //! `serve` does all of it and prints, once both receivers have taken their turns, what they did and
-//! what each account holds. What a datagram makes of the accounts, and what a receiver does, is the
-//! business of `rsl_service`.
+//! what each account holds. What a datagram does to the accounts, and what a receiver does, is in
+//! `rsl_service`.
 //!
 //! The promise: what `serve` has printed after a success, and that its service was closed
-//! (`specs/Served.antt`). What the arguments ask for is exactly `specs/Plan.antt`, what is printed of
-//! the receivers `specs/Output.antt`, and the status with which each fault ends `specs/Fault.antt`. A
+//! (`specs/Served.antt`). What the arguments ask for is exactly `specs/Plan.antt`, what is printed
+//! of the receivers `specs/Output.antt`, and the exit status of each fault `specs/Fault.antt`. A
 //! socket is a port that counts its calls (`rsl_port`).
 #![tactic(auto)]
 

@@ -4,8 +4,8 @@ ghost use Rattle.rsl_serve.specs.Output.{counted, counts_line};
 use rsl_service::Counts;
 use std::alloc::{AllocError, Global};
 
-/// What both receivers did, a line for each, that of the authentication port first. It fails only
-/// where memory is refused.
+/// What both receivers did, a line for each, the authentication port first. It fails only if memory
+/// is refused.
 pub fn counts_of(alloc: Global, auth: &Counts, acct: &Counts) -> Result<String, AllocError>
     ensures { IfOk result (λ text. string_bytes text
         ≡ counts_line (codes "auth") auth.now ++ counts_line (codes "acct") acct.now) }

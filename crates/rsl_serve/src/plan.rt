@@ -4,10 +4,10 @@ ghost use Rattle.rsl_serve.specs.Plan.{plan_of, read_port};
 use rsl_accounts::address_of;
 use rsl_script::read_number;
 
-/// Where a server takes datagrams, and how long.
+/// Where a server receives datagrams, and for how many turns.
 #[derive(Clone, Copy)]
 pub struct Plan {
-    /// The IPv4 address of both sockets, its first octet first.
+    /// The IPv4 address of both sockets, first octet first.
     pub address: [u8; 4],
     /// The authentication port.
     pub auth: u16,
@@ -18,8 +18,8 @@ pub struct Plan {
 }
 
 impl Plan {
-    /// What four words ask for: an address as in an account file, two ports 1 to 65,535, and a
-    /// number under 2^64, each in decimal digits. `None` where one of them is not that.
+    /// The plan in four words: an address as in an account file, two ports 1 to 65,535, and a
+    /// number under 2^64, each in decimal digits. `None` if one of them is anything else.
     #[tactic(auto, unfolding(crate::specs::Plan::plan_of))]
     pub fn read(address: &str, auth: &str, acct: &str, turns: &str) -> Option<Plan>
         ensures { result ≡ plan_of address.now auth.now acct.now turns.now }

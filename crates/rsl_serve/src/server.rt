@@ -23,18 +23,18 @@ use std::sync::Wait;
 use std::thread::Threads;
 use std::time;
 
-/// Serves the accounts of a file: takes RADIUS datagrams from two UDP sockets, for TURNS turns of
+/// Serves the accounts of a file: receives RADIUS datagrams on two UDP sockets, for TURNS turns of
 /// each, and answers them. Then it writes what both receivers did, a line for each, and what each
 /// account holds.
 ///
 /// The arguments after the program's name and a first word are FILE, ADDRESS, AUTHPORT, ACCTPORT
-/// and TURNS, as `Plan::read` takes the last four. The faults come in this order, and nothing is
-/// written before the last: `Usage` where the arguments are wrong; `InputOutput` where the clock
-/// can't be read; `Unreadable` and `Config` where the account file is; `InputOutput` where a socket
-/// can't be bound or fails, a thread can't be made, or the record is not settled at the end, and
-/// where a write fails. `NoMemory` comes where memory is refused outside of a step.
+/// and TURNS; `Plan::read` reads the last four. The faults come in this order, and nothing is
+/// written before the last: `Usage` if the arguments are wrong; `InputOutput` if the clock cannot
+/// be read; `Unreadable` and `Config` if the account file is; `InputOutput` if a socket cannot be
+/// bound or fails, a thread cannot be made, or the record is not settled at the end, and if a write
+/// fails. `NoMemory` comes if memory is refused, except in a step.
 ///
-/// It takes no datagram in the second of its start, which is its boot number.
+/// It receives no datagram in the second of its start, which is its boot number.
 pub fn serve<R, W: Write>(rt: &R, stdout: &mut W) -> Result<(), ServeFault>
 where
     R: Env + Files + Net + time::Clock + AllocGlobal + Threads + Wait + Sync,
@@ -43,7 +43,7 @@ where
     ensures served { OnOk result ((config : Configuration) × (turns : ℕ) × (written : List ℕ)
         × HasServed config turns written
         × Appends (W.contents stdout.old) (W.contents stdout.new) written) }
-    // After every other fault than `InputOutput` nothing was written.
+    // Nothing was written after any fault but `InputOutput`.
     ensures silent { IfErr result (λ fault.
         fault ≢ ServeFault.InputOutput → Keeps (W.contents stdout.old) (W.contents stdout.new)) }
 {
@@ -52,7 +52,7 @@ where
     Ok(())
 }
 
-/// Runs a server as the arguments ask for, and gives what is then printed.
+/// Runs a server by its arguments, and gives what is then printed.
 fn run_server<R>(rt: &R) -> Result<Output, ServeFault>
 where
     R: Env + Files + Net + time::Clock + AllocGlobal + Threads + Wait + Sync,
@@ -73,10 +73,10 @@ where
     run::<Brand, Brand, Brand, Brand, R>(rt, alloc, blanks, config, sockets, run_time)
 }
 
-/// The name of the account file and the plan that the arguments have: the program's name, a first
-/// word, FILE, ADDRESS, AUTHPORT, ACCTPORT and TURNS.
+/// The name of the account file and the plan in the arguments: the program's name, a first word,
+/// FILE, ADDRESS, AUTHPORT, ACCTPORT and TURNS.
 ///
-/// `Usage` comes where they are not that, and `NoMemory` where memory is refused for them.
+/// `Usage` comes if they are anything else, and `NoMemory` if memory is refused for them.
 fn parse_arguments<R: Env + AllocGlobal>(rt: &R) -> Result<(String, Plan), ServeFault> {
     let alloc = rt.alloc();
     let words = match env::args(rt) {
@@ -99,7 +99,7 @@ fn parse_arguments<R: Env + AllocGlobal>(rt: &R) -> Result<(String, Plan), Serve
     }
 }
 
-/// The sockets of a server, of which nothing was read yet.
+/// The sockets of a server, before the first read.
 #[derive(Drop)]
 pub(crate) struct Sockets {
     pub auth: UdpPort,
@@ -114,7 +114,7 @@ pub(crate) struct Passes<L0: Tally, L1: Tally, L2: Tally, L3: Tally> {
     pub ticks: Pass<L0, L1, L2, L3>,
 }
 
-/// What the workers of a server have come to: the counts of both receivers, and the passes.
+/// The results of a server's workers: the counts of both receivers, and the passes.
 #[derive(Drop)]
 pub(crate) struct Finished<L0: Tally, L1: Tally, L2: Tally, L3: Tally> {
     pub auth: Counts,
@@ -188,7 +188,7 @@ impl<L0: Tally, L1: Tally, L2: Tally, L3: Tally, R: Wait> Server<'_, L0, L1, L2,
         })
     }
 
-    /// The octets of the report of the service, as it stands.
+    /// The report of the service.
     #[tactic(auto, using(crate::proofs::Reported::reported))]
     fn report(&self) -> Result<Vec<u8>, ServeFault>
         ensures { IfOk result (λ report. HasReported self.now.service.config report.items) }
@@ -198,7 +198,7 @@ impl<L0: Tally, L1: Tally, L2: Tally, L3: Tally, R: Wait> Server<'_, L0, L1, L2,
         Ok(report)
     }
 
-    /// What is printed of the service, as it stands, and of its receivers.
+    /// What is printed of the service and its receivers.
     fn output(&self, auth: &Counts, acct: &Counts) -> Result<Output, ServeFault>
         ensures { (turns : ℕ) (first second third : List Receipt) →
             HasReceived turns auth.now → HasReceived turns acct.now →
@@ -230,7 +230,7 @@ impl<L0: Tally, L1: Tally, L2: Tally, L3: Tally, R: Wait> Server<'_, L0, L1, L2,
     }
 }
 
-/// Closes a service with the passes of its workers: its record is settled.
+/// Closes a service with the passes of its workers, which settles its record.
 #[tactic(auto, using(crate::proofs::Reported::closing))]
 fn close_service<L0: Tally, L1: Tally, L2: Tally, L3: Tally>(
     alloc: Global,
@@ -246,7 +246,7 @@ fn close_service<L0: Tally, L1: Tally, L2: Tally, L3: Tally>(
     Ok(())
 }
 
-/// The passes, as a list.
+/// The passes as a list.
 fn into_vec<L0: Tally, L1: Tally, L2: Tally, L3: Tally>(
     alloc: Global,
     passes: Passes<L0, L1, L2, L3>,

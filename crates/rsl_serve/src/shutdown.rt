@@ -1,4 +1,5 @@
-//! How the workers of a server end: what they tell each other, and a port that fails with the other.
+//! How the workers of a server end: the state that they share, and a port that fails when the other
+//! does.
 
 use crate::UdpPort;
 use rsl_event::Source;
@@ -7,21 +8,21 @@ use std::sync::atomic::{AtomicBool, AtomicU64, Ordering};
 use std::thread;
 use std::time::{self, Duration};
 
-/// How many receivers a server has.
+/// The receivers of a server.
 const RECEIVERS: u64 = 2;
 
 const _: () = prove!(RECEIVERS == 2);
 
-/// How many workers it has: the receivers, and the one that makes ticks.
+/// The workers of a server: the receivers, and the one that makes ticks.
 const WORKERS: u64 = RECEIVERS + 1;
 
-/// How often a receiver looks whether all workers have started.
+/// How many times a receiver checks whether all workers have started.
 const START_LOOKS: u64 = 5_000;
 
-/// How long it sleeps between two looks, in milliseconds.
+/// How long it sleeps between two checks, in milliseconds.
 const START_SLEEP_MILLIS: u64 = 1;
 
-/// What the workers of a server tell each other: how many have started, how many receivers have
+/// The state that the workers of a server share: how many have started, how many receivers have
 /// ended, and whether one has failed.
 #[derive(Drop)]
 pub(crate) struct Shutdown {
@@ -40,13 +41,13 @@ impl Shutdown {
         }
     }
 
-    /// A worker has started.
+    /// Notes that a worker has started.
     pub(crate) fn note_start(&self) {
         self.started.fetch_add(1, Ordering::SeqCst);
     }
 
-    /// Waits until all workers have started, for some five seconds at most. Answers whether they
-    /// have, and no receiver has failed. A worker for which no thread can be made starts only once
+    /// Waits until all workers have started, for about five seconds at most. Answers whether they
+    /// have, and no receiver has failed. A worker without a thread of its own starts only once
     /// another has ended.
     pub(crate) fn await_start<C: time::Clock>(&self, clock: &C) -> bool {
         for _ in 0..START_LOOKS {
@@ -61,12 +62,12 @@ impl Shutdown {
         false
     }
 
-    /// A receiver has taken its last turn.
+    /// Notes that a receiver has taken its last turn.
     pub(crate) fn note_end(&self) {
         self.ended.fetch_add(1, Ordering::SeqCst);
     }
 
-    /// A receiver has failed, and so has ended.
+    /// Notes that a receiver has failed, and so has ended.
     pub(crate) fn note_failure(&self) {
         self.has_failed.store(true, Ordering::SeqCst);
         self.note_end();
@@ -94,7 +95,7 @@ pub(crate) struct PairedPort<'a> {
 impl<'a> PairedPort<'a> {
     ghost use Rattle.std.specs.Prelude.{◌≡◌};
 
-    /// The port, in a server whose receivers tell each other of their end here.
+    /// The port, with the state that the workers share.
     pub(crate) fn new(port: UdpPort, shutdown: &'a Shutdown) -> PairedPort<'a>
         ensures { result.port ≡ port }
     {

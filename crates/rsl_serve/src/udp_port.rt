@@ -13,10 +13,9 @@ const WAIT_SECS: u64 = 1;
 
 const _: () = prove!(WAIT_SECS == 1);
 
-/// A UDP socket on an IPv4 address. Where no datagram comes within a second, its `receive` gives
-/// none.
+/// A UDP socket on an IPv4 address. Its `receive` waits at most a second.
 ///
-/// A contract sees the numbers of its calls, as its `DatagramPort` has them.
+/// A contract sees the counts of its calls, as its `DatagramPort` has them.
 #[derive(Drop)]
 pub struct UdpPort {
     socket: UdpSocket,
@@ -32,10 +31,10 @@ impl Model for UdpPort {
 }
 
 impl UdpPort {
-    /// A socket that is bound on this address and UDP port.
+    /// A socket bound to this address and UDP port.
     ///
-    /// The error is the system's: it comes where there is no room for a socket, the address is not
-    /// this machine's, the port is taken or not allowed, or how long a read waits can't be set.
+    /// The error is the system's: no memory for a socket, an address that is not this machine's, a
+    /// port that is taken or not allowed, or a read timeout that cannot be set.
     pub fn bind<N: Net>(net: &N, address: [u8; 4], port: u16) -> io::Result<UdpPort>
         ensures { IfOk result (λ port. port ≡ no_numbers) }
     {
@@ -47,7 +46,7 @@ impl UdpPort {
         })
     }
 
-    /// A `receive` that fails, and leaves the socket alone: for a port that shall give no more.
+    /// A `receive` that fails without reading the socket, for a port that is to give no more.
     pub fn fail(&mut self) -> Result<Option<(usize, Source)>, PortFault>
         requires { CanReceive 1 self.old }
         ensures failed { is_err result ≡ true }
@@ -58,8 +57,8 @@ impl UdpPort {
         failed
     }
 
-    /// What the socket has for a `receive`, which is not counted yet. `PortFault` comes where the
-    /// system's read fails; that no datagram comes in time is no failure.
+    /// The result of a `receive`, not counted yet. `PortFault` comes if the system's read fails;
+    /// that no datagram comes in time is no failure.
     fn read(&self, buffer: &mut [u8]) -> Result<Option<(usize, Source)>, PortFault>
         ensures { IfOk result (λ received. IfSome received (λ found.
             found.0 ≤ length buffer.new)) }

@@ -12,7 +12,7 @@ use std::sync::Wait;
 use std::thread::{self, Threads};
 use std::time;
 
-/// A receiver, before it has taken a turn.
+/// A receiver, before its first turn.
 #[derive(Drop)]
 struct Receiver<L0: Tally, L1: Tally, L2: Tally, L3: Tally> {
     port: Port,
@@ -20,10 +20,10 @@ struct Receiver<L0: Tally, L1: Tally, L2: Tally, L3: Tally> {
     pass: Pass<L0, L1, L2, L3>,
 }
 
-/// What a receiver comes to: what it did, and its pass.
+/// The result of a receiver: its counts, and its pass.
 type Outcome<L0, L1, L2, L3> = Result<(Counts, Pass<L0, L1, L2, L3>), ServeFault>;
 
-/// What both receivers come to, that of the authentication port first.
+/// The results of both receivers, that of the authentication port first.
 type Outcomes<L0, L1, L2, L3> = (Outcome<L0, L1, L2, L3>, Outcome<L0, L1, L2, L3>);
 
 impl<L0, L1, L2, L3, R> Server<'_, L0, L1, L2, L3, R>
@@ -34,7 +34,7 @@ where
     L3: Tally + Send + Sync,
     R: time::Clock + Threads + Wait + Sync,
 {
-    /// Runs the workers on threads of their own, until both receivers have ended.
+    /// Runs the workers on their own threads, until both receivers have ended.
     pub(crate) fn run_workers(
         &self,
         passes: Passes<L0, L1, L2, L3>,
@@ -58,7 +58,7 @@ where
         self.run_threads(auth, acct, passes.ticks)
     }
 
-    /// Runs the receivers and the worker that makes ticks, each on a thread of its own.
+    /// Runs the receivers and the worker that makes ticks, each on its own thread.
     fn run_threads(
         &self,
         auth: Receiver<L0, L1, L2, L3>,
@@ -71,7 +71,7 @@ where
         ensures acct { IfOk result (λ finished. HasReceived self.now.run_time.turns finished.acct) }
     {
         let server = self;
-        // Where no thread can be made the first comes last: the worker that makes ticks, which then
+        // If no thread can be made, the first runs last: the worker that makes ticks, which then
         // ends at once, since no receiver has begun without it.
         let (ticks, (auth, acct)) = thread::join(
             self.rt,
@@ -83,7 +83,7 @@ where
                 ensures acct { IfOk result.1 (λ received. HasReceived server.entry.now.run_time.turns received.0) }
             { server.run_receivers(auth, acct) },
         );
-        // The other receiver fails too, but only since this one was refused memory.
+        // The other receiver fails too, but only because this one was refused memory.
         if matches!(&acct, Err(ServeFault::NoMemory)) {
             return Err(ServeFault::NoMemory);
         }
@@ -100,7 +100,7 @@ where
         })
     }
 
-    /// Runs both receivers on threads of their own, until both have ended.
+    /// Runs both receivers on their own threads, until both have ended.
     fn run_receivers(
         &self,
         auth: Receiver<L0, L1, L2, L3>,
@@ -125,7 +125,7 @@ where
         )
     }
 
-    /// Runs a receiver. It fails also where the other one has failed, or a worker has not started.
+    /// Runs a receiver. It also fails if the other one has failed, or a worker has not started.
     fn run_receiver(&self, receiver: Receiver<L0, L1, L2, L3>) -> Outcome<L0, L1, L2, L3>
         requires { receiver.datagrams ≡ no_numbers }
         ensures { IfOk result (λ received. HasReceived self.now.run_time.turns received.0) }
@@ -146,7 +146,7 @@ where
         }
     }
 
-    /// Has a receiver take its turns, and then tells the other workers of its end.
+    /// Lets a receiver take its turns, and then notes its end for the other workers.
     fn receive_turns(
         &self,
         port: Port,
@@ -175,8 +175,7 @@ where
         Ok(result?)
     }
 
-    /// Runs the worker that makes a tick of every shard each second, until both receivers have
-    /// ended.
+    /// Runs the worker that ticks every shard once a second, until both receivers have ended.
     fn run_ticker(&self, mut pass: Pass<L0, L1, L2, L3>) -> Pass<L0, L1, L2, L3> {
         self.shutdown.note_start();
         let mut clock = SystemClock::new(self.rt, self.run_time.boot);

@@ -1,8 +1,8 @@
--- What the closing of a service tells of its journals and of the passes that were given back.
+-- What the closing of a service says of its journals and of the passes that were given back.
 --
 -- A service that came out of its locks has a number of passes that it opened, and the present
--- journals of its shards: its closing is said exactly, by these. Behind the locks no clause sees
--- them. So of the closing of a service it is said that there are such a number and such journals.
+-- journals of its shards: its closing is said exactly, by these. No clause sees them under the
+-- locks. So the clause on closing a service says that there are such a number and such journals.
 use Rattle.std.specs.Prelude.{◌≡◌, ◌≢◌, ℕ, ◌+◌, ◌<◌, ◌≤◌, ◌++◌, ⊤, List, [], ◌∷◌, length, map, Option, Some, None}
 use Rattle.std.specs.List.{sum_by}
 use Rattle.std.specs.List.Sorted.{IsNonDecreasingBy}
@@ -20,7 +20,7 @@ use Rattle.rsl_shard.specs.Setup.{Setup, setup_of}
 use Rattle.rsl_shard.specs.declared.segment.Segment.{Segment}
 use Rattle.rsl_service.specs.Receipts.{count_of}
 
--- how many lines a shard has come to at the end of a segment
+-- the number of lines of a shard to the end of a segment
 abbrev pub lines_to : Segment → ℕ
 lines_to segment = segment.first + length segment.lines.items
 
@@ -32,7 +32,7 @@ pub record IsEnd (setup : Setup) (books : List RuledBook) (segment : Segment) : 
   pub opening : map as_new segment.opening.items ≡ books
   pub journal : IsJournal setup segment.opening.items segment.lines.items
 
--- the journal of a shard that there may be, as a list
+-- the journal of a shard, if there is one, as a list
 abbrev pub as_list : Option Segment → List Segment
 as_list None = []
 as_list (Some segment) = segment ∷ []
@@ -47,11 +47,11 @@ pub record HasEnd (config : Configuration) (present : List Segment) (shard : ℕ
 abbrev pub HaveEnds : Configuration → (present : List Segment) → Type 0
 HaveEnds config present = (shard : ℕ) → shard < config.settings.shards → HasEnd config present shard
 
--- how many lines a shard has come to at its end
+-- the number of lines of a shard at its end
 abbrev pub end_of : (shard : ℕ) → (present : List Segment) → ℕ
 end_of shard present = sum_by lines_to (of_shard shard present)
 
--- how many receipts of all passes are of a shard
+-- the receipts of all passes of a shard, counted
 abbrev pub count_in : (passes : List (List Receipt)) → (shard : ℕ) → ℕ
 count_in passes shard = sum_by (count_of shard) passes
 
@@ -67,9 +67,9 @@ abbrev pub IsRecordSettled : EndedSeen → (passes : List (List Receipt)) → (g
 IsRecordSettled ended passes given =
     IsSettled ended.config ended.opened passes (given ++ ended.present)
 
--- The record of an ended service is settled; the lines of each shard are as many as the receipts of
--- it; and the segments that come back are those given and the present journals, by shard, and those
--- of a shard in the order in which they join.
+-- The record of an ended service is settled; each shard has as many lines as receipts; and the
+-- segments that come back are those given and the present journals, by shard, those of a shard in
+-- order.
 pub record IsClosedBy (ended : EndedSeen) (passes : List (List Receipt)) (given : List Segment)
     (closed : List Segment) : Type 0 where
   pub settled : IsRecordSettled ended passes given
@@ -78,8 +78,8 @@ pub record IsClosedBy (ended : EndedSeen) (passes : List (List Receipt)) (given 
   pub same : (shard : ℕ) → of_shard shard closed ≡ of_shard shard (given ++ ended.present)
   pub by_shard : IsNonDecreasingBy (λ segment. segment.shard) closed
 
--- Why an ended service is not closed: memory was refused; or its record isn't settled, and the fault
--- is the first of it. A pass that is missing is found whether or not there is memory.
+-- Why an ended service is not closed: memory was refused; or its record is not settled, and the
+-- fault is the first of it. A missing pass is found even if there is no memory.
 pub record IsFaultOf (ended : EndedSeen) (passes : List (List Receipt)) (given : List Segment)
     (fault : CloseFault) : Type 0 where
   pub first : IsCloseFault ended.config ended.opened passes (given ++ ended.present) fault
@@ -93,15 +93,15 @@ pub record IsEndOf (config : Configuration) (ended : EndedSeen) : Type 0 where
   pub most : ended.opened ≤ 1024
   pub ends : HaveEnds ended.config ended.present
 
--- A service is closed: so is what came out of its locks.
+-- A service is closed if what came out of its locks is.
 pub record IsClosed (config : Configuration) (passes : List (List Receipt)) (given : List Segment)
     (closed : List Segment) : Type 0 where
   pub ended : EndedSeen
   pub is_end : IsEndOf config ended
   pub closed_by : IsClosedBy ended passes given closed
 
--- Why a service could not be closed: memory was refused, perhaps before it came out of its locks; or
--- its record isn't settled, and the fault is the first of it.
+-- Why a service could not be closed: memory was refused, perhaps before it came out of its locks;
+-- or its record is not settled, and the fault is the first of it.
 pub record HasCloseFault (config : Configuration) (passes : List (List Receipt))
     (given : List Segment) (fault : CloseFault) : Type 0 where
   pub ended : EndedSeen

@@ -1,11 +1,11 @@
--- What a receiver counts, beside what its port counts.
+-- What a receiver counts, beside the counts of its port.
 use Rattle.std.specs.Prelude.{◌≡◌, ℕ, ◌+◌, Result, Ok, Err}
 use Rattle.rsl_service.specs.declared.counts.Counts.{Counts}
 use Rattle.rsl_service.specs.declared.receiver.ReceiveFault.{ReceiveFault}
 use Rattle.rsl_service.specs.declared.receiver.ReceiveFault.TheVariants as faults
 use Rattle.rsl_port.specs.declared.datagram_port.Numbers.{Numbers}
 
--- something of the counts, if there are any: those of all turns, or those up to a failure
+-- a fact of the counts, if there are any: those of all turns, or those up to a failure
 abbrev pub IfCounted : Result Counts ReceiveFault → (Counts → Type 0) → Type 0
 IfCounted (Ok counts) P = P counts
 IfCounted (Err (faults.Down counts)) P = P counts
@@ -26,7 +26,7 @@ abbrev pub AddsUp : Counts → Type 0
 AddsUp counts =
     counts.received ≡ counts.answered + counts.dropped + counts.refused + counts.unsent
 
--- how many calls of `receive` failed: the one that ended the turns, if one did
+-- the calls of `receive` that failed: the one that ended the turns, if one did
 abbrev pub failed_in : Result Counts ReceiveFault → ℕ
 failed_in (Ok counts) = 0
 failed_in (Err (faults.Down counts)) = 1
@@ -42,7 +42,7 @@ pub record IsCalled (receives failed_receives sends failed_sends : ℕ) (old new
   pub sends_failed : new.failed_sends ≡ old.failed_sends + failed_sends
   pub none_astray : new.astray ≡ old.astray
 
--- as these counts tell: one call of `receive` a turn, and one of `send` an answer, of which the
+-- as these counts say: one call of `receive` a turn, and one of `send` an answer, of which the
 -- unsent failed
 abbrev pub AreCounted : (failed_receives : ℕ) → Counts → (old new : Numbers) → Type 0
 AreCounted failed_receives counts old new =

@@ -17,10 +17,10 @@ abbrev pub IsHandedOut : Configuration → Segment → Type 0
 IsHandedOut config segment =
     IsJournal (setup_of config segment.shard) segment.opening.items segment.lines.items
 
--- The journals of a closed service obey the session rule, where the segments given are as shards
--- hand them out: for each account of a shard, each line of its own has the decision that the rule
--- finds by looking back over its own events among the lines before, and its book and its places are
--- the rule's.
+-- The journals of a closed service obey the session rule, if the given segments are as shards hand
+-- them out: for each account of a shard, each line of its own has the decision that the rule finds
+-- by looking back over its own events among the lines before, and its book and its places are the
+-- rule's.
 abbrev pub ClosedJournalsObeyTheRule : Type 0
 ClosedJournalsObeyTheRule =
     (config : Configuration) (passes : List (List Receipt)) (given closed : List Segment)

@@ -1,4 +1,4 @@
--- What a shard and a pass have come to, once the shard has made a move for the pass.
+-- A shard and a pass after the shard has made a move for the pass.
 use Rattle.std.specs.Prelude.{◌≡◌, ℕ, List, [], ◌∷◌, ◌++◌}
 use Rattle.rsl_event.specs.declared.event.Decision.{Decision}
 use Rattle.rsl_record.specs.declared.receipt.Receipt.{Receipt}
@@ -6,8 +6,8 @@ use Rattle.rsl_shard.specs.Restep.{decision_by}
 use Rattle.rsl_shard.specs.Seen.{ShardSeen, books_of, total_of, with_line}
 use Rattle.rsl_shard.specs.declared.moved.Move.{Move}
 
--- The shard has one line more, which its books decided; and there is one receipt more, which says
--- that line and where it stands.
+-- The shard has another line, decided by its books; and there is another receipt, of that line and
+-- its position.
 pub record IsMade (number : ℕ) (moved : Move) (decision : Decision) (old new : ShardSeen)
     (before after : List Receipt) : Type 0 where
   pub line : new ≡ with_line old moved decision

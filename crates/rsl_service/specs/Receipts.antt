@@ -5,12 +5,12 @@ use Rattle.rsl_event.specs.declared.event.Decision.TheVariants.{Done}
 use Rattle.rsl_shard.specs.declared.moved.Move.{Move}
 use Rattle.rsl_record.specs.declared.receipt.Receipt.{Receipt}
 
--- what a contract sees of a pass: its receipts, and for how many octets of a reply it has room
+-- what a contract sees of a pass: its receipts, and the octets of a reply for which it has room
 pub record PassSeen : Type 0 where
   pub receipts : List Receipt
   pub room : ℕ
 
--- a pass of which nothing was made yet
+-- a pass with no receipt
 abbrev pub new_pass : PassSeen
 new_pass = record { receipts = []; room = 0 }
 
@@ -18,11 +18,11 @@ new_pass = record { receipts = []; room = 0 }
 abbrev pub receipts_of : List PassSeen → List (List Receipt)
 receipts_of passes = map (λ (pass : PassSeen). pass.receipts) passes
 
--- how many of the receipts are of a shard
+-- the number of receipts of a shard
 unfoldable pub count_of : (shard : ℕ) → List Receipt → ℕ
 count_of shard receipts = count_by (λ (receipt : Receipt). receipt.shard == shard) receipts
 
--- one receipt more, of this shard, with this move and this decision
+-- another receipt, of this shard, with this move and this decision
 pub record IsNoted (shard : ℕ) (moved : Move) (decision : Decision) (old new : List Receipt)
     : Type 0 where
   pub position : ℕ
@@ -32,14 +32,14 @@ pub record IsNoted (shard : ℕ) (moved : Move) (decision : Decision) (old new :
     line = record { moved = moved; decision = decision };
   } ∷ []
 
--- a receipt more of this shard, with this move, which is each shard's and so merely done
+-- another receipt of this shard, with this move of every shard, which is done
 pub record HasOneMore (shard : ℕ) (moved : Move) (old new : List Receipt) : Type 0 where
   pub decision : Decision
   pub done : decision ≡ Done
   pub noted : IsNoted shard moved decision old new
 
--- a receipt more of each of the first shards, in their order, with this move: those of the shards
--- before the last, and then that of the last
+-- another receipt of each of the first shards, in order, with this move: those of the shards before
+-- the last, and then that of the last
 unfoldable pub AreNoted : (shards : ℕ) → Move → (old new : List Receipt) → Type 0
 AreNoted zero moved old new = new ≡ old
 AreNoted (suc shard) moved old new =

@@ -1,4 +1,4 @@
--- What is made of the datagrams that come to a port of a service, one after the other: each is
+-- What is done with the datagrams that come to a port of a service, one after the other: each is
 -- dropped, refused or answered, and nothing else is noted or sent.
 use Rattle.std.specs.Prelude.{◌≡◌, ℕ, ◌+◌, ◌<◌, ◌⊎◌, List, [], ◌∷◌, ◌++◌, Ok, Err, Option, Some}
 use Rattle.rsl_accounts.specs.Configuration.{client_number}
@@ -19,21 +19,21 @@ use Rattle.rsl_service.specs.declared.counts.Counts.{Counts}
 use Rattle.rsl_port.specs.declared.datagram_port.Datagram.{Datagram}
 use Rattle.rsl_port.specs.Shown.{HasShown}
 
--- a datagram has no meaning, by this cause
+-- a datagram has no meaning, for this cause
 pub record IsDropped (service : ServiceSeen) (port : Port) (taken : Datagram) : Type 0 where
   pub cause : Dropped
   pub named : meaning service.config service.boot port taken.source taken.octets ≡ Err cause
 
--- what a datagram that was not answered leaves, at a moment: of a restart, sweeps of the first
--- shards, fewer than all; of another nothing
+-- what an unanswered datagram leaves, at a moment: a restart leaves sweeps of the first shards,
+-- fewer than all; another leaves nothing
 abbrev pub HasStopped : ServiceSeen → (moment : ℕ) → Meaning → (old new : List Receipt) → Type 0
 HasStopped service moment (Restart nas) old new =
     (swept : ℕ) × (swept < service.config.settings.shards)
     × AreNoted swept (moves.Sweep moment nas) old new
 HasStopped service moment _ old new = new ≡ old
 
--- a datagram has a meaning, and was not answered: before the clock showed a moment for its moves, or
--- at the moment that it showed
+-- a datagram has a meaning, and was not answered: before the clock showed a moment for its moves,
+-- or at the moment that it showed
 pub record IsRefused (service : ServiceSeen) (port : Port) (taken : Datagram) (shown : List ℕ)
     (old new : List Receipt) : Type 0 where
   pub meant : Meaning
@@ -42,7 +42,7 @@ pub record IsRefused (service : ServiceSeen) (port : Port) (taken : Datagram) (s
       ⊎ ((moment : ℕ) × (shown ≡ moment ∷ []) × HasStopped service moment meant old new)
 
 -- a datagram made its moves at the moment that the clock showed, and this is the answer to them, to
--- where it came from
+-- its source
 pub record IsAnsweredBy (service : ServiceSeen) (port : Port) (taken : Datagram) (moment : ℕ)
     (old new : List Receipt) (sent : Datagram) : Type 0 where
   pub fields : Fields
@@ -58,8 +58,8 @@ pub record IsAnsweredBy (service : ServiceSeen) (port : Port) (taken : Datagram)
       ≡ answer service.config service.boot client fields meant decision
 
 -- Of the datagrams `dropped` were dropped, `refused` refused and `answered` answered, in the order
--- in which they were taken; the receipts that were there have become these, these are the sends,
--- and the clock showed these moments.
+-- in which they came; the earlier receipts have become these, these are the sends, and the clock
+-- showed these moments.
 pub data Served (service : ServiceSeen) (port : Port) (old : List Receipt)
     : (dropped refused answered : ℕ) → (taken : List Datagram) → (new : List Receipt)
     → (sent : List Datagram) → (shown : List ℕ) → Type 0 where
@@ -77,7 +77,7 @@ pub data Served (service : ServiceSeen) (port : Port) (old : List Receipt)
       → (one reply : Datagram) → (moment : ℕ) → IsAnsweredBy service port one moment before new reply
       → Served service port old d r (a + 1) (taken ++ one ∷ []) new (sent ++ reply ∷ []) (shown ++ moment ∷ [])
 
--- what stands at a time: the datagrams taken, the receipts, the sends tried, and the moments that the
+-- the state at a time: the datagrams taken, the receipts, the sends tried, and the moments that the
 -- clock has shown, if it reports them
 pub record State : Type 0 where
   pub taken : List Datagram
@@ -89,8 +89,8 @@ abbrev pub state_of : (taken : List Datagram) → List Receipt → (sent : List 
     → (shown : Option (List ℕ)) → State
 state_of taken receipts sent shown = record { taken = taken; receipts = receipts; sent = sent; shown = shown }
 
--- these counts are of what was served: of the datagrams taken since, with the receipts, the sends and
--- the moments since
+-- these counts are of what was served: of the datagrams taken since, with the receipts, the sends
+-- and the moments since
 pub record HasServed (service : ServiceSeen) (port : Port) (counts : Counts) (old new : State)
     : Type 0 where
   pub taken : List Datagram

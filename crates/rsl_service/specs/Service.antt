@@ -1,4 +1,4 @@
--- What a contract sees of a service, and what has to be so of the ledgers that it is made with.
+-- What a contract sees of a service, and what its ledgers have to be.
 use Rattle.std.specs.Prelude.{◌≡◌, ℕ, List}
 use Rattle.rsl_accounts.specs.Configuration.{Configuration}
 use Rattle.rsl_book.specs.RuledBook.{RuledBook}
@@ -11,7 +11,7 @@ pub record ServiceSeen : Type 0 where
   pub boot : ℕ
 
 -- A blank of this name and number of parts becomes the ledger of a shard: it has a part for each
--- pass and one that stays, and the ledger's type, of which the last four are the members, is of
+-- pass and one that remains, and the ledger's type, of which the last four are the members, is of
 -- that shard of the configuration.
 pub record IsLedgerOf (config : Configuration) (shard blank_name blank_parts name parts : ℕ)
     (setup : Setup) (books : List RuledBook) : Type 0 where

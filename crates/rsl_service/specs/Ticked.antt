@@ -10,7 +10,7 @@ abbrev pub is_tick : Move → Bool
 is_tick (Tick moment) = true
 is_tick _ = false
 
--- how many of the receipts are of ticks of a shard
+-- the number of receipts of ticks of a shard
 unfoldable pub ticks_of : (shard : ℕ) → List Receipt → ℕ
 ticks_of shard receipts =
     count_by (λ (receipt : Receipt). receipt.shard == shard && is_tick receipt.line.moved) receipts
@@ -36,7 +36,7 @@ pub data Ticked (shards : ℕ) (old : List Receipt)
       → (moment swept : ℕ) → swept < shards → AreNoted swept (Tick moment) before new
       → Ticked shards old done (turns + 1) (shown ++ moment ∷ []) new
 
--- one turn, which is done or not, as a receipt of every shard or of fewer
+-- one turn, which is done or not: a receipt of every shard or of fewer
 pub record IsTurn (shards done : ℕ) (old_shown new_shown : Option (List ℕ))
     (old new : List Receipt) : Type 0 where
   pub moment : ℕ
@@ -44,8 +44,8 @@ pub record IsTurn (shards done : ℕ) (old_shown new_shown : Option (List ℕ))
   pub ticked : ((done ≡ 1) × AreNoted shards (Tick moment) old new)
       ⊎ ((done ≡ 0) × (swept : ℕ) × (swept < shards) × AreNoted swept (Tick moment) old new)
 
--- The turns of a worker: at most `most`, and fewer only where a pause, if it reports what it said,
--- said last that there shall be no more.
+-- The turns of a worker: at most `most`, and fewer only if a pause, if it reports what it answered,
+-- last answered that there are to be no more.
 pub record HasWorked (shards : ℕ) (done most : ℕ) (said : Option Bool)
     (old_shown new_shown : Option (List ℕ)) (old new : List Receipt) : Type 0 where
   pub turns : ℕ

@@ -22,7 +22,7 @@ is_down Refused = false
 is_down Answered = false
 is_down Unsent = false
 
--- the counts with a turn more
+-- the counts with another turn
 abbrev pub counted : Turn → Counts → Counts
 counted Down counts = record counts { turns = counts.turns + 1 }
 counted Nothing counts = record counts { turns = counts.turns + 1 }
@@ -56,7 +56,7 @@ HasCalled Refused old new = IsCalled 1 0 0 0 old new
 HasCalled Answered old new = IsCalled 1 0 1 0 old new
 HasCalled Unsent old new = IsCalled 1 0 1 1 old new
 
--- a datagram more was taken
+-- another datagram was taken
 abbrev pub TookOne : Datagram → (old new : State) → Type 0
 TookOne one old new = new.taken ≡ old.taken ++ one ∷ []
 
@@ -94,7 +94,7 @@ pub record TookAnswered (service : ServiceSeen) (port : Port) (old new : State) 
   pub read : HasShown (moment ∷ []) old.shown new.shown
   pub answered : IsAnsweredBy service port one moment old.receipts new.receipts reply
 
--- by how the turn ended
+-- the effect of a turn, by how it ended
 abbrev pub HasTurned : ServiceSeen → Port → Turn → (old new : State) → Type 0
 HasTurned service port Down old new = TookNone old new
 HasTurned service port Nothing old new = TookNone old new
@@ -103,7 +103,7 @@ HasTurned service port Refused old new = TookRefused service port old new
 HasTurned service port Answered old new = TookAnswered service port old new
 HasTurned service port Unsent old new = TookAnswered service port old new
 
--- what a datagram leaves that has an answer, and a clock that was read for it
+-- what an answered datagram leaves, and a clock that was read for it
 pub record HasAnswered (service : ServiceSeen) (port : Port) (one : Datagram)
     (old_shown new_shown : Option (List ℕ)) (old new : List Receipt) (reply : Datagram) : Type 0 where
   pub moment : ℕ
@@ -117,7 +117,7 @@ pub record HasRefused (service : ServiceSeen) (port : Port) (one : Datagram)
   pub read : HasShown shown old_shown new_shown
   pub refused : IsRefused service port one shown old new
 
--- what a datagram leaves that has no answer, by why
+-- what an unanswered datagram leaves, by the reason
 abbrev pub IsUnanswered : ServiceSeen → Port → Unanswered → Datagram
     → (old_shown new_shown : Option (List ℕ)) → (old new : List Receipt) → Type 0
 IsUnanswered service port unanswered.Dropped one old_shown new_shown old new =

@@ -21,14 +21,14 @@ use std::sync::{Mutex, Wait};
 /// The answer to a datagram.
 #[derive(Drop)]
 pub struct Answered {
-    /// Its word.
+    /// The answer in a word.
     pub said: Said,
-    /// The octets of the reply: the whole packet, as it is sent.
+    /// The octets of the reply: the whole packet, ready to send.
     pub octets: Vec<u8>,
 }
 
-/// A draft of the reply to a datagram, in the room of the reply before it. It takes memory only where
-/// there is room for less than 4,096 octets. Where it fails, that room is let go.
+/// A draft of the reply to a datagram, in the buffer of the reply before it. It allocates only if
+/// the buffer holds fewer than 4,096 octets; if that is refused, the buffer is freed.
 fn draft_in(alloc: Global, room: &mut ReplyRoom, prepared: &Prepared<'_>) -> Result<Draft, NoMemory>
     ensures draft { IfOk result (λ draft.
         draft ≡ record { id = prepared.now.packet.id; attributes = [] }) }
@@ -38,16 +38,16 @@ fn draft_in(alloc: Global, room: &mut ReplyRoom, prepared: &Prepared<'_>) -> Res
 }
 
 impl<L0: Tally, L1: Tally, L2: Tally, L3: Tally, G: Gate> Service<L0, L1, L2, L3, G> {
-    /// What a datagram is answered (RFC 2865 section 2, RFC 2866 section 2), with the moves that it
-    /// makes at this moment, in seconds.
+    /// Answers a datagram (RFC 2865 section 2, RFC 2866 section 2), after making its moves at this
+    /// moment, in seconds.
     ///
-    /// An account's own moves its shard, and a stray shard 0. A restart sweeps the shards in turn,
-    /// and is answered after the last. A reject takes no lock. Each move that was made has a
-    /// receipt in the pass; the octets may be given back to it (`Pass::take_back`).
+    /// An own act moves the account's shard, and a stray shard 0. A restart sweeps the shards in
+    /// turn, and is answered after the last. A reject takes no lock. Each move has a receipt in the
+    /// pass; the octets may be given back to the pass (`Pass::take_back`).
     ///
-    /// On a fault nothing is answered: `NoMemory` comes where memory is refused, and `Spent` where
-    /// a shard has made 2^64 - 1 moves. Either tells how many shards a restart had swept by then;
-    /// these moves stand, with their receipts, and all else is as it was.
+    /// On a fault there is no answer: `NoMemory` comes if memory is refused, and `Spent` if a shard
+    /// has made 2^64 - 1 moves. Either says how many shards a restart had swept by then; those
+    /// moves stand, with their receipts, and all else is as it was.
     #[tactic(auto, using(crate::proofs::Noting::none_stopped))]
     pub fn apply<R: Wait>(
         &self,
@@ -83,11 +83,11 @@ impl<L0: Tally, L1: Tally, L2: Tally, L3: Tally, G: Gate> Service<L0, L1, L2, L3
         Ok(Answered { said, octets })
     }
 
-    /// Makes a tick of this moment, in seconds, in each shard in turn, so that what its deadlines
-    /// end is ended. Each tick has a receipt in the pass.
+    /// Ticks each shard in turn at this moment, in seconds, which ends what has lapsed. Each tick
+    /// has a receipt in the pass.
     ///
-    /// `NoMemory` comes where memory is refused, and `Spent` where a shard has made 2^64 - 1 moves.
-    /// Either tells how many shards had their tick by then; these stand, with their receipts, and
+    /// `NoMemory` comes if memory is refused, and `Spent` if a shard has made 2^64 - 1 moves.
+    /// Either says how many shards were ticked by then; those ticks stand, with their receipts, and
     /// all else is as it was.
     pub fn expire<R: Wait>(
         &self,
@@ -106,8 +106,8 @@ impl<L0: Tally, L1: Tally, L2: Tally, L3: Tally, G: Gate> Service<L0, L1, L2, L3
         self.step_each(rt, alloc, pass, &Move::Tick { moment })
     }
 
-    /// Makes the moves of a datagram with this meaning, and gives what was decided on it. A restart
-    /// sweeps every shard.
+    /// Makes the moves of a datagram with this meaning, and gives the decision. A restart sweeps
+    /// every shard.
     fn decide<R: Wait>(
         &self,
         rt: &R,
@@ -141,7 +141,7 @@ impl<L0: Tally, L1: Tally, L2: Tally, L3: Tally, G: Gate> Service<L0, L1, L2, L3
         }
     }
 
-    /// Makes a move that every shard takes in each of them in turn.
+    /// Makes a move in every shard in turn.
     #[tactic(auto, using(crate::proofs::Noting::noting))]
     fn step_each<R: Wait>(
         &self,
@@ -164,7 +164,7 @@ impl<L0: Tally, L1: Tally, L2: Tally, L3: Tally, G: Gate> Service<L0, L1, L2, L3
         Ok(())
     }
 
-    /// Makes a copy of a move in shard `shard`, after the shards before it have made it.
+    /// Makes a copy of a move in shard `shard`, after the shards before it.
     fn step_copy<R: Wait>(
         &self,
         rt: &R,
@@ -191,8 +191,8 @@ impl<L0: Tally, L1: Tally, L2: Tally, L3: Tally, G: Gate> Service<L0, L1, L2, L3
 }
 
 impl<L0: Tally, L1: Tally, L2: Tally, L3: Tally> Desks<L0, L1, L2, L3> {
-    /// Makes a move in a shard, with a receipt. What the step needs is taken before the lock: room
-    /// for a receipt and for lines of the journal. Where it fails, the pass is as it was.
+    /// Makes a move in a shard, with a receipt. Room for the receipt and for lines of the journal
+    /// is allocated before the lock is taken. On a fault the pass is as it was.
     fn step<G: Gate, R: Wait>(
         &self,
         rt: &R,
@@ -235,7 +235,7 @@ impl<L0: Tally, L1: Tally, L2: Tally, L3: Tally> Desks<L0, L1, L2, L3> {
     }
 }
 
-/// Makes a move in a shard, under its lock, and puts its receipt into the notes.
+/// Makes a move in a shard under its lock, and notes its receipt.
 #[inline(always)]
 fn make_under_lock<L: Tally, G: Gate, R: Wait>(
     rt: &R,

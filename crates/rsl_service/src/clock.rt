@@ -1,4 +1,4 @@
-//! The worker that tells a service that time has passed.
+//! The worker that ticks the shards.
 
 ghost use Rattle.std.specs.Prelude.{◌≤◌};
 ghost use Rattle.rsl_service.specs.Ticked.{AreTicked, HasWorked, IsTurn};
@@ -8,9 +8,9 @@ use rsl_port::{Clock, Pause};
 use std::alloc::Global;
 use std::sync::Wait;
 
-/// Makes a tick of the clock's present moment in every shard, and pauses, for `turns` turns or
-/// until a pause says that there shall be no more. Gives the number of turns in which every shard
-/// had its tick; the others met a fault, and the loop went on.
+/// Ticks every shard at the clock's moment, and pauses, for `turns` turns or until a pause answers
+/// false. Gives the number of turns in which every shard was ticked; the others met a fault, and
+/// the loop went on.
 #[tactic(auto, using(crate::proofs::Ticking::ticking))]
 pub fn expire_loop<
     L0: Tally,
@@ -45,8 +45,7 @@ pub fn expire_loop<
     done
 }
 
-/// Makes a tick of the clock's present moment in every shard. Gives 1, or 0 where there was a
-/// fault.
+/// Ticks every shard at the clock's moment. Gives 1, or 0 on a fault.
 #[tactic(auto, using(crate::proofs::Ticking::ticking))]
 fn tick<L0: Tally, L1: Tally, L2: Tally, L3: Tally, G: Gate, C: Clock, R: Wait>(
     rt: &R,

@@ -11,17 +11,17 @@ pub struct Counts {
     pub received: u64,
     /// The datagrams whose reply was sent.
     pub answered: u64,
-    /// The datagrams that were dropped, by a cause of their own.
+    /// The datagrams that were dropped for a cause of their own.
     pub dropped: u64,
-    /// The datagrams that were neither dropped nor answered: memory was refused, or a shard has
-    /// made 2^64 - 1 moves.
+    /// The datagrams without an answer because memory was refused, or a shard has made 2^64 - 1
+    /// moves.
     pub refused: u64,
-    /// The datagrams whose reply could not be sent. What they did stands.
+    /// The datagrams whose reply could not be sent. Their moves stand.
     pub unsent: u64,
 }
 
 impl Counts {
-    /// The counts of no turns.
+    /// The counts before the first turn.
     pub(crate) fn new() -> Counts
         ensures { result ≡ no_counts }
     {
@@ -35,7 +35,7 @@ impl Counts {
         }
     }
 
-    /// Counts a turn more.
+    /// Counts a turn.
     pub(crate) fn count(&mut self, turn: Turn)
         requires room { self.old.turns + 1 < 2 ^ 64 }
         requires received { self.old.received ≤ self.old.turns }
@@ -61,14 +61,13 @@ pub(crate) enum Turn {
     Down,
     /// No datagram came.
     Nothing,
-    /// One came and was dropped.
+    /// A datagram came and was dropped.
     Dropped,
-    /// One came that is not dropped, and has no answer: memory was refused, or a shard has made
-    /// 2^64 - 1 moves.
+    /// A datagram came and has no answer: memory was refused, or a shard has made 2^64 - 1 moves.
     Refused,
-    /// One came, and its answer was sent.
+    /// A datagram came, and its answer was sent.
     Answered,
-    /// One came, and its answer could not be sent.
+    /// A datagram came, and its answer could not be sent.
     Unsent,
 }
 

@@ -38,13 +38,13 @@ use rsl_wire::NoMemory;
 use std::alloc::Global;
 use std::sync::ledger::{Blank, Book as LineLedger, Share};
 
-/// A shard with the ledger of its lines, as they stand behind the shard's lock.
+/// A shard with the ledger of its lines: what a shard's lock protects.
 ///
-/// Its type keeps that it is the shard for which the ledger stands, with books of its accounts'
-/// rules, and that the ledger's total is the number of the shard's lines, with those that were
-/// handed out.
+/// The type guarantees that it is the ledger's shard, with books of its accounts' rules, and that
+/// the ledger's total is the number of all the shard's lines, those handed out included.
 ///
-/// All that is done under the lock is a method here, which says exactly what it does to the shard.
+/// Everything that is done under the lock is a method here, which says exactly what it does to the
+/// shard.
 #[derive(Drop)]
 pub(crate) struct Desk<L: Tally> {
     pub(crate) shard: Shard,
@@ -54,7 +54,7 @@ pub(crate) struct Desk<L: Tally> {
     ghost ruled: { map as_new (books_of shard) ≡ L.books },
 }
 
-/// Counts a line of a shard in its ledger and in the share of who made it.
+/// Counts a line of a shard in its ledger and in the share of its caller.
 fn count_line<L: Tally>(ledger: &mut LineLedger<L>, mine: &mut Share<L>)
     requires part { 0 < mine.old.parts }
     ensures total { ledger.new.total ≡ ledger.old.total + 1 }
@@ -65,8 +65,8 @@ fn count_line<L: Tally>(ledger: &mut LineLedger<L>, mine: &mut Share<L>)
 }
 
 impl<L: Tally> Desk<L> {
-    /// A shard of new books with its ledger, and the share that has all of the ledger's parts.
-    /// It fails only where memory is refused.
+    /// A shard of new books with its ledger, and the share with all of the ledger's parts. It fails
+    /// only if memory is refused.
     #[tactic(auto, using(crate::proofs::Ruled::ruled))]
     pub(crate) fn new(
         alloc: Global,
@@ -87,9 +87,9 @@ impl<L: Tally> Desk<L> {
         Ok((Desk { shard, ledger }, share))
     }
 
-    /// Makes a move in the shard, counts its line in the share and puts its receipt into the notes,
-    /// and then calls the gate. Where it fails, nothing has changed but the spare room. A shard
-    /// that is spent says so whether or not there is memory.
+    /// Makes a move in the shard, counts its line in the share, notes its receipt, and then calls
+    /// the gate. On a fault nothing has changed but the spare room. A spent shard says so even if
+    /// there is no memory.
     #[tactic(auto, using(crate::proofs::Ruled::ruled))]
     pub(crate) fn make<G: Gate>(
         &mut self,
@@ -118,7 +118,7 @@ impl<L: Tally> Desk<L> {
     {
         let Desk { shard, ledger } = self;
         let position = shard.total();
-        // Where it fails, the move is freed by a call of `drop`: left to the end of the function, this
+        // On failure the move is freed by a call of `drop`. Freeing it at the end of the function
         // would cost each step that does not fail.
         if position == u64::MAX {
             drop(moved);
@@ -146,8 +146,8 @@ impl<L: Tally> Desk<L> {
         self.shard.moves()
     }
 
-    /// Hands out the journal, as it stands, and goes on from equal books. It fails only where memory
-    /// is refused, and then nothing has changed.
+    /// Hands out the journal, and goes on from equal books. It fails only if memory is refused;
+    /// then nothing has changed.
     #[tactic(auto, using(crate::proofs::Ruled::ruled))]
     pub(crate) fn cut(&mut self, alloc: Global, room: CutRoom) -> Result<LooseSegment, NoMemory>
         ensures shard { IfOk result (λ loose. loose.shard ≡ L.setup.shard) }
@@ -163,7 +163,7 @@ impl<L: Tally> Desk<L> {
         self.shard.cut_loose(alloc, room)
     }
 
-    /// Ends the journal, and hands it out with its ledger. It fails only where memory is refused.
+    /// Ends the journal, and hands it out with its ledger. It fails only if memory is refused.
     #[tactic(auto, using(crate::proofs::Ruled::ruled))]
     pub(crate) fn end(self, alloc: Global) -> Result<(Segment, LineLedger<L>), NoMemory>
         ensures first { IfOk result (λ ended. ended.0.first ≡ self.shard.first) }
@@ -177,7 +177,7 @@ impl<L: Tally> Desk<L> {
         Ok((journal, ledger))
     }
 
-    /// Puts what each account of the shard holds into its row. The other rows are as they were.
+    /// Writes what each account of the shard holds into its row. The other rows stay.
     pub(crate) fn show(&self, config: &Config, number: u32, rows: &mut [Row])
         requires setup { L.setup ≡ setup_of config.now number }
         requires books { L.books ≡ new_books config.now number }
@@ -193,7 +193,7 @@ impl<L: Tally> Desk<L> {
         }
     }
 
-    /// Puts what an account holds into its row, if it is one of the shard.
+    /// Writes what an account holds into its row, if the account is one of the shard.
     fn show_one(&self, config: &Config, number: u32, account: usize, rows: &mut [Row])
         requires setup { L.setup ≡ setup_of config.now number }
         requires books { L.books ≡ new_books config.now number }

@@ -59,8 +59,8 @@ impl From<NoMemory> for CutFault {
 
 /// Why a datagram was not answered, or a tick not made in every shard.
 ///
-/// The moves of `swept` shards, from shard 0 on, had been made by then, and stand: those of a
-/// restart or of a tick, each with its receipt. All else is as it was.
+/// A restart or a tick had moved `swept` shards by then, from shard 0 on; those moves stand, each
+/// with its receipt. All else is as it was.
 #[derive(Clone, Copy, Debug, Drop)]
 pub enum ApplyFault {
     /// Memory was refused.
@@ -76,7 +76,7 @@ pub enum ApplyFault {
 }
 
 impl StepFault {
-    /// The fault, where `swept` shards had made their moves before it.
+    /// The fault after `swept` shards had made their moves.
     pub(crate) fn after(self, swept: u32) -> ApplyFault
         ensures fault { result ≡ fault_after swept self }
         ensures swept { swept_before result ≡ swept }

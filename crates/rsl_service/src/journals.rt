@@ -1,5 +1,5 @@
-//! The journals of a service: one that is handed out while the service goes on, and all of them, once
-//! it is closed.
+//! The journals of a service: one that is handed out while the service goes on, and all of them
+//! when it is closed.
 
 ghost use Rattle.std.specs.Prelude.{
   ◌≡◌,
@@ -53,12 +53,12 @@ use std::marker::Model;
 use std::sync::ledger::Book as LineLedger;
 use std::sync::{Mutex, Wait};
 
-/// How many lines more a cut takes room for than there are, since others may come before its lock.
+/// Lines for which a cut makes room beyond those there are, since others may come before its lock.
 const LATER_LINES: usize = 1024;
 
 impl<L0: Tally, L1: Tally, L2: Tally, L3: Tally, G: Gate> Service<L0, L1, L2, L3, G> {
-    /// Hands out the journal of a shard, which goes on from equal books. `NoShard` comes where the
-    /// configuration has no shard of this number, and `NoMemory` where memory is refused; then the
+    /// Hands out the journal of a shard, which goes on from equal books. `NoShard` comes if the
+    /// configuration has no shard of this number, and `NoMemory` if memory is refused; then the
     /// journal is as it was.
     pub fn cut<R: Wait>(&self, rt: &R, alloc: Global, shard: u32) -> Result<Segment, CutFault>
         ensures shard { IfOk result (λ segment. segment.shard ≡ shard) }
@@ -109,8 +109,8 @@ impl<L0: Tally, L1: Tally, L2: Tally, L3: Tally> Desks<L0, L1, L2, L3> {
     }
 }
 
-/// Hands out the journal of a shard, under its lock as it stands. Room for its lines is taken before
-/// the lock, and they are joined after it.
+/// Hands out the journal of a shard under its lock. Room for its lines is allocated before the
+/// lock, and they are joined after it.
 fn cut_under_lock<L: Tally, R: Wait>(
     rt: &R,
     alloc: Global,
@@ -131,25 +131,25 @@ fn cut_under_lock<L: Tally, R: Wait>(
 /// The journals of a service that was closed.
 #[derive(Drop)]
 pub struct Closed {
-    /// The segments of all shards: by shard, and those of a shard in the order in which they join,
-    /// of which the last is the journal that the shard had when the service was closed.
+    /// The segments of all shards, by shard, those of a shard in order. The last of a shard is its
+    /// journal when the service was closed.
     pub segments: Vec<Segment>,
 }
 
 impl<L0: Tally, L1: Tally, L2: Tally, L3: Tally, G: Gate + Drop> Service<L0, L1, L2, L3, G> {
-    /// Ends the service, and settles its record: whether its journals, those that were handed out
-    /// and those of its shards, hold the moves of all passes, each once, and no others.
+    /// Ends the service, and settles its record: whether its journals, those handed out and those
+    /// of its shards, hold the moves of all passes, each once, and no others.
     ///
     /// The passes are all that were opened, and the segments those that `cut` handed out, those of
-    /// a shard in the order in which they were.
+    /// a shard in order.
     ///
-    /// The first fault is the answer. `MissingPass` comes where not as many passes are given as
+    /// The answer is the first fault. `MissingPass` comes if more or fewer passes are given than
     /// were opened. `MissingSegment` names the lowest shard whose segments, with its journal last,
-    /// don't join from its new books or have a move that it doesn't take, or a number that is no
-    /// shard's. `Mismatch` names the position of a receipt that is not the line there, or not the
-    /// only receipt of it, or that comes in its pass after one of the same or a later position of
-    /// its shard. `NoMemory` comes where memory is refused, which may be before any of these. On a
-    /// fault everything that was handed in is dropped.
+    /// do not join from its new books or have a move that it does not take, or a number that is not
+    /// that of a shard. `Mismatch` names the position of a receipt that is not the line there, or
+    /// not the only receipt of it, or that comes in its pass after one of the same or a later
+    /// position of its shard. `NoMemory` comes if memory is refused, which may be before any of
+    /// these. On a fault all arguments are dropped.
     pub fn close(
         self,
         alloc: Global,
@@ -164,8 +164,8 @@ impl<L0: Tally, L1: Tally, L2: Tally, L3: Tally, G: Gate + Drop> Service<L0, L1,
         ended.close(alloc, passes, segments)
     }
 
-    /// Takes the shards and the passes' book out of their locks, and ends the journals. It fails only
-    /// where memory is refused.
+    /// Takes the shards and the passes' book out of their locks, and ends the journals. It fails
+    /// only if memory is refused.
     fn end(self, alloc: Global) -> Result<EndedService<L0, L1, L2, L3>, NoMemory>
         ensures { IfOk result (IsEndOf self.config) }
     {
@@ -188,7 +188,7 @@ impl<L0: Tally, L1: Tally, L2: Tally, L3: Tally, G: Gate + Drop> Service<L0, L1,
 }
 
 impl<L0: Tally, L1: Tally, L2: Tally, L3: Tally> Desks<L0, L1, L2, L3> {
-    /// Takes the shards out of their locks, and ends their journals. It fails only where memory is
+    /// Takes the shards out of their locks, and ends their journals. It fails only if memory is
     /// refused.
     fn end(self, alloc: Global) -> Result<(Config, Ledgers<L0, L1, L2, L3>, Vec<Segment>), NoMemory>
         ensures config { IfOk result (λ ended. ended.0 ≡ self) }
@@ -215,7 +215,7 @@ impl<L0: Tally, L1: Tally, L2: Tally, L3: Tally> Desks<L0, L1, L2, L3> {
             desk2,
             desk3,
         } = self;
-        // Fewer ways out: all four are looked at together.
+        // All four are tested together, which makes fewer exits.
         let first = end(alloc, desk0);
         let second = end_if_there(alloc, desk1);
         let third = end_if_there(alloc, desk2);
@@ -241,10 +241,10 @@ impl<L0: Tally, L1: Tally, L2: Tally, L3: Tally> Desks<L0, L1, L2, L3> {
 
 /// A service that came out of its locks.
 ///
-/// A contract sees the configuration, how many passes were opened, and the present journals. Its
-/// type keeps that the journals are those of all shards, that each ledger's total is the lines to
-/// the end of its shard's journal, and that the shares are what was not handed out to the passes
-/// that were opened.
+/// A contract sees the configuration, how many passes were opened, and the present journals. The
+/// type guarantees that the journals are those of all shards, that each ledger's total is the
+/// number of lines to the end of its shard's journal, and that the shares are what the opened
+/// passes were not given.
 #[derive(Drop)]
 pub(crate) struct EndedService<L0: Tally, L1: Tally, L2: Tally, L3: Tally> {
     config: Config,
@@ -384,7 +384,7 @@ fn push_if_there(all: &mut Vec<Segment>, journal: Option<Segment>) -> Result<(),
     Ok(())
 }
 
-/// The segments given, and after those of each shard its present journal, by shard.
+/// The given segments of each shard, followed by its present journal, by shard.
 fn by_shard(given: Vec<Segment>, mut present: Vec<Segment>) -> Result<Vec<Segment>, NoMemory>
     ensures same { (shard : ℕ) → IfOk result (λ sorted.
         of_shard shard sorted.items ≡ of_shard shard (given.items ++ present.items)) }

@@ -4,8 +4,8 @@
 ghost use Rattle.rsl_service.specs.Laws.{ClosedJournalsObeyTheRule};
 
 /// The journals of a closed service obey the session rule: each account's decisions are the rule's
-/// over its own events among the lines of its shard, and so are its book and its places. The
-/// segments that were given are as `Service::cut` hands them out, if there are any.
+/// over its own events among the lines of its shard, and so are its book and its places. The given
+/// segments are as `Service::cut` hands them out.
 pub fn closed_journals_obey_the_rule()
     ensures { ClosedJournalsObeyTheRule }
 {

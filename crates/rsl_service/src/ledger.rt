@@ -1,4 +1,4 @@
-//! The ledgers of shards, which count their lines, and the shares in them.
+//! The ledgers of shards, which count their lines, and the shares of them.
 
 ghost use Rattle.std.specs.Prelude.{◌≡◌, ◌+◌, ◌<◌, IfSome, List, [], length};
 ghost use Rattle.rsl_book.specs.RuledBook.{RuledBook};
@@ -14,23 +14,22 @@ use std::sync::ledger::{Blank, Book as LineLedger, Ledger, Share};
 /// A ledger that counts the lines of one shard.
 ///
 /// Its type alone says of which shard, so that a share of one shard's ledger is never taken for
-/// that of another, and so that the moves that a shard takes, and the rules of its accounts, are
-/// known before its lock is taken: the new books of the accounts show those rules.
+/// another's, and so that the moves that a shard takes, and the rules of its accounts, are known
+/// before its lock is taken: the new books of the accounts show those rules.
 pub trait Tally: Ledger {
     ghost setup: { Setup };
 
     ghost books: { List RuledBook };
 }
 
-// Who passes a `Brand` says in a proof of which shard it is; the members here are of one that is of
-// none.
+// The caller of `Brand` says in a proof which shard it is; the members here are of none.
 impl Tally for Brand {
     ghost setup = { record { shard = 0; shards = 0; accounts = 0 } };
 
     ghost books = { [] };
 }
 
-/// The parts of a shard's ledger: one for each pass that a service opens, and one that stays.
+/// The parts of a shard's ledger: one for each pass that a service opens, and one that remains.
 const PARTS: u64 = MAX_PASSES + 1;
 
 /// The four ledgers of a service, before it is made.
@@ -47,7 +46,7 @@ pub struct Blanks {
 }
 
 impl Blanks {
-    /// Four blanks with as many parts as a service needs.
+    /// Four blanks with the parts that a service needs.
     pub fn new() -> Blanks
         ensures blank0 { result.blank0.parts ≡ 1025 }
         ensures blank1 { result.blank1.parts ≡ 1025 }
@@ -63,10 +62,10 @@ impl Blanks {
     }
 }
 
-/// A share of the ledger of each shard, of as many parts in all four.
+/// Shares of the four ledgers, with equally many parts of each.
 ///
-/// A contract sees the number of parts, and the amount in each ledger. Its type keeps that each
-/// ledger has 1,025 parts.
+/// A contract sees the number of parts, and the amount in each ledger. The type guarantees that
+/// each ledger has 1,025 parts.
 #[derive(Drop)]
 pub(crate) struct Shares<L0: Tally, L1: Tally, L2: Tally, L3: Tally> {
     pub(crate) share0: Share<L0>,
@@ -100,7 +99,7 @@ impl<L0: Tally, L1: Tally, L2: Tally, L3: Tally> Model for Shares<L0, L1, L2, L3
 }
 
 impl<L0: Tally, L1: Tally, L2: Tally, L3: Tally> Shares<L0, L1, L2, L3> {
-    /// Splits off a part of each ledger, with no amount.
+    /// Splits off a part of each ledger, with amount 0.
     pub(crate) fn split_part(&mut self) -> Shares<L0, L1, L2, L3>
         requires { 1 < self.old.parts }
         ensures part { result ≡ part }
@@ -118,7 +117,7 @@ impl<L0: Tally, L1: Tally, L2: Tally, L3: Tally> Shares<L0, L1, L2, L3> {
         }
     }
 
-    /// Takes over the parts and the amounts of other shares.
+    /// Adds the parts and the amounts of other shares.
     fn merge(&mut self, other: Shares<L0, L1, L2, L3>)
         ensures parts { self.new.parts ≡ self.old.parts + other.parts }
         ensures amount0 { self.new.amount0 ≡ self.old.amount0 + other.amount0 }
@@ -132,7 +131,7 @@ impl<L0: Tally, L1: Tally, L2: Tally, L3: Tally> Shares<L0, L1, L2, L3> {
         self.share3.merge(other.share3);
     }
 
-    /// Takes over the shares of passes: a part of each ledger from each, with an amount for each of
+    /// Adds the shares of passes: from each a part of each ledger, whose amount is the number of
     /// its receipts.
     #[tactic(auto, using(crate::proofs::Gathering::gather_steps))]
     pub(crate) fn gather(&mut self, mut passes: Vec<Pass<L0, L1, L2, L3>>)
@@ -158,7 +157,7 @@ pub(crate) struct Ledgers<L0: Tally, L1: Tally, L2: Tally, L3: Tally> {
 }
 
 impl<L0: Tally, L1: Tally, L2: Tally, L3: Tally> Ledgers<L0, L1, L2, L3> {
-    /// The total of each ledger, all of whose parts are in the shares, is its amount there.
+    /// The total of each ledger is its amount in the shares, which have all parts.
     pub(crate) fn audit(self, all: Shares<L0, L1, L2, L3>)
         requires { all.parts ≡ 1025 }
         ensures ledger0 { self.ledger0.total ≡ all.amount0 }
@@ -185,7 +184,7 @@ impl<L0: Tally, L1: Tally, L2: Tally, L3: Tally> Ledgers<L0, L1, L2, L3> {
     }
 }
 
-/// The total of a ledger, all of whose parts are in a share, is the share's amount.
+/// The total of a ledger is the amount of a share that has all of its parts.
 fn audit_if_there<L: Tally>(ledger: Option<LineLedger<L>>, all: Share<L>)
     requires { all.parts ≡ L.parts }
     ensures { IfSome ledger (λ ledger. ledger.total ≡ all.amount) }

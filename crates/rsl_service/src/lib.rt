@@ -1,15 +1,15 @@
-//! The service: shards behind locks, which several receivers and an expiry worker use at once.
+//! The service: shards, each under a lock, which several receivers and an expiry worker share.
 //!
-//! The promise: a datagram is answered only where the caller's pass has a receipt of each move that
-//! it made (`specs/Applied.antt`, `specs/Receipts.antt`); and `Service::close` says Ok only where
-//! the journals hold the moves of all passes, each once, and no others (`specs/Closed.antt`). The
-//! journals of a closed service obey the session rule (`laws`). What is done behind a lock is said
-//! exactly, by the methods of `Desk` (`specs/Made.antt`, `specs/Report.antt`).
+//! The promise: a datagram is answered only if the caller's pass has a receipt of each move that it
+//! made (`specs/Applied.antt`, `specs/Receipts.antt`); and `Service::close` returns Ok only if the
+//! journals hold the moves of all passes, each once, and no others (`specs/Closed.antt`). The
+//! journals of a closed service obey the session rule (`laws`). What is done under a lock is said
+//! exactly by the methods of `Desk` (`specs/Made.antt`, `specs/Report.antt`).
 //!
-//! A receiver takes a service's datagrams from a port and sends its answers, and a worker tells its
-//! shards that time has passed. Over a port that tells its datagrams, what `receive` made of each is
-//! exactly what `specs/Served.antt` says, and its counts are of that; over any port they agree with the
-//! calls that the port counted (`specs/Counted.antt`, and `specs/Told.antt` of `rsl_port`).
+//! A receiver takes datagrams from a port and sends the service's answers, and a worker ticks the
+//! shards. Over a port that tells its datagrams, what `receive` made of each is exactly what
+//! `specs/Served.antt` says, and its counts are of that; over any port they agree with the calls
+//! that the port counted (`specs/Counted.antt`, and `specs/Told.antt` of `rsl_port`).
 #![tactic(auto)]
 
 mod apply;

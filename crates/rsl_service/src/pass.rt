@@ -29,19 +29,19 @@ use std::mem::replace;
 /// The most passes that a service opens.
 pub(crate) const MAX_PASSES: u64 = 1024;
 
-/// How many receipts a new pass has room for.
+/// Receipts for which a new pass has room.
 const FIRST_RECEIPTS: usize = 64;
 
-/// The receipts of a pass, in the order of the calls, with the room that its next step may need.
+/// The receipts of a pass, in the order of its calls, with the room that its next step may need.
 #[derive(Drop)]
 pub(crate) struct Notes {
     pub(crate) receipts: Vec<Receipt>,
     pub(crate) spare: Spare,
 }
 
-/// Room for the octets of a reply.
+/// A buffer for the octets of a reply.
 ///
-/// A contract sees for how many octets there is room.
+/// A contract sees its capacity in octets.
 #[derive(Drop)]
 pub(crate) struct ReplyRoom {
     octets: Vec<u8>,
@@ -56,7 +56,7 @@ impl Model for ReplyRoom {
 }
 
 impl ReplyRoom {
-    /// No room yet.
+    /// An empty buffer, not allocated yet.
     fn new(alloc: Global) -> ReplyRoom
         ensures { result ≡ 0 }
     {
@@ -65,14 +65,14 @@ impl ReplyRoom {
         }
     }
 
-    /// Takes the room of these octets in place of its own.
+    /// Replaces the buffer by that of these octets.
     fn put(&mut self, octets: Vec<u8>)
         ensures { self.new ≡ vec_capacity octets }
     {
         self.octets = octets;
     }
 
-    /// Gives the room away.
+    /// Moves the buffer out.
     pub(crate) fn take(&mut self, alloc: Global) -> Vec<u8>
         ensures { vec_capacity result ≡ self.old }
     {
@@ -80,12 +80,11 @@ impl ReplyRoom {
     }
 }
 
-/// What a caller of the service holds: a receipt for each move that it made.
+/// What a caller of the service has: a receipt for each move that it made.
 ///
-/// A contract sees the receipts, in the order of the calls, and for how many octets of its next
-/// reply it has room. Its type keeps that, for each shard, as many of its receipts are of that shard
-/// as its share in the ledger there counts. Beside them it has the room for lines that its next step
-/// may need.
+/// A contract sees the receipts, in the order of the calls, and the octets for which the next reply
+/// has room. The type guarantees that the pass has as many receipts of each shard as its share of
+/// the shard's ledger counts. It also has the room for lines that its next step may need.
 #[derive(Drop)]
 pub struct Pass<L0: Tally, L1: Tally, L2: Tally, L3: Tally> {
     pub(crate) shares: Shares<L0, L1, L2, L3>,
@@ -113,7 +112,7 @@ impl<L0: Tally, L1: Tally, L2: Tally, L3: Tally> Model for Pass<L0, L1, L2, L3> 
 }
 
 impl Notes {
-    /// No receipts, with room for the first. It fails only where that is refused.
+    /// No receipts, with room for the first. It fails only if memory is refused.
     fn new(alloc: Global) -> Result<Notes, NoMemory>
         ensures { IfOk result (λ notes. notes.receipts.items ≡ []) }
     {
@@ -125,8 +124,8 @@ impl Notes {
         })
     }
 
-    /// Takes room for a receipt, and for the lines of a journal's next chunk. Where it fails,
-    /// nothing has changed but the room.
+    /// Makes room for a receipt, and for the lines of a journal's next chunk. On a fault nothing
+    /// has changed but the room.
     pub(crate) fn take_room(&mut self) -> Result<(), NoMemory>
         ensures receipts { self.new.receipts.items ≡ self.old.receipts.items }
         ensures room { OnOk result (vec_len self.new.receipts < vec_capacity self.new.receipts) }
@@ -137,7 +136,7 @@ impl Notes {
         Ok(())
     }
 
-    /// Puts a receipt after the others, for which there is room.
+    /// Appends a receipt. There is room for it.
     #[tactic(auto, using(crate::proofs::Counting::counts))]
     pub(crate) fn note(&mut self, receipt: Receipt)
         requires room { vec_len self.old.receipts < vec_capacity self.old.receipts }
@@ -152,9 +151,9 @@ impl Notes {
 }
 
 impl<L0: Tally, L1: Tally, L2: Tally, L3: Tally> Pass<L0, L1, L2, L3> {
-    /// Takes back the octets of a reply, whether or not it could be sent: the next reply stands in
-    /// their room, and takes no memory where that is of 4,096 octets, as each reply's is. The
-    /// receipts are as they were.
+    /// Takes back the octets of a reply, whether or not it could be sent: the next reply is written
+    /// in their buffer, and allocates nothing if that holds 4,096 octets, as each reply's does. The
+    /// receipts stay.
     pub fn take_back(&mut self, octets: Vec<u8>)
         ensures receipts { self.new.receipts ≡ self.old.receipts }
         ensures room { self.new.room ≡ vec_capacity octets }
@@ -162,7 +161,7 @@ impl<L0: Tally, L1: Tally, L2: Tally, L3: Tally> Pass<L0, L1, L2, L3> {
         self.reply_room.put(octets);
     }
 
-    /// The shares alone.
+    /// The shares of the pass.
     pub(crate) fn into_shares(self) -> Shares<L0, L1, L2, L3>
         ensures parts { result.parts ≡ 1 }
         ensures amount0 { result.amount0 ≡ count_of 0 self.receipts }
@@ -182,8 +181,8 @@ impl<L0: Tally, L1: Tally, L2: Tally, L3: Tally> HasReceipts for Pass<L0, L1, L2
     }
 }
 
-/// The passes of a service: how many were opened, and what is left of each ledger for more. A part
-/// of each goes to each pass, and one stays.
+/// The passes of a service: how many were opened, and what remains of each ledger. Each pass gets a
+/// part of each, and one remains.
 #[derive(Drop)]
 pub(crate) struct PassBook<L0: Tally, L1: Tally, L2: Tally, L3: Tally> {
     pub(crate) opened: u64,
@@ -197,7 +196,7 @@ pub(crate) struct PassBook<L0: Tally, L1: Tally, L2: Tally, L3: Tally> {
 }
 
 impl<L0: Tally, L1: Tally, L2: Tally, L3: Tally> PassBook<L0, L1, L2, L3> {
-    /// No pass was opened: the shares are all of four ledgers.
+    /// The book before any pass is opened, with all shares of four ledgers.
     pub(crate) fn new(shares: Shares<L0, L1, L2, L3>) -> PassBook<L0, L1, L2, L3>
         requires parts { shares.parts ≡ 1025 }
         requires none0 { shares.amount0 ≡ 0 }
@@ -209,8 +208,8 @@ impl<L0: Tally, L1: Tally, L2: Tally, L3: Tally> PassBook<L0, L1, L2, L3> {
         PassBook { opened: 0, shares }
     }
 
-    /// Opens a pass, which has a part of each ledger, unless as many as there can be were opened.
-    /// Where it fails, nothing has changed.
+    /// Opens a pass, with a part of each ledger, unless the most passes were opened. On a fault
+    /// nothing has changed.
     #[tactic(auto, using(crate::proofs::Counting::none_counted))]
     pub(crate) fn open(&mut self, alloc: Global) -> Result<Pass<L0, L1, L2, L3>, PassFault>
         ensures pass { IfOk result (λ pass. pass ≡ new_pass) }

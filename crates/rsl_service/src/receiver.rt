@@ -16,23 +16,23 @@ use std::sync::Wait;
 /// Why a receiver ended before its last turn.
 #[derive(Clone, Copy)]
 pub enum ReceiveFault {
-    /// The port's `receive` failed. These are the counts up to and with that turn.
+    /// The port's `receive` failed. The counts include that turn.
     Down(Counts),
     /// Memory for the buffer was refused. Nothing was received.
     NoMemory,
 }
 
-/// Takes datagrams from a port, and sends the service's answers to where they came from, for
-/// `turns` turns (RFC 2865 section 3, RFC 2866 section 3).
+/// Receives datagrams from a port, and sends the service's answers to their sources, for `turns`
+/// turns (RFC 2865 section 3, RFC 2866 section 3).
 ///
 /// Each turn calls the port's `receive` once, with room for 4,096 octets. A datagram that is not
-/// dropped makes its moves in the service, with receipts in the pass, at the clock's present
-/// moment, and then its reply is sent. Where that fails the moves stand, and the next turn follows;
-/// so it does where memory is refused.
+/// dropped makes its moves in the service at the clock's moment, with receipts in the pass, and
+/// then its reply is sent. If the send fails, the moves stand, and the next turn follows; so it
+/// does if memory is refused.
 ///
-/// `Down` where the port's `receive` fails, with the counts up to then, and `NoMemory` where there
-/// is no memory for the buffer: then nothing has changed. What the port counts of its calls has to
-/// stay under 2^64 with as many more of each kind as there are turns.
+/// `Down` comes if the port's `receive` fails, with the counts so far, and `NoMemory` if the buffer
+/// is refused; then nothing has changed. The port's counts of its calls have to stay under 2^64
+/// with one more of each kind for every turn.
 #[tactic(auto, using(crate::proofs::Calling::calling))]
 pub fn receive<
     L0: Tally,
@@ -90,7 +90,7 @@ pub fn receive<
     Ok(counts)
 }
 
-/// What a receiver takes datagrams for: a service, and which of its ports they come to.
+/// A receiver's service, and the port of the service that its datagrams come to.
 #[derive(Drop)]
 struct Receiver<'a, L0: Tally, L1: Tally, L2: Tally, L3: Tally, G: Gate, R> {
     rt: &'a R,
@@ -104,7 +104,7 @@ struct Receiver<'a, L0: Tally, L1: Tally, L2: Tally, L3: Tally, G: Gate, R> {
 pub(crate) enum Unanswered {
     /// It has no meaning.
     Dropped,
-    /// It has one, and memory was refused or a shard is spent.
+    /// It has one, but memory was refused or a shard is spent.
     Refused,
 }
 
@@ -150,7 +150,7 @@ impl<L0: Tally, L1: Tally, L2: Tally, L3: Tally, G: Gate, R: Wait> Receiver<
         }
     }
 
-    /// The octets that answer a datagram, which has made its moves in the service.
+    /// Makes the moves of a datagram in the service, and gives the octets that answer it.
     #[tactic(auto, using(crate::proofs::Refusing::refusing))]
     fn answer<C: Clock>(
         &self,
@@ -185,8 +185,8 @@ impl<L0: Tally, L1: Tally, L2: Tally, L3: Tally, G: Gate, R: Wait> Receiver<
     }
 }
 
-/// Sends the octets of an answer to where its datagram came from, and gives their room to the pass,
-/// whether or not they could be sent.
+/// Sends an answer to the source of its datagram, and gives its buffer back to the pass, whether or
+/// not it could be sent.
 fn send_back<L0: Tally, L1: Tally, L2: Tally, L3: Tally, P: DatagramPort>(
     pass: &mut Pass<L0, L1, L2, L3>,
     datagrams: &mut P,

@@ -15,9 +15,9 @@ use std::sync::{Mutex, Wait};
 impl<L0: Tally, L1: Tally, L2: Tally, L3: Tally, G: Gate> Service<L0, L1, L2, L3, G> {
     /// What each account holds, in file order.
     ///
-    /// The rows of one shard's accounts are of one moment, at which no call makes a step of that
-    /// shard; those of two shards need not be. Each account is shown at its book's own clock. It
-    /// fails only where memory is refused, and then has taken no lock.
+    /// The rows of one shard's accounts are of one moment, between two steps of the shard; those of
+    /// two shards may be of two. Each account is shown at its book's own clock. It fails only if
+    /// memory is refused, before it takes any lock.
     pub fn report<R: Wait>(&self, rt: &R, alloc: Global) -> Result<Vec<Row>, NoMemory>
         ensures { IfOk result (λ rows. IsReport self.now.config.accounts rows.items) }
     {
@@ -27,7 +27,7 @@ impl<L0: Tally, L1: Tally, L2: Tally, L3: Tally, G: Gate> Service<L0, L1, L2, L3
     }
 }
 
-/// A row for each account, in file order, none of which holds a place.
+/// A row for each account, in file order, with no place held.
 #[tactic(auto, using(crate::proofs::Reported::firsts))]
 fn rows_of_none(alloc: Global, config: &Config) -> Result<Vec<Row>, NoMemory>
     ensures { IfOk result (λ rows. IsReport config.now.accounts rows.items) }
@@ -48,7 +48,7 @@ fn rows_of_none(alloc: Global, config: &Config) -> Result<Vec<Row>, NoMemory>
 }
 
 impl<L0: Tally, L1: Tally, L2: Tally, L3: Tally> Desks<L0, L1, L2, L3> {
-    /// Puts what each account holds into its row, shard by shard.
+    /// Writes what each account holds into its row, shard by shard.
     fn show<R: Wait>(&self, rt: &R, rows: &mut [Row])
         requires { IsReport self.now.accounts rows.old }
         ensures { IsReport self.now.accounts rows.new }
@@ -61,7 +61,7 @@ impl<L0: Tally, L1: Tally, L2: Tally, L3: Tally> Desks<L0, L1, L2, L3> {
     }
 }
 
-/// Puts what each account of a shard holds into its row, under the shard's lock.
+/// Writes what each account of a shard holds into its row, under the shard's lock.
 fn show_under_lock<L: Tally, R: Wait>(
     rt: &R,
     desk: &Mutex<Desk<L>>,
@@ -77,7 +77,7 @@ fn show_under_lock<L: Tally, R: Wait>(
     desk.lock(rt).show(config, number, rows);
 }
 
-/// Puts what each account of a shard holds into its row, if there is such a shard.
+/// Writes what each account of a shard holds into its row, if there is such a shard.
 fn show_if_there<L: Tally, R: Wait>(
     rt: &R,
     desk: &Option<Mutex<Desk<L>>>,

@@ -23,15 +23,15 @@ use std::marker::Model;
 use std::sync::ledger::{Blank, Share};
 use std::sync::{Mutex, Wait};
 
-/// What is called at each step of a shard, under its lock, before that is let go.
+/// A hook that is called after each step of a shard, before its lock is released.
 ///
-/// A server's does nothing. A test's can hold a call, to show which others go on beside it.
+/// A server's does nothing. A test's can block a call, to show which others go on beside it.
 pub trait Gate {
     /// A step of the shard with this number was made.
     fn at(&self, shard: u32);
 }
 
-/// A gate that holds no call.
+/// A gate that blocks no call.
 #[derive(Clone, Copy, Drop)]
 pub struct Open;
 
@@ -39,10 +39,10 @@ impl Gate for Open {
     fn at(&self, _shard: u32) {}
 }
 
-/// The shards of a configuration, each behind a lock of its own.
+/// The shards of a configuration, each under a lock of its own.
 ///
-/// A contract sees the configuration. Its type keeps that there is a lock for each shard, and that
-/// each ledger is that of its shard.
+/// A contract sees the configuration. The type guarantees that there is a lock for each shard, and
+/// that each ledger is that of its shard.
 #[derive(Drop)]
 pub(crate) struct Desks<L0: Tally, L1: Tally, L2: Tally, L3: Tally> {
     pub(crate) config: Config,
@@ -79,7 +79,7 @@ impl<L0: Tally, L1: Tally, L2: Tally, L3: Tally> Model for Desks<L0, L1, L2, L3>
 }
 
 impl<L0: Tally, L1: Tally, L2: Tally, L3: Tally> Desks<L0, L1, L2, L3> {
-    /// Shards of new books, with all shares of their ledgers. It fails only where memory is refused.
+    /// Shards of new books, with all shares of their ledgers. It fails only if memory is refused.
     fn new(
         alloc: Global,
         blanks: Blanks,
@@ -102,7 +102,7 @@ impl<L0: Tally, L1: Tally, L2: Tally, L3: Tally> Desks<L0, L1, L2, L3> {
             blank2,
             blank3,
         } = blanks;
-        // Fewer ways out: all four are looked at together. Shard 0 comes last, since every
+        // All four are tested together, which makes fewer exits. Shard 0 comes last, since every
         // configuration has it, as a clause of the others says.
         let second = desk_if_there(alloc, &config, 1, blank1);
         let third = desk_if_there(alloc, &config, 2, blank2);
@@ -138,7 +138,7 @@ impl<L0: Tally, L1: Tally, L2: Tally, L3: Tally> Desks<L0, L1, L2, L3> {
     }
 }
 
-/// The lock of a shard, if the configuration has that shard, and its ledger's only share.
+/// The lock of a shard with all shares of its ledger, if the configuration has the shard.
 fn desk_if_there<L: Tally>(
     alloc: Global,
     config: &Config,
@@ -163,10 +163,10 @@ fn desk_if_there<L: Tally>(
     Ok((Some(Mutex::new(desk)), share))
 }
 
-/// Shards of accounts, each behind a lock of its own, which any number of callers use at once.
+/// Shards of accounts, each under a lock of its own, which any number of callers share.
 ///
-/// A contract sees the configuration and the boot number. Each shard has a ledger, a type: so what
-/// a lock keeps is the shard of this number and configuration, and each pass's share counts the
+/// A contract sees the configuration and the boot number. Each shard has a ledger, which is a type:
+/// so a lock protects the shard of this number and configuration, and each pass's share counts the
 /// moves that its holder made there.
 #[derive(Drop)]
 pub struct Service<L0: Tally, L1: Tally, L2: Tally, L3: Tally, G: Gate> {
@@ -185,12 +185,11 @@ impl<L0: Tally, L1: Tally, L2: Tally, L3: Tally, G: Gate> Model for Service<L0, 
 }
 
 impl<L0: Tally, L1: Tally, L2: Tally, L3: Tally, G: Gate + Drop> Service<L0, L1, L2, L3, G> {
-    /// A service whose shards have new books, and which has opened no pass. It fails only where
-    /// memory is refused.
+    /// A service of new books that has opened no pass. It fails only if memory is refused.
     ///
     /// Each blank has 1,025 parts, and becomes the ledger of its shard. The boot number tells this
-    /// run of the server from others: it stands in the Class of each accept. The gate is called at
-    /// each step; a server's is `Open`.
+    /// run of the server from others: it is in the Class of each accept. The gate is called at each
+    /// step; a server's is `Open`.
     pub fn new(
         alloc: Global,
         blanks: Blanks,
@@ -219,7 +218,7 @@ impl<L0: Tally, L1: Tally, L2: Tally, L3: Tally, G: Gate + Drop> Service<L0, L1,
 }
 
 impl<L0: Tally, L1: Tally, L2: Tally, L3: Tally, G: Gate> Service<L0, L1, L2, L3, G> {
-    /// The configuration with which the service was made.
+    /// The configuration of the service.
     pub fn config(&self) -> &Config
         ensures config { result.now ≡ self.now.config }
         ensures limits { IsConfiguration self.now.config }
@@ -227,8 +226,8 @@ impl<L0: Tally, L1: Tally, L2: Tally, L3: Tally, G: Gate> Service<L0, L1, L2, L3
         self.desks.config()
     }
 
-    /// What a datagram means to this service, or why it is dropped, as `rsl_event`'s `prepare` says
-    /// it. It takes no lock.
+    /// The meaning of a datagram to this service, or why it is dropped: `prepare` of `rsl_event`.
+    /// It takes no lock.
     pub fn prepare<'a>(
         &self,
         alloc: Global,
@@ -248,8 +247,8 @@ impl<L0: Tally, L1: Tally, L2: Tally, L3: Tally, G: Gate> Service<L0, L1, L2, L3
         prepare(alloc, self.config(), self.boot, port, source, datagram)
     }
 
-    /// A new pass, with no receipts and no room. `TooMany` comes where 1,024 were opened, and else `NoMemory`
-    /// where memory is refused.
+    /// A new pass, with no receipts. `TooMany` comes if 1,024 were opened, else `NoMemory` if
+    /// memory is refused.
     pub fn open_pass<R: Wait>(
         &self,
         rt: &R,

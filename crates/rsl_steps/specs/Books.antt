@@ -1,5 +1,5 @@
--- What a run answers, told by books that began new: each step is answered as one step of its own
--- account's book decides, after the account's own events before it.
+-- What a run answers, by books that began new: each step is answered as one step of its own
+-- account's book decides, after the account's own earlier events.
 use Rattle.std.specs.Prelude.{◌≡◌, ℕ, List, [], ◌∷◌, slice_get, Result, Ok, Err}
 use Rattle.std.specs.Option.{option_map_or}
 use Rattle.rsl_accounts.specs.Configuration.{Configuration, client_number}
@@ -23,7 +23,7 @@ use Rattle.rsl_steps.specs.declared.step.Step.{Step}
 use Rattle.rsl_steps.specs.declared.step.Step.TheVariants as steps
 use Rattle.rsl_steps.specs.declared.step.Step.TheVariants.{Datagram}
 
--- the book of an account with these rules, which began new, after its own events among the steps
+-- the book of an account with these rules, new at first, after its own events among the steps
 abbrev pub account_book : Configuration → (boot account : ℕ) → (before : List Step) → Rules → Book
 account_book config boot account before rules =
     book_after rules new_book (own config boot account before)
@@ -47,7 +47,7 @@ answer_with_book config boot before moment source datagram (Ok meaning) =
     (octets_by config boot meaning decision (packet_of datagram)
     (client_number config source.address))
 
--- the answer to a step that comes after others
+-- the answer to a step after others
 abbrev pub answer_by_book : Configuration → (boot : ℕ) → (before : List Step) → Step → Answer
 answer_by_book config boot before (Datagram moment port source octets) =
     answer_with_book config boot before moment source octets
@@ -55,7 +55,7 @@ answer_by_book config boot before (Datagram moment port source octets) =
 answer_by_book config boot before (steps.Sweep shard moment nas) = answers.Quiet
 answer_by_book config boot before (steps.Tick shard moment) = answers.Quiet
 
--- Each step has its answer. A refused one is as if it had not come.
+-- Each step has its answer. A refused one counts as if it had not come.
 unfoldable pub AreAnswersByBooks : Configuration → (boot : ℕ) → (before : List Step) → List Step
     → List Answer → Type 0
 AreAnswersByBooks config boot before [] [] = Unit {0}

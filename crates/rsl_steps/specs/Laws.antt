@@ -61,11 +61,11 @@ pub record Served : Type 0 where
   pub there : slice_get config.accounts account ≡ Some entry
   pub answered : AreAnswers config boot [] steps answers
 
--- the words that the account is given
+-- the words that the account is answered
 abbrev pub words_of : Served → List Said
 words_of served = words_to served.config served.boot served.account served.steps served.answers
 
--- its own events, among the steps that were taken
+-- its own events, among the steps that were made
 abbrev pub events_of : Served → List Event
 events_of served =
     own served.config served.boot served.account (steps_taken [] served.steps served.answers)
@@ -74,8 +74,8 @@ events_of served =
 abbrev pub places_held : Served → ℕ
 places_held served = places_after served.entry.rules (events_of served)
 
--- Two accounts with the same rules and equal own events are given the same words, and hold as many
--- places, whatever else is in their servers' configurations and steps.
+-- Two accounts with the same rules and equal own events are answered the same words, and hold as
+-- many places, whatever else is in their servers' configurations and steps.
 abbrev pub EqualOwnEventsAreAnsweredAlike : Type 0
 EqualOwnEventsAreAnsweredAlike =
     (one other : Served) → one.entry.rules ≡ other.entry.rules → events_of one ≡ events_of other
@@ -83,8 +83,7 @@ EqualOwnEventsAreAnsweredAlike =
 
 -- ---- packets of two accounts
 
--- where neighbouring packets of two accounts are exchanged, every account's own events stay as they
--- were
+-- if neighbouring packets of two accounts are exchanged, every account's own events stay
 abbrev pub PacketsOfTwoAccountsCommute : Type 0
 PacketsOfTwoAccountsCommute =
     (config : Configuration) (boot account one other : ℕ) (before after : List Step)
@@ -96,7 +95,7 @@ PacketsOfTwoAccountsCommute =
 
 -- ---- the number of shards
 
--- what comes to a server with any number of shards: a datagram, or a restart or a time to every
+-- what comes to a server with any number of shards: a datagram, or a restart or a tick to every
 -- shard together
 pub data Coming : Type 0 where
   Packet : (moment : ℕ) → Port → Source → (octets : List ℕ) → Coming
@@ -113,8 +112,8 @@ steps_to shards (Time moment) = map (λ shard. steps.Tick shard moment) (range_w
 abbrev pub with_shards : Configuration → (shards : ℕ) → Configuration
 with_shards config shards = record config { settings = record config.settings { shards = shards } }
 
--- each account has the same own events under another number of shards, all else being equal, where
--- each restart and each tick comes to all shards of either
+-- each account has the same own events with another number of shards, all else being equal, if each
+-- restart and each tick comes to all shards of either
 abbrev pub TheNumberOfShardsDoesNotMatter : Type 0
 TheNumberOfShardsDoesNotMatter =
     (config : Configuration) (boot account shards numbers : ℕ) (comings : List Coming)
@@ -129,8 +128,8 @@ moment_of (Datagram moment port source octets) = moment
 moment_of (steps.Sweep shard moment nas) = moment
 moment_of (steps.Tick shard moment) = moment
 
--- A tick that comes before steps none of which has a lower moment: they are answered as without it,
--- octet for octet, and after its next own event each account holds as many places.
+-- A tick before steps none of which has a lower moment: they are answered as without it, octet for
+-- octet, and after its next own event each account holds as many places.
 abbrev pub EarlyTicksChangeNothing : Type 0
 EarlyTicksChangeNothing =
     (config : Configuration) (boot shard moment : ℕ) (before after : List Step)
@@ -182,14 +181,13 @@ JournalsHaveOwnEvents =
     (account % config.settings.shards) before
     → own_in account lines ≡ own config boot account before
 
--- books that began new answer each step as looking back does
+-- new books answer each step as looking back does
 abbrev pub BooksAnswerAsLookingBack : Type 0
 BooksAnswerAsLookingBack = (config : Configuration) (boot : ℕ) (before : List Step) (step : Step)
     → answer_by_book config boot before step ≡ answer_after config boot before step
 
--- where the journals of shards that began new have the moves of some steps, each account's book is
--- that of its own events among them, and holds the places that the session rule finds by looking
--- back over them
+-- if the journals of new shards have the moves of some steps, each account's book is that of its
+-- own events among them, and holds the places that the session rule finds by looking back over them
 abbrev pub ShardsObeyTheRule : Type 0
 ShardsObeyTheRule =
     (config : Configuration) (boot account : ℕ) (entry : Entry) (before : List Step)

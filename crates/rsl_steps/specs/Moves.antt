@@ -1,4 +1,4 @@
--- What the steps of a run make its shards do.
+-- The moves of a run's shards, from its steps.
 use Rattle.std.specs.Prelude.{ℕ, ◌==◌, List, reverse, filter_map, Option, Some, None, Result, Ok, Err, if◌then◌else◌}
 use Rattle.rsl_accounts.specs.Configuration.{Configuration}
 use Rattle.rsl_event.specs.Meaning.{meaning}
@@ -13,19 +13,19 @@ use Rattle.rsl_steps.specs.declared.step.Step.{Step}
 use Rattle.rsl_steps.specs.declared.step.Step.TheVariants as steps
 use Rattle.rsl_steps.specs.declared.step.Step.TheVariants.{Datagram}
 
--- the move of a shard among the moves of a datagram. A restart's datagram moves no shard: its sweeps
--- stand beside it as steps.
+-- the move of a shard among the moves of a datagram. A restart's datagram moves no shard: its
+-- sweeps are separate steps.
 abbrev pub move_to : (shard : ℕ) → Moves → Option Move
 move_to shard (One other moved) = if other == shard then Some moved else None
 move_to shard (Each moved) = None
 move_to shard Nothing = None
 
--- the move that a datagram of this meaning is to a shard, if it is one
+-- the move of a datagram of this meaning for a shard, if any
 abbrev pub move_in : Configuration → (shard moment : ℕ) → Result Meaning Dropped → Option Move
 move_in config shard moment (Ok meaning) = move_to shard (moves_of config moment meaning)
 move_in config shard moment (Err dropped) = None
 
--- the move that a step is to a shard, if it is one
+-- the move of a step for a shard, if any
 abbrev pub move_of : Configuration → (boot shard : ℕ) → Step → Option Move
 move_of config boot shard (Datagram moment port source octets) =
     move_in config shard moment (meaning config boot port source octets)

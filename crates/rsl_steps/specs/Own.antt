@@ -1,4 +1,4 @@
--- What the steps of a run are to one account.
+-- The steps of a run, as one account's events.
 use Rattle.std.specs.Prelude.{ℕ, ◌==◌, ◌%◌, Bool, List, reverse, filter_map, Option, Some, None, Result, Ok, if◌then◌else◌}
 use Rattle.rsl_accounts.specs.Configuration.{Configuration}
 use Rattle.rsl_event.specs.Meaning.{meaning}
@@ -11,7 +11,7 @@ use Rattle.rsl_steps.specs.declared.step.Step.TheVariants as steps
 use Rattle.rsl_steps.specs.declared.step.Step.TheVariants.{Datagram}
 use Rattle.rsl_event.specs.declared.event.Act.TheVariants as acts
 
--- a meaning is an account's own event, or none of its
+-- the own event of a meaning for an account, if any
 abbrev pub own_event : (account moment : ℕ) → Result Meaning Dropped → Option Event
 own_event account moment (Ok (Own other act)) =
     if other == account then Some (record { moment = moment; act = act }) else None
@@ -21,7 +21,7 @@ own_event account moment _ = None
 abbrev pub is_of_shard : Configuration → (account shard : ℕ) → Bool
 is_of_shard config account shard = account % config.settings.shards == shard
 
--- what a step is to an account: its own packet, or a sweep or a tick of its shard
+-- the event of a step for an account: its own packet, or a sweep or a tick of its shard
 abbrev pub event_of : Configuration → (boot account : ℕ) → Step → Option Event
 event_of config boot account (Datagram moment port source octets) =
     own_event account moment (meaning config boot port source octets)
@@ -34,11 +34,10 @@ event_of config boot account (steps.Tick shard moment) =
     then Some (record { moment = moment; act = acts.Tick })
     else None
 
--- an account's own events among steps, in their order
+-- an account's own events among steps, in order
 unfoldable pub own_events : Configuration → (boot account : ℕ) → List Step → List Event
 own_events config boot account steps = filter_map (event_of config boot account) steps
 
--- an account's own events among steps that are listed newest first, as those before a step of a run
--- are
+-- an account's own events among steps listed newest first, as those before a step of a run are
 unfoldable pub own : Configuration → (boot account : ℕ) → (before : List Step) → List Event
 own config boot account before = own_events config boot account (reverse before)

@@ -1,5 +1,5 @@
--- What the shards of a run are after some steps: the journal of each has the moves that the steps
--- are to it, and so each account's book is the one that its own events make of a new book.
+-- The shards of a run after some steps: the journal of each has the moves that the steps are to it,
+-- and so each account's book is the one that its own events make of a new book.
 use Rattle.std.specs.Prelude.{◌≡◌, ℕ, ◌%◌, ◌≤◌, List, length, map, slice_get, take, Option, Some, None}
 use Rattle.rsl_accounts.specs.Configuration.{Configuration}
 use Rattle.rsl_accounts.specs.declared.rules.Rules.{Rules}
@@ -16,8 +16,8 @@ use Rattle.rsl_shard.specs.declared.line.Line.{Line}
 use Rattle.rsl_steps.specs.Moves.{shard_moves}
 use Rattle.rsl_steps.specs.declared.step.Step.{Step}
 
--- a shard whose books began new, nothing of whose journal was cut off, and whose lines are the
--- moves of the steps
+-- a shard whose books began new, whose journal was never cut, and whose lines are the moves of the
+-- steps
 pub record HasMoved (config : Configuration) (boot : ℕ) (before : List Step) (shard : ℕ)
     (seen : ShardSeen) : Type 0 where
   pub setup : seen.setup ≡ setup_of config shard

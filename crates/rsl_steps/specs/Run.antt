@@ -54,14 +54,14 @@ answer_by config boot before moment source datagram (Ok meaning) =
     (octets_by config boot meaning decision (packet_of datagram)
     (client_number config source.address))
 
--- the answer to a step that comes after others
+-- the answer to a step after others
 abbrev pub answer_after : Configuration → (boot : ℕ) → (before : List Step) → Step → Answer
 answer_after config boot before (Datagram moment port source octets) =
     answer_by config boot before moment source octets (meaning config boot port source octets)
 answer_after config boot before (steps.Sweep shard moment nas) = answers.Quiet
 answer_after config boot before (steps.Tick shard moment) = answers.Quiet
 
--- Each step has its answer. A refused one is as if it had not come.
+-- Each step has its answer. A refused one counts as if it had not come.
 unfoldable pub AreAnswers : Configuration → (boot : ℕ) → (before : List Step) → List Step
     → List Answer → Type 0
 AreAnswers config boot before [] [] = Unit {0}
@@ -73,7 +73,7 @@ AreAnswers config boot before (step ∷ steps) (answer ∷ rest) =
 AreAnswers config boot before [] (answer ∷ rest) = ⊥
 AreAnswers config boot before (step ∷ steps) [] = ⊥
 
--- the steps that were taken, the newest first
+-- the steps that were made, newest first
 unfoldable pub steps_taken : (before : List Step) → List Step → List Answer → List Step
 steps_taken before [] rest = before
 steps_taken before (step ∷ steps) [] = before

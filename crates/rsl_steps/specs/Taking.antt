@@ -19,13 +19,13 @@ use Rattle.rsl_steps.specs.declared.step.Answer.{Answer}
 use Rattle.rsl_steps.specs.declared.step.Answer.TheVariants as answers
 use Rattle.rsl_steps.specs.declared.step.Step.{Step}
 
--- each shard has room for one line more
+-- each shard has room for another line
 abbrev pub HaveShardsRoom : List ShardSeen → Type 0
 HaveShardsRoom shards =
     (number : ℕ) (seen : ShardSeen) → slice_get shards number ≡ Some seen
     → total_of seen < 2 ^ 64 - 1
 
--- there is such a shard for each number of the configuration
+-- there is a shard for each number of the configuration
 pub record AreReady (config : Configuration) (shards : List ShardSeen) : Type 0 where
   pub count : length shards ≡ config.settings.shards
   pub setup : (number : ℕ) (seen : ShardSeen) → slice_get shards number ≡ Some seen
@@ -40,20 +40,20 @@ pub record IsMovedAt (number : ℕ) (moved : Move) (decision : Decision) (old ne
   pub moved_on : new ≡ set old number (with_line seen moved decision)
   pub decided : decision ≡ decision_by seen.setup (books_of seen) moved
 
--- The moves of a datagram are made: one moves its shard, and is decided by it; all else is done, and
--- changes nothing. So is a restart's datagram, whose sweeps stand beside it as steps.
+-- The moves of a datagram are made: one moves its shard, and is decided by it; all else is done,
+-- and changes nothing. So is a restart's datagram, whose sweeps are separate steps.
 abbrev pub AreMade : Moves → Decision → (old new : List ShardSeen) → Type 0
 AreMade (One shard moved) decision old new = IsMovedAt shard moved decision old new
 AreMade (Each moved) decision old new = (decision ≡ Done) × (new ≡ old)
 AreMade Nothing decision old new = (decision ≡ Done) × (new ≡ old)
 
--- what was decided on a datagram of this meaning
+-- the decision on a datagram of this meaning
 abbrev pub IsDecided : Configuration → (moment : ℕ) → Meaning → Decision
     → (old new : List ShardSeen) → Type 0
 IsDecided config moment meaning decision old new =
     AreMade (moves_of config moment meaning) decision old new
 
--- a sweep or a tick moves its shard, and is quiet; where the shard is not there nothing changes
+-- a sweep or a tick moves its shard, and is quiet; if there is no such shard nothing changes
 pub record IsNotThere (number : ℕ) (old new : List ShardSeen) : Type 0 where
   pub past : length old ≤ number
   pub same : new ≡ old
@@ -76,7 +76,7 @@ Takes config boot before step answers.Refused old new = new ≡ old
 Takes config boot before step answer old new =
     IsStepTaken config boot before step answer new
 
--- a datagram for which memory was refused is a step that was refused
+-- a datagram for which memory was refused is a refused step
 abbrev pub answer_to_drop : Dropped → Answer
 answer_to_drop drops.NoMemory = answers.Refused
 answer_to_drop dropped = answers.Dropped dropped

@@ -21,33 +21,33 @@ use rsl_shard::{Move, Shard};
 use rsl_wire::NoMemory;
 use std::alloc::Global;
 
-/// Answers steps in order, by shards that begin new: the time that a step takes does not grow with
-/// the steps before it. It fails only where memory for the shards or for the list of answers is
-/// refused, before any step.
+/// Answers steps in order, by new shards: the time of a step does not grow with the steps before
+/// it. It fails only if memory for the shards or for the list of answers is refused, before any
+/// step.
 pub fn run(alloc: Global, config: &Config, boot: u64, steps: &[Step]) -> Result<Ran, NoMemory>
-    // Each step that is taken is answered as the session rule says of its own account's events
-    // before it alone; what is no account's is answered from itself alone.
+    // Each step that is made is answered as the session rule says of its own account's events
+    // before it alone; one of no account is answered from itself alone.
     ensures answers { IfOk result (λ ran.
         AreAnswers config.now boot [] steps.now ran.answers.items) }
     ensures count { IfOk result (λ ran. length ran.answers.items ≡ length steps.now) }
     // Books that began new give the same answers.
     ensures by_books { IfOk result (λ ran.
         AreAnswersByBooks config.now boot [] steps.now ran.answers.items) }
-    // There is a shard for each number, whose journal has the moves of the steps that were taken:
-    // an account's own events in its shard, a stray in shard 0, a sweep or a tick in the shard that
-    // it names.
+    // There is a shard for each number, whose journal has the moves of the steps that were made: an
+    // account's own events in its shard, a stray in shard 0, a sweep or a tick in the shard that it
+    // names.
     ensures shards { IfOk result (λ ran. AreShards config.now boot
         (steps_taken [] steps.now ran.answers.items) ran.shards.items) }
     // Each account's book is there, and is that of its own events: it holds the places that the
     // session rule finds by looking back over them, and these are at most the account's, as they
-    // were after each of the events before.
+    // were after each earlier event.
     ensures books { IfOk result (λ ran. (account : ℕ) (entry : Entry) →
         slice_get config.now.accounts account ≡ Some entry →
         HasBookOf config.now account entry.rules
         (own config.now boot account (steps_taken [] steps.now ran.answers.items))
         ran.shards.items) }
 {
-    // What books answer and hold is what looking back finds.
+    // Books answer and hold what looking back finds.
     books_answer_as_looking_back();
     shards_obey_the_rule();
     let mut shards = new_shards(alloc, config)?;
@@ -59,7 +59,7 @@ pub fn run(alloc: Global, config: &Config, boot: u64, steps: &[Step]) -> Result<
     Ok(Ran { answers, shards })
 }
 
-/// The shards of a configuration, none of which has made a move.
+/// New shards for a configuration.
 fn new_shards(alloc: Global, config: &Config) -> Result<Vec<Shard>, NoMemory>
     ensures new { IfOk result (λ shards. (boot : ℕ) → AreShards config.now boot [] shards.items) }
     ensures limits { IfOk result (λ _. IsConfiguration config.now) }
@@ -131,12 +131,12 @@ fn take_datagram(
         return Answer::Refused;
     };
     let mut octets = reply_to(&packet, client, kind, config, boot, decision, draft);
-    // The step is made: where a smaller room is refused, the octets stay in theirs.
+    // The step is made: if a smaller buffer is refused, the octets stay in theirs.
     octets.shrink_to_fit();
     Answer::Reply(kind.said(decision), ReplyOctets::from(octets))
 }
 
-/// Sweeps a shard, if it is there.
+/// Sweeps a shard, if there is one of this number.
 fn take_sweep(alloc: Global, shards: &mut [Shard], shard: u32, moment: u64, nas: &Nas) -> Answer
     requires { HaveShardsRoom shards.old }
     ensures { IsQuietAt result shard (moves.Sweep moment nas.now) shards.old shards.new }
@@ -147,7 +147,7 @@ fn take_sweep(alloc: Global, shards: &mut [Shard], shard: u32, moment: u64, nas:
     move_if_there(alloc, shards, shard, Move::Sweep { moment, nas })
 }
 
-/// Ticks a shard, if it is there.
+/// Ticks a shard, if there is one of this number.
 fn take_tick(alloc: Global, shards: &mut [Shard], shard: u32, moment: u64) -> Answer
     requires { HaveShardsRoom shards.old }
     ensures { IsQuietAt result shard (moves.Tick moment) shards.old shards.new }
@@ -155,7 +155,7 @@ fn take_tick(alloc: Global, shards: &mut [Shard], shard: u32, moment: u64) -> An
     move_if_there(alloc, shards, shard, Move::Tick { moment })
 }
 
-/// Makes a move in a shard, if it is there, that every shard takes.
+/// Makes a move in a shard, if there is one of this number.
 fn move_if_there(alloc: Global, shards: &mut [Shard], shard: u32, moved: Move) -> Answer
     requires room { HaveShardsRoom shards.old }
     requires each { (setup : Setup) → IsTaken setup moved }
@@ -170,7 +170,7 @@ fn move_if_there(alloc: Global, shards: &mut [Shard], shard: u32, moved: Move) -
     }
 }
 
-/// What a datagram without a meaning is answered: that memory was refused, as a refused step.
+/// The answer to a datagram without a meaning: if memory was refused, that of a refused step.
 fn answer_to_drop(dropped: Dropped) -> Answer
     ensures { result ≡ answer_to_drop dropped }
 {

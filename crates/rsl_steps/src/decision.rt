@@ -10,9 +10,8 @@ use rsl_shard::{Move, Moves, Shard};
 use rsl_wire::NoMemory;
 use std::alloc::Global;
 
-/// Makes the moves of what came at a moment, and gives what was decided on it. A restart's datagram
-/// moves no shard: its sweeps stand beside it as steps. Where memory is refused nothing has
-/// changed.
+/// Makes the moves of a meaning at a moment, and gives the decision. A restart's datagram moves no
+/// shard: its sweeps are separate steps. If memory is refused, nothing has changed.
 pub(crate) fn decide(
     alloc: Global,
     config: &Config,

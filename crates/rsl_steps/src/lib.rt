@@ -2,8 +2,8 @@
 //!
 //! `run` steps the books of shards (`rsl_shard`). Each account is answered from its own packets and
 //! its shard's sweeps and ticks alone: `specs/Own.antt` says which these are, `specs/Run.antt` what
-//! is answered by looking back over them, `specs/Books.antt` what books that began new answer, and
-//! `specs/Ran.antt` what the shards are then.
+//! is answered by looking back over them, `specs/Books.antt` what new books answer, and
+//! `specs/Ran.antt` what the shards are afterwards.
 #![tactic(auto)]
 
 mod answers;

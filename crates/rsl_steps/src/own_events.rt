@@ -8,9 +8,9 @@ use rsl_event::{Act, Dropped, Event, Meaning, Port, Source, prepare};
 use rsl_wire::NoMemory;
 use std::alloc::Global;
 
-/// An account's own events among steps, in their order: the account's own packets, and the sweeps
-/// and the ticks of its shard. A restart's datagram and a stray are in no account's. It fails only
-/// where memory is refused.
+/// An account's own events among steps, in order: the account's own packets, and the sweeps and
+/// ticks of its shard. A restart's datagram and a stray belong to no account. It fails only if
+/// memory is refused.
 #[tactic(auto, using(crate::proofs::OwnSteps::own_steps))]
 pub fn own(
     alloc: Global,
@@ -31,7 +31,7 @@ pub fn own(
     Ok(events)
 }
 
-/// What a step is to an account.
+/// The event of a step for an account, if any.
 fn event_of(
     alloc: Global,
     config: &Config,
@@ -73,7 +73,7 @@ fn event_of(
     }
 }
 
-/// What a datagram is to an account.
+/// The event of a datagram for an account, if any.
 fn event_in(
     alloc: Global,
     config: &Config,
@@ -94,7 +94,7 @@ fn event_in(
     }
 }
 
-/// What a meaning is to an account.
+/// The event of a meaning for an account, if any.
 fn own_event(
     alloc: Global,
     account: u32,

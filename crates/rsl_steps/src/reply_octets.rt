@@ -4,8 +4,8 @@ ghost use Rattle.std.specs.Cmp.Lexicographic.{pointwise, nat_list_eq_equiv};
 
 use std::marker::Model;
 
-/// The octets of a reply, in the room in which they were written: that they are an answer takes no
-/// memory. A contract sees the list of the octets.
+/// The octets of a reply, in the buffer in which they were written. A contract sees the list of the
+/// octets.
 #[derive(Drop)]
 pub struct ReplyOctets {
     octets: Vec<u8>,
@@ -20,7 +20,7 @@ impl Model for ReplyOctets {
 }
 
 impl ReplyOctets {
-    /// The octets, lent.
+    /// The octets as a slice.
     pub fn as_slice(&self) -> &[u8]
         ensures { result.now ≡ self.now }
     {
@@ -31,7 +31,7 @@ impl ReplyOctets {
 impl From<Vec<u8>> for ReplyOctets {
     ghost from_gives = { λ octets made. made ≡ octets.items };
 
-    /// The octets of a `Vec`. This takes no memory.
+    /// The octets of a `Vec`. It allocates nothing.
     fn from(octets: Vec<u8>) -> ReplyOctets {
         ReplyOctets { octets }
     }

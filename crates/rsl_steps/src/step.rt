@@ -19,7 +19,7 @@ pub enum Step {
     },
     /// An access server has restarted, for the accounts of one shard.
     Sweep {
-        /// The number of the shard; one that is not there is no shard of any account.
+        /// The number of the shard; any other number is no account's.
         shard: u32,
         /// The moment, in seconds.
         moment: u64,
@@ -28,31 +28,31 @@ pub enum Step {
     },
     /// Time has passed, for the accounts of one shard.
     Tick {
-        /// The number of the shard; one that is not there is no shard of any account.
+        /// The number of the shard; any other number is no account's.
         shard: u32,
         /// The moment, in seconds.
         moment: u64,
     },
 }
 
-/// What a step is answered.
+/// The answer to a step.
 #[derive(PartialEq, Eq, Drop)]
 pub enum Answer {
-    /// A reply: its word, and its octets.
+    /// A reply: the answer in a word, and its octets.
     Reply(Said, ReplyOctets),
-    /// The datagram was dropped. It is never `Dropped::NoMemory`, which is given as `Refused`.
+    /// The datagram was dropped. It is never `Dropped::NoMemory`, which becomes `Refused`.
     Dropped(Dropped),
-    /// A sweep or a tick was taken: there is nothing to answer.
+    /// A sweep or a tick was made; there is nothing to answer.
     Quiet,
-    /// Memory was refused: the step changed nothing, and nothing was answered.
+    /// Memory was refused: the step changed nothing and has no answer.
     Refused,
 }
 
-/// What a run has answered, and what has become of the shards.
+/// The answers of a run, and its shards.
 #[derive(Drop)]
 pub struct Ran {
-    /// One answer for each step, in order.
+    /// The answer to each step, in order.
     pub answers: Vec<Answer>,
-    /// The shards after the steps that were taken, in the order of their numbers.
+    /// The shards after the steps, in the order of their numbers.
     pub shards: Vec<Shard>,
 }
