@@ -75,7 +75,7 @@ fn lacks(config: &Config, network: &Network) -> bool
 }
 
 /// `UnsignedClient` of the first network of a server's file whose client need not sign, under the
-/// guard of version 3 of the account file: any host of the network could send requests for it.
+/// guard of version 3 of the account file: any host of the network could pose as it.
 #[tactic(auto, unfolding(crate::specs::Server::unsigned_client))]
 pub fn unsigned_client(networks: &[Network], config: &Config) -> Option<ServerFault>
     ensures { result ≡ unsigned_client networks.now config.now }

@@ -83,7 +83,7 @@ fn command_with(alloc: Global, word: &[u8], words: &[u8]) -> Result<Option<Comma
     }
 }
 
-/// The command `status` with flags.
+/// The command `status` with flags after it.
 fn status_with(flags: &[u8]) -> Option<Command>
     ensures { result ≡ status_with flags.now }
 {
@@ -94,7 +94,7 @@ fn status_with(flags: &[u8]) -> Option<Command>
     }
 }
 
-/// The command `accounts` with flags.
+/// The command `accounts` with flags after it.
 fn accounts_with(flags: &[u8]) -> Option<Command>
     ensures { result ≡ accounts_with flags.now }
 {
@@ -113,7 +113,7 @@ fn accounts_with(flags: &[u8]) -> Option<Command>
     }
 }
 
-/// The command `sessions` with words.
+/// The command `sessions` with the words after it.
 fn sessions_with(alloc: Global, words: &[u8]) -> Result<Option<Command>, NoMemory>
     ensures { IfOk result (λ command. command ≡ sessions_with words.now) }
 {

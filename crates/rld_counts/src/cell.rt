@@ -57,7 +57,7 @@ impl Cell {
     }
 
     /// Begins to count by client again, since client numbers mean other clients from now on. The
-    /// total counts and the times go on; the earlier counts of each client are lost.
+    /// total counts and the times go on; earlier datagrams then belong to no client.
     pub fn renew(&mut self, clients: ClientCounts)
         ensures anew { (all : List OneEnded) → HasCounted all self.old →
             HasCounted (without_clients all) self.new }

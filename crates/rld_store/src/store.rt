@@ -375,7 +375,7 @@ impl<L: Log> Store<L> {
             (StandsFor config opening self.new.counts L.tears self.new.end (L.seen self.new.log) (L.may_leave self.new.log)
             self.new.whole self.new.books history []) }
 
-        // At a crash at any call the two logs together do.
+        // After a crash at any call the two logs together stand for it.
         ensures crash { IfErr result (λ refused. IsTrue (L.tells refused.log) → IsTrue (L.tells self.new.log) →
             Only (L.seen next) (L.may_leave next) → L.seen next ≡ [] →
             (config : Configuration) (opening : List BooksSeen) (history unanswered : List OneMove) →

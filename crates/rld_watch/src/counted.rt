@@ -41,8 +41,8 @@ impl Counted {
         self.cell.counts()
     }
 
-    /// Begins to count by client again. The total counts and the times go on; the earlier counts of
-    /// each client are lost.
+    /// Begins to count by client again. The total counts and the times go on; earlier datagrams
+    /// then belong to no client.
     #[tactic(auto, using(crate::proofs::Counting::counting))]
     pub(crate) fn renew(&mut self, clients: ClientCounts)
         ensures anew { (all : List OneEnded) → HasCounted all self.old.cell →
