@@ -1,9 +1,9 @@
-//! The program `account_file`: `account_file FILE..` reads account files and says on standard
+//! The program `account_file`: `account_file FILE..` reads account files and writes to standard
 //! output, in a line for each, what is in it or what is wrong with it; `-` is standard input.
-//! Without a FILE it reads standard input alone, and says on standard error what is wrong.
+//! Without a FILE it reads standard input alone, and writes what is wrong to standard error.
 //!
-//! It tries a file before a server is started with it; `bench/accounts` times with it how reading
-//! grows. What is right and what is wrong is the business of `Config::read_file`.
+//! It checks a file before a server is started with it; `bench/accounts` measures with it how the
+//! time of reading grows. `Config::read_file` says what is right and what is wrong.
 #![tactic(auto)]
 
 mod trial;
@@ -33,8 +33,8 @@ fn main(rt: HostRuntime) -> ExitCode {
     }
 }
 
-/// Tries each file and says what it found, in a line. The number is the greatest of their exit
-/// statuses; there is none where there is no file.
+/// Tries each file and writes the result in a line. The number is the greatest exit status, or
+/// `None` if there is no file.
 fn trials(rt: &HostRuntime, files: Args<Global>) -> io::Result<Option<u8>> {
     let mut greatest = None;
     for file in files {
@@ -70,7 +70,7 @@ fn stdin_tried(rt: &HostRuntime) -> ExitCode {
     }
 }
 
-/// Says on standard error what is wrong, and gives its status.
+/// Writes to standard error what is wrong, and gives the exit status.
 fn refused(rt: &HostRuntime, fault: FileFault) -> ExitCode {
     let _ = eprintln!(rt; "{fault}");
     ExitCode::from(status(fault).number())

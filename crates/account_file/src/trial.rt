@@ -8,7 +8,7 @@ use std::fmt;
 use std::fs::Files;
 use std::io::Read;
 
-/// What is in a file.
+/// The numbers of what is in a file.
 #[derive(Clone, Copy, Debug)]
 pub(crate) struct Counts {
     clients: u32,
@@ -16,7 +16,7 @@ pub(crate) struct Counts {
 }
 
 impl Counts {
-    /// What is in a configuration.
+    /// The numbers of what is in a configuration.
     fn of(config: &Config) -> Counts
         ensures { result ≡ counts_in config.now }
     {
@@ -38,7 +38,7 @@ impl fmt::Display for Counts {
     }
 }
 
-/// What is in the file of that name, or what is wrong with it.
+/// What is in the file of this name, or what is wrong with it.
 pub(crate) fn trial_of_file<F: Files>(
     files: &F,
     alloc: Global,
@@ -48,7 +48,7 @@ pub(crate) fn trial_of_file<F: Files>(
     Ok(Counts::of(&config))
 }
 
-/// What is in the file that a reader gives, or what is wrong with it.
+/// What is in the file from a reader, or what is wrong with it.
 #[tactic(auto, using(crate::proofs::FilesRead::counted))]
 pub(crate) fn trial<R: Read + Drop>(alloc: Global, reader: R) -> Result<Counts, FileFault>
     ensures { IfSome (R.remaining reader) (λ text. IsTrial text result) }
@@ -57,7 +57,7 @@ pub(crate) fn trial<R: Read + Drop>(alloc: Global, reader: R) -> Result<Counts, 
     Ok(Counts::of(&config))
 }
 
-/// The status of a process that found this fault.
+/// The exit status for this fault.
 pub(crate) fn status(fault: FileFault) -> ExitStatus
     ensures { result ≡ status_of fault }
 {

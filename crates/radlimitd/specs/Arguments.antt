@@ -23,8 +23,8 @@ topic_of word =
     else if bytes_eq word (codes "rebase") then Some topics.Rebase
     else None
 
--- how many words a command takes: the name of a file or a folder, or of several files; flags before it, or those of a
--- session, as one or more
+-- how many words a command takes: the name of a file or a folder, or of several files; flags before
+-- it, or those of a session, as one or more
 abbrev pub takes : Topic → (words : ℕ) → Bool
 takes topics.Lines words = nat_le 1 words
 takes topics.Sessions words = words == 2 || words == 3

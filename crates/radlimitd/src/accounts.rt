@@ -1,4 +1,4 @@
-//! The accounts of a server that runs, which are read anew.
+//! Reading the accounts of a running server again.
 
 use crate::fault::Fault;
 use crate::files::accounts_for;
@@ -10,11 +10,11 @@ use std::alloc::Global;
 /// The account file of a server.
 #[derive(Clone, Copy)]
 pub(crate) struct ServerAccounts<'a> {
-    /// The system. A thread may be handed no other handle of files.
+    /// The system. A thread can be given no other handle to files.
     pub(crate) files: &'a HostRuntime,
     /// The name of the server's file.
     pub(crate) name: &'a str,
-    /// What it says.
+    /// The contents of the server's file.
     pub(crate) server: &'a ServerFile,
     /// The path of the account file.
     pub(crate) path: &'a str,

@@ -11,18 +11,17 @@ use std::net::Net;
 use std::os::unix::net::UnixStream;
 use std::time::Duration;
 
-/// How long the server may keep silent, in seconds.
+/// How long the server may stay silent, in seconds.
 const SILENCE_SECS: u64 = 5;
 
 /// The most octets of an answer.
 const ANSWER_LEN: u64 = 16_777_216;
 
-/// Asks the running server of the file that the last word names what the others say, and writes the
-/// lines that it answers.
+/// Sends the other words as a line to the running server of the file that the last word names, and
+/// writes the lines of its answer.
 ///
-/// `Usage` comes where they say nothing that a server can be asked by this command, before anything is read.
-/// `Silent` comes where no server answers whole at the control that the file says, and `Refused` with
-/// what the server says instead.
+/// `Usage` comes if they are no such command, before anything is read. `Silent` comes if no server
+/// answers in full on the control socket of the file, and `Refused` with the server's reason.
 pub(crate) fn ask<R: Files + Net, W: Write>(
     rt: &R,
     alloc: Global,
@@ -58,7 +57,7 @@ pub(crate) fn ask<R: Files + Net, W: Write>(
     }
 }
 
-/// The fault of a control at which no server answers.
+/// The fault of a control socket at which no server answers.
 fn silent(alloc: Global, path: &str) -> Result<(), Fault> {
     Err(Fault::Silent(String::from_str(alloc, path)?))
 }
@@ -75,7 +74,7 @@ fn line_of(alloc: Global, words: &[String]) -> Result<String, Fault> {
     Ok(line)
 }
 
-/// All that a server answers to a line, at the control of this path.
+/// The whole answer of a server to a line, on the control socket of this path.
 fn answer_to<R: Net>(rt: &R, alloc: Global, path: &str, line: &str) -> io::Result<Vec<u8>> {
     let stream = UnixStream::connect(rt, path)?;
     stream.set_read_timeout(Some(Duration::from_secs(SILENCE_SECS)))?;

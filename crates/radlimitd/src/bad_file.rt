@@ -10,13 +10,13 @@ pub(crate) enum Wrong {
     /// The file is not there, or a read of it failed.
     #[error("unreadable")]
     Unreadable,
-    /// It has not the name of a log.
+    /// Its name is not that of a log.
     #[error("no log by its name")]
     NoLog,
     /// Everybody can write to an account file.
     #[error("others may write to it")]
     Writable,
-    /// Everybody can read an account file, and the operator does not allow that.
+    /// Everybody can read an account file, but the operator does not allow that.
     #[error("others may read it")]
     Readable,
     /// It has more octets than it may have.
@@ -30,8 +30,8 @@ pub(crate) enum Wrong {
     Accounts(ConfigFault),
 }
 
-/// A file that is wrong. It prints as its name, the place where it stops being TOML if that is the
-/// fault, and what is wrong with it: `radlimitd.toml:3:9: bad file: NotToml`.
+/// A file that is wrong. It prints as its name, the position where it stops being TOML if that is
+/// the fault, and what is wrong with it: `radlimitd.toml:3:9: bad file: NotToml`.
 #[derive(Debug, Drop)]
 pub(crate) struct BadFile {
     /// The name of the file.
@@ -58,6 +58,6 @@ impl fmt::Display for BadFile {
 pub(crate) struct BadLog {
     /// The name of the file.
     pub(crate) name: String,
-    /// What is wrong with it, and where.
+    /// The cause and the offset of its damage.
     pub(crate) wrong: start::Wrong,
 }

@@ -6,8 +6,8 @@ use std::alloc::Global;
 use std::fs::Files;
 use std::io::Write;
 
-/// Checks a server's file, and the account file that it names. Where both are right it writes `ok`,
-/// and what the operator should know of them, a line each; else nothing.
+/// Checks a server's file, and the account file that it names. If both are right, it writes `ok`
+/// and a line for each remark on them; else nothing.
 pub(crate) fn check<F: Files, W: Write>(
     files: &F,
     alloc: Global,
@@ -31,8 +31,8 @@ pub(crate) fn check<F: Files, W: Write>(
     Ok(writer.flush()?)
 }
 
-/// Writes in how many accounts the live time is under two of the intervals that accepts ask for,
-/// and the first of them; nothing where there is none.
+/// Writes the number of accounts whose live time is under two of their interim intervals, and the
+/// first of them; nothing if there is none.
 fn tell_short_lives<W: Write>(config: &Config, writer: &mut W) -> Result<(), Fault> {
     if let Some(first) = config.first_short_live() {
         let name = config.entry(first).name.as_str();

@@ -13,16 +13,16 @@ ghost use Rattle.radlimitd.specs.Arguments.{
 use crate::topic::Topic;
 use std::fmt;
 
-/// What the program is asked to do.
+/// A request to the program.
 #[derive(Clone, Copy, Debug)]
 pub(crate) enum Command {
-    /// To do this, by the words after its name.
+    /// Do this, with the words after its name.
     Do(Topic),
-    /// To print how this goes, what it prints, and its exit statuses.
+    /// Print the usage of this, what it prints, and its exit statuses.
     HelpOn(Topic),
-    /// To print what it can be asked.
+    /// Print the commands.
     Help,
-    /// To print its version.
+    /// Print the version.
     Version,
 }
 
@@ -31,18 +31,18 @@ pub(crate) enum Command {
 pub(crate) enum Misuse {
     /// One is not UTF-8.
     NotUtf8,
-    /// There is none.
+    /// There is no argument.
     NoCommand,
     /// No command has this name.
     UnknownCommand,
-    /// It is not given as many words as it takes.
+    /// It has too many or too few words.
     Words(Topic),
-    /// The words of `free` name no session, that of `sessions` no account, or a flag is none that it takes.
+    /// The words of `free` name no session, that of `sessions` no account, or a flag is unknown.
     Unreadable(Topic),
 }
 
 impl fmt::Display for Misuse {
-    /// Writes what is wrong, and how the command goes.
+    /// Writes what is wrong, and the usage of the command.
     fn fmt<W: fmt::Write>(&self, f: &mut fmt::Formatter<W>) -> fmt::Result {
         match self {
             Misuse::NotUtf8 => f.write_str("an argument is not UTF-8"),
@@ -59,7 +59,7 @@ impl fmt::Display for Misuse {
 }
 
 impl Command {
-    /// What the words after the name of the program ask for.
+    /// The request of the words after the name of the program.
     pub(crate) fn of_words(words: &[String]) -> Result<Command, Misuse>
         ensures { result ≡ command_of (map string_bytes words.now) }
     {
@@ -76,7 +76,7 @@ impl Command {
         Command::about(word, rest)
     }
 
-    /// What is asked for by a word for help, with others after it: help on the command of the next, or on all.
+    /// The request of a word for help, with others after it: help on the next command, or on all.
     fn help_on(words: &[String]) -> Result<Command, Misuse>
         ensures { result ≡ help_on (map string_bytes words.now) }
     {
@@ -89,7 +89,7 @@ impl Command {
         }
     }
 
-    /// What is asked for by the name of a command, with others after it.
+    /// The request of the name of a command, with others after it.
     fn about(word: &str, words: &[String]) -> Result<Command, Misuse>
         ensures { result ≡ about word.now (map string_bytes words.now) }
     {
@@ -99,7 +99,7 @@ impl Command {
         }
     }
 
-    /// That command, by the words after its name, or help on it.
+    /// The request of a command, with the words after its name, or for help on it.
     fn to_do(topic: Topic, words: &[String]) -> Result<Command, Misuse>
         ensures { result ≡ to_do topic (map string_bytes words.now) }
     {
@@ -113,7 +113,7 @@ impl Command {
     }
 }
 
-/// Whether the one word after the name of a command asks for help on it.
+/// Whether the only word after the name of a command asks for help on it.
 fn asks_for_help(words: &[String]) -> bool
     ensures { result ≡ asks_for_help (map string_bytes words.now) }
 {

@@ -28,19 +28,19 @@ pub(crate) enum Fault {
     /// The server has not started its threads and sockets, or could not go on.
     #[error("{0}")]
     Run(RunFault),
-    /// The control's socket cannot be made there.
+    /// The control socket cannot be made at this path.
     #[error("{0}: cannot be bound")]
     Control(String),
-    /// No server answers at the control of this path.
+    /// No server answers on the control socket of this path.
     #[error("{0}: no server answers")]
     Silent(String),
-    /// A file that was to be written new is there already.
+    /// A file that was to be created exists.
     #[error("{0}: is there already, and nothing is written over")]
     Taken(String),
     /// A new file cannot be written.
     #[error("{0}: cannot be written")]
     Unwritten(String),
-    /// The server does not do what it was asked.
+    /// The server does not do the request.
     #[error("{0}")]
     Refused(String),
     /// A write failed, or the clock could not be read.
@@ -54,7 +54,7 @@ pub(crate) enum Fault {
 impl Fault {
     ghost use Rattle.radlimitd.specs.Status.{fault_status};
 
-    /// The status with which the process ends.
+    /// The exit status of the process.
     pub(crate) fn status(&self) -> EndStatus
         ensures { result ≡ fault_status self.now }
     {

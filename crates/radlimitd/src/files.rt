@@ -1,7 +1,7 @@
 //! The files that a server is started with: its own, and the account file that it names.
 //!
-//! What a file of the system gives stands in no clause; what its text says is the business of
-//! `ServerFile::read` and `Config::read`.
+//! No clause speaks of what the system's files give; `ServerFile::read` and `Config::read` read
+//! their texts.
 
 use crate::bad_file::{BadFile, Wrong};
 use crate::fault::Fault;
@@ -17,16 +17,16 @@ use std::os::unix::fs::PermissionsExt;
 /// The most octets of a server's file or an account file.
 const MAX_FILE_LEN: u32 = 16_777_216;
 
-/// An account file that is right.
+/// A right account file.
 #[derive(Drop)]
 pub(crate) struct AccountFile {
     /// Its configuration.
     pub(crate) config: Config,
-    /// Its mode, as the system gives it.
+    /// Its mode, as the system reports it.
     pub(crate) mode: u32,
 }
 
-/// What the server's file of this name says.
+/// The contents of the server's file of this name.
 pub(crate) fn server_file<F: Files>(
     files: &F,
     alloc: Global,
@@ -44,9 +44,9 @@ pub(crate) fn server_file<F: Files>(
     }
 }
 
-/// What the account file of this path says, and its mode, where it fits the server's file, which has this
-/// name: it has the client of each network, which signs under a guard, no network takes the address of another client, and nobody
-/// else may write to it, nor read it where the server's file does not allow that.
+/// The account file of this path, if it fits the server's file, which has this name: it has the
+/// client of each network, which has to sign under a guard; no network takes the address of another
+/// client; and no other user may write to it, nor read it unless the server's file allows that.
 pub(crate) fn accounts_for<F: Files>(
     files: &F,
     alloc: Global,
@@ -72,7 +72,7 @@ pub(crate) fn accounts_for<F: Files>(
     }
 }
 
-/// What the account file of this name says, and its mode.
+/// The account file of this name.
 pub(crate) fn account_file<F: Files>(
     files: &F,
     alloc: Global,
@@ -107,7 +107,7 @@ fn file_text<F: Files>(files: &F, alloc: Global, name: &str) -> Result<Vec<u8>, 
     }
 }
 
-/// The fault of a file that is wrong.
+/// The fault of a wrong file.
 pub(crate) fn bad_file<T>(
     alloc: Global,
     name: &str,

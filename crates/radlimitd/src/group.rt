@@ -1,4 +1,4 @@
-//! The number of a group, as the system's file of groups has it (group(5)).
+//! The number of a group, from the system's file of groups (group(5)).
 
 use crate::fault::Fault;
 use rsl_accounts::{TextFault, read_file};
@@ -9,10 +9,10 @@ use std::str;
 /// The system's file of groups.
 const GROUPS: &str = "/etc/group";
 
-/// The most octets of it.
+/// The most octets of the file.
 const MAX_LEN: u32 = 16_777_216;
 
-/// The number of the group of this name: `None` where the file has none, or cannot be read.
+/// The number of the group of this name, or `None` if the file has none, or cannot be read.
 pub(crate) fn group_number<F: Files>(
     files: &F,
     alloc: Global,
@@ -37,7 +37,7 @@ fn number_in(text: &[u8], name: &str) -> Option<u32> {
     None
 }
 
-/// The number that a line gives the group of this name: `name:password:number:members`.
+/// The number of the group of this name on a line: `name:password:number:members`.
 fn number_of(line: &str, name: &str) -> Option<u32> {
     let mut fields = line.split(':');
     if fields.next()? != name {

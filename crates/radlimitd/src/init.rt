@@ -6,19 +6,19 @@ use std::fs::{self, DirBuilder, File, Files, OpenOptions};
 use std::io::{self, ErrorKind, Read, Write};
 use std::os::unix::fs::{DirBuilderExt, OpenOptionsExt};
 
-/// The modes of a folder and of a file that are for their owner alone.
+/// The modes of a folder and of a file for their owner alone.
 const FOLDER_MODE: u32 = 0o700;
 
 const FILE_MODE: u32 = 0o600;
 
-/// Where the system gives random octets.
+/// The system's source of random octets.
 const RANDOM: &str = "/dev/urandom";
 
-/// How many random octets a secret has: twice as many hexadecimal digits.
+/// The random octets of a secret, which is twice as many hexadecimal digits.
 const SECRET_LEN: usize = 16;
 
-/// Writes the files of a new server into a folder, which is made where it is not there, and says how to go
-/// on. `Taken` comes where one of the files is there already, and `Unwritten` where one cannot be written:
+/// Writes the files of a new server into a folder, which is made if it is missing, and prints the
+/// next steps. `Taken` comes if one of the files exists, and `Unwritten` if one cannot be written:
 /// then no new file is left.
 pub(crate) fn init<F: Files<File = File>, W: Write>(
     files: &F,
@@ -43,7 +43,7 @@ pub(crate) fn init<F: Files<File = File>, W: Write>(
     Ok(writer.flush()?)
 }
 
-/// Makes a folder where it is not there.
+/// Makes a folder if it is missing.
 fn make_folder<F: Files>(files: &F, alloc: Global, path: &str) -> Result<(), Fault> {
     match DirBuilder::new().mode(FOLDER_MODE).create(files, path) {
         Ok(()) => Ok(()),
@@ -64,7 +64,7 @@ fn secret<F: Files<File = File>>(files: &F, alloc: Global) -> Result<String, Fau
     Ok(secret)
 }
 
-/// Writes a file that is not there yet. Where it cannot be written whole, it is not left.
+/// Writes a new file. If it cannot be written whole, it is removed.
 fn write_new<F: Files<File = File>>(
     files: &F,
     alloc: Global,
@@ -147,7 +147,7 @@ keep_secs = 15         # a request that is sent again gets its answer again for 
 address = "127.0.0.1"                         # its IPv4 address, as packets from it have it
 secret = ""#;
 
-/// What stands after the secret.
+/// The account file after the secret.
 const ACCOUNTS_END: &str = r#""  # what it shares with this server, at random
 signed = true                                 # its requests must have a right Message-Authenticator
 

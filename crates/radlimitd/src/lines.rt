@@ -11,13 +11,13 @@ use std::fs::{self, Files};
 use std::io::Write;
 use std::path::{Path, PathBuf};
 
-/// Prints each move of these logs with its decision, a line each: those of the first file, then those
-/// of the next. Of each file that ends in a torn end it says so on standard error, with its length.
+/// Prints each move of these logs with its decision, a line each: those of the first file, then
+/// those of the next. For each file with a torn end it writes its length to standard error.
 ///
-/// Beside a log stands its era's file, or, of a log in the archive, in the folder above. A file that
-/// has another name than a log, or cannot be read, is a `BadFile`. One that is damaged is a `BadLog`:
-/// with the first place that is wrong. The lines of the files before it are printed, and of itself
-/// those of the batches before that place.
+/// The era's file is beside a log, or, for a log in the archive, in the folder above. A file whose
+/// name is not that of a log, or that cannot be read, is a `BadFile`. A damaged one is a `BadLog`,
+/// with the first wrong offset. The lines of the files before it are printed, and its own of the
+/// batches before that offset.
 pub(crate) fn lines<F: Files, W: Write, S: Write>(
     files: &F,
     alloc: Global,
@@ -61,7 +61,7 @@ fn lines_of<F: Files, W: Write, S: Write>(
     }
 }
 
-/// The generation that a file has the name of.
+/// The generation of a file's name.
 fn generation_of(alloc: Global, name: &str) -> Result<Generation, Fault> {
     if let Some(last) = Path::new(name).file_name() {
         if let Some(FileName::Log(generation)) = FileName::read(alloc, last)? {
@@ -71,8 +71,8 @@ fn generation_of(alloc: Global, name: &str) -> Result<Generation, Fault> {
     bad_file(alloc, name, Wrong::NoLog)
 }
 
-/// The path of the era's file of a log: beside it, or in the folder above where that is there and the one
-/// beside it is not.
+/// The path of the era's file of a log: beside it, or in the folder above if it is there and not
+/// beside the log.
 fn era_beside<F: Files>(files: &F, alloc: Global, name: &str, era: u64) -> Result<PathBuf, Fault> {
     let file = FileName::Era(era).text(alloc)?;
     let beside = Path::new(name).with_file_name(alloc, file.as_str())?;
@@ -97,7 +97,7 @@ fn octets_of<F: Files>(files: &F, alloc: Global, name: &str) -> Result<Vec<u8>, 
     }
 }
 
-/// The fault of a file that is wrong.
+/// The fault of a wrong file.
 fn bad_file<T>(alloc: Global, name: &str, wrong: Wrong) -> Result<T, Fault> {
     Err(Fault::BadFile(BadFile {
         name: String::from_str(alloc, name)?,
@@ -106,7 +106,7 @@ fn bad_file<T>(alloc: Global, name: &str, wrong: Wrong) -> Result<T, Fault> {
     }))
 }
 
-/// The fault of a file of the folder that is damaged.
+/// The fault of a damaged file of the folder.
 fn bad_log<T>(alloc: Global, name: &str, wrong: start::Wrong) -> Result<T, Fault> {
     Err(Fault::BadLog(BadLog {
         name: String::from_str(alloc, name)?,

@@ -1,8 +1,8 @@
-//! The program `radlimitd`: the server that an operator keeps. `radlimitd run FILE` is the server,
-//! `radlimitd init FOLDER` writes the files for one,
-//! `radlimitd check FILE` says what is wrong with its file, or with the account file that it names,
-//! `radlimitd lines FILE..` prints the moves of logs of a state folder, and `radlimitd rebase FILE` cuts
-//! its books to the present, where a clock that was ahead has led them past it.
+//! The program `radlimitd`, the operator's server. `radlimitd run FILE` is the server, `radlimitd
+//! init FOLDER` writes the files for one, `radlimitd check FILE` says what is wrong with its file,
+//! or with the account file that it names, `radlimitd lines FILE..` prints the moves of logs of a
+//! state folder, and `radlimitd rebase FILE` cuts its books to the present, if a clock that was
+//! ahead has led them past it.
 //!
 //! This crate has the edges of the process: its arguments, its files, what it prints and the exit
 //! status, which is that of the fault (`exit_code`).
@@ -49,7 +49,7 @@ use topic::Topic;
 /// The version of the program.
 pub(crate) const VERSION: &str = "0.2.0";
 
-/// What the program can be asked.
+/// The commands of the program.
 const HELP: &str = "\
 radlimitd keeps how many sessions each account has, and answers RADIUS by it.
 
@@ -83,7 +83,7 @@ fn main(rt: HostRuntime) -> ExitCode {
     exit_code(&mut rt.stderr(), outcome)
 }
 
-/// Does what the arguments ask for, and writes what it gives.
+/// Does what the arguments ask for, and writes the result.
 fn work<R, W: Write, S: Write>(
     rt: &R,
     files: &HostRuntime,

@@ -7,7 +7,7 @@ use rsl_wire::NoMemory;
 use std::alloc::Global;
 use std::env::{self, Env};
 
-/// The variable of the environment by which the one who starts the program says that it is proved.
+/// The environment variable by which whoever starts the program says that it is proved.
 const VARIABLE: &str = "RADLIMITD_PROVED";
 
 /// Whether this program is proved, as far as its environment says so.
@@ -21,8 +21,8 @@ pub(crate) fn proof_in<R: Env + Alloc<A = Global>>(
     }
 }
 
-/// What a value of that variable says: the name of a commit as 40 hexadecimal digits, or `uncommitted`.
-/// Any other says nothing.
+/// The proof of a value of that variable: the name of a commit as 40 hexadecimal digits, or
+/// `uncommitted`. Any other says nothing.
 fn proof_of(alloc: Global, text: &[u8]) -> Result<Proof, NoMemory>
     ensures { IfOk result (λ proof. proof ≡ proof_of text.now) }
 {
@@ -36,7 +36,7 @@ fn proof_of(alloc: Global, text: &[u8]) -> Result<Proof, NoMemory>
     }
 }
 
-/// The commit whose name has these octets: there are 20.
+/// The commit whose name has these 20 octets.
 fn commit_of(octets: &[u8]) -> Proof
     ensures { result ≡ commit_of octets.now }
 {

@@ -6,11 +6,11 @@ use std::fs::{File, Files};
 use std::io::Write;
 use std::time::Clock;
 
-/// Begins a new era in the state folder of a server that does not run, with its books cut to the
-/// present, and writes what was done in one line.
+/// Begins a new era in the state folder of a server that is not running, with its books cut to the
+/// present, and writes a line on it.
 ///
 /// The faults come in this order: the clock, the server's file, the account file; then those of the
-/// folder and its files, as of a start. `Start` with `NoHistory` where the folder has none.
+/// folder and its files, as of a start. `Start` with `NoHistory` comes if the folder has none.
 pub(crate) fn rebase<R, W: Write>(
     rt: &R,
     alloc: Global,

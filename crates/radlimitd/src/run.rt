@@ -29,16 +29,17 @@ use std::time::Clock;
 
 /// Runs the server of this file until it is killed or cannot go on.
 ///
-/// What keeps it from starting comes in this order: the clock, the server's file, the account file,
-/// a network whose client the account file does not have, or that takes another client's address;
-/// `busy`, where another process has the state folder, or what is wrong with the folder itself; a
-/// socket that cannot be bound, those of RADIUS before that of the page; a group that the system does
-/// not know; a control that cannot be made; and last what is wrong with the files of the folder. So
-/// where an address, a port or a path cannot be used nothing has changed in the folder, but that it
+/// What keeps it from starting comes in this order: the clock, the server's file, the account file;
+/// a network whose client is not in the account file, whose client need not sign under a guard, or
+/// that takes another client's address; an account file that others may write to or read; `busy`,
+/// if another process has the state folder, or what is wrong with the folder itself; a socket that
+/// cannot be bound, those of RADIUS before that of the page; a group that the system does not know;
+/// a control socket that cannot be made; and last what is wrong with the files of the folder. So if
+/// an address, a port or a path cannot be used, nothing has changed in the folder, except that it
 /// may be new, with an empty `lock` in it.
 ///
-/// A server that runs reads its files by `files`: a thread may be handed no other handle of files
-/// than the system's own.
+/// A running server reads its files by `files`: a thread can be given no other handle to files than
+/// the system's own.
 pub(crate) fn run<R>(rt: &R, files: &HostRuntime, alloc: Global, name: &str) -> Result<(), Fault>
 where
     R: Env
@@ -119,7 +120,8 @@ where
     )?)
 }
 
-/// What is said at a start: what was found, and a line for each client that need not sign, under a guard.
+/// The message of a start: what was found, and a line for each client that need not sign, under a
+/// guard.
 fn greeting_of(alloc: Global, found: &Found, config: &Config) -> Result<String, Fault> {
     let mut text = found.greeting(alloc)?;
     if let UnsignedRule::Guarded = config.unsigned_rule() {
@@ -134,8 +136,8 @@ fn greeting_of(alloc: Global, found: &Found, config: &Config) -> Result<String, 
     Ok(text)
 }
 
-/// Who may ask over the control's socket, by the server's file of this name. The group's fault comes
-/// where the system knows none of its name.
+/// Who may use the control socket, by the server's file of this name. The group's fault comes if
+/// the system knows no group of its name.
 fn access_of<F: Files>(
     files: &F,
     alloc: Global,
@@ -158,8 +160,8 @@ fn access_of<F: Files>(
     })
 }
 
-/// Where the server is shown, if its file says so. `Unbound` comes where the address and port
-/// cannot be bound.
+/// The page of the server, if its file has one. `Unbound` comes if its address and port cannot be
+/// bound.
 fn web_of<N: Net<Listener = TcpListener, Stream = TcpStream>>(
     net: &N,
     source: &HostRuntime,
@@ -180,8 +182,8 @@ fn web_of<N: Net<Listener = TcpListener, Stream = TcpStream>>(
     }
 }
 
-/// Makes sure that no other process has the state folder, before a socket is bound: the ports of a
-/// server that runs are taken too, and `busy` says more.
+/// Checks that no other process has the state folder, before a socket is bound: the ports of a
+/// running server are taken too, and `busy` says more.
 fn check_free<F: Files<File = File>>(
     files: &F,
     alloc: Global,

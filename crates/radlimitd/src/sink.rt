@@ -7,8 +7,9 @@ use std::os::unix::fs::MetadataExt;
 /// The system's name of this process's standard error.
 const STANDARD_ERROR: &str = "/proc/self/fd/2";
 
-/// Who reads standard error. systemd names the stream that it has opened to its journal by its device
-/// and its inode, in `JOURNAL_STREAM`: where that is another one, or there is none, no journal reads it.
+/// The reader of standard error. systemd names the stream that it has opened to its journal by its
+/// device and its inode, in `JOURNAL_STREAM`: if that is another one, or there is none, no journal
+/// reads it.
 pub(crate) fn sink_of<R>(rt: &R, alloc: Global) -> Result<Sink, AllocError>
 where
     R: Env + Files<File = File> + Alloc<A = Global>,

@@ -3,30 +3,30 @@ ghost use Rattle.radlimitd.specs.Arguments.{takes, topic_of};
 
 use std::fmt;
 
-/// A command that the program does, but for those that print what there is.
+/// A command of the program, except those that print help or the version.
 #[derive(Clone, Copy, Debug)]
 pub(crate) enum Topic {
-    /// To check a server's file.
+    /// Check a server's file.
     Check,
-    /// To write a server's file and an account file.
+    /// Write a server's file and an account file.
     Init,
-    /// To run a server.
+    /// Run a server.
     Run,
-    /// To ask a running server what it is and does.
+    /// Show the status of a running server.
     Status,
-    /// To ask it what its accounts hold.
+    /// Show what its accounts hold.
     Accounts,
-    /// To ask it for the links of an account.
+    /// Show the links of an account.
     Sessions,
-    /// To have it free the place of a session.
+    /// Free the place of a session.
     Free,
-    /// To have it read its accounts anew.
+    /// Make it read its accounts again.
     Reload,
-    /// To end it.
+    /// Stop it.
     Stop,
-    /// To print the moves of logs.
+    /// Print the moves of logs.
     Lines,
-    /// To cut the books of a state folder to the present.
+    /// Cut the books of a state folder to the present.
     Rebase,
 }
 
@@ -51,9 +51,9 @@ impl Topic {
         }
     }
 
-    /// Whether it takes this number of words after its name. The last word is the name of a file, and of
-    /// `init` that of a folder; `lines` takes the names of several files. `free` takes what `sessions` prints
-    /// as one word or as four. Flags are words of their own.
+    /// Whether it takes this number of words after its name. The last word is the name of a file,
+    /// and of `init` that of a folder; `lines` takes the names of several files. `free` takes what
+    /// `sessions` prints as one word or as four. Flags are words of their own.
     pub(crate) fn takes(self, words: usize) -> bool
         ensures { result ≡ takes self words }
     {
@@ -68,7 +68,7 @@ impl Topic {
         }
     }
 
-    /// How it goes.
+    /// Its usage.
     fn usage(self) -> &'static str {
         match self {
             Topic::Check => "radlimitd check FILE",
@@ -85,7 +85,7 @@ impl Topic {
         }
     }
 
-    /// What its words look like that name a session or an account, if there are such.
+    /// The form of its words that name a session or an account, if it has any.
     pub(crate) fn form(self) -> &'static str {
         match self {
             Topic::Free =>
@@ -103,7 +103,7 @@ impl Topic {
         }
     }
 
-    /// What it does and prints, with an example and the statuses that it ends with.
+    /// What it does and prints, with an example and its exit statuses.
     pub(crate) fn help(self) -> &'static str {
         match self {
             Topic::Check => CHECK,
@@ -122,7 +122,7 @@ impl Topic {
 }
 
 impl fmt::Display for Topic {
-    /// Writes how it goes.
+    /// Writes the usage.
     fn fmt<W: fmt::Write>(&self, f: &mut fmt::Formatter<W>) -> fmt::Result {
         f.write_str(self.usage())
     }

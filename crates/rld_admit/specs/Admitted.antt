@@ -1,5 +1,5 @@
--- The books that an era begins with where another one was before it: those of the accounts that are
--- still there by their names, at the clients that are still there by their addresses.
+-- The books with which an era begins after another one, carried over by the names of accounts and
+-- the addresses of clients.
 use Rattle.std.specs.Prelude.{◌≡◌, ℕ, List, map, position, slice_get, Option, Some}
 use Rattle.std.specs.Option.{option_and_then, option_map_or}
 use Rattle.rsl_accounts.specs.Configuration.{same_octets}
@@ -25,13 +25,12 @@ abbrev pub account_with : EraSeen → (name : List ℕ) → Option ℕ
 account_with era name =
     position (λ (account : EraAccount). same_octets name account.name) era.accounts
 
--- the number of a client in the era that follows: that of its address
+-- the number of a client in the next era: that of its address
 abbrev pub next_number : (old new : EraSeen) → Next
 next_number old new client =
     option_and_then (λ (row : EraClient). client_with new row.address) (slice_get old.clients client)
 
--- what an account begins with: what goes on of the book that its name had, and a new book where
--- there was none
+-- what an account begins with: the book of its name, carried over, or a new book if there was none
 abbrev pub admitted_book : (old : EraSeen) → (books : List BooksSeen) → (new : EraSeen)
     → EraAccount → Book
 admitted_book old books new account =
@@ -39,8 +38,8 @@ admitted_book old books new account =
     (λ (ruled : RuledBook). carried_book (next_number old new) account.rules ruled.book)
     (option_and_then (book_in books) (account_with old account.name)) new_book
 
--- The books that a new era begins with are what is admitted of those of the old one: each account's
--- book is, under its own rules.
+-- A new era begins with the books admitted from the old one: each account has such a book, under
+-- its own rules.
 pub record AreAdmitted (old : EraSeen) (books : List BooksSeen) (new : EraSeen)
     (admitted : List BooksSeen) : Type 0 where
   pub each : (number : ℕ) (account : EraAccount) → slice_get new.accounts number ≡ Some account

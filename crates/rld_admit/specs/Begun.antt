@@ -1,5 +1,5 @@
--- What the accounts of a configuration begin with, as the code has it: clients have the numbers of a
--- list, and the books stand shard after shard.
+-- What the accounts of a configuration begin with, as the code has it: clients have the numbers of
+-- a list, and the books come shard after shard.
 use Rattle.std.specs.Prelude.{ℕ, ◌+◌, ◌*◌, List, length, map, slice_get, Option}
 use Rattle.std.specs.List.{flat_map, range_with_len}
 use Rattle.std.specs.Option.{option_and_then, option_map_or}
@@ -19,13 +19,13 @@ begun_book numbers old books entry =
     (λ (ruled : RuledBook). carried_book (number_in numbers) entry.rules ruled.book)
     (option_and_then (book_in books) (account_number old entry.name)) new_book
 
--- what the account of a number does
+-- what the account with a number begins with
 abbrev pub begun_at : List (Option ℕ) → (old : Configuration) → List BooksSeen
     → (new : Configuration) → (account : ℕ) → Book
 begun_at numbers old books new account =
     option_map_or (begun_book numbers old books) (slice_get new.accounts account) new_book
 
--- what those of a shard do, and of every shard
+-- what the accounts of a shard begin with, and of every shard
 abbrev pub begun_in : List (Option ℕ) → (old : Configuration) → List BooksSeen
     → (new : Configuration) → (shard : ℕ) → List Book
 begun_in numbers old books new shard =

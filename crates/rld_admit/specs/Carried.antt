@@ -1,10 +1,10 @@
--- What goes on of a book in the era that follows.
+-- A book carried over into the next era.
 --
--- A client goes on where its address is one of that era too, under the number that the address has
--- there: `next` says which, and of a client that is gone it says none. What a book has of a client
--- that is gone is left out. The links that are left go on, in the order in which they opened, where
--- they find a place under the account's rules there. Nothing else changes: not the clock, the last
--- touches, the accept numbers, nor what was decided.
+-- A client goes on if its address is one of the next era too, under the number that the address has
+-- there: `next` gives that number, and none for a client that is gone. What a book has of a client
+-- that is gone is left out. The other links go on, in the order in which they opened, if they find
+-- a place under the account's new rules. Nothing else changes: not the clock, the last touches, the
+-- accept numbers, nor the decisions.
 use Rattle.std.specs.Prelude.{ℕ, List, [], ◌∷◌, ◌++◌, map, filter, Bool, nat_le, is_some, if◌then◌else◌, Option}
 use Rattle.std.specs.Option.{option_map, unwrap_or}
 use Rattle.rsl_accounts.specs.declared.rules.Rules.{Rules}
@@ -16,7 +16,7 @@ use Rattle.rsl_session.specs.declared.kept.KeptAsk.{KeptAsk}
 use Rattle.rsl_session.specs.declared.kept.KeptStop.{KeptStop}
 use Rattle.rsl_session.specs.declared.session.Session.{Session}
 
--- for the number of a client, the one that it has in the era that follows, if it goes on
+-- for the number of a client, its number in the next era, if it goes on
 abbrev pub Next : Type 0
 Next = ℕ → Option ℕ
 
@@ -24,7 +24,7 @@ Next = ℕ → Option ℕ
 abbrev pub goes_on : Next → Nas → Bool
 goes_on next nas = is_some (next nas.client)
 
--- an access server, session and bundle as they are named there
+-- an access server, session and bundle as the next era names them
 abbrev pub carried_nas : Next → Nas → Nas
 carried_nas next nas = record { client = unwrap_or (next nas.client) nas.client; name = nas.name }
 
@@ -48,7 +48,7 @@ carried_link next link = record {
   touched = link.touched;
 }
 
--- a fresh ask, with what was decided
+-- a fresh ask, with its decision
 abbrev pub carried_ask : Next → KeptAsk → KeptAsk
 carried_ask next ask = record {
   key = ask.key;
@@ -83,7 +83,7 @@ abbrev pub finds_place : Rules → List BookLink → BookLink → Bool
 finds_place rules others link =
     nat_le (places_of rules.ports (bundles_in others ++ link.bundle ∷ [])) rules.places
 
--- some links, and of those that follow each that finds a place beside the ones before it
+-- some links, and each of the following that finds a place beside those before it
 unfoldable pub placed : Rules → List BookLink → List BookLink → List BookLink
 placed rules links [] = links
 placed rules links (link ∷ more) =
@@ -91,7 +91,7 @@ placed rules links (link ∷ more) =
     then placed rules (links ++ link ∷ []) more
     else placed rules links more
 
--- the book under the rules of the era that follows
+-- the book under the rules of the next era
 unfoldable pub carried_book : Next → Rules → Book → Book
 carried_book next rules book = record {
   clock = book.clock;

@@ -1,6 +1,6 @@
--- Laws of what goes on into the era that follows.
+-- Laws of what is carried over into the next era.
 --
--- They speak of a book that was saved, as each book of a server can be: its links name their
+-- They speak of a book that was saved, as any book of a server can be: its links name their
 -- sessions and bundles at their own access servers.
 use Rattle.std.specs.Prelude.{◌≡◌, ◌≢◌, ℕ, ◌≤◌, max, All, IsTrue, find, false, slice_get, Some, None}
 use Rattle.std.specs.List.{list_any}
@@ -30,17 +30,17 @@ abbrev pub IsOneToOne : Next → Type 0
 IsOneToOne next = (one other number : ℕ) → next one ≡ Some number → next other ≡ Some number
     → one ≡ other
 
--- ---- what an account keeps that stays with its rules
+-- ---- what an account that stays with its rules keeps
 
--- Of the links at clients that go on none is lost, where their places are within the limit of the
--- rules: each is there, in its place among the others, with its session and its last touch.
+-- Of the links at clients that go on none is lost, if their places are within the limit of the
+-- rules: each keeps its position among the others, its session and its last touch.
 abbrev pub SessionsStay : Type 0
 SessionsStay =
     (next : Next) (rules : Rules) (kept : SavedBook) → RulesFit rules → IsOneToOne next
     → places_in rules (saved_book kept) ≤ rules.places
     → (carried_book next rules (saved_book kept)).links ≡ links_on next (saved_book kept).links
 
--- A session at a client that goes on is closed there exactly where it was closed before.
+-- A session at a client that goes on is closed exactly if it was closed before.
 abbrev pub ClosedSessionsStay : Type 0
 ClosedSessionsStay =
     (next : Next) (rules : Rules) (book : Book) (session : Session) (now : ℕ) → IsOneToOne next
@@ -48,8 +48,8 @@ ClosedSessionsStay =
     → list_any (closes rules (carried_session next session) now) (carried_book next rules book).stops
     ≡ list_any (closes rules session now) book.stops
 
--- An ask that is sent again, of which the one that it repeats came by a client that goes on, is
--- decided as that one was, and opens nothing.
+-- A retransmission of an ask from a client that goes on is decided as the ask was, and opens
+-- nothing.
 abbrev pub RepeatsOpenNothing : Type 0
 RepeatsOpenNothing =
     (next : Next) (rules : Rules) (book : Book) (key : Key) (nas : Nas) (moment : ℕ) (kept : KeptAsk)
@@ -66,14 +66,14 @@ PlacesStayWithinTheLimit =
     (next : Next) (rules : Rules) (book : Book)
     → places_in rules (carried_book next rules book) ≤ rules.places
 
--- Where a link of a client that goes on finds no place, each place is held: a new login finds none.
+-- If a link of a client that goes on finds no place, every place is held: a new login finds none.
 abbrev pub NobodyNewComesIn : Type 0
 NobodyNewComesIn =
     (next : Next) (rules : Rules) (book : Book) → RulesFit rules
     → ((carried_book next rules book).links ≡ links_on next book.links → ⊥)
     → places_in rules (carried_book next rules book) ≡ rules.places
 
--- a number that some client has in the era that follows
+-- the number of some client in the next era
 abbrev pub IsNext : Next → ℕ → Type 0
 IsNext next number = (client : ℕ) × (next client ≡ Some number)
 
@@ -87,7 +87,7 @@ abbrev pub NothingGoneIsLeft : Type 0
 NothingGoneIsLeft =
     (next : Next) (rules : Rules) (book : Book) → IsOfClients next (carried_book next rules book)
 
--- What goes on can be put back, as a book of an account with the rules there.
+-- A carried book can be restored, as a book of an account with the new rules.
 abbrev pub CarriedBooksFit : Type 0
 CarriedBooksFit =
     (next : Next) (before rules : Rules) (book : Book) → misfit before book ≡ None
@@ -95,7 +95,7 @@ CarriedBooksFit =
 
 -- ---- the numbers of clients
 
--- clients of two eras that have one address
+-- clients of two eras with one address
 pub record IsSameClient (old new : EraSeen) (client number : ℕ) : Type 0 where
   pub was : EraClient
   pub is : EraClient
@@ -103,8 +103,8 @@ pub record IsSameClient (old new : EraSeen) (client number : ℕ) : Type 0 where
   pub there : slice_get new.clients number ≡ Some is
   pub address : was.address ≡ is.address
 
--- The number that a client has in the era that follows is that of its address, and no two of an
--- era's clients become one where no address comes twice in it.
+-- The number of a client in the next era is that of its address, and no two of an era's clients
+-- become one if no address comes twice in it.
 pub record ClientsKeepTheirAddress : Type 0 where
   pub same : (old new : EraSeen) (client number : ℕ) → next_number old new client ≡ Some number
       → IsSameClient old new client number

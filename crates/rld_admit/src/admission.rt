@@ -1,4 +1,4 @@
-//! The books that an era begins with where another one was before it.
+//! The books with which an era begins after another one.
 
 ghost use Rattle.std.specs.Prelude.{◌≡◌, ℕ, ◌<◌, ◌++◌, IfOk, IfSome, OnOk, length, map, slice_get};
 ghost use Rattle.std.specs.Option.{option_and_then, option_map};
@@ -18,7 +18,7 @@ use rsl_session::SavedBook;
 use rsl_wire::NoMemory;
 use std::alloc::Global;
 
-/// Two eras by their configurations, and the books of the one that ends.
+/// The change from one era to the next: their configurations, and the books of the first.
 #[derive(Drop)]
 struct Passage<'a> {
     /// The era that ends.
@@ -27,12 +27,12 @@ struct Passage<'a> {
     books: &'a ServerBooks,
     /// The era that follows.
     new: &'a Config,
-    /// The number that each client of the one has in the other.
+    /// The number of each client of the old era in the new one.
     numbers: &'a [Option<u32>],
 }
 
 impl Passage<'_> {
-    /// What is saved of the book that a name had.
+    /// The saved form of the book of a name.
     fn kept(&self, alloc: Global, name: &[u8]) -> Result<Option<SavedBook>, NoMemory>
         ensures { IfOk result (λ kept. option_map saved_book kept ≡ option_map saved
             (option_and_then (book_in self.now.books.now) (account_number self.now.old.now name.now))) }
@@ -43,7 +43,7 @@ impl Passage<'_> {
         }
     }
 
-    /// What an account begins with.
+    /// The book with which an account begins.
     fn book_of(&self, alloc: Global, account: u32) -> Result<SavedBook, NoMemory>
         requires { account < length self.now.new.now.accounts }
         ensures { IfOk result (λ made. saved_book made ≡ begun_at self.now.numbers.now
@@ -56,7 +56,7 @@ impl Passage<'_> {
         }
     }
 
-    /// Adds what each account of a shard begins with, in the order of their numbers.
+    /// Adds the books with which a shard's accounts begin, in the order of their numbers.
     fn push_shard(
         &self,
         alloc: Global,
@@ -77,7 +77,7 @@ impl Passage<'_> {
         Ok(())
     }
 
-    /// What all accounts begin with, shard after shard.
+    /// The books with which all accounts begin, shard after shard.
     fn all_books(&self, alloc: Global) -> Result<Vec<SavedBook>, NoMemory>
         ensures { IfOk result (λ kept. map saved_book kept.items ≡ begun_by_all self.now.numbers.now
             self.now.old.now self.now.books.now self.now.new.now) }
@@ -90,18 +90,18 @@ impl Passage<'_> {
     }
 }
 
-/// The books that the era of a configuration begins with where another one ends, with these books:
-/// what goes on of them, by the names of accounts and the addresses of clients.
+/// The books with which the era of a configuration begins after another one with these books,
+/// carried over by the names of accounts and the addresses of clients.
 ///
-/// Of each account that is still there go on: its clock, its accept numbers, its links with their
-/// last touches, the asks and stops that it keeps, and what it has counted, but for what is of a
-/// client that is gone. Links that find no place under the account's rules, in the order in which
-/// they opened, are left out; their sessions are over, as any that find no place. Every other account
-/// begins with a new book. The boot number is to stay, so that accept numbers in Class attributes
-/// name the same reservations. They stand in blank books where these were made for that era's accounts.
+/// Each account that is still there keeps its clock, its accept numbers, its links with their last
+/// touches, the asks and stops that it keeps, and its counts, except what is of a client that is
+/// gone. Links that find no place under the account's rules, in the order in which they opened, are
+/// left out; their sessions are over, like any that find no place. Every other account begins with
+/// a new book. Keep the boot number, so that accept numbers in Class attributes name the same
+/// reservations. Blank books that were made for the new era's accounts are used up.
 ///
-/// `NoMemory` comes where memory is refused, and `Misfit` for no books that a server has
-/// (`laws::carried_books_fit`). The books of the era that ends stay as they are.
+/// `NoMemory` comes if memory is refused, and `Misfit` for no books that a server has
+/// (`laws::carried_books_fit`). The books of the old era stay as they are.
 pub fn admit(
     alloc: Global,
     old: &Config,
@@ -113,7 +113,7 @@ pub fn admit(
     ensures admitted { IfOk result (λ made. (boot next : ℕ) →
         AreAdmitted (table_of boot old.now) books.now (table_of next new.now) made) }
 {
-    // A configuration has 1 to 4 shards: this call tells it.
+    // Shows the prover that a configuration has 1 to 4 shards.
     let _shards = new.shards();
     let numbers = next_numbers(alloc, old, new)?;
     let passage = Passage {

@@ -1,4 +1,4 @@
-//! What goes on of a book.
+//! Carrying a book over into the next era.
 
 ghost use Rattle.std.specs.Prelude.{◌≡◌, ◌≤◌, [], ◌∷◌, ◌++◌, IfOk, OnOk, Some};
 ghost use Rattle.rsl_accounts.specs.Limits.{RulesFit};
@@ -26,7 +26,7 @@ use rsl_session::{KeptAsk, KeptStop, SavedBook, SavedHolder, SavedLink, Session}
 use rsl_wire::{NoMemory, Octets};
 use std::alloc::Global;
 
-/// An access server of this name, of the client that has this number in the era that follows.
+/// The access server of this name, of the client with this number in the next era.
 fn nas_of(alloc: Global, client: u32, nas: &Nas) -> Result<Nas, NoMemory>
     ensures { IfOk result (λ made. made ≡ record { client = client; name = nas.now.name }) }
 {
@@ -34,7 +34,7 @@ fn nas_of(alloc: Global, client: u32, nas: &Nas) -> Result<Nas, NoMemory>
     Ok(Nas { client, name })
 }
 
-/// What had a link.
+/// A copy of what held a link.
 fn holder_of(alloc: Global, holder: &SavedHolder) -> Result<SavedHolder, NoMemory>
     ensures { IfOk result (λ made. made ≡ holder.now) }
 {
@@ -44,7 +44,7 @@ fn holder_of(alloc: Global, holder: &SavedHolder) -> Result<SavedHolder, NoMemor
     })
 }
 
-/// A link whose client has this number in the era that follows.
+/// A link whose client has this number in the next era.
 fn link_of(alloc: Global, client: u32, link: &SavedLink) -> Result<SavedLink, NoMemory>
     ensures { IfOk result (λ made. (next : Next) → next link.now.nas.client ≡ Some client →
         saved_link made ≡ carried_link next (saved_link link.now)) }
@@ -57,7 +57,7 @@ fn link_of(alloc: Global, client: u32, link: &SavedLink) -> Result<SavedLink, No
     })
 }
 
-/// A fresh ask whose client has this number in the era that follows.
+/// A fresh ask whose client has this number in the next era.
 fn ask_of(alloc: Global, client: u32, ask: &KeptAsk) -> Result<KeptAsk, NoMemory>
     ensures { IfOk result (λ made. (next : Next) → next ask.now.nas.client ≡ Some client →
         made ≡ carried_ask next ask.now) }
@@ -71,7 +71,7 @@ fn ask_of(alloc: Global, client: u32, ask: &KeptAsk) -> Result<KeptAsk, NoMemory
     })
 }
 
-/// A stop whose client has this number in the era that follows.
+/// A stop whose client has this number in the next era.
 fn stop_of(alloc: Global, client: u32, stop: &KeptStop) -> Result<KeptStop, NoMemory>
     ensures { IfOk result (λ made. (next : Next) → next stop.now.session.nas.client ≡ Some client →
         made ≡ carried_stop next stop.now) }
@@ -86,7 +86,7 @@ fn stop_of(alloc: Global, client: u32, stop: &KeptStop) -> Result<KeptStop, NoMe
     })
 }
 
-/// Places a link, if its client goes on.
+/// Places a link, if its client is still there.
 fn place(
     alloc: Global,
     numbers: &[Option<u32>],
@@ -111,7 +111,7 @@ fn place(
     }
 }
 
-/// The links that go on.
+/// The links that are carried over.
 fn links_of(
     alloc: Global,
     numbers: &[Option<u32>],
@@ -129,7 +129,7 @@ fn links_of(
     Ok(found.links)
 }
 
-/// Adds a fresh ask, if its client goes on.
+/// Adds a fresh ask, if its client is still there.
 fn push_ask(
     alloc: Global,
     numbers: &[Option<u32>],
@@ -148,7 +148,7 @@ fn push_ask(
     }
 }
 
-/// The fresh asks that go on.
+/// The fresh asks that are carried over.
 fn asks_of(
     alloc: Global,
     numbers: &[Option<u32>],
@@ -163,7 +163,7 @@ fn asks_of(
     Ok(made)
 }
 
-/// Adds a stop, if its client goes on.
+/// Adds a stop, if its client is still there.
 fn push_stop(
     alloc: Global,
     numbers: &[Option<u32>],
@@ -182,7 +182,7 @@ fn push_stop(
     }
 }
 
-/// The stops that go on.
+/// The stops that are carried over.
 fn stops_of(
     alloc: Global,
     numbers: &[Option<u32>],
@@ -197,8 +197,7 @@ fn stops_of(
     Ok(made)
 }
 
-/// What goes on of a book under these rules, where its clients have these numbers in the era that
-/// follows.
+/// A book carried over under these rules, when its clients have these numbers in the next era.
 pub(crate) fn carry(
     alloc: Global,
     numbers: &[Option<u32>],

@@ -7,8 +7,8 @@ use rsl_accounts::Config;
 use rsl_wire::NoMemory;
 use std::alloc::Global;
 
-/// The number that each client has in the configuration that follows, by its address, in the order of
-/// the clients.
+/// The number of each client in the next configuration, by its address, in the order of the
+/// clients.
 pub(crate) fn next_numbers(
     alloc: Global,
     old: &Config,
@@ -23,7 +23,7 @@ pub(crate) fn next_numbers(
     Ok(numbers)
 }
 
-/// The number that a client has in the era that follows, if it goes on.
+/// The number of a client in the next era, if it is still there.
 pub(crate) fn number_in(numbers: &[Option<u32>], client: u32) -> Option<u32>
     ensures { result ≡ number_in numbers.now client }
 {

@@ -1,4 +1,4 @@
-//! The configuration that a table is of.
+//! The configuration of a table.
 
 ghost use Rattle.std.specs.Prelude.{◌≡◌, ℕ, IfOk};
 ghost use Rattle.rld_spelling.specs.Eras.{era_octets};
@@ -11,17 +11,17 @@ use rld_spelling::{Era, EraAccount, EraClient};
 use rsl_accounts::{Client, Config, ConfigFault, Entry, Rules, Secret, Settings, Text};
 use std::alloc::Global;
 
-/// The version of the account file in which an account can have times of its own.
+/// The version of the account file that has times of an account's own.
 const VERSION: u64 = 2;
 
-/// What stands for each password and each secret: no decision depends on one.
+/// The password of each account and the secret of each client: no decision depends on one.
 const NO_SECRET: &str = "-";
 
 /// A configuration whose era's file has these octets: its accounts have the names and rules of the
-/// table, its clients the addresses; each password and each secret is the same.
+/// table, its clients the addresses; all passwords and secrets are equal.
 ///
-/// `Malformed` where the octets spell no table, and `NoConfiguration` where no configuration has the
-/// table that they spell. `NoMemory` comes where memory is refused.
+/// `Malformed` comes if the octets spell no table, `NoConfiguration` if no configuration has that
+/// table, and `NoMemory` if memory is refused.
 pub fn config_of(alloc: Global, file: &[u8]) -> Result<Config, TableFault>
     ensures { IfOk result (λ config.
         (boot : ℕ) × (file.now ≡ era_octets (table_of boot config))) }
@@ -54,8 +54,8 @@ fn made_of(alloc: Global, era: &Era) -> Result<Config, TableFault> {
     }
 }
 
-/// The settings of accounts of which one has these rules. The times that can be an account's own are
-/// each account's.
+/// The settings of accounts of which one has these rules. Live and grace times are each account's
+/// own.
 fn settings_of(shards: u64, rules: &Rules) -> Settings {
     Settings {
         version: VERSION,

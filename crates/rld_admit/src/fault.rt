@@ -9,7 +9,7 @@ pub enum TableFault {
     NoMemory,
     /// They spell no table.
     Malformed(Fault),
-    /// No account file has the table that they spell.
+    /// No account file has the table.
     NoConfiguration,
 }
 

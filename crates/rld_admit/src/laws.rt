@@ -1,4 +1,4 @@
-//! Laws of what goes on into the era that follows. Each is the contract of a function that does
+//! Laws of what is carried over into the next era. Each is the contract of a function that does
 //! nothing.
 
 ghost use Rattle.rld_admit.specs.Laws.{
@@ -12,18 +12,18 @@ ghost use Rattle.rld_admit.specs.Laws.{
   SessionsStay,
 };
 
-/// An account that stays with its rules keeps each link at a client that goes on: its session, its
-/// bundle and its last touch.
+/// An account that stays with its rules keeps each link at a client that is still there: its
+/// session, its bundle and its last touch.
 pub fn sessions_stay()
     ensures { SessionsStay }
 {}
 
-/// A session that was closed is closed, and no other is.
+/// A session that was closed stays closed, and no other is closed.
 pub fn closed_sessions_stay()
     ensures { ClosedSessionsStay }
 {}
 
-/// A request that is sent again is decided as before, and opens nothing.
+/// A retransmission is decided as before, and opens nothing.
 pub fn repeats_open_nothing()
     ensures { RepeatsOpenNothing }
 {}
@@ -33,7 +33,7 @@ pub fn places_stay_within_the_limit()
     ensures { PlacesStayWithinTheLimit }
 {}
 
-/// Where a link found no place, each place is held.
+/// If a link found no place, every place is held.
 pub fn nobody_new_comes_in()
     ensures { NobodyNewComesIn }
 {}
@@ -43,12 +43,12 @@ pub fn nothing_gone_is_left()
     ensures { NothingGoneIsLeft }
 {}
 
-/// What goes on of a book can be put back.
+/// A book that was carried over can be restored.
 pub fn carried_books_fit()
     ensures { CarriedBooksFit }
 {}
 
-/// A client keeps its address, and no two become one.
+/// A client keeps its address, and no two clients become one.
 pub fn clients_keep_their_address()
     ensures { ClientsKeepTheirAddress }
 {}

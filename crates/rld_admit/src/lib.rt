@@ -1,19 +1,19 @@
-//! Eras: while the accounts, their rules, the clients' addresses and the shards are as they were, the
-//! numbers of an era hold. And what goes on into the era that follows another: an account file was changed.
+//! Eras: the numbers of an era hold while the accounts, their rules, the clients' addresses and the
+//! shards stay. And the books with which the next era begins when the account file has changed.
 //!
-//! The promise of an era: its table is that of the configuration that it begins with, and it goes on
-//! exactly with a configuration that has the same. Passwords, secrets and what an accept carries may
-//! differ. Which table a configuration has is said in `rld_spelling`, `specs/Tables.antt`. And a table
-//! gives a configuration that has it, by which its era's logs are read.
+//! The promise of an era: its table is that of the configuration that it begins with, and it goes
+//! on exactly with a configuration that has the same. Passwords, secrets and what an accept carries
+//! may differ. The table of a configuration is defined in `rld_spelling`, `specs/Tables.antt`. A
+//! table also gives a configuration that has it, by which its era's logs are read.
 //!
-//! The promise of the next one: an account that is still there by its name begins with the book that its
-//! name had, at the clients that are still there by their addresses, and every other account with a new
-//! book. So an account that stays with its rules holds the same sessions with the same last touches, the
-//! same closed sessions and the same kept asks; no account holds more places than its rules have
-//! now; and nothing of an account or a client that is gone is left.
+//! The promise of the next era: an account that keeps its name begins with the book of that name,
+//! at the clients that keep their addresses, and every other account with a new book. So an account
+//! that stays with its rules has the same sessions with the same last touches, the same closed
+//! sessions and the same kept asks; no account holds more places than its rules now have; and
+//! nothing is left of an account or a client that is gone.
 //!
-//! `specs/Carried.antt` says what of a book goes on, `specs/Admitted.antt` what each account begins
-//! with, and `specs/Laws.antt` what follows.
+//! `specs/Carried.antt` says what is carried over of a book, `specs/Admitted.antt` what each
+//! account begins with, and `specs/Laws.antt` what follows.
 #![tactic(auto)]
 
 mod admission;

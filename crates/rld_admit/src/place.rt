@@ -1,4 +1,4 @@
-//! The links that find a place.
+//! The carried links that find a place.
 
 ghost use Rattle.std.specs.Prelude.{◌≡◌, ℕ, ◌+◌, ◌-◌, ◌≤◌, [], ◌∷◌, ◌++◌, count_by, if◌then◌else◌, length, OnOk};
 ghost use Rattle.std.specs.Int.{div_ceil};
@@ -26,7 +26,7 @@ fn is_of_bundle(link: &SavedLink, nas: &Nas, id: &Octets) -> bool
     }
 }
 
-/// 1 for a link of the bundle of this id at an access server, and else 0.
+/// 1 for a link of the bundle of this id at an access server, else 0.
 fn counts(link: &SavedLink, nas: &Nas, id: &Octets) -> usize
     ensures { result ≡ (if is_bundle (record { nas = nas.now; id = id.now })
         (saved_link link.now).bundle then 1 else 0) }
@@ -34,7 +34,7 @@ fn counts(link: &SavedLink, nas: &Nas, id: &Octets) -> usize
     if is_of_bundle(link, nas, id) { 1 } else { 0 }
 }
 
-/// How many links are of the bundle of this id at an access server.
+/// The number of links of the bundle of this id at an access server.
 fn members(links: &[SavedLink], nas: &Nas, id: &Octets) -> usize
     ensures members { result ≡ count_by (is_bundle (record { nas = nas.now; id = id.now }))
         (bundles_in (saved_links links.now)) }
@@ -47,7 +47,7 @@ fn members(links: &[SavedLink], nas: &Nas, id: &Octets) -> usize
     count
 }
 
-/// The places that one more link takes in a bundle that has `members` links: one or none.
+/// The places that another link takes in a bundle of `members` links: one or none.
 fn share_more(ports: u64, members: u64) -> u64
     requires ports { 1 ≤ ports }
     requires few { members ≤ 9223372036854775807 }
@@ -58,7 +58,7 @@ fn share_more(ports: u64, members: u64) -> u64
         .saturating_sub(members.div_ceil(ports))
 }
 
-/// How many places more links take with one more after them.
+/// The further places that links take with another one after them.
 fn places_more(ports: u64, links: &[SavedLink], link: &SavedLink) -> u64
     requires { 1 ≤ ports }
     ensures { places_of ports
@@ -81,7 +81,7 @@ pub(crate) struct Placed {
 }
 
 impl Placed {
-    /// None.
+    /// No link.
     pub(crate) fn new(alloc: Global) -> Placed
         ensures links { result.links.items ≡ [] }
         ensures places { (ports : ℕ) → result.places ≡ places_of ports (bundles_in (saved_links [])) }

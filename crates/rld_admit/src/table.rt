@@ -47,8 +47,8 @@ pub fn table_of(alloc: Global, config: &Config, boot: u64) -> Result<Era, NoMemo
     })
 }
 
-/// The octets of the file of the era that begins with a configuration and a boot number. It fails
-/// only where memory is refused: a configuration's table has a spelling
+/// The file of the era that begins with a configuration and a boot number. It fails only if memory
+/// is refused: a configuration's table has a spelling
 /// (`rld_spelling::laws::tables_of_configurations_fit`).
 pub fn era_file(alloc: Global, config: &Config, boot: u64) -> Result<Vec<u8>, NoMemory>
     ensures { IfOk result (λ file. file.items ≡ era_octets (table_of boot config.now)) }
@@ -61,9 +61,9 @@ pub fn era_file(alloc: Global, config: &Config, boot: u64) -> Result<Vec<u8>, No
     }
 }
 
-/// Whether the era of a file goes on with a configuration: whether the file has the table of the
-/// configuration, with this boot number. Each table has one spelling, so that is a comparison of
-/// octets. It fails only where memory is refused.
+/// Whether the era of a file goes on with a configuration: whether the file has the configuration's
+/// table with this boot number. Each table has one spelling, so the octets are compared. It fails
+/// only if memory is refused.
 pub fn is_era_file(alloc: Global, config: &Config, boot: u64, file: &[u8]) -> Result<bool, NoMemory>
     ensures { IfOk result (λ same. IsTrue same ↔
         (file.now ≡ era_octets (table_of boot config.now))) }

@@ -5,12 +5,12 @@ use Rattle.rsl_book.specs.RuledBook.{RuledBook}
 use Rattle.rsl_shard.specs.Restep.{BooksSeen}
 use Rattle.rld_books.specs.Saved.{book_in}
 
--- the clock of an account's book; 0 where there is no such account
+-- the clock of an account's book, or 0 if there is no such account
 abbrev pub clock_in : List BooksSeen → (account : ℕ) → ℕ
 clock_in server account =
     option_map_or (λ (ruled : RuledBook). ruled.book.clock) (book_in server account) 0
 
--- the greatest clock of the first `accounts` accounts; 0 where none has had an event
+-- the greatest clock of the first `accounts` accounts, or 0 if none has had an event
 pub record IsGreatestClock (server : List BooksSeen) (accounts clock : ℕ) : Type 0 where
   pub none_greater : (account : ℕ) → account < accounts → clock_in server account ≤ clock
   pub one_has_it : (clock ≡ 0) ⊎ ((account : ℕ) × (account < accounts × clock_in server account ≡ clock))

@@ -1,5 +1,5 @@
--- Books that are cut to a moment: each moment in them that is later becomes it. Nothing else changes:
--- not the links, their order, sessions and accept numbers, nor what is kept.
+-- Books cut to a moment: each later moment in them becomes that moment. Nothing else changes: not
+-- the links, their order, sessions and accept numbers, nor what is kept.
 use Rattle.std.specs.Prelude.{ℕ, ◌+◌, nat_lt, List, map, sum_by, if◌then◌else◌}
 use Rattle.rsl_book.specs.RuledBook.{RuledBook}
 use Rattle.rsl_session.specs.Book.{Book, BookLink}
@@ -36,7 +36,7 @@ cut_stop now stop = record {
   swept = stop.swept;
 }
 
--- the clock, the last touch of each link, and when each kept ask and each kept stop came
+-- the clock, the last touch of each link, and the moments of the kept asks and stops
 unfoldable pub cut_book : (now : ℕ) → Book → Book
 cut_book now book = record {
   clock = earlier now book.clock;
@@ -53,7 +53,7 @@ cut_ruled now ruled = record { rules = ruled.rules; book = cut_book now ruled.bo
 abbrev pub cut_shard : (now : ℕ) → BooksSeen → BooksSeen
 cut_shard now seen = record { setup = seen.setup; books = map (cut_ruled now) seen.books }
 
--- the books of a server, each of which is cut
+-- the books of a server, each of them cut
 abbrev pub cut_server : (now : ℕ) → List BooksSeen → List BooksSeen
 cut_server now server = map (cut_shard now) server
 

@@ -14,15 +14,15 @@ pub record IsUpTo (now : ℕ) (book : Book) : Type 0 where
   pub asks : All (λ (ask : KeptAsk). ask.at ≤ now) book.asks
   pub stops : All (λ (stop : KeptStop). stop.at ≤ now) book.stops
 
--- no moment of a book that was cut is later
+-- no moment of a cut book is later
 abbrev pub CutBooksAreUpTo : Type 0
 CutBooksAreUpTo = (now : ℕ) (book : Book) → IsUpTo now (cut_book now book)
 
--- a book with no later moment is as it was
+-- a book without later moments is unchanged
 abbrev pub BooksUpToStay : Type 0
 BooksUpToStay = (now : ℕ) (book : Book) → IsUpTo now book → cut_book now book ≡ book
 
--- A book that was cut takes the same places, and can be put back wherever it could before.
+-- A cut book holds the same places, and can be restored wherever it could be before.
 pub record CutBooksFit : Type 0 where
   pub bundles : (now : ℕ) (book : Book) → bundles_in (cut_book now book).links ≡ bundles_in book.links
   pub misfit : (now : ℕ) (rules : Rules) (book : Book) → misfit rules (cut_book now book) ≡ misfit rules book

@@ -1,4 +1,4 @@
--- The books of a server as they are saved, and what they are put back as.
+-- The books of a server as they are saved and restored.
 use Rattle.std.specs.Prelude.{◌≡◌, ℕ, ◌%◌, List, length, map, slice_get, Option}
 use Rattle.std.specs.List.{flat_map}
 use Rattle.std.specs.Option.{option_and_then, option_map}
@@ -12,12 +12,11 @@ use Rattle.rsl_shard.specs.Rows.{rows_of}
 use Rattle.rsl_shard.specs.declared.row.Row.{Row}
 use Rattle.rld_books.specs.Server.{new_server}
 
--- the new books of a shard whose books these are
+-- new books for the shard of these books
 abbrev pub seen_as_new : BooksSeen → BooksSeen
 seen_as_new seen = record { setup = seen.setup; books = map as_new seen.books }
 
--- Books of a configuration's shards, whatever they have come to: there is one of each account, with
--- its rules.
+-- Books of a configuration's shards, whatever has happened: one of each account, with its rules.
 abbrev pub IsServerOf : Configuration → List BooksSeen → Type 0
 IsServerOf config server = map seen_as_new server ≡ new_server config
 

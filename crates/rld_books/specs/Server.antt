@@ -1,8 +1,8 @@
--- The books of a server, and what the moves of a log make of them.
+-- The books of a server, and what the moves of a log do to them.
 --
 -- The books are those of each shard, in the order of the shards' numbers. A move comes to every
--- shard: what is an account's own steps the account's book and no other, a sweep or a tick steps
--- every book, a stray none.
+-- shard: an own move steps the account's book and no other, a sweep or a tick steps every book, a
+-- stray none.
 use Rattle.std.specs.Prelude.{◌≡◌, ℕ, ◌<◌, ◌≤◌, ◌%◌, List, [], ◌∷◌, length, map, slice_get, All, Some}
 use Rattle.std.specs.List.{range_with_len}
 use Rattle.std.specs.Option.{option_map_or}
@@ -16,7 +16,7 @@ use Rattle.rsl_shard.specs.declared.line.Line.{Line}
 use Rattle.rsl_shard.specs.declared.moved.Move.{Move}
 use Rattle.rsl_shard.specs.declared.moved.Move.TheVariants.{Own}
 
--- the books of a configuration's shards, none of which has had an event
+-- new books for a configuration's shards
 abbrev pub new_server : Configuration → List BooksSeen
 new_server config = map (new_books_seen config) (range_with_len 0 config.settings.shards)
 
@@ -28,7 +28,7 @@ shard_after moved seen = record { setup = seen.setup; books = books_after seen.s
 abbrev pub server_after : List BooksSeen → Move → List BooksSeen
 server_after server moved = map (shard_after moved) server
 
--- the decision on a move: what is an account's own is decided by its book, in its shard
+-- the decision on a move: an own move is decided by its account's book, in its shard
 abbrev pub decision_in : List BooksSeen → Move → Decision
 decision_in server (Own account event) =
     option_map_or (λ (seen : BooksSeen). decision_by seen.setup seen.books (Own account event))
@@ -57,8 +57,8 @@ pub record IsOwnIn (server : List BooksSeen) (account : ℕ) (event : Event) : T
   pub there : slice_get server (account % length server) ≡ Some seen
   pub own : IsOwn seen.setup account event
 
--- a move that the books can make: what is an account's own is an ask, an alive or a stop of an
--- account that is there
+-- a move that the books can make: an own move has to be an ask, an alive or a stop of an account
+-- that is there
 abbrev pub IsTakenIn : List BooksSeen → Move → Type 0
 IsTakenIn server (Own account event) = IsOwnIn server account event
 IsTakenIn server _ = Unit {0}
@@ -66,12 +66,12 @@ IsTakenIn server _ = Unit {0}
 abbrev pub AreTakenIn : List BooksSeen → List Move → Type 0
 AreTakenIn server moves = All (IsTakenIn server) moves
 
--- the number of a shard, and of how many
+-- the number of a shard, and the number of shards
 pub record IsNumbered (count number : ℕ) (seen : BooksSeen) : Type 0 where
   pub shard : seen.setup.shard ≡ number
   pub shards : seen.setup.shards ≡ count
 
--- What is kept of the books of a server: there are 1 to 4 shards, which stand by their numbers.
+-- The invariant of the books of a server: there are 1 to 4 shards, in the order of their numbers.
 pub record IsServer (server : List BooksSeen) : Type 0 where
   pub some : 0 < length server
   pub few : length server ≤ 4

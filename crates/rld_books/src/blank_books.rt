@@ -9,11 +9,11 @@ use rsl_wire::NoMemory;
 use std::alloc::Global;
 use std::marker::Model;
 
-/// Books that were made for the accounts of a configuration and have had no event, each with all the
-/// room that it will ever use. Whoever makes them before they are wanted need not wait for that room
-/// where others wait too.
+/// Blank books: books made for the accounts of a configuration that have had no event, each with
+/// all the memory that it will ever use. Making them early moves that allocation out of the time in
+/// which others wait.
 ///
-/// A contract sees them by the accounts' numbers; none where it was taken out.
+/// A contract sees them by the accounts' numbers; `None` if one was taken out.
 #[derive(Drop)]
 pub struct BlankBooks {
     list: Vec<Option<Book>>,
@@ -41,7 +41,7 @@ impl BlankBooks {
         }
     }
 
-    /// A book of each account. It fails only where memory is refused.
+    /// A book of each account. It fails only if memory is refused.
     pub fn new(alloc: Global, config: &Config) -> Result<BlankBooks, NoMemory>
         ensures { IfOk result (λ blanks. blanks ≡ map blank_book config.now.accounts) }
     {
@@ -54,8 +54,8 @@ impl BlankBooks {
         Ok(BlankBooks { list })
     }
 
-    /// Takes the book of an account with these rules out. Where there is none, or one with other
-    /// rules, it makes one: then it fails only where memory is refused.
+    /// Takes out the book of an account with these rules. If there is none, or one with other
+    /// rules, it makes one; then it fails only if memory is refused.
     pub(crate) fn take(
         &mut self,
         alloc: Global,

@@ -12,7 +12,7 @@ pub enum ServerFault {
     /// There is not one book of each account.
     #[error("not one book for each account")]
     WrongCount,
-    /// A book is none of its account.
+    /// A book cannot be that of its account.
     #[error("{0}")]
     Misfit(RestoreFault),
     /// Memory was refused.

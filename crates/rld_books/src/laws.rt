@@ -2,17 +2,17 @@
 
 ghost use Rattle.rld_books.specs.CutLaws.{BooksUpToStay, CutBooksAreUpTo, CutBooksFit};
 
-/// No moment of a book that was cut is later than the one that it was cut to.
+/// No moment of a book that was cut is later than the moment of the cut.
 pub fn cut_books_are_up_to()
     ensures { CutBooksAreUpTo }
 {}
 
-/// A book with no later moment is as it was.
+/// A book without later moments is unchanged.
 pub fn books_up_to_stay()
     ensures { BooksUpToStay }
 {}
 
-/// A book that was cut takes the places that it took, and is put back wherever it could be before.
+/// A cut book holds as many places as before, and is restored wherever it could be before.
 pub fn cut_books_fit()
     ensures { CutBooksFit }
 {}

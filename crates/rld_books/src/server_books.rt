@@ -46,7 +46,7 @@ impl Model for ServerBooks {
     ghost invariant = { λ inside. IsServer inside.shards.items };
 }
 
-/// The new books of each shard.
+/// New books for each shard.
 fn new_shards(alloc: Global, config: &Config) -> Result<Vec<Books>, NoMemory>
     ensures new { IfOk result (λ shards. shards.items ≡ new_server config.now) }
     ensures server { IfOk result (λ shards. IsServer shards.items) }
@@ -79,8 +79,7 @@ fn tick_each(shards: &mut [Books], moment: u64)
 }
 
 impl ServerBooks {
-    /// The books of a configuration, none of which has had an event. It fails only where memory is
-    /// refused.
+    /// New books for a configuration. It fails only if memory is refused.
     pub fn new(alloc: Global, config: &Config) -> Result<ServerBooks, NoMemory>
         ensures { IfOk result (λ server. server ≡ new_server config.now) }
     {
@@ -96,8 +95,8 @@ impl ServerBooks {
         account as usize % self.shards.len()
     }
 
-    /// Whether a move can be made: what is one account's own is an ask, an alive or a stop of an
-    /// account that is there.
+    /// Whether a move can be made: an own move has to be an ask, an alive or a stop of an account
+    /// that is there.
     pub fn takes(&self, moved: &Move) -> bool
         ensures { IsTrue result ↔ IsTakenIn self.now moved.now }
     {
@@ -107,7 +106,7 @@ impl ServerBooks {
         }
     }
 
-    /// Whether each of some moves can be made, in their order.
+    /// Whether each of some moves can be made, in order.
     pub fn takes_all(&self, moves: &[Move]) -> bool
         ensures { IsTrue result ↔ AreTakenIn self.now moves.now }
     {
@@ -119,9 +118,9 @@ impl ServerBooks {
         true
     }
 
-    /// Makes a move, which it takes over: what is one account's own steps its book and no other, a
-    /// sweep or a tick each book, a stray none. The decision is that of the account's book, and
-    /// `Done` on every other move. It takes no memory.
+    /// Makes a move: an own move steps the book of its account, a sweep or a tick each book, a
+    /// stray none. The decision is that of the account's book, and `Done` on every other move. It
+    /// allocates nothing.
     pub fn make(&mut self, moved: Move) -> Decision
         requires { IsTakenIn self.old moved }
         ensures books { self.new ≡ server_after self.old moved }
@@ -163,8 +162,8 @@ impl ServerBooks {
         Decision::Done
     }
 
-    /// Makes the moves of a batch, which it takes over, and gives their decisions. It takes no
-    /// memory: there is room for the decisions.
+    /// Makes the moves of a batch, and gives their decisions in `decisions`, which has room for
+    /// them. It allocates nothing.
     pub fn make_all(&mut self, batch: Vec<Move>, mut decisions: Vec<Decision>) -> Vec<Decision>
         requires taken { AreTakenIn self.old batch.items }
         requires empty { vec_len decisions ≡ 0 }

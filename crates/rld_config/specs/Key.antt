@@ -1,4 +1,4 @@
--- The keys of a server's file, the tables that they stand in, and which values each may have.
+-- The keys of a server's file, their tables, and the values that each may have.
 use Rattle.std.specs.Prelude.{ℕ, List, [], ◌∷◌, Bool, false, not, ◌==◌, ◌&&◌, ◌||◌, nat_le, length, codes, bytes_eq}
 use Rattle.std.specs.List.{list_all, list_any}
 use Rattle.rld_config.specs.declared.key.Key.{Key}
@@ -6,7 +6,7 @@ use Rattle.rld_config.specs.declared.key.Key.TheVariants.{Accounts, State, Sync,
 use Rattle.rld_config.specs.declared.part.Part.{Part}
 use Rattle.rld_config.specs.declared.part.Part.TheVariants.{Head, Listen as OfListen, Network as OfNetwork, Control as OfControl, Web as OfWeb, Trust as OfTrust}
 
--- the key as it stands in the file
+-- the key as it is in the file
 abbrev pub key_name : Key → List ℕ
 key_name Accounts = codes "accounts"
 key_name State = codes "state"
@@ -46,11 +46,12 @@ knows part name = list_any (λ key. bytes_eq name (key_name key)) (keys_of part)
 abbrev pub is_between : ℕ → ℕ → ℕ → Bool
 is_between least most number = nat_le least number && nat_le number most
 
--- 0o600, 0o660 or 0o666: its owner may write to a socket, and nobody else, his group or everybody
+-- 0o600, 0o660 or 0o666: a socket's owner may write to it, alone or with his group or with
+-- everybody
 abbrev pub is_mode : ℕ → Bool
 is_mode number = number == 384 || number == 432 || number == 438
 
--- a number that the key may have: days of an archive, a port, how many receivers, a mode
+-- a number within the key's limits: days of an archive, a port, how many receivers, a mode
 abbrev pub takes_number : Key → ℕ → Bool
 takes_number Archive number = is_between 1 36500 number
 takes_number Auth number = is_between 1 65535 number
@@ -63,10 +64,10 @@ takes_number _ number = false
 abbrev pub has_no_nul : List ℕ → Bool
 has_no_nul text = list_all (λ octet. not (octet == 0)) text
 
--- 1 to 4,095 octets without NUL, as a path may have
+-- a path: 1 to 4,095 octets without NUL
 abbrev pub is_path : List ℕ → Bool
 is_path text = is_between 1 4095 (length text) && has_no_nul text
 
--- 1 to 32 octets without NUL, as the name of a group may have
+-- the name of a group: 1 to 32 octets without NUL
 abbrev pub is_group : List ℕ → Bool
 is_group text = is_between 1 32 (length text) && has_no_nul text

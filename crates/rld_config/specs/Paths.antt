@@ -1,10 +1,10 @@
--- The paths of a server, as a process finds them that was given the name of its file.
+-- The paths of a server, for a process that was given the name of its file.
 use Rattle.std.specs.Prelude.{ℕ, List, codes, Option, None, Some}
 use Rattle.std.specs.Path.{path_join, path_with_file_name, path_buf_bytes}
 use Rattle.rld_config.specs.declared.paths.Paths.{Paths}
 use Rattle.rld_config.specs.declared.server.ServerFile.{ServerFile}
 
--- what the paths are, as lists of octets
+-- the paths as lists of octets
 pub record PathsSeen : Type 0 where
   pub accounts : List ℕ
   pub state : List ℕ
@@ -17,11 +17,11 @@ paths_in paths = record {
   control = path_buf_bytes paths.control;
 }
 
--- where a path of the file leads to: from the folder of the file, unless it begins at the root
+-- a path of the file, resolved: from the folder of the file, unless it begins at the root
 abbrev pub beside : (file path : List ℕ) → List ℕ
 beside file path = path_with_file_name file path
 
--- the socket is `control` in the state folder if the file does not say otherwise
+-- the socket is `control` in the state folder unless the file says otherwise
 abbrev pub control_path : (file state : List ℕ) → Option (List ℕ) → List ℕ
 control_path file state None = path_join (beside file state) (codes "control")
 control_path file state (Some path) = beside file path

@@ -1,4 +1,4 @@
--- The server's file: what it says, or its first fault.
+-- The contents of a server's file, or its first fault.
 use Rattle.std.specs.Prelude.{ℕ, ◌+◌, Bool, false, not, ◌==◌, ◌&&◌, ◌||◌, if◌then◌else◌, List, [], ◌∷◌, ◌++◌, length, map, Option, None, Some, find, option_map, ok_or, is_some, position, Result, Ok, Err}
 use Rattle.std.specs.List.{list_any, slice_get}
 use Rattle.std.specs.Net.Addr.{ipv4_octets}
@@ -34,7 +34,7 @@ use Rattle.rsl_accounts.specs.Version.{is_strict}
 use Rattle.rsl_accounts.specs.declared.client.Client.{Client}
 use Rattle.rld_config.specs.Value.{member_in, number_of, path_of, address_value, ip_address_value, prefix_value, flag_value, sync_value, archive_value, tables_of, required, or_default, optional, group_of, unknown_in, and_then, fault_or}
 
--- what a server's file says
+-- the contents of a server's file
 pub record Server : Type 0 where
   pub accounts : List ℕ
   pub state : List ℕ
@@ -59,14 +59,14 @@ server_in file = record {
   trust = file.trust;
 }
 
--- the address that means every IPv4 address of the machine, and that of the machine itself
+-- the wildcard address, for every IPv4 address of the machine, and the loopback address
 abbrev pub any_address : IpAddr
 any_address = ipv4 (0 ∷ 0 ∷ 0 ∷ 0 ∷ [])
 
 abbrev pub own_address : List ℕ
 own_address = 127 ∷ 0 ∷ 0 ∷ 1 ∷ []
 
--- where a server listens that does not say it
+-- the default of `listen`
 abbrev pub default_listen : Listen
 default_listen = record {
   address = any_address;
@@ -76,7 +76,7 @@ default_listen = record {
   status_server = false;
 }
 
--- what each key of a table says
+-- the value of each key of a table
 unfoldable pub path_in : Part → Data → Key → Result (List ℕ) ServerFault
 path_in part value key = required part key path_of (member_in value key)
 
@@ -100,7 +100,7 @@ unfoldable pub ip_address_in : Part → Data → Result IpAddr ServerFault
 ip_address_in part value =
     or_default part key.Address ip_address_value any_address (member_in value key.Address)
 
--- false if the table does not say otherwise
+-- false by default
 unfoldable pub flag_in : Part → Data → Key → Result Bool ServerFault
 flag_in part value key = or_default part key flag_value false (member_in value key)
 
@@ -110,11 +110,11 @@ prefix_in part value = required part key.Prefix prefix_value (member_in value ke
 unfoldable pub client_in : Part → Data → Result (List ℕ) ServerFault
 client_in part value = required part key.Client address_value (member_in value key.Client)
 
--- each answer is synced if the file does not say otherwise
+-- each answer is synced by default
 unfoldable pub sync_in : Data → Result SyncPolicy ServerFault
 sync_in file = or_default part.Head key.Sync sync_value Always (member_in file key.Sync)
 
--- a week is kept if the file does not say otherwise
+-- a week by default
 unfoldable pub archive_in : Data → Result Archive ServerFault
 archive_in file =
     or_default part.Head key.Archive archive_value (Days 7) (member_in file key.Archive)
@@ -160,7 +160,7 @@ each says number (value ∷ values) =
     and_then (each says (number + 1) values) (λ others.
     Ok (said ∷ others)))
 
--- whether two sockets cannot both be had: one takes what comes to the other's address and port
+-- whether two addresses cannot have the same port: a socket at one receives what comes to the other
 abbrev pub addresses_meet : IpAddr → IpAddr → Bool
 addresses_meet one other = covers one other || covers other one
 
@@ -168,7 +168,7 @@ abbrev pub takes_port : (address : IpAddr) → (port : ℕ) → Listen → Bool
 takes_port address port listen =
     addresses_meet address listen.address && (port == listen.auth || port == listen.acct)
 
--- the first port of a table that a table before it has, or that it has itself
+-- the first port of a table that an earlier table has, or that it has twice
 abbrev pub taken_port : (before : List Listen) → Listen → Option ServerFault
 taken_port before listen =
     if list_any (takes_port listen.address listen.auth) before
@@ -177,7 +177,7 @@ taken_port before listen =
     then Some (TakenPort (part.Listen (length before + 1)) key.Acct)
     else None
 
--- the prefix of a table, if a table before it has it
+-- the prefix of a table, if an earlier table has it
 abbrev pub taken_prefix : (before : List Network) → Network → Option ServerFault
 taken_prefix before network =
     if list_any (λ other. same_prefix network.prefix other.prefix) before
@@ -188,7 +188,7 @@ abbrev pub first_of : Option ServerFault → Option ServerFault → Option Serve
 first_of None other = other
 first_of (Some fault) other = Some fault
 
--- the first fault of tables, each by those before it
+-- the first fault of tables, each given the earlier ones
 abbrev pub first_taken : {T : Type 0} → (List T → T → Option ServerFault) → (before tables : List T)
     → Option ServerFault
 first_taken taken before [] = None
@@ -233,7 +233,7 @@ option_at key part_in (Some value) =
     and_then (ok_or (table_of value) (BadValue part.Head key)) (λ found.
     and_then (part_in found) (λ found. Ok (Some found)))
 
--- a socket in the state folder, for the server's user alone, if the file does not say otherwise
+-- by default a socket in the state folder, for the server's user alone
 abbrev pub default_control : ControlSocket
 default_control = record { path = None; mode = 384; group = None }
 
@@ -268,7 +268,7 @@ readers_in value =
     (and_then (flag_in part.Trust value key.ReadableAccounts) (λ readable.
     Ok (record { readable_accounts = readable })))
 
--- nobody else may read the account file if the file does not say otherwise
+-- by default no other user may read the account file
 abbrev pub trust_at : Option Data → Result Trust ServerFault
 trust_at None = Ok (record { readable_accounts = false })
 trust_at (Some value) = and_then (ok_or (table_of value) (BadValue part.Head key.Trust)) readers_in
@@ -276,8 +276,8 @@ trust_at (Some value) = and_then (ok_or (table_of value) (BadValue part.Head key
 unfoldable pub trust_in : Data → Result Trust ServerFault
 trust_in file = trust_at (member_in file key.Trust)
 
--- what the file says, or its first fault: of the head, of the tables `listen` in their order, of the
--- tables `network`, of `control`, of `web`, of `trust`
+-- the contents of the file, or its first fault: of the head, of the tables `listen` in order, of
+-- the tables `network`, of `control`, of `web`, of `trust`
 unfoldable pub server_of_file : Data → Result Server ServerFault
 server_of_file file =
     and_then (head_in file) (λ head.
@@ -302,22 +302,22 @@ abbrev pub server_of_parsed : Option Data → Result Server ServerFault
 server_of_parsed None = Err NotToml
 server_of_parsed (Some file) = server_of_file file
 
--- what the text of a server's file says
+-- the contents of a server's file from its text
 abbrev pub server_of_text : List ℕ → Result Server ServerFault
 server_of_text text = server_of_parsed (file_of text)
 
--- the fault of the network of this number, counted from 0
+-- the fault of the network with this number, counted from 0
 abbrev pub unknown_client_at : Option ℕ → Option ServerFault
 unknown_client_at None = None
 unknown_client_at (Some index) = Some (UnknownClient (part.Network (index + 1)) key.Client)
 
--- the first network of which the client is none of a configuration
+-- the first network whose client is not one of a configuration
 unfoldable pub unknown_client : List Network → Configuration → Option ServerFault
 unknown_client networks config =
     unknown_client_at
     (position (λ network. not (is_some (client_number config network.client))) networks)
 
--- whether the client of this number need not sign
+-- whether the client with this number need not sign
 abbrev pub is_unsigned_at : Configuration → Option ℕ → Bool
 is_unsigned_at config None = false
 is_unsigned_at config (Some number) =
@@ -328,17 +328,17 @@ abbrev pub need_not_sign : Configuration → (address : List ℕ) → Bool
 need_not_sign config address =
     is_strict config.settings.version && is_unsigned_at config (client_number config address)
 
--- the first network of which the client need not sign
+-- the first network whose client need not sign
 unfoldable pub unsigned_client : List Network → Configuration → Option ServerFault
 unsigned_client networks config =
     option_map (λ index. UnsignedClient (part.Network (index + 1)) key.Client)
     (position (λ network. need_not_sign config network.client) networks)
 
--- the address that a client has of its own
+-- the address of a client itself
 abbrev pub own_address_of : Client → Ipv4Addr
 own_address_of client = record { octets = client.address }
 
--- whether the networks make a client's own address stand for another client
+-- whether the networks give a client's own address to another client
 abbrev pub shadows : List Network → Ipv4Addr → Bool
 shadows networks address =
     not (option_map_or (same_octets (ipv4_octets address)) (client_of networks (V4 address)) false)

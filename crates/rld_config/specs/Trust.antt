@@ -5,11 +5,11 @@ use Rattle.rld_config.specs.declared.trust.Exposure.{Exposure}
 use Rattle.rld_config.specs.declared.trust.Exposure.TheVariants.{Writable, Readable}
 use Rattle.rld_config.specs.declared.trust.Trust.{Trust}
 
--- whether the mode lets others than the owner and his group write
+-- whether others than the owner and his group can write to a file of this mode
 abbrev pub others_write : (mode : ℕ) → Bool
 others_write mode = not (bit_and mode 2 == 0)
 
--- nobody else may write to it, and to read it the operator has to allow
+-- no others may write to it, and to read it they need the operator's permission
 abbrev pub exposure_of : Trust → (mode : ℕ) → Option Exposure
 exposure_of trust mode =
     if others_write mode then Some Writable

@@ -1,4 +1,4 @@
--- What a value of TOML is under a key of the server's file, or the fault of that key.
+-- The value of a TOML table under a key of the server's file, or the fault of that key.
 use Rattle.std.specs.Prelude.{ℕ, pos, Bool, ◌&&◌, if◌then◌else◌, List, [], ◌∷◌, length, codes, bytes_eq, Option, None, Some, ok_or, is_some, option_map, Result, Ok, Err}
 use Rattle.std.specs.List.{list_all}
 use Rattle.toml.specs.Data.{Data, string, integer, boolean, array, table, Items, no_items, item, Members, no_members, member, get, as_table}
@@ -18,12 +18,12 @@ use Rattle.rld_config.specs.declared.sync.SyncPolicy.{SyncPolicy}
 use Rattle.rld_config.specs.declared.sync.SyncPolicy.TheVariants.{Always, Second, Never}
 use Rattle.rld_config.specs.Key.{key_name, knows, takes_number, is_between, is_group, is_path}
 
--- what a table has under a key
+-- the value under a key
 abbrev pub member_in : Data → Key → Option Data
 member_in value key = get (key_name key) value
 
--- the number, the path, the group, the address, the prefix, the word and the table that a value is, if the key
--- may have it
+-- a value as a number, a path, a group, an address, a prefix, a word and a table, if it is within
+-- the key's limits
 abbrev pub number_of : Key → Data → Option ℕ
 number_of key (integer (pos number)) = if takes_number key number then Some number else None
 number_of key _ = None
@@ -84,7 +84,7 @@ list_of (item value rest) = value ∷ list_of rest
 abbrev pub are_tables : List Data → Bool
 are_tables items = list_all (λ value. is_some (as_table value)) items
 
--- one table or more, but no more than `most`
+-- 1 to `most` tables
 abbrev pub tables_of_list : (most : ℕ) → List Data → Option (List Data)
 tables_of_list most items =
     if are_tables items && is_between 1 most (length items) then Some items else None
@@ -93,7 +93,7 @@ abbrev pub tables_of : (most : ℕ) → Data → Option (List Data)
 tables_of most (array items) = tables_of_list most (list_of items)
 tables_of most _ = None
 
--- the value of a key that a table must have, and of one that it may leave out, or the fault
+-- the value of a key that a table must have, and of an optional one, or the fault
 abbrev pub required : {T : Type 0} → Part → Key → (Data → Option T) → Option Data
     → Result T ServerFault
 required part key value_of None = Err (Missing part key)
@@ -104,14 +104,14 @@ abbrev pub or_default : {T : Type 0} → Part → Key → (Data → Option T) �
 or_default part key value_of default None = Ok default
 or_default part key value_of default (Some value) = ok_or (value_of value) (BadValue part key)
 
--- the text of a key that a table may leave out, or the fault
+-- the text of an optional key, or the fault
 abbrev pub optional : {T : Type 0} → Part → Key → (Data → Option T) → Option Data
     → Result (Option T) ServerFault
 optional part key value_of None = Ok None
 optional part key value_of (Some value) =
     ok_or (option_map Some (value_of value)) (BadValue part key)
 
--- the first key that the table may not have; keys are in the order of their octets
+-- `Unknown` of the first key that the table may not have, in the order of octets
 abbrev pub unknown_of : Part → Members → Option ServerFault
 unknown_of part no_members = None
 unknown_of part (member name value rest) =
@@ -121,7 +121,7 @@ abbrev pub unknown_in : Part → Data → Option ServerFault
 unknown_in part (table members) = unknown_of part members
 unknown_in part _ = None
 
--- what goes on with a value, or its fault
+-- the function of a value, or its fault
 abbrev pub and_then : {T U : Type 0} → Result T ServerFault → (T → Result U ServerFault)
     → Result U ServerFault
 and_then (Ok value) next = next value

@@ -1,4 +1,4 @@
--- What an operator learns about an account file that is right.
+-- What an operator should know of an account file that is right.
 use Rattle.std.specs.Prelude.{ℕ, ◌+◌, ◌*◌, Bool, not, ◌==◌, nat_lt, bit_and, if◌then◌else◌, List, [], ◌∷◌, ◌++◌, length, map}
 use Rattle.std.specs.List.{flat_map}
 use Rattle.std.specs.Prelude.{◌/◌}
@@ -10,8 +10,7 @@ use Rattle.rld_config.specs.declared.warning.Warning.{Warning}
 use Rattle.rld_config.specs.declared.warning.Warning.TheVariants.{NotSigned, ShortSecret, Prefixed, OthersRead, Memory}
 use Rattle.rld_networks.specs.declared.network.Network.{Network}
 
--- a client whose requests need no signature, and one whose secret has under 16 octets (RFC 2865
--- section 3)
+-- a client that need not sign, and one whose secret has under 16 octets (RFC 2865 section 3)
 abbrev pub signed_warning : Client → List Warning
 signed_warning client = if client.signed then [] else NotSigned client.address ∷ []
 
@@ -22,18 +21,18 @@ secret_warning client =
 abbrev pub client_warnings : Client → List Warning
 client_warnings client = signed_warning client ++ secret_warning client
 
--- a network: the access servers behind it that do not name themselves count as one
+-- a network: its access servers that do not name themselves count as one
 abbrev pub network_warnings : List Network → List Warning
 network_warnings networks = map (λ network. Prefixed network.prefix) networks
 
--- whether the mode of a file lets everybody read it
+-- whether everybody can read a file of this mode
 abbrev pub others_read : (mode : ℕ) → Bool
 others_read mode = not (bit_and mode 4 == 0)
 
 abbrev pub mode_warning : (mode : ℕ) → List Warning
 mode_warning mode = if others_read mode then OthersRead ∷ [] else []
 
--- the octets that a book takes: 3,440 of one link, and 172 for each further one
+-- the octets of a book: 3,440 with one link, and 172 for each further one
 unfoldable pub book_octets : Rules → ℕ
 book_octets rules = 3268 + 172 * (rules.places * rules.ports)
 
@@ -41,7 +40,7 @@ abbrev pub books_octets : List Entry → ℕ
 books_octets [] = 0
 books_octets (entry ∷ entries) = book_octets entry.rules + books_octets entries
 
--- millions of octets, rounded up
+-- megabytes, rounded up
 abbrev pub megabytes : ℕ → ℕ
 megabytes octets = (octets + 999999) / 1000000
 

@@ -1,7 +1,7 @@
 ghost use Rattle.std.specs.Prelude.{◌≡◌};
 ghost use Rattle.rld_config.specs.Value.{archive_word};
 
-/// How long the files of the state folder are kept that no start needs any more.
+/// How long the files of the state folder that no start needs any more are kept.
 #[derive(Clone, Copy, Debug)]
 pub enum Archive {
     /// For ever.
@@ -13,7 +13,7 @@ pub enum Archive {
 }
 
 impl Archive {
-    /// What a word of the file says: `keep` or `none`.
+    /// The archive of a word of the file: `keep` or `none`.
     pub(crate) fn of_word(word: &str) -> Option<Archive>
         ensures { result ≡ archive_word word.now }
     {

@@ -1,13 +1,13 @@
 use rsl_accounts::Text;
 
-/// Where an operator asks the running server, and who may.
+/// The control socket of the running server, and who may use it.
 #[derive(Drop)]
 pub struct ControlSocket {
-    /// The path of the socket, if the file says it.
+    /// The path of the socket, if the file has one.
     pub path: Option<Text>,
-    /// The mode of the socket: 0o600 if the file does not say it, 0o660 or 0o666. Who may write to it
+    /// The mode of the socket: 0o600 unless the file says 0o660 or 0o666. Whoever may write to it
     /// may ask.
     pub mode: u16,
-    /// The name of the group that the socket is given to, if the file says it: 1 to 32 octets.
+    /// The name of the group of the socket, 1 to 32 octets, if the file has one.
     pub group: Option<Text>,
 }

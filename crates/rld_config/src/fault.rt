@@ -9,14 +9,14 @@ use std::alloc::{AllocError, AllocFailed};
 use std::net::Ipv4Addr;
 use thiserror::Error;
 
-/// Why a server's file says nothing. It prints as its name, the table but for the head, and the
-/// key: `BadValue listen 2 auth`.
+/// Why a server's file cannot be used. It prints as its name, the table unless it is the head, and
+/// the key: `BadValue listen 2 auth`.
 #[derive(Debug, Drop, Error)]
 pub enum ServerFault {
     /// The file is not UTF-8 or not TOML.
     #[error("NotToml")]
     NotToml,
-    /// The table may not have a key of this name.
+    /// The table has an unknown key of this name.
     #[error("Unknown {0}{1:?}")]
     Unknown(Part, Text),
     /// The key is absent.
@@ -25,17 +25,17 @@ pub enum ServerFault {
     /// The value of the key is of another type, or outside its limits.
     #[error("BadValue {0}{1}")]
     BadValue(Part, Key),
-    /// The port is one that stands before it in the file, at an address that meets its own.
+    /// An earlier table of the file has the port, at an address that meets its own.
     #[error("TakenPort {0}{1}")]
     TakenPort(Part, Key),
-    /// The prefix is one that stands before it in the file.
+    /// An earlier table of the file has the prefix.
     #[error("TakenPrefix {0}{1}")]
     TakenPrefix(Part, Key),
     /// The account file has no client of this address.
     #[error("UnknownClient {0}{1}")]
     UnknownClient(Part, Key),
     /// The client of this address need not sign, which version 3 of the account file does not allow
-    /// behind a network.
+    /// for a network.
     #[error("UnsignedClient {0}{1}")]
     UnsignedClient(Part, Key),
     /// The address of this client of the account file stands for another client by a network.

@@ -2,7 +2,7 @@ use crate::archive::Archive;
 use crate::sync::SyncPolicy;
 use rsl_accounts::Text;
 
-/// What stands at the head of the file.
+/// The keys at the head of the file.
 #[derive(Drop)]
 pub(crate) struct Head {
     pub(crate) accounts: Text,

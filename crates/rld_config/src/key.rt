@@ -6,7 +6,7 @@ use std::fmt;
 /// The most days that an archive may be kept: a hundred years.
 const MAX_DAYS: u64 = 36_500;
 
-/// The most that a UDP or TCP port can be.
+/// The greatest UDP or TCP port.
 const MAX_PORT: u64 = 65_535;
 
 /// The most receivers on each socket of a table.
@@ -23,19 +23,19 @@ const MAX_PATH_LEN: u64 = 4_095;
 pub enum Key {
     /// The path of the account file.
     Accounts,
-    /// The path of the folder that the server keeps its history in.
+    /// The path of the folder where the server keeps its history.
     State,
-    /// When the system has to write what was recorded to the disk.
+    /// When what was recorded is synced to the disk.
     Sync,
-    /// How long files that are no longer needed for a start are kept.
+    /// How long files that no start needs any more are kept.
     Archive,
-    /// Where packets come to, as an array of tables.
+    /// The addresses and ports of packets, as an array of tables.
     Listen,
-    /// Which addresses stand for clients, as an array of tables.
+    /// The networks that stand for clients, as an array of tables.
     Network,
-    /// Where the running server is asked, as a table.
+    /// The control socket of the running server, as a table.
     Control,
-    /// Where its page is served, as a table.
+    /// The page of the running server, as a table.
     Web,
     /// What others may do, as a table.
     Trust,
@@ -45,7 +45,7 @@ pub enum Key {
     Auth,
     /// The UDP port for Accounting-Requests.
     Acct,
-    /// How many receivers take from each of both ports.
+    /// How many receivers each of the two ports has.
     Receivers,
     /// Whether Status-Server packets are answered on both ports.
     StatusServer,
@@ -53,11 +53,11 @@ pub enum Key {
     Prefix,
     /// The IPv4 address of the client that a `network` stands for.
     Client,
-    /// The path of the control's socket.
+    /// The path of the control socket.
     Socket,
-    /// The mode of the control's socket.
+    /// The mode of the control socket.
     Mode,
-    /// The name of the group that the control's socket is given to.
+    /// The name of the group of the control socket.
     Group,
     /// The TCP port of the page.
     Port,
@@ -66,7 +66,7 @@ pub enum Key {
 }
 
 impl Key {
-    /// The key as it stands in the file, as `receivers`.
+    /// The key as it is in the file, such as `receivers`.
     pub fn name(&self) -> &'static str
         ensures { result.now ≡ key_name self.now }
     {
@@ -95,7 +95,7 @@ impl Key {
         }
     }
 
-    /// Whether the key may have the number. Each such number has 16 bits.
+    /// Whether the number is within the key's limits, which fit 16 bits.
     pub(crate) fn takes_number(self, number: u64) -> bool
         ensures value { result ≡ takes_number self number }
         ensures small { IsTrue result → number < 2 ^ 16 }
@@ -118,15 +118,15 @@ impl fmt::Display for Key {
     }
 }
 
-/// Whether a number is from the least to the most.
+/// Whether a number is from `least` to `most`.
 pub(crate) fn is_between(least: u64, most: u64, number: u64) -> bool
     ensures { result ≡ is_between least most number }
 {
     least <= number && number <= most
 }
 
-/// Whether a number is the mode of a socket that its owner may write to, and nobody else, his group or
-/// everybody.
+/// Whether a number is the mode of a socket that its owner may write to, alone or with his group or
+/// with everybody.
 fn is_mode(number: u64) -> bool
     ensures value { result ≡ is_mode number }
     ensures small { IsTrue result → number < 2 ^ 16 }

@@ -1,12 +1,12 @@
-//! The file of a server that an operator keeps, and what he should know of the account file that
-//! it names.
+//! The server's file that an operator writes, and what he should know of the account file that it
+//! names.
 //!
 //! `ServerFile::read` answers exactly what `server_of_text` of `specs/Server.antt` says: what the
 //! text says, or its first fault, or that memory was refused. The keys of each table, and the
-//! values that they may have, stand in `specs/Key.antt`, and in `specs/Value.antt` what a value of
-//! TOML is under a key. `Paths::of` says where the file's paths lead to (`specs/Paths.antt`),
-//! `break_of` where a text stops being TOML (`specs/Place.antt`), and `warnings` what is worth
-//! knowing of a configuration (`specs/Warning.antt`).
+//! values that they may have, are in `specs/Key.antt`, and what a TOML value is under a key in
+//! `specs/Value.antt`. `Paths::of` resolves the file's paths (`specs/Paths.antt`), `break_of` finds
+//! where a text stops being TOML (`specs/Place.antt`), and `warnings` gives what is worth knowing
+//! of a configuration (`specs/Warning.antt`).
 #![tactic(auto)]
 
 mod archive;

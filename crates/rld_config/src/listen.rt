@@ -1,4 +1,4 @@
-//! Where packets come to, and the ports that two tables cannot both have.
+//! The addresses and ports of packets, and the ports that two tables cannot both have.
 ghost use Rattle.std.specs.Prelude.{◌≡◌, ◌+◌, ◌<◌, ◌^◌, [], length};
 ghost use Rattle.std.specs.List.{list_any};
 ghost use Rattle.rld_config.specs.Server.{
@@ -22,7 +22,7 @@ pub(crate) const AUTH_PORT: u16 = 1812;
 /// The port of Accounting-Requests (RFC 2866 section 3).
 pub(crate) const ACCT_PORT: u16 = 1813;
 
-/// Two ports of an address that packets come to.
+/// An address with two ports that packets come to.
 #[derive(Clone, Copy, Debug)]
 pub struct Listen {
     /// An address of this machine, or 0.0.0.0 for all its IPv4 addresses, or :: for all addresses.
@@ -31,15 +31,15 @@ pub struct Listen {
     pub auth: u16,
     /// The UDP port for Accounting-Requests, at least 1.
     pub acct: u16,
-    /// How many receivers take from each of both ports: 1 to 16.
+    /// How many receivers each of the two ports has: 1 to 16.
     pub receivers: u16,
-    /// Whether Status-Server packets are answered on both (RFC 5997).
+    /// Whether Status-Server packets are answered on both ports (RFC 5997).
     pub status_server: bool,
 }
 
 impl Listen {
-    /// Where a server listens whose file does not say it: 1812 and 1813 of all IPv4 addresses, with
-    /// one receiver each.
+    /// The default of a server's file: ports 1812 and 1813 of all IPv4 addresses, with one receiver
+    /// each.
     pub(crate) fn standard() -> Listen
         ensures { result ≡ default_listen }
     {
@@ -60,21 +60,22 @@ impl Listen {
     }
 }
 
-/// Whether one port cannot be had at both addresses: a socket at one takes what comes to the other.
+/// Whether two addresses cannot have the same port: a socket at one receives what comes to the
+/// other.
 fn addresses_meet(one: IpAddr, other: IpAddr) -> bool
     ensures { result ≡ addresses_meet one other }
 {
     covers(one, other) || covers(other, one)
 }
 
-/// Whether one of the tables takes the port.
+/// Whether one of the tables has the port.
 fn is_taken(tables: &[Listen], address: IpAddr, port: u16) -> bool
     ensures { result ≡ list_any (takes_port address port) tables.now }
 {
     tables.iter().any(|table| table.takes_port(address, port))
 }
 
-/// The first port of a table that a table before it has, or that it has itself.
+/// `TakenPort` of the first port of a table that an earlier table has, or that it has twice.
 fn taken_port(before: &[Listen], table: &Listen) -> Option<ServerFault>
     requires { length before.now < 2 ^ 32 }
     ensures { result ≡ taken_port before.now table.now }
@@ -89,7 +90,7 @@ fn taken_port(before: &[Listen], table: &Listen) -> Option<ServerFault>
     }
 }
 
-/// The first port of the tables that another socket has before it.
+/// `TakenPort` of the first port of the tables that an earlier socket has.
 pub(crate) fn first_taken_port(tables: &[Listen]) -> Option<ServerFault>
     requires { length tables.now < 2 ^ 32 }
     ensures { result ≡ first_taken taken_port [] tables.now }

@@ -1,5 +1,5 @@
-//! The networks of a server's file: no prefix twice, none of which the client is missing, none for a
-//! client that need not sign under a guard, and none that takes the address of another client.
+//! The checks of a server's networks: no prefix twice, no missing client, no client that need not
+//! sign under a guard, and no network that takes the address of another client.
 ghost use Rattle.std.specs.Prelude.{◌≡◌, ◌<◌, ◌^◌, [], IfSome, is_some, length, not, position};
 ghost use Rattle.std.specs.List.{list_any};
 ghost use Rattle.rld_networks.specs.Prefix.{same_prefix};
@@ -21,7 +21,7 @@ fn has_prefix(networks: &[Network], prefix: &Prefix) -> bool
     networks.iter().any(|other| prefix.is_same(&other.prefix))
 }
 
-/// The prefix of a network, if one before it has the same.
+/// `TakenPrefix` of a network, if an earlier one has its prefix.
 fn taken_prefix(before: &[Network], network: &Network) -> Option<ServerFault>
     requires { length before.now < 2 ^ 32 }
     ensures { result ≡ taken_prefix before.now network.now }
@@ -34,7 +34,7 @@ fn taken_prefix(before: &[Network], network: &Network) -> Option<ServerFault>
     }
 }
 
-/// The first prefix of the networks that another has before it.
+/// `TakenPrefix` of the first network whose prefix an earlier one has.
 pub(crate) fn first_taken_prefix(networks: &[Network]) -> Option<ServerFault>
     requires { length networks.now < 2 ^ 32 }
     ensures { result ≡ first_taken taken_prefix [] networks.now }
@@ -47,8 +47,7 @@ pub(crate) fn first_taken_prefix(networks: &[Network]) -> Option<ServerFault>
     None
 }
 
-/// `UnknownClient` of the first network of a server's file whose client the account file does not
-/// have.
+/// `UnknownClient` of the first network of a server's file whose client is not in the account file.
 #[tactic(auto, unfolding(crate::specs::Server::unknown_client))]
 pub fn unknown_client(networks: &[Network], config: &Config) -> Option<ServerFault>
     ensures { result ≡ unknown_client networks.now config.now }
@@ -75,8 +74,8 @@ fn lacks(config: &Config, network: &Network) -> bool
     config.client(network.client).is_none()
 }
 
-/// `UnsignedClient` of the first network of a server's file whose client need not sign, under the guard of
-/// version 3 of the account file: each host of the network could ask for it.
+/// `UnsignedClient` of the first network of a server's file whose client need not sign, under the
+/// guard of version 3 of the account file: any host of the network could pose as it.
 #[tactic(auto, unfolding(crate::specs::Server::unsigned_client))]
 pub fn unsigned_client(networks: &[Network], config: &Config) -> Option<ServerFault>
     ensures { result ≡ unsigned_client networks.now config.now }
@@ -107,8 +106,8 @@ fn need_not_sign(config: &Config, address: [u8; 4]) -> bool
     }
 }
 
-/// `ShadowedClient` of the first client of the account file whose own address a network makes stand for
-/// another client: its packets would be read with the other one's secret.
+/// `ShadowedClient` of the first client of the account file whose own address a network gives to
+/// another client: its packets would be read with the other client's secret.
 #[tactic(auto, unfolding(crate::specs::Server::shadowed_client))]
 pub fn shadowed_client(networks: &[Network], config: &Config) -> Option<ServerFault>
     ensures { result ≡ shadowed_client networks.now config.now }

@@ -6,8 +6,8 @@ ghost use Rattle.rld_config.specs.Key.{key_name, keys_of, knows};
 use crate::key::Key;
 use std::fmt;
 
-/// A table of the server's file. It prints as what stands before one of its keys in a fault: the
-/// head as nothing, and the second `listen` as `listen 2` and a blank.
+/// A table of the server's file. It prints as the prefix of a key in a fault: nothing for the head,
+/// and `listen 2` and a blank for the second `listen`.
 #[derive(Clone, Copy, Debug)]
 pub enum Part {
     /// The head of the file.

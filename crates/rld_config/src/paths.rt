@@ -8,22 +8,22 @@ use rsl_wire::NoMemory;
 use std::alloc::Global;
 use std::path::{Path, PathBuf};
 
-/// The name of the control's socket in the state folder, if the file does not say another.
+/// The name of the control socket in the state folder, unless the file says another.
 const CONTROL: &str = "control";
 
-/// The paths of a server. A relative path of its file starts in the folder of the file.
+/// The paths of a server. Relative paths of its file begin at the folder of the file.
 #[derive(Drop)]
 pub struct Paths {
     /// The account file.
     pub accounts: PathBuf,
     /// The state folder.
     pub state: PathBuf,
-    /// The control's socket.
+    /// The control socket.
     pub control: PathBuf,
 }
 
 impl Paths {
-    /// The paths that a server's file of this name says. It fails only where memory is refused.
+    /// The paths of a server's file of this name. It fails only if memory is refused.
     pub fn of(alloc: Global, file: &str, server: &ServerFile) -> Result<Paths, NoMemory>
         ensures { IfOk result (λ paths. paths_in paths ≡ paths_of file.now server.now) }
     {
@@ -38,14 +38,14 @@ impl Paths {
     }
 }
 
-/// Where a path of the file leads to.
+/// A path of the file, resolved.
 fn beside(alloc: Global, file: &str, path: &str) -> Result<PathBuf, NoMemory>
     ensures { IfOk result (λ found. path_buf_bytes found ≡ beside file.now path.now) }
 {
     Ok(Path::new(file).with_file_name(alloc, path)?)
 }
 
-/// Where the control's socket is.
+/// The path of the control socket.
 fn control(
     alloc: Global,
     file: &str,

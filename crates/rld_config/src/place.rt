@@ -5,7 +5,7 @@ ghost use Rattle.rsl_accounts.specs.File.{file_of};
 use rsl_wire::NoMemory;
 use std::alloc::Global;
 
-/// A place in a text.
+/// A position in a text.
 #[derive(Clone, Copy, Debug)]
 pub struct Place {
     /// The number of its line, from 1.
@@ -15,7 +15,7 @@ pub struct Place {
 }
 
 impl Place {
-    /// The place that stands after these octets.
+    /// The position after these octets.
     fn after(octets: &[u8]) -> Place
         ensures { result ≡ place_after octets.now }
     {
@@ -26,7 +26,7 @@ impl Place {
         place
     }
 
-    /// The place after one more octet.
+    /// The position after another octet.
     fn past(self, octet: u8) -> Place
         requires line { self.line < 2 ^ 63 }
         requires column { self.column < 2 ^ 63 }
@@ -48,15 +48,15 @@ impl Place {
     }
 }
 
-/// Whether an octet goes on with the character of the octet before it.
+/// Whether an octet continues the character of the octet before it.
 fn goes_on(octet: u8) -> bool
     ensures { result ≡ goes_on octet }
 {
     0x80 <= octet && octet <= 0xbf
 }
 
-/// Where a text stops being TOML, as the parser tells it: a place of the text. There is none where
-/// the text is UTF-8 and TOML. It fails only where memory is refused.
+/// The position where a text stops being TOML, as the parser reports it, or `None` if the text is
+/// UTF-8 and TOML. It fails only if memory is refused.
 pub fn break_of(alloc: Global, text: &[u8]) -> Result<Option<Place>, NoMemory>
     ensures broken { IfOk result (λ found. IfSome found (λ place.
         (file_of text.now ≡ None) × IsPlaceIn text.now place)) }

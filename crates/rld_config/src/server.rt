@@ -43,48 +43,47 @@ use rsl_accounts::Text;
 use std::alloc::Global;
 use toml::Value;
 
-/// The most tables that the array `listen` may have.
+/// The most tables of the array `listen`.
 const MAX_LISTENS: u64 = 16;
 
-/// The most tables that the array `network` may have: as many as there may be clients.
+/// The most tables of the array `network`: as many as there may be clients.
 const MAX_NETWORKS: u64 = 256;
 
-/// The address of the machine itself, which no other machine can ask.
+/// The loopback address, which no other machine can reach.
 const OWN_ADDRESS: [u8; 4] = [127, 0, 0, 1];
 
-/// The mode of the control's socket if the file does not say it: the server's user alone may ask.
+/// The default mode of the control socket: the server's user alone may ask.
 const OWNERS_MODE: u16 = 0o600;
 
-/// What a server's file says.
+/// The contents of a server's file.
 #[derive(Drop)]
 pub struct ServerFile {
-    /// The path of the account file: 1 to 4,095 octets without NUL, as each path.
+    /// The path of the account file: 1 to 4,095 octets without NUL, like each path.
     pub accounts: Text,
     /// The path of the state folder.
     pub state: Text,
-    /// When the system has to write what was recorded to the disk.
+    /// When what was recorded is synced to the disk.
     pub sync: SyncPolicy,
-    /// How long files are kept that no start needs any more.
+    /// How long files that no start needs any more are kept.
     pub archive: Archive,
-    /// Where packets come to: 1 to 16, no two on one port.
+    /// The addresses and ports of packets: 1 to 16, no two on one port.
     pub listens: Vec<Listen>,
-    /// Which addresses stand for clients: at most 256, no two with one prefix.
+    /// The networks that stand for clients: at most 256, no two with one prefix.
     pub networks: Vec<Network>,
-    /// Where the running server is asked, and who may ask it.
+    /// The control socket, and who may use it.
     pub control: ControlSocket,
-    /// Where the page is served, if it is.
+    /// The address of the page, if it is served.
     pub web: Option<Web>,
     /// What others may do with the account file.
     pub trust: Trust,
 }
 
 impl ServerFile {
-    /// What the text of a server's file says. The faults come in this order: `NotToml`; of the
-    /// head, the first name that is not known, then the first key that is absent or has a wrong
-    /// value; the same of each table `listen`, in the file's order, then `TakenPort`; the same of
-    /// each table `network`, then `TakenPrefix`; the same of `control`, of `web` and of
-    /// `trust`. `NoMemory` comes
-    /// where memory is refused, before the checks that follow.
+    /// The contents of a server's file from its text. The faults come in this order: `NotToml`; of
+    /// the head, the first unknown key, then the first key that is absent or has a wrong value; the
+    /// same of each table `listen`, in the file's order, then `TakenPort`; the same of each table
+    /// `network`, then `TakenPrefix`; the same of `control`, of `web` and of `trust`. `NoMemory`
+    /// comes if memory is refused, before the checks that follow.
     pub fn read(alloc: Global, text: &[u8]) -> Result<ServerFile, ServerFault>
         ensures ok { IfOk result (λ file. server_of_text text.now ≡ Ok (server_in file)) }
         ensures fault { IfErr result (λ fault. fault ≢ ServerFault.NoMemory →
@@ -93,7 +92,7 @@ impl ServerFile {
         ServerFile::of_file(alloc, &parse(alloc, text)?)
     }
 
-    /// What the table of a server's file says.
+    /// The contents of a server's file from its TOML table.
     #[tactic(auto, unfolding(crate::specs::Server::server_of_file))]
     fn of_file(alloc: Global, file: &Value) -> Result<ServerFile, ServerFault>
         ensures ok { IfOk result (λ server.
@@ -121,7 +120,7 @@ impl ServerFile {
     }
 }
 
-/// The table that the text is.
+/// The text as a TOML table.
 fn parse(alloc: Global, text: &[u8]) -> Result<Value, ServerFault>
     ensures ok { IfOk result (λ file. file_of text.now ≡ Some (view file)) }
     ensures fault { IfErr result (λ fault. fault ≢ ServerFault.NoMemory →
@@ -134,7 +133,7 @@ fn parse(alloc: Global, text: &[u8]) -> Result<Value, ServerFault>
     }
 }
 
-/// What the head of the file says.
+/// Reads the head of the file.
 #[tactic(auto, unfolding(crate::specs::Server::head_in))]
 fn head(alloc: Global, file: &Value) -> Result<Head, ServerFault>
     ensures ok { IfOk result (λ head. head_in (view file.now) ≡ Ok head) }
@@ -150,7 +149,7 @@ fn head(alloc: Global, file: &Value) -> Result<Head, ServerFault>
     })
 }
 
-/// What a table `listen` says.
+/// Reads a table `listen`.
 #[tactic(auto, unfolding(crate::specs::Server::listen_in))]
 fn listen(alloc: Global, number_of_table: u64, table: &Value) -> Result<Listen, ServerFault>
     ensures ok { IfOk result (λ listen. listen_in number_of_table (view table.now) ≡ Ok listen) }
@@ -168,7 +167,7 @@ fn listen(alloc: Global, number_of_table: u64, table: &Value) -> Result<Listen, 
     })
 }
 
-/// What each table `listen` says, in the file's order.
+/// Reads each table `listen`, in the file's order.
 fn listens_of_tables(alloc: Global, tables: &[Value]) -> Result<Vec<Listen>, ServerFault>
     requires { length tables.now ≤ 16 }
     ensures ok { IfOk result (λ listens. each listen_in 1 (map view tables.now) ≡ Ok listens.items) }
@@ -183,7 +182,7 @@ fn listens_of_tables(alloc: Global, tables: &[Value]) -> Result<Vec<Listen>, Ser
     Ok(listens)
 }
 
-/// What each table `listen` says, in the file's order, if no two sockets have one port.
+/// Reads each table `listen`, in the file's order; no two sockets may have one port.
 #[tactic(auto, unfolding(crate::specs::Server::listens_of))]
 fn listens_apart(alloc: Global, tables: &[Value]) -> Result<Vec<Listen>, ServerFault>
     requires { length tables.now ≤ 16 }
@@ -198,7 +197,7 @@ fn listens_apart(alloc: Global, tables: &[Value]) -> Result<Vec<Listen>, ServerF
     }
 }
 
-/// Where packets come to.
+/// Reads the array `listen`, or gives its default.
 #[tactic(auto, unfolding(crate::specs::Server::listens_in))]
 fn listens(alloc: Global, file: &Value) -> Result<Vec<Listen>, ServerFault>
     ensures ok { IfOk result (λ listens. listens_in (view file.now) ≡ Ok listens.items) }
@@ -214,7 +213,7 @@ fn listens(alloc: Global, file: &Value) -> Result<Vec<Listen>, ServerFault>
     }
 }
 
-/// What a table `network` says.
+/// Reads a table `network`.
 #[tactic(auto, unfolding(crate::specs::Server::network_in))]
 fn network(alloc: Global, number_of_table: u64, table: &Value) -> Result<Network, ServerFault>
     ensures ok { IfOk result (λ network. network_in number_of_table (view table.now) ≡ Ok network) }
@@ -229,7 +228,7 @@ fn network(alloc: Global, number_of_table: u64, table: &Value) -> Result<Network
     })
 }
 
-/// What each table `network` says, in the file's order.
+/// Reads each table `network`, in the file's order.
 fn networks_of_tables(alloc: Global, tables: &[Value]) -> Result<Vec<Network>, ServerFault>
     requires { length tables.now ≤ 256 }
     ensures ok { IfOk result (λ networks.
@@ -245,7 +244,7 @@ fn networks_of_tables(alloc: Global, tables: &[Value]) -> Result<Vec<Network>, S
     Ok(networks)
 }
 
-/// What each table `network` says, in the file's order, if no two networks have one prefix.
+/// Reads each table `network`, in the file's order; no two networks may have one prefix.
 #[tactic(auto, unfolding(crate::specs::Server::networks_of))]
 fn networks_apart(alloc: Global, tables: &[Value]) -> Result<Vec<Network>, ServerFault>
     requires { length tables.now ≤ 256 }
@@ -261,7 +260,7 @@ fn networks_apart(alloc: Global, tables: &[Value]) -> Result<Vec<Network>, Serve
     }
 }
 
-/// Which addresses stand for clients.
+/// Reads the array `network`, or gives none.
 #[tactic(auto, unfolding(crate::specs::Server::networks_in))]
 fn networks(alloc: Global, file: &Value) -> Result<Vec<Network>, ServerFault>
     ensures ok { IfOk result (λ networks. networks_in (view file.now) ≡ Ok networks.items) }
@@ -277,7 +276,7 @@ fn networks(alloc: Global, file: &Value) -> Result<Vec<Network>, ServerFault>
     }
 }
 
-/// What a table `control` says.
+/// Reads a table `control`.
 #[tactic(auto, unfolding(crate::specs::Server::socket_in))]
 fn socket(alloc: Global, table: &Value) -> Result<ControlSocket, ServerFault>
     ensures ok { IfOk result (λ socket. socket_in (view table.now) ≡ Ok socket) }
@@ -292,7 +291,7 @@ fn socket(alloc: Global, table: &Value) -> Result<ControlSocket, ServerFault>
     })
 }
 
-/// Where the running server is asked, and who may ask it.
+/// Reads the table `control`, or gives its default.
 #[tactic(auto, unfolding(crate::specs::Server::control_in))]
 fn control(alloc: Global, file: &Value) -> Result<ControlSocket, ServerFault>
     ensures ok { IfOk result (λ socket. control_in (view file.now) ≡ Ok socket) }
@@ -310,7 +309,7 @@ fn control(alloc: Global, file: &Value) -> Result<ControlSocket, ServerFault>
     }
 }
 
-/// What a table `web` says.
+/// Reads a table `web`.
 #[tactic(auto, unfolding(crate::specs::Server::page_in))]
 fn page(alloc: Global, table: &Value) -> Result<Web, ServerFault>
     ensures ok { IfOk result (λ web. page_in (view table.now) ≡ Ok web) }
@@ -324,7 +323,7 @@ fn page(alloc: Global, table: &Value) -> Result<Web, ServerFault>
     })
 }
 
-/// Where the page is served, if it is.
+/// Reads the table `web`, if there is one.
 #[tactic(auto, unfolding(crate::specs::Server::web_in))]
 fn web(alloc: Global, file: &Value) -> Result<Option<Web>, ServerFault>
     ensures ok { IfOk result (λ web. web_in (view file.now) ≡ Ok web) }
@@ -338,7 +337,7 @@ fn web(alloc: Global, file: &Value) -> Result<Option<Web>, ServerFault>
     }
 }
 
-/// What a table `trust` says.
+/// Reads a table `trust`.
 #[tactic(auto, unfolding(crate::specs::Server::readers_in))]
 fn readers(alloc: Global, table: &Value) -> Result<Trust, ServerFault>
     ensures ok { IfOk result (λ trust. readers_in (view table.now) ≡ Ok trust) }
@@ -351,7 +350,7 @@ fn readers(alloc: Global, table: &Value) -> Result<Trust, ServerFault>
     })
 }
 
-/// What others may do with the account file: nothing if the file does not say it.
+/// Reads the table `trust`. By default others may do nothing.
 #[tactic(auto, unfolding(crate::specs::Server::trust_in))]
 fn trust(alloc: Global, file: &Value) -> Result<Trust, ServerFault>
     ensures ok { IfOk result (λ trust. trust_in (view file.now) ≡ Ok trust) }

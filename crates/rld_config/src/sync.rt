@@ -1,15 +1,15 @@
 ghost use Rattle.std.specs.Prelude.{◌≡◌};
 ghost use Rattle.rld_config.specs.Value.{sync_word};
 
-/// When the system has to write what was recorded to the disk. Under each, what was answered
-/// survives a kill of the process; they differ where the power is lost.
+/// When what was recorded is synced to the disk. Under each policy what was answered survives a
+/// kill of the process; they differ in what a loss of power leaves.
 #[derive(Clone, Copy, Debug)]
 pub enum SyncPolicy {
     /// Before each answer: no answer is lost.
     Always,
     /// Once a second: the answers of the last second may be lost.
     Second,
-    /// When it likes: what was answered since then may be lost.
+    /// When the system likes: what was answered since its last write may be lost.
     Never,
 }
 

@@ -3,17 +3,17 @@ ghost use Rattle.rld_config.specs.Trust.{exposure_of, others_write};
 
 use crate::warning::others_read;
 
-/// The bit of a file's mode by which everybody can write to it.
+/// The mode bit by which everybody can write to a file.
 const OTHERS_WRITE: u32 = 0o002;
 
-/// What an operator lets others do.
+/// What an operator allows others to do.
 #[derive(Clone, Copy, Debug)]
 pub struct Trust {
     /// Whether everybody may read the account file, with its secrets and passwords.
     pub readable_accounts: bool,
 }
 
-/// What everybody can do with an account file, and may not.
+/// What everybody can do with an account file, but may not.
 #[derive(Clone, Copy, Debug)]
 pub enum Exposure {
     /// Write to it.
@@ -23,8 +23,8 @@ pub enum Exposure {
 }
 
 impl Trust {
-    /// What is wrong with an account file of this mode: everybody can write to it, or can read it where
-    /// the operator does not allow that.
+    /// What is wrong with an account file of this mode: everybody can write to it, or can read it
+    /// though the operator does not allow that.
     pub fn exposure(self, mode: u32) -> Option<Exposure>
         ensures { result ≡ exposure_of self mode }
     {

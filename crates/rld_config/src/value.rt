@@ -1,4 +1,4 @@
-//! The values of keys in a table of TOML: each with its value, or with the fault of the key.
+//! Keys of a TOML table: each with its value, or with the fault of the key.
 ghost use Rattle.std.specs.Prelude.{
   ◌≡◌,
   ◌≢◌,
@@ -60,20 +60,20 @@ use std::alloc::Global;
 use std::net::{IpAddr, Ipv4Addr};
 use toml::Value;
 
-/// The address that means every IPv4 address of the machine.
+/// The wildcard address: every IPv4 address of the machine.
 pub(crate) const ANY_ADDRESS: [u8; 4] = [0, 0, 0, 0];
 
-/// How long an archive is kept if the file does not say it, in days.
+/// How long an archive is kept by default, in days.
 const ARCHIVE_DAYS: u16 = 7;
 
-/// What a table has under a key.
+/// The value under a key.
 pub(crate) fn member(table: &Value, key: Key) -> Option<&Value>
     ensures { option_map (λ value. view value.now) result ≡ member_in (view table.now) key }
 {
     table.get(key.name())
 }
 
-/// What a table has under a key that it must have.
+/// The value under a key that has to be there.
 fn present(part: Part, table: &Value, key: Key) -> Result<&Value, ServerFault>
     ensures ok { IfOk result (λ value. member_in (view table.now) key ≡ Some (view value.now)) }
     ensures fault { IfErr result (λ fault.
@@ -85,7 +85,7 @@ fn present(part: Part, table: &Value, key: Key) -> Result<&Value, ServerFault>
     }
 }
 
-/// The number that a value is, if the key may have it.
+/// The value as a number, if it is within the key's limits.
 fn number_of(value: &Value, key: Key) -> Option<u16>
     ensures { result ≡ number_of key (view value.now) }
 {
@@ -97,7 +97,7 @@ fn number_of(value: &Value, key: Key) -> Option<u16>
     }
 }
 
-/// The number of a key that may be left out.
+/// The number of an optional key.
 #[tactic(auto, unfolding(crate::specs::Server::port_in))]
 pub(crate) fn number(part: Part, table: &Value, key: Key, default: u16) -> Result<u16, ServerFault>
     ensures { result ≡ port_in part (view table.now) key default }
@@ -111,7 +111,7 @@ pub(crate) fn number(part: Part, table: &Value, key: Key, default: u16) -> Resul
     }
 }
 
-/// The number of a key that the table must have.
+/// The number of a key that has to be there.
 #[tactic(auto, unfolding(crate::specs::Server::needed_port_in))]
 pub(crate) fn needed_number(part: Part, table: &Value, key: Key) -> Result<u16, ServerFault>
     ensures { result ≡ needed_port_in part (view table.now) key }
@@ -122,7 +122,7 @@ pub(crate) fn needed_number(part: Part, table: &Value, key: Key) -> Result<u16, 
     }
 }
 
-/// The path that a value is.
+/// The value as a path.
 fn path_of(value: &Value) -> Option<&str>
     ensures { option_copied result ≡ path_of (view value.now) }
 {
@@ -134,7 +134,7 @@ fn path_of(value: &Value) -> Option<&str>
     }
 }
 
-/// The path under a key, as a text of its own. `NoMemory` comes after the faults of the key.
+/// The path under a key. `NoMemory` comes after the faults of the key.
 #[tactic(auto, unfolding(crate::specs::Server::path_in))]
 pub(crate) fn path(alloc: Global, part: Part, table: &Value, key: Key) -> Result<Text, ServerFault>
     ensures ok { IfOk result (λ path. path_in part (view table.now) key ≡ Ok path) }
@@ -147,7 +147,7 @@ pub(crate) fn path(alloc: Global, part: Part, table: &Value, key: Key) -> Result
     }
 }
 
-/// The path under a key that may be left out. `NoMemory` comes after the faults of the key.
+/// The path under an optional key. `NoMemory` comes after the faults of the key.
 #[tactic(auto, unfolding(crate::specs::Server::path_or_none_in))]
 pub(crate) fn path_or_none(
     alloc: Global,
@@ -168,7 +168,7 @@ pub(crate) fn path_or_none(
     }
 }
 
-/// The name of a group that a value is.
+/// The value as the name of a group.
 fn group_of(value: &Value) -> Option<&str>
     ensures { option_copied result ≡ group_of (view value.now) }
 {
@@ -180,7 +180,7 @@ fn group_of(value: &Value) -> Option<&str>
     }
 }
 
-/// The name of the group of a table that may leave it out. `NoMemory` comes after the fault of the key.
+/// The name of the group of a table, if it has one. `NoMemory` comes after the fault of the key.
 #[tactic(auto, unfolding(crate::specs::Server::group_in))]
 pub(crate) fn group(alloc: Global, part: Part, table: &Value) -> Result<Option<Text>, ServerFault>
     ensures ok { IfOk result (λ group. group_in part (view table.now) ≡ Ok group) }
@@ -196,14 +196,14 @@ pub(crate) fn group(alloc: Global, part: Part, table: &Value) -> Result<Option<T
     }
 }
 
-/// The octets that a value spells, if it is the text of an address.
+/// The value as the four octets of an address.
 fn address_value(value: &Value) -> Option<[u8; 4]>
     ensures { result ≡ address_value (view value.now) }
 {
     address_of(value.as_str()?.as_bytes())
 }
 
-/// The address of a table that may leave it out.
+/// The address of a table, or `default`.
 #[tactic(auto, unfolding(crate::specs::Server::address_in))]
 pub(crate) fn address(part: Part, table: &Value, default: [u8; 4]) -> Result<[u8; 4], ServerFault>
     ensures { result ≡ address_in part (view table.now) default }
@@ -217,14 +217,14 @@ pub(crate) fn address(part: Part, table: &Value, default: [u8; 4]) -> Result<[u8
     }
 }
 
-/// The IPv4 or IPv6 address that a value is the text of: a.b.c.d for ::ffff:a.b.c.d.
+/// The value as an IPv4 or IPv6 address: a.b.c.d for ::ffff:a.b.c.d.
 fn ip_address_value(value: &Value) -> Option<IpAddr>
     ensures { result ≡ ip_address_value (view value.now) }
 {
     Some(canonical(ip_address_of(value.as_str()?.as_bytes())?))
 }
 
-/// The address of a table `listen`: every IPv4 address if the table does not say it.
+/// The address of a table `listen`: every IPv4 address by default.
 #[tactic(auto, unfolding(crate::specs::Server::ip_address_in))]
 pub(crate) fn ip_address(part: Part, table: &Value) -> Result<IpAddr, ServerFault>
     ensures { result ≡ ip_address_in part (view table.now) }
@@ -238,7 +238,7 @@ pub(crate) fn ip_address(part: Part, table: &Value) -> Result<IpAddr, ServerFaul
     }
 }
 
-/// Whether a table says `true` under a key: not if it does not say it.
+/// The boolean of a table under a key, which is false by default.
 #[tactic(auto, unfolding(crate::specs::Server::flag_in))]
 pub(crate) fn flag(part: Part, table: &Value, key: Key) -> Result<bool, ServerFault>
     ensures { result ≡ flag_in part (view table.now) key }
@@ -252,14 +252,14 @@ pub(crate) fn flag(part: Part, table: &Value, key: Key) -> Result<bool, ServerFa
     }
 }
 
-/// What a value is, if it is true or false.
+/// The value as a boolean.
 fn flag_value(value: &Value) -> Option<bool>
     ensures { result ≡ flag_value (view value.now) }
 {
     value.as_bool()
 }
 
-/// The prefix that a value is the text of.
+/// The value as a prefix.
 fn prefix_value(value: &Value) -> Option<Prefix>
     ensures { result ≡ prefix_value (view value.now) }
 {
@@ -288,14 +288,14 @@ pub(crate) fn client(part: Part, table: &Value) -> Result<[u8; 4], ServerFault>
     }
 }
 
-/// The policy that a value is the word of.
+/// The value as a sync policy.
 fn sync_value(value: &Value) -> Option<SyncPolicy>
     ensures { result ≡ sync_value (view value.now) }
 {
     SyncPolicy::of_word(value.as_str()?)
 }
 
-/// When the system has to write: before each answer if the file does not say it.
+/// The sync policy: before each answer by default.
 #[tactic(auto, unfolding(crate::specs::Server::sync_in))]
 pub(crate) fn sync(file: &Value) -> Result<SyncPolicy, ServerFault>
     ensures { result ≡ sync_in (view file.now) }
@@ -309,7 +309,7 @@ pub(crate) fn sync(file: &Value) -> Result<SyncPolicy, ServerFault>
     }
 }
 
-/// What a value says of the archive: a word, or a number of days.
+/// The value as an archive: a word, or a number of days.
 fn archive_value(value: &Value) -> Option<Archive>
     ensures { result ≡ archive_value (view value.now) }
 {
@@ -319,7 +319,7 @@ fn archive_value(value: &Value) -> Option<Archive>
     }
 }
 
-/// How long the archive is kept: a week if the file does not say it.
+/// How long the archive is kept: a week by default.
 #[tactic(auto, unfolding(crate::specs::Server::archive_in))]
 pub(crate) fn archive(file: &Value) -> Result<Archive, ServerFault>
     ensures { result ≡ archive_in (view file.now) }
@@ -333,7 +333,7 @@ pub(crate) fn archive(file: &Value) -> Result<Archive, ServerFault>
     }
 }
 
-/// The items of a value that is an array of 1 to `most` tables.
+/// The value as an array of 1 to `most` tables.
 pub(crate) fn tables_of(value: &Value, most: u64) -> Option<&[Value]>
     ensures value { option_map (λ tables. map view tables.now) result
         ≡ tables_of most (view value.now) }
@@ -362,7 +362,7 @@ fn are_tables(items: &[Value]) -> bool
     items.iter().all(|item| item.is_table())
 }
 
-/// The first name that a table may not have as a key, in the order of their octets.
+/// The first unknown key of a table, in the order of octets.
 fn unknown_name(part: Part, table: &Value) -> Option<&str>
     ensures some { IfSome result (λ name.
         unknown_in part (view table.now) ≡ Some (ServerFault.Unknown part name.now)) }
@@ -376,7 +376,7 @@ fn unknown_name(part: Part, table: &Value) -> Option<&str>
     None
 }
 
-/// `Unknown` of the first name that a table may not have as a key.
+/// `Unknown` of the first unknown key of a table.
 pub(crate) fn check_names(alloc: Global, part: Part, table: &Value) -> Result<(), ServerFault>
     ensures ok { IsOk result → unknown_in part (view table.now) ≡ None }
     ensures fault { IfErr result (λ fault. fault ≢ ServerFault.NoMemory →

@@ -1,4 +1,4 @@
-//! What an operator learns about an account file that is right.
+//! What an operator should know of an account file that is right.
 ghost use Rattle.std.specs.Prelude.{◌≡◌, ◌≤◌, ◌*◌, ◌++◌, ◌<◌, IfOk, OnOk, length};
 ghost use Rattle.std.specs.List.{flat_map};
 ghost use Rattle.rsl_accounts.specs.Limits.{RulesFit};
@@ -24,7 +24,7 @@ use std::fmt;
 /// The fewest octets that a secret should have: RFC 2865 section 3 prefers at least 16.
 const SECRET_LEN: usize = 16;
 
-/// The bit of a file's mode by which everybody can read it.
+/// The mode bit by which everybody can read a file.
 const OTHERS_READ: u32 = 0o004;
 
 /// The octets of a book without links.
@@ -33,22 +33,22 @@ const BOOK: u64 = 3_268;
 /// The octets of each link that a book has room for.
 const LINK: u64 = 172;
 
-/// The octets of a megabyte.
+/// Octets of a megabyte.
 const MEGABYTE: u64 = 1_000_000;
 
-/// Something that an operator should know of an account file that is right. It prints as a line.
+/// A remark on an account file that is right. It prints as a line.
 #[derive(Clone, Copy, Debug)]
 pub enum Warning {
     /// The client of this address need not sign its Access-Requests.
     NotSigned([u8; 4]),
     /// The secret of the client of this address has under 16 octets.
     ShortSecret([u8; 4]),
-    /// The addresses of this prefix stand for one client, so the access servers behind it that name
+    /// The addresses of this prefix stand for one client, so its access servers that name
     /// themselves neither by NAS-Identifier nor by NAS-IP-Address count as one.
     Prefixed(Prefix),
     /// Everybody can read the account file.
     OthersRead,
-    /// What the books of the accounts take, in millions of octets, rounded up.
+    /// The memory of the accounts' books, in megabytes, rounded up.
     Memory(u64),
 }
 
@@ -74,10 +74,10 @@ impl fmt::Display for Warning {
     }
 }
 
-/// What is to be known of an account file that is right, and has this mode, and of the networks of the
-/// server's file: of each client in the file's order whether it need not sign and whether its secret
-/// is short; each network; whether everybody can read the account file; what the accounts' places
-/// take. It fails only where memory is refused.
+/// The remarks on a right account file of this mode, and on the networks of the server's file: for
+/// each client in the file's order whether it need not sign and whether its secret is short; each
+/// network; whether everybody can read the account file; and the memory of its books. It fails only
+/// if memory is refused.
 #[tactic(auto, unfolding(crate::specs::Warning::warnings_of))]
 pub fn warnings(
     alloc: Global,
@@ -94,7 +94,7 @@ pub fn warnings(
     Ok(warnings)
 }
 
-/// What is to be known of the clients.
+/// The remarks on the clients.
 fn warnings_of_clients(alloc: Global, config: &Config) -> Result<Vec<Warning>, NoMemory>
     ensures { IfOk result (λ warnings.
         warnings.items ≡ flat_map client_warnings config.now.clients) }
@@ -106,7 +106,7 @@ fn warnings_of_clients(alloc: Global, config: &Config) -> Result<Vec<Warning>, N
     Ok(warnings)
 }
 
-/// Adds what is to be known of a client.
+/// Adds the remarks on a client.
 fn warn_of_client(client: &Client, warnings: &mut Vec<Warning>) -> Result<(), NoMemory>
     ensures { OnOk result
         (warnings.new.items ≡ warnings.old.items ++ client_warnings client.now) }
@@ -137,7 +137,7 @@ fn warn_of_secret(client: &Client, warnings: &mut Vec<Warning>) -> Result<(), No
     Ok(())
 }
 
-/// Adds what is to be known of networks.
+/// Adds the remarks on networks.
 fn warn_of_networks(networks: &[Network], warnings: &mut Vec<Warning>) -> Result<(), NoMemory>
     ensures { OnOk result
         (warnings.new.items ≡ warnings.old.items ++ network_warnings networks.now) }
@@ -158,15 +158,15 @@ fn warn_of_mode(mode: u32, warnings: &mut Vec<Warning>) -> Result<(), NoMemory>
     Ok(())
 }
 
-/// Whether the mode of a file lets everybody read it.
+/// Whether everybody can read a file of this mode.
 pub(crate) fn others_read(mode: u32) -> bool
     ensures { result ≡ others_read mode }
 {
     mode & OTHERS_READ != 0
 }
 
-/// The octets of memory that the books of the accounts take: for each 3,440 with one link, and 172 for each
-/// further one.
+/// The octets of memory of the accounts' books: 3,440 for each with one link, and 172 for each
+/// further link.
 pub fn books_octets(config: &Config) -> u64
     ensures value { result ≡ books_octets config.now.accounts }
     ensures most { result ≤ 179396 * length config.now.accounts }
@@ -179,7 +179,7 @@ pub fn books_octets(config: &Config) -> u64
     octets
 }
 
-/// The octets that a book takes.
+/// The octets of a book.
 #[tactic(auto, unfolding(crate::specs::Warning::book_octets))]
 fn book_octets(rules: &Rules) -> u64
     requires { RulesFit rules.now }

@@ -1,5 +1,4 @@
--- What a line asks a running server for: a word, and after it those that it wants, each after one
--- space.
+-- The command of a line: a word, and after it its own words, each after one space.
 use Rattle.std.specs.Prelude.{ℕ, List, [], ◌∷◌, ◌++◌, codes, Option, Some, None, ◌||◌, bytes_eq, if◌then◌else◌}
 use Rattle.std.specs.Option.{option_map}
 use Rattle.rld_values.specs.Read.{octets_of_word}
@@ -13,7 +12,7 @@ use Rattle.rld_control.specs.declared.form.Form.TheVariants.{Lines, Json}
 use Rattle.rld_control.specs.declared.form.Selection.{Selection}
 use Rattle.rld_control.specs.declared.form.Selection.TheVariants.{All, Held, Full}
 
--- ---- as they are written
+-- ---- writing
 
 abbrev pub form_flag : Form → List ℕ
 form_flag Lines = []
@@ -34,9 +33,9 @@ line_of (Free session) = codes "free " ++ session_words session
 line_of Reload = codes "reload"
 line_of Stop = codes "stop"
 
--- ---- as they are read
+-- ---- reading
 
--- the command of a word alone
+-- the command of a single word
 abbrev pub command_alone : (word : List ℕ) → Option Command
 command_alone word =
     if bytes_eq word (codes "status") then Some (Status Lines)
@@ -45,11 +44,11 @@ command_alone word =
     else if bytes_eq word (codes "stop") then Some Stop
     else None
 
--- of `status` with flags after it
+-- the command `status` with flags
 abbrev pub status_with : (flags : List ℕ) → Option Command
 status_with flags = if bytes_eq flags (codes "--json") then Some (Status Json) else None
 
--- of `accounts` with flags after it
+-- the command `accounts` with flags
 abbrev pub accounts_with : (flags : List ℕ) → Option Command
 accounts_with flags =
     if bytes_eq flags (codes "--json") then Some (Accounts Json All)
@@ -59,11 +58,11 @@ accounts_with flags =
     else if bytes_eq flags (codes "--json --full") || bytes_eq flags (codes "--full --json") then Some (Accounts Json Full)
     else None
 
--- of `sessions` with the word of an account
+-- the command `sessions` with the word of an account
 abbrev pub sessions_of : Form → (word : List ℕ) → Option Command
 sessions_of form word = option_map (λ (account : List ℕ). Sessions form account) (octets_of_word word)
 
--- and with a flag before the word
+-- the command `sessions` with a flag before the word
 abbrev pub flagged_sessions : (flag word : List ℕ) → Option Command
 flagged_sessions flag word = if bytes_eq flag (codes "--json") then sessions_of Json word else None
 

@@ -1,4 +1,4 @@
--- What is asked by its line is what was meant.
+-- The line of a command is read as that command.
 use Rattle.std.specs.Prelude.{◌≡◌, ◌<◌, length, List, ℕ, Some}
 use Rattle.rsl_event.specs.declared.nas.NasName.{NasName}
 use Rattle.rsl_event.specs.declared.nas.NasName.TheVariants.{Identifier, Address, Unnamed}

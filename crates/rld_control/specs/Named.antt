@@ -1,5 +1,5 @@
--- A session as an operator names it: by its account, the address of its client, what its access server calls
--- itself, and its id.
+-- A session as an operator names it: by its account, the address of its client, the name of its
+-- access server, and its id.
 use Rattle.std.specs.Prelude.{ℕ, List, ◌∷◌, ◌++◌, codes, take, drop, Option, Some, None, bytes_eq, if◌then◌else◌}
 use Rattle.std.specs.Option.{option_map}
 use Rattle.rsl_accounts.specs.Address.{address_of}
@@ -10,9 +10,9 @@ use Rattle.rld_values.specs.Values.{dotted, escaped, hex, word}
 use Rattle.rld_control.specs.Words.{by_first_word}
 use Rattle.rld_control.specs.declared.named.NamedSession.{NamedSession}
 
--- ---- as they are written
+-- ---- writing
 
--- what an access server calls itself, by its NAS-Identifier or its NAS-IP-Address
+-- the name of an access server, by its NAS-Identifier or its NAS-IP-Address
 abbrev pub nas_word : NasName → List ℕ
 nas_word (Identifier name) = codes "nas=" ++ escaped name
 nas_word (Address address) = codes "nas-address=" ++ hex address
@@ -25,7 +25,7 @@ server_words account client nas = word account ++ (32 ∷ (dotted client ++ (32 
 unfoldable pub session_words : NamedSession → List ℕ
 session_words named = server_words named.account named.client named.nas ++ (32 ∷ word named.session)
 
--- ---- as they are read
+-- ---- reading
 
 abbrev pub nas_of_word : List ℕ → Option NasName
 nas_of_word word =

@@ -1,4 +1,5 @@
--- The Accounting-Request by which an access server says that a session has ended (RFC 2866 section 4.1).
+-- The Accounting-Request by which an access server says that a session has ended (RFC 2866 section
+-- 4.1).
 use Rattle.std.specs.Prelude.{◌≡◌, ℕ, Bool, false, ◌&&◌, List, [], ◌∷◌, replicate, Ok, Some}
 use Rattle.rsl_accounts.specs.Configuration.{Configuration, account_number, client_number, same_octets}
 use Rattle.rsl_auth.specs.Authenticator.{sealed}
@@ -21,7 +22,7 @@ use Rattle.rsl_session.specs.declared.saved.SavedLink.{SavedLink}
 use Rattle.rld_control.specs.declared.named.NamedSession.{NamedSession}
 use Rattle.rld_control.specs.declared.stop.Stop.{Stop}
 
--- what an access server calls itself
+-- the name of an access server
 abbrev pub nas_attributes : NasName → List Attribute
 nas_attributes (Identifier name) = attribute_of NAS_IDENTIFIER name ∷ []
 nas_attributes (Address address) = attribute_of NAS_IP_ADDRESS address ∷ []
@@ -34,8 +35,8 @@ stop_attributes named =
     ∷ attribute_of ACCT_SESSION_ID named.session
     ∷ nas_attributes named.nas
 
--- the octets of an Accounting-Request to a server that shares this secret: the Request Authenticator is
--- made over sixteen zero octets in its place
+-- the octets of an Accounting-Request to a server that shares this secret: the Request
+-- Authenticator is computed over sixteen zero octets in its place
 unfoldable pub request_octets : List Attribute → (secret : List ℕ) → List ℕ
 request_octets attributes secret =
     sealed
@@ -50,7 +51,7 @@ request_octets attributes secret =
 abbrev pub stop_octets : NamedSession → (secret : List ℕ) → List ℕ
 stop_octets named secret = request_octets (stop_attributes named) secret
 
--- a Stop of the session that is named: at its account, its client and its access server
+-- a Stop of the named session: at its account, its client and its access server
 pub record IsStopOf (config : Configuration) (named : NamedSession) (stop : Stop) : Type 0 where
   pub account : account_number config named.account ≡ Some stop.account
   pub client : client_number config named.client ≡ Some stop.nas.client
@@ -58,7 +59,7 @@ pub record IsStopOf (config : Configuration) (named : NamedSession) (stop : Stop
   pub session : stop.session ≡ named.session
   pub octets : stop.octets.items ≡ stop_octets named (secret_of config stop.nas.client)
 
--- and that is what its datagram means to the server, from the client's address
+-- its datagram, from the client's address, means that Stop to the server
 abbrev pub MeansStop : Configuration → (boot : ℕ) → Source → Stop → Type 0
 MeansStop config boot source stop =
     meaning config boot Acct source stop.octets.items ≡ Ok (Own stop.account (acts.Stop stop.nas stop.session))

@@ -6,7 +6,7 @@ use Rattle.std.specs.Option.{option_map}
 abbrev pub is_space : ℕ → Bool
 is_space octet = octet == 32
 
--- what stands before the first space, and what after it; none where there is no space
+-- the parts before and after the first space; none if there is no space
 pub record Parted : Type 0 where
   pub word : List ℕ
   pub words : List ℕ
@@ -15,7 +15,7 @@ abbrev pub parted : List ℕ → Option Parted
 parted line =
     option_map (λ at. record { word = take at line; words = drop (at + 1) line }) (position is_space line)
 
--- by the first word and the others, or else where there is one word alone
+-- by the first word and the others, or else the single word
 abbrev pub by_parts : {A : Type 0} → (List ℕ → List ℕ → Option A) → Option A → Option Parted → Option A
 by_parts with alone None = alone
 by_parts with alone (Some parts) = with parts.word parts.words

@@ -17,28 +17,28 @@ use rld_values::read_word;
 use rsl_wire::{NoMemory, Octets};
 use std::alloc::Global;
 
-/// What a running server is asked.
+/// A request to a running server.
 #[derive(Drop)]
 pub enum Command {
-    /// What it is and does.
+    /// Show its status.
     Status(Form),
-    /// What each of these accounts holds.
+    /// Show what each of these accounts holds.
     Accounts(Form, Selection),
-    /// The links of the account with this name.
+    /// Show the links of the account with this name.
     Sessions(Form, Octets),
-    /// To free the place of this session.
+    /// Free the place of this session.
     Free(NamedSession),
-    /// To read its accounts anew.
+    /// Read its accounts again.
     Reload,
-    /// To end.
+    /// Stop.
     Stop,
 }
 
 impl Command {
-    /// What a line asks for, which is given without its line feed: `status`, `accounts`, `sessions` and
-    /// a name, `free` and the words of a session, `reload`, or `stop`. Behind the first three may stand
-    /// `--json`, and behind `accounts` also `--held` or `--full`. `None` for any other line. It fails only
-    /// where memory is refused.
+    /// The command of a line, without its line feed: `status`, `accounts`, `sessions` and a name,
+    /// `free` and the words of a session, `reload`, or `stop`. After the first three may come
+    /// `--json`, and after `accounts` also `--held` or `--full`. `None` for any other line. It
+    /// fails only if memory is refused.
     pub fn read(alloc: Global, line: &[u8]) -> Result<Option<Command>, NoMemory>
         ensures { IfOk result (λ command. command ≡ command_of line.now) }
     {
@@ -49,7 +49,7 @@ impl Command {
     }
 }
 
-/// What a word alone asks for.
+/// The command of a single word.
 fn command_alone(word: &[u8]) -> Option<Command>
     ensures { result ≡ command_alone word.now }
 {
@@ -66,7 +66,7 @@ fn command_alone(word: &[u8]) -> Option<Command>
     }
 }
 
-/// What a word asks for with others after it.
+/// The command of a word with others after it.
 fn command_with(alloc: Global, word: &[u8], words: &[u8]) -> Result<Option<Command>, NoMemory>
     ensures { IfOk result (λ command. command ≡ command_with word.now words.now) }
 {
@@ -83,7 +83,7 @@ fn command_with(alloc: Global, word: &[u8], words: &[u8]) -> Result<Option<Comma
     }
 }
 
-/// What `status` asks for with flags behind it.
+/// The command `status` with flags after it.
 fn status_with(flags: &[u8]) -> Option<Command>
     ensures { result ≡ status_with flags.now }
 {
@@ -94,7 +94,7 @@ fn status_with(flags: &[u8]) -> Option<Command>
     }
 }
 
-/// What `accounts` asks for with flags behind it.
+/// The command `accounts` with flags after it.
 fn accounts_with(flags: &[u8]) -> Option<Command>
     ensures { result ≡ accounts_with flags.now }
 {
@@ -113,7 +113,7 @@ fn accounts_with(flags: &[u8]) -> Option<Command>
     }
 }
 
-/// What `sessions` asks for with words behind it.
+/// The command `sessions` with the words after it.
 fn sessions_with(alloc: Global, words: &[u8]) -> Result<Option<Command>, NoMemory>
     ensures { IfOk result (λ command. command ≡ sessions_with words.now) }
 {
@@ -123,7 +123,7 @@ fn sessions_with(alloc: Global, words: &[u8]) -> Result<Option<Command>, NoMemor
     }
 }
 
-/// The same, with a flag before the word of an account.
+/// The command `sessions` with a flag before the word of an account.
 fn flagged_sessions(alloc: Global, flag: &[u8], word: &[u8]) -> Result<Option<Command>, NoMemory>
     ensures { IfOk result (λ command. command ≡ flagged_sessions flag.now word.now) }
 {
@@ -134,7 +134,7 @@ fn flagged_sessions(alloc: Global, flag: &[u8], word: &[u8]) -> Result<Option<Co
     }
 }
 
-/// The links of the account of this word.
+/// The command `sessions` of the account of this word.
 fn sessions_of(alloc: Global, form: Form, word: &[u8]) -> Result<Option<Command>, NoMemory>
     ensures { IfOk result (λ command. command ≡ sessions_of form word.now) }
 {

@@ -3,14 +3,14 @@ ghost use Rattle.rld_control.specs.declared.fault.FreeFault.TheVariants.{NoMemor
 
 use rsl_wire::NoMemory;
 
-/// Why there is no Stop of a session that was named.
+/// Why a named session has no Stop.
 #[derive(Clone, Copy)]
 pub enum FreeFault {
     /// No account has the name.
     UnknownAccount,
     /// No client has the address.
     UnknownClient,
-    /// No session can be named so: the id is empty, or a word has over 253 octets.
+    /// No session can have this name: the id is empty, or a word has over 253 octets.
     NoSession,
     /// Memory was refused.
     NoMemory,

@@ -1,19 +1,19 @@
-/// How an answer is written.
+/// The form of an answer.
 #[derive(Clone, Copy)]
 pub enum Form {
     /// As lines of words.
     Lines,
-    /// As objects of JSON (RFC 8259), each on a line of its own.
+    /// As JSON objects (RFC 8259), one a line.
     Json,
 }
 
-/// Which accounts are told of.
+/// The accounts to show.
 #[derive(Clone, Copy)]
 pub enum Selection {
-    /// All.
+    /// All accounts.
     All,
-    /// Those that hold a place.
+    /// The accounts that hold a place.
     Held,
-    /// Those that have no free place.
+    /// The accounts that have no free place.
     Full,
 }

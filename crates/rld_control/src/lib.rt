@@ -1,12 +1,13 @@
-//! What an operator asks a running server by its unix socket, a line at a time, and how an answer ends:
-//! lines, of which the last is `ok`, or `error` and why. And how an operator frees the place of a session
-//! that its access server has forgotten: by the Stop that the access server would have sent.
+//! The requests of an operator to a running server by its unix socket, a line at a time, and the
+//! end of an answer: lines, of which the last is `ok`, or `error` and why. And freeing the place of
+//! a session that its access server has forgotten, by the Stop that the access server would have
+//! sent.
 //!
-//! The promise: a line is the command that `specs/Command.antt` says, or none; the line of a command asks
-//! for it, and no name or id in it can be taken for another word (`specs/Laws.antt`); and an answer says
-//! what `specs/Reply.antt` says. The Stop is of exactly the session that is named, its octets are an
-//! Accounting-Request of RFC 2866 sealed with the client's secret, and to the server they mean that Stop and
-//! nothing else (`specs/Stops.antt`).
+//! The promise: a line is the command that `specs/Command.antt` says, or none; the line of a
+//! command is read as that command, and no name or id in it can be taken for another word
+//! (`specs/Laws.antt`); and an answer says what `specs/Reply.antt` says. The Stop is of exactly the
+//! session that is named, its octets are an Accounting-Request of RFC 2866 sealed with the client's
+//! secret, and its meaning to the server is that Stop and nothing else (`specs/Stops.antt`).
 #![tactic(auto)]
 
 mod command;

@@ -20,24 +20,24 @@ use rsl_event::NasName;
 use rsl_wire::{NoMemory, Octets};
 use std::alloc::{AllocError, Global};
 
-/// A session as an operator names it.
+/// A session, as an operator names it.
 #[derive(Drop)]
 pub struct NamedSession {
     /// The name of its account.
     pub account: Octets,
     /// The address of the client that its packets come from.
     pub client: [u8; 4],
-    /// What its access server calls itself.
+    /// The name of its access server.
     pub nas: NasName,
     /// Its Acct-Session-Id (RFC 2866 section 5.5).
     pub session: Octets,
 }
 
 impl NamedSession {
-    /// The session that these words name: the account, the client's address as four numbers with dots
-    /// between them, `nas=` and the NAS-Identifier or `nas-address=` and the hexadecimal digits of the
-    /// NAS-IP-Address or `unnamed`, and the id, with a space between two. `None` where they name none.
-    /// It fails only where memory is refused.
+    /// The session of these words: the account, the client's address as four numbers with dots
+    /// between them, `nas=` and the NAS-Identifier or `nas-address=` and the hexadecimal digits of
+    /// the NAS-IP-Address or `unnamed`, and the id, separated by single spaces. `None` for any
+    /// other words. It fails only if memory is refused.
     pub fn read(alloc: Global, words: &[u8]) -> Result<Option<NamedSession>, NoMemory>
         ensures { IfOk result (λ found. found ≡ named_session_of words.now) }
     {
@@ -48,7 +48,7 @@ impl NamedSession {
     }
 }
 
-/// The session of this account's word and the words after it.
+/// The session of an account's word and the words after it.
 fn with_account(
     alloc: Global,
     account: &[u8],
@@ -139,8 +139,8 @@ fn at_server(
     }
 }
 
-/// Writes the words of an account and of an access server at a client with this address. It fails only
-/// where memory is refused.
+/// Writes the words of an account and of an access server at a client with this address. It fails
+/// only if memory is refused.
 pub fn push_server(
     out: &mut Vec<u8>,
     account: &[u8],
@@ -156,7 +156,7 @@ pub fn push_server(
     push_nas(out, nas)
 }
 
-/// Writes what an access server calls itself.
+/// Writes the name of an access server.
 fn push_nas(out: &mut Vec<u8>, nas: &NasName) -> Result<(), AllocError>
     ensures { OnOk result (out.new.items ≡ out.old.items ++ nas_word nas.now) }
 {
@@ -173,7 +173,7 @@ fn push_nas(out: &mut Vec<u8>, nas: &NasName) -> Result<(), AllocError>
     }
 }
 
-/// What an access server calls itself, by its word.
+/// The name of an access server from its word.
 fn nas_of_word(alloc: Global, word: &[u8]) -> Result<Option<NasName>, NoMemory>
     ensures { IfOk result (λ found. found ≡ nas_of_word word.now) }
 {

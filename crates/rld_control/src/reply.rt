@@ -3,19 +3,19 @@ ghost use Rattle.rld_control.specs.Reply.{IsReply, reply_octets};
 
 use std::alloc::AllocError;
 
-/// How an answer of a running server ends, and what stands before that.
+/// The answer of a running server, by its end.
 #[derive(Clone, Copy)]
 pub enum Reply<'a> {
     /// It was done. These are the lines before the last, each with its line feed.
     Done(&'a [u8]),
-    /// It was not done, and this is why.
+    /// It was not done, for this reason.
     Refused(&'a [u8]),
     /// The answer was cut off.
     Broken,
 }
 
 impl Reply<'_> {
-    /// What an answer says, whose octets are all there.
+    /// The answer in these octets, which are all of it.
     pub fn of(octets: &[u8]) -> Reply<'_>
         ensures { IsReply octets.now result }
     {
@@ -31,7 +31,7 @@ impl Reply<'_> {
         }
     }
 
-    /// Writes the answer; nothing for one that was cut off. It fails only where memory is refused.
+    /// Writes the answer; nothing for a broken one. It fails only if memory is refused.
     pub fn write(&self, out: &mut Vec<u8>) -> Result<(), AllocError>
         ensures { OnOk result (out.new.items ≡ out.old.items ++ reply_octets self.now) }
     {

@@ -24,7 +24,7 @@ use std::alloc::Global;
 /// The Identifier of each Stop.
 const IDENTIFIER: u8 = 0;
 
-/// The UDP port that each Stop comes from, which no answer depends on.
+/// The source port of each Stop, on which no answer depends.
 const SOURCE_PORT: u16 = 0;
 
 /// A Stop of a session, as its access server would have sent it.
@@ -42,10 +42,10 @@ pub struct Stop {
 
 impl Stop {
     /// The Stop of the session that an operator names, for the server with this boot number. Its
-    /// datagram means this Stop to the server: it was prepared as any that comes from the client.
+    /// datagram means this Stop to the server: it was prepared like any from the client.
     ///
-    /// The faults come in this order: `UnknownAccount`, `UnknownClient`, and `NoSession` where the id is
-    /// empty or a value has over 253 octets. `NoMemory` comes only where memory is refused.
+    /// The faults come in this order: `UnknownAccount`, `UnknownClient`, and `NoSession` if the id
+    /// is empty or a value has over 253 octets. `NoMemory` comes only if memory is refused.
     pub fn of(
         alloc: Global,
         config: &Config,
@@ -84,7 +84,7 @@ impl Stop {
         link.nas.is_same(&self.nas) && is_holder(&self.session, &link.holder)
     }
 
-    /// The move that it is to the books at a moment, in seconds since 1970.
+    /// The move of the Stop at a moment, in seconds since 1970.
     pub fn into_move(self, moment: u64) -> Move
         ensures { result ≡ moves.Own self.account
             (record { moment = moment; act = acts.Stop self.nas self.session }) }
@@ -115,7 +115,7 @@ fn is_holder(session: &Octets, holder: &SavedHolder) -> bool
     }
 }
 
-/// The Stop of a session, whatever it means.
+/// The Stop of a session, before its meaning is checked.
 fn built(alloc: Global, config: &Config, named: &NamedSession) -> Result<Stop, FreeFault>
     ensures stop { IfOk result (λ stop. IsStopOf config.now named.now stop) }
     ensures account { IsErrOf result FreeFault.UnknownAccount ↔
@@ -141,7 +141,7 @@ fn built(alloc: Global, config: &Config, named: &NamedSession) -> Result<Stop, F
     })
 }
 
-/// The octets of a Stop, to a server that shares this secret.
+/// The octets of a Stop, for a server that shares this secret.
 fn stop_octets(alloc: Global, named: &NamedSession, secret: &[u8]) -> Result<Vec<u8>, FreeFault>
     ensures octets { IfOk result (λ octets. octets.items ≡ stop_octets named.now secret.now) }
     ensures known { IsErrOf result FreeFault.UnknownAccount → ⊥ }
@@ -178,7 +178,7 @@ fn stop_octets(alloc: Global, named: &NamedSession, secret: &[u8]) -> Result<Vec
     }
 }
 
-/// An Accounting-Request with these attributes, to a server that shares this secret.
+/// An Accounting-Request with these attributes, for a server that shares this secret.
 #[tactic(auto, unfolding(crate::specs::Stops::request_octets))]
 fn sealed_with(alloc: Global, attributes: &[Attr<'_>], secret: &[u8]) -> Result<Vec<u8>, FreeFault>
     ensures octets { IfOk result (λ octets.
@@ -192,7 +192,7 @@ fn sealed_with(alloc: Global, attributes: &[Attr<'_>], secret: &[u8]) -> Result<
     }
 }
 
-/// Whether the datagram of a Stop means it to the server, where it comes from this source.
+/// Whether the datagram of a Stop, from this source, means that Stop to the server.
 fn is_meant(
     alloc: Global,
     config: &Config,

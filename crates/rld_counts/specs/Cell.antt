@@ -1,4 +1,4 @@
--- What a receiver has counted.
+-- The counts of a receiver.
 use Rattle.std.specs.Prelude.{◌≡◌, ℕ, ◌==◌, ◌<◌, Bool, false, List, [], ◌++◌, filter, length, map, Option, None, Some, slice_index_or}
 use Rattle.std.specs.List.{filter_map}
 use Rattle.rld_counts.specs.Counts.{counts_of}
@@ -6,7 +6,7 @@ use Rattle.rld_counts.specs.Histogram.{Times, times_of}
 use Rattle.rld_counts.specs.declared.end.End.{End}
 use Rattle.rld_counts.specs.declared.ended.Ended.{Ended}
 
--- the counts of all datagrams, those of each client, and how long the answers took
+-- the counts of all datagrams, those of each client, and the times of the answers
 pub record CellSeen : Type 0 where
   pub counts : List ℕ
   pub clients : List (List ℕ)
@@ -17,16 +17,16 @@ abbrev pub is_of : (client : ℕ) → Option ℕ → Bool
 is_of client None = false
 is_of client (Some one) = one == client
 
--- how the datagrams of a client ended
+-- the ends of a client's datagrams
 abbrev pub ends_of : (client : ℕ) → List Ended → List End
 ends_of client all = map (λ one. one.end) (filter (λ one. is_of client one.client) all)
 
--- these are the counts of each client, of these datagrams
+-- the counts of each client, of these datagrams
 abbrev pub AreCounted : (all : List Ended) → (clients : List (List ℕ)) → Type 0
 AreCounted all clients =
     (client : ℕ) → client < length clients → slice_index_or clients client [] ≡ counts_of (ends_of client all)
 
--- these are the times of the answers to these datagrams
+-- the times of the answers to these datagrams
 abbrev pub HasTimes : (all : List Ended) → Times → Type 0
 HasTimes all times = times ≡ times_of (filter_map (λ one. one.micros) all)
 
@@ -36,14 +36,14 @@ pub record HasCounted (all : List Ended) (cell : CellSeen) : Type 0 where
   pub clients : AreCounted all cell.clients
   pub times : HasTimes all cell.times
 
--- the same datagram, and the same datagrams, of no client: counted in all alone
+-- a datagram, and datagrams, without the client: counted in the total alone
 abbrev pub without_client : Ended → Ended
 without_client one = record { end = one.end; client = None; micros = one.micros }
 
 abbrev pub without_clients : List Ended → List Ended
 without_clients all = map without_client all
 
--- counts that are those of datagrams, and others that are, become those of both
+-- the counts of some datagrams and the counts of others make the counts of both
 abbrev pub AreJoined : (one other both : List ℕ) → Type 0
 AreJoined one other both =
     (ends others : List End) → one ≡ counts_of ends → other ≡ counts_of others → both ≡ counts_of (ends ++ others)

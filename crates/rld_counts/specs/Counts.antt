@@ -1,11 +1,11 @@
--- How many datagrams ended how.
+-- Numbers of datagrams, by how they ended.
 use Rattle.std.specs.Prelude.{ℕ, List, map, slice_index}
 use Rattle.rld_counts.specs.Ends.{number_of}
 use Rattle.rld_counts.specs.Tally.{tally_of}
 use Rattle.rld_counts.specs.declared.end.End.{End}
 use Rattle.rld_counts.specs.declared.end.TheConstants.{ENDS}
 
--- the counts of datagrams that ended so, by the numbers of their ends
+-- the counts of datagrams with these ends, by the numbers of the ends
 abbrev pub counts_of : List End → List ℕ
 counts_of ends = tally_of ENDS (map number_of ends)
 

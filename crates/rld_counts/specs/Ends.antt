@@ -1,4 +1,5 @@
--- How a datagram can end at each port: the number of each end, in the order of the enums, its kind, its port and its name.
+-- The ends of datagrams at each port: the number of each end, in the order of the enums, its kind,
+-- its port and its name.
 use Rattle.std.specs.Prelude.{ℕ, ◌+◌, Bool, true, false, List, [], ◌∷◌, codes}
 use Rattle.rld_counts.specs.declared.acct_end.AcctEnd.{AcctEnd}
 use Rattle.rld_counts.specs.declared.acct_end.AcctEnd.TheVariants as acct
@@ -116,7 +117,7 @@ abbrev pub name_of : End → List ℕ
 name_of (Auth end) = auth_name end
 name_of (Acct end) = acct_name end
 
--- the word for the port that a datagram came to
+-- the word for the port of a datagram
 abbrev pub port_of : End → List ℕ
 port_of (Auth end) = codes "auth"
 port_of (Acct end) = codes "acct"

@@ -1,7 +1,7 @@
 ghost use Rattle.std.specs.Prelude.{◌≡◌, ◌<◌};
 ghost use Rattle.rld_counts.specs.Ends.{acct_name, acct_number};
 
-/// How a datagram that came to the accounting port ended.
+/// How a datagram on the accounting port ended.
 #[derive(Clone, Copy)]
 pub enum AcctEnd {
     /// It was dropped: it has fewer than 20 octets.
@@ -20,7 +20,7 @@ pub enum AcctEnd {
     ProxyTooLong,
     /// It was dropped: it has no Acct-Status-Type, or the first does not have 4 octets.
     NoStatus,
-    /// It was dropped: it is of a session, and has no Acct-Session-Id, or the first is empty.
+    /// It was dropped: it is of a session, but has no Acct-Session-Id, or the first is empty.
     NoSession,
     /// Memory for it was refused.
     Refused,
@@ -70,7 +70,7 @@ impl AcctEnd {
         }
     }
 
-    /// The word for it. All drops begin with `drop_`, and all rejects with `reject_`.
+    /// Its word. All drops begin with `drop_`, and all rejects with `reject_`.
     pub(crate) fn name(self) -> &'static str
         ensures { result.now ≡ acct_name self }
     {

@@ -1,7 +1,7 @@
 ghost use Rattle.std.specs.Prelude.{◌≡◌, ◌<◌};
 ghost use Rattle.rld_counts.specs.Ends.{auth_name, auth_number};
 
-/// How a datagram that came to the authentication port ended.
+/// How a datagram on the authentication port ended.
 #[derive(Clone, Copy)]
 pub enum AuthEnd {
     /// It was dropped: it has fewer than 20 octets.
@@ -14,15 +14,15 @@ pub enum AuthEnd {
     WrongCode,
     /// It was dropped: its Message-Authenticator is not right.
     BadSignature,
-    /// It was dropped: it has no Message-Authenticator, and its client has to sign.
+    /// It was dropped: it has no Message-Authenticator, but its client has to sign.
     Unsigned,
-    /// It was dropped: it has no Message-Authenticator, and a Proxy-State.
+    /// It was dropped: it has a Proxy-State and no Message-Authenticator.
     UnsignedProxy,
     /// It was dropped: its Proxy-State attributes have over 3,900 octets.
     ProxyTooLong,
     /// Memory for it was refused.
     Refused,
-    /// It asks for an account, and its batch was not recorded.
+    /// It asks for an account, but its batch was not recorded.
     Unrecorded,
     /// Its answer could not be sent.
     Unsent,
@@ -76,7 +76,7 @@ impl AuthEnd {
         }
     }
 
-    /// The word for it. All drops begin with `drop_`, and all rejects with `reject_`.
+    /// Its word. All drops begin with `drop_`, and all rejects with `reject_`.
     pub(crate) fn name(self) -> &'static str
         ensures { result.now ≡ auth_name self }
     {

@@ -9,8 +9,8 @@ use crate::histogram::Histogram;
 use std::alloc::{AllocError, Global};
 use std::marker::Model;
 
-/// What a receiver has counted: how the datagrams ended, in all and of each client, and how long the
-/// answers took.
+/// The counts of a receiver: how its datagrams ended, in total and for each client, and how long
+/// the answers took.
 #[derive(Drop)]
 pub struct Cell {
     counts: Counts,
@@ -31,8 +31,8 @@ impl Model for Cell {
 }
 
 impl Cell {
-    /// The cell of a receiver that has taken nothing, with counts for each of `clients` clients. It fails
-    /// only where memory is refused.
+    /// An empty cell, with counts for each of `clients` clients. It fails only if memory is
+    /// refused.
     pub fn new(alloc: Global, clients: u32) -> Result<Cell, AllocError>
         ensures none { IfOk result (HasCounted []) }
         ensures clients { IfOk result (λ cell. length cell.clients ≡ clients) }
@@ -45,7 +45,7 @@ impl Cell {
         })
     }
 
-    /// Notes a datagram. One of a client that the cell is not for is counted in all alone.
+    /// Counts a datagram. One of a client that the cell is not for is counted in the total alone.
     pub fn note(&mut self, ended: Ended)
         ensures noted { (all : List OneEnded) → HasCounted all self.old →
             HasCounted (all ++ ended ∷ []) self.new }
@@ -56,8 +56,8 @@ impl Cell {
         note_time(&mut self.times, ended);
     }
 
-    /// Begins to count by client anew, as client numbers mean other clients from now on. The counts in
-    /// all and the times go on; what was counted of a client is from now on of none.
+    /// Begins to count by client again, since client numbers mean other clients from now on. The
+    /// total counts and the times go on; earlier datagrams then belong to no client.
     pub fn renew(&mut self, clients: ClientCounts)
         ensures anew { (all : List OneEnded) → HasCounted all self.old →
             HasCounted (without_clients all) self.new }
@@ -66,7 +66,7 @@ impl Cell {
         self.clients = clients.into_each();
     }
 
-    /// Adds what another receiver has counted of the same clients.
+    /// Adds the counts of another receiver for the same clients.
     pub fn add(&mut self, other: &Cell)
         requires { length other.now.clients ≡ length self.old.clients }
         ensures joined { (all others : List OneEnded) → HasCounted all self.old →
@@ -78,7 +78,7 @@ impl Cell {
         self.times.add(&other.times);
     }
 
-    /// Adds what another receiver has counted of other clients: to the counts in all and the times
+    /// Adds the counts of another receiver for other clients: to the total counts and the times
     /// alone.
     pub fn add_in_all(&mut self, other: &Cell)
         ensures joined { (all others : List OneEnded) → HasCounted all self.old →
@@ -96,14 +96,14 @@ impl Cell {
         self.counts
     }
 
-    /// For how many clients it is.
+    /// The number of clients that it is for.
     pub fn clients(&self) -> usize
         ensures { result ≡ length self.now.clients }
     {
         self.clients.len()
     }
 
-    /// How those of a client ended, if the cell is for it.
+    /// How the datagrams of a client ended, if the cell is for it.
     pub fn client(&self, client: u32) -> Option<Counts>
         ensures { result ≡ slice_get self.now.clients client }
     {
@@ -142,7 +142,7 @@ fn note_among(clients: &mut [Counts], ended: Ended)
     }
 }
 
-/// Notes how long the answer to a datagram took, if it was answered.
+/// Counts the time of a datagram's answer, if it was answered.
 fn note_time(times: &mut Histogram, ended: Ended)
     ensures { (all : List OneEnded) → HasTimes all times.old →
         HasTimes (all ++ ended ∷ []) times.new }
@@ -164,7 +164,7 @@ fn add_clients(clients: &mut Vec<Counts>, others: &[Counts])
     add_each(clients.as_mut_slice(), others);
 }
 
-/// Adds the counts of the clients one by one.
+/// Adds counts of clients one by one.
 fn add_each(clients: &mut [Counts], others: &[Counts])
     requires { length others.now ≡ length clients.old }
     ensures len { length clients.new ≡ length clients.old }

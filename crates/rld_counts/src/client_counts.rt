@@ -5,8 +5,8 @@ use crate::counts::Counts;
 use std::alloc::{AllocError, Global};
 use std::marker::Model;
 
-/// Counts by client that are all 0: what a cell takes where it begins to count by client anew. They are
-/// made before, since memory for them can be refused. A contract sees the number of clients.
+/// Counts by client, all 0, with which a cell begins to count by client again. They are made
+/// before, since memory for them can be refused. A contract sees the number of clients.
 #[derive(Drop)]
 pub struct ClientCounts {
     each: Vec<Counts>,
@@ -24,7 +24,7 @@ impl Model for ClientCounts {
 }
 
 impl ClientCounts {
-    /// Counts of 0 for each of `clients` clients. It fails only where memory is refused.
+    /// Counts of 0 for each of `clients` clients. It fails only if memory is refused.
     pub fn new(alloc: Global, clients: u32) -> Result<ClientCounts, AllocError>
         ensures { IfOk result (λ counts. counts ≡ clients) }
     {

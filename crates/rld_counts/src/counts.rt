@@ -7,8 +7,8 @@ use crate::end::{ENDS, End};
 use crate::tally;
 use std::marker::Model;
 
-/// How many datagrams ended how. A contract sees the list of the counts, by the ends' numbers. A count
-/// stops at 2^64 - 1.
+/// Numbers of datagrams, by how they ended. A contract sees the list of the counts, in the order of
+/// the ends' numbers. A count stops at 2^64 - 1.
 #[derive(Clone, Copy)]
 pub struct Counts {
     counters: [u64; ENDS],
@@ -37,7 +37,7 @@ impl Counts {
         }
     }
 
-    /// Notes a datagram that ended so.
+    /// Counts a datagram that ended in this way.
     pub fn note(&mut self, end: End)
         ensures own { count_in self.new end ≡ kept (count_in self.old end + 1) }
         ensures others { (other : OneEnd) → other ≢ end →
@@ -48,14 +48,14 @@ impl Counts {
         tally::note(&mut self.counters, end.number());
     }
 
-    /// How many ended so.
+    /// The number of datagrams that ended in this way.
     pub fn count(&self, end: End) -> u64
         ensures { result ≡ count_in self.now end }
     {
         self.counters[end.number()]
     }
 
-    /// How many there are: the sum of all counts.
+    /// The number of all datagrams, the sum of the counts.
     pub fn received(&self) -> u64
         ensures sum { result ≡ kept (sum self.now) }
         ensures noted { (ends : List OneEnd) → self.now ≡ counts_of ends →

@@ -6,10 +6,10 @@ use crate::acct_end::AcctEnd;
 use crate::auth_end::AuthEnd;
 use crate::kind::Kind;
 
-/// How many ends there are, of both ports.
+/// The number of ends of both ports.
 pub const ENDS: usize = 38;
 
-/// How many of them are of the authentication port: the first ones.
+/// The number of ends of the authentication port, which come first.
 const AUTH_ENDS: usize = 20;
 
 /// How a datagram ended, with the port that it came to.
@@ -33,7 +33,7 @@ impl End {
         }
     }
 
-    /// All ends, by their numbers: those of the accounting port follow those of the authentication port.
+    /// All ends, by their numbers.
     #[tactic(auto, unfolding(crate::specs::Ends::all_ends))]
     pub fn all() -> [End; ENDS]
         ensures all { result ≡ all_ends }
@@ -81,14 +81,14 @@ impl End {
         ]
     }
 
-    /// Those of all ends that are of the authentication port.
+    /// The ends of the authentication port among all ends.
     pub fn of_auth(all: &[End; ENDS]) -> &[End]
         ensures { result.now ≡ take 20 all.now }
     {
         &all[..AUTH_ENDS]
     }
 
-    /// Those of all ends that are of the accounting port.
+    /// The ends of the accounting port among all ends.
     pub fn of_acct(all: &[End; ENDS]) -> &[End]
         ensures { result.now ≡ drop 20 all.now }
     {
@@ -135,7 +135,7 @@ impl End {
         }
     }
 
-    /// The word for it. All drops begin with `drop_`, and all rejects with `reject_`.
+    /// Its word. All drops begin with `drop_`, and all rejects with `reject_`.
     pub fn name(self) -> &'static str
         ensures { result.now ≡ name_of self }
     {

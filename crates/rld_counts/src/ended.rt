@@ -1,12 +1,12 @@
 use crate::end::End;
 
-/// What is noted of a datagram once it is done with.
+/// What is counted of a datagram that has ended.
 #[derive(Clone, Copy)]
 pub struct Ended {
     /// How it ended.
     pub end: End,
-    /// The number of the client that it came from, if a client has its source's address.
+    /// The number of the client with its source's address, if there is one.
     pub client: Option<u32>,
-    /// How long its answer took in microseconds, if it was answered.
+    /// The time of its answer in microseconds, if it was answered.
     pub micros: Option<u64>,
 }

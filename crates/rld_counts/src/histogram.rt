@@ -5,12 +5,12 @@ ghost use Rattle.rld_counts.specs.Tally.{kept};
 use crate::tally;
 use std::marker::Model;
 
-/// How many buckets there are. The bound of bucket n is 2^n microseconds, up to 2^23; the last bucket
+/// The number of buckets. The bound of bucket n is 2^n microseconds, up to 2^23; the last bucket
 /// has no bound.
 pub const BUCKETS: usize = 25;
 
-/// How long answers took: how many times are in each bucket, and their sum. A time is in the first
-/// bucket whose bound is not below it. A number stops at 2^64 - 1.
+/// How long answers took: the number of times in each bucket, and their sum. A time is in the first
+/// bucket whose bound is at least as great. A number stops at 2^64 - 1.
 #[derive(Clone, Copy)]
 pub struct Histogram {
     counters: [u64; BUCKETS],
@@ -42,7 +42,7 @@ impl Histogram {
         }
     }
 
-    /// Notes a time in microseconds.
+    /// Counts a time in microseconds.
     pub fn note(&mut self, micros: u64)
         ensures bucket { self.new.buckets ≡ slice_set self.old.buckets (bucket_of micros)
             (kept (slice_index self.old.buckets (bucket_of micros) + 1)) }
@@ -54,7 +54,8 @@ impl Histogram {
         self.micros = self.micros.saturating_add(micros);
     }
 
-    /// How many times are at most 2^bucket microseconds: those of this bucket and of all before it.
+    /// The number of times of at most 2^bucket microseconds: those of this bucket and of all before
+    /// it.
     pub fn up_to(&self, bucket: usize) -> u64
         requires { bucket < 24 }
         ensures sum { result ≡ kept (sum (take (bucket + 1) self.now.buckets)) }
@@ -64,7 +65,7 @@ impl Histogram {
         tally::sum(&self.counters[..bucket + 1])
     }
 
-    /// How many times there are.
+    /// The number of times.
     pub fn samples(&self) -> u64
         ensures sum { result ≡ kept (sum self.now.buckets) }
         ensures noted { (times : List ℕ) → self.now ≡ times_of times →
@@ -73,7 +74,7 @@ impl Histogram {
         tally::sum(&self.counters)
     }
 
-    /// Their sum in microseconds.
+    /// The sum of the times in microseconds.
     pub fn micros(&self) -> u64
         ensures { result ≡ self.now.micros }
     {
@@ -99,8 +100,8 @@ pub fn bound_of(bucket: usize) -> u64
     1 << bucket
 }
 
-/// The bucket of a time in microseconds: the number of the least power of two that is not below it, or
-/// 24 where 2^23 is below it.
+/// The bucket of a time in microseconds: the exponent of the least power of two that is at least as
+/// great, or 24 if the time is over 2^23.
 #[tactic(auto, using(crate::proofs::Timing::bucket_is, crate::proofs::Timing::bucket_last))]
 fn bucket_of(micros: u64) -> usize
     ensures bucket { result ≡ bucket_of micros }

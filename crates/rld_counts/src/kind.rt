@@ -12,9 +12,9 @@ pub enum Kind {
     Rejected,
     /// An Accounting-Response was sent.
     Accounted,
-    /// It was dropped: it is none that is answered.
+    /// It was dropped: such datagrams are not answered.
     Dropped,
-    /// It was not answered, for want of memory, of a record or of a way out.
+    /// It was not answered: memory was refused, its batch was not recorded, or the send failed.
     Failed,
 }
 

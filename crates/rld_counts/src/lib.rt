@@ -1,10 +1,11 @@
-//! How the datagrams of each port ended, and how long answers took: counts that a receiver keeps, and
-//! that can be added up.
+//! How the datagrams of each port ended, and how long answers took: counts that a receiver keeps,
+//! and that can be added up.
 //!
-//! The promise: for whatever datagrams were noted, a count is how many of them ended so, the counts of a
-//! cell add up to all that were noted, and two cells added are the cell of the datagrams of both. Where
-//! counting by client begins anew, the counts in all and the times go on (`specs/Tally.antt`, `specs/Counts.antt`, `specs/Histogram.antt`, `specs/Cell.antt`). A number stops
-//! at 2^64 - 1.
+//! The promise: for whatever datagrams were noted, a count is the number that ended in its way, the
+//! counts of a cell add up to all that were noted, and two cells added are the cell of the
+//! datagrams of both. When counting by client begins again, the total counts and the times go on
+//! (`specs/Tally.antt`, `specs/Counts.antt`, `specs/Histogram.antt`, `specs/Cell.antt`). A number
+//! stops at 2^64 - 1.
 #![tactic(auto)]
 
 mod acct_end;

@@ -3,7 +3,7 @@
 ghost use Rattle.std.specs.Prelude.{◌≡◌, ◌+◌, ◌<◌, ◌∷◌, ◌++◌, [], EachIndex, List, ℕ, length, slice_index, slice_set, sum};
 ghost use Rattle.rld_counts.specs.Tally.{kept, tally_of};
 
-/// Counts a number once more.
+/// Counts a number.
 pub(crate) fn note(counters: &mut [u64], number: usize)
     requires { number < length counters.old }
     ensures { counters.new
@@ -12,7 +12,7 @@ pub(crate) fn note(counters: &mut [u64], number: usize)
     counters[number] = counters[number].saturating_add(1);
 }
 
-/// Adds what others have counted.
+/// Adds other counters.
 pub(crate) fn add(counters: &mut [u64], others: &[u64])
     requires { length others.now ≡ length counters.old }
     ensures len { length counters.new ≡ length counters.old }
@@ -24,7 +24,7 @@ pub(crate) fn add(counters: &mut [u64], others: &[u64])
     }
 }
 
-/// What all have counted together.
+/// The sum of all counters.
 pub(crate) fn sum(counters: &[u64]) -> u64
     ensures { result ≡ kept (sum counters.now) }
 {

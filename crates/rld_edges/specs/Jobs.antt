@@ -1,4 +1,4 @@
--- What the workers of a server do.
+-- The jobs of a server's workers.
 use Rattle.std.specs.Prelude.{ℕ, List, [], ◌∷◌, ◌++◌, replicate, Option, Some, None}
 use Rattle.std.specs.List.{flat_map}
 use Rattle.rsl_event.specs.declared.meaning.Port.{Port}
@@ -24,7 +24,7 @@ seen (jobs.Answer control) = Answers control.now
 seen jobs.Report = Reports
 seen jobs.Show = Shows
 
--- how many receivers take from each of both sockets
+-- how many receivers each of the two sockets has
 abbrev pub receivers_in : Pair → ℕ
 receivers_in pair = pair.receivers
 
@@ -32,12 +32,12 @@ receivers_in pair = pair.receivers
 abbrev pub receivers_on : Bound → Port → ℕ → List JobSeen
 receivers_on socket port receivers = replicate receivers (Receives socket port)
 
--- those of both sockets of a pair
+-- the receivers of both sockets of a pair
 abbrev pub jobs_on : Pair → List JobSeen
 jobs_on pair = receivers_on pair.auth Auth pair.receivers ++ receivers_on pair.acct Acct pair.receivers
 
--- those of all pairs, one worker that makes ticks, one that answers at the control, and one that writes
--- on standard error
+-- the receivers of all pairs, one worker that makes ticks, one that answers on the control socket,
+-- and one that writes to standard error
 abbrev pub jobs_of : List Pair → Control → List JobSeen
 jobs_of pairs control = flat_map jobs_on pairs ++ Ticks ∷ Answers control ∷ Reports ∷ []
 

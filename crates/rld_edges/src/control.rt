@@ -1,4 +1,4 @@
-//! The control: a unix socket over which an operator asks the running server.
+//! The control: a unix socket on which an operator sends requests to the running server.
 
 ghost use Rattle.std.specs.Prelude.{◌≡◌};
 
@@ -12,48 +12,49 @@ use std::os::unix::fs::{self as unix, DirBuilderExt, FileTypeExt, PermissionsExt
 use std::os::unix::net::{UnixListener, UnixStream};
 use std::time::{Clock, Duration, Instant};
 
-/// The most octets of a line that is asked, with its line feed: `free` and the words of the longest names
+/// The most octets of a request line, with its line feed: `free` and the words of the longest names
 /// have 2,308.
 const LINE_LEN: usize = 2_560;
 
-/// How many octets of an answer are written at once.
+/// The most octets of an answer written at once.
 const PART_LEN: usize = 4_096;
 
-/// How long an operator may take for his line and for reading the answer, in seconds.
+/// How long an operator may take to send a line and read the answer, in seconds.
 const PATIENCE_SECS: u64 = 5;
 
-/// How long the other side may keep silent, in seconds.
+/// How long a read or a write may wait, in seconds.
 const SILENCE_SECS: u64 = 1;
 
 const _: () = prove!(SILENCE_SECS == 1 && PATIENCE_SECS == 5 && PART_LEN == 4_096);
 
-/// What only the server's user may do with the folder that a socket is made in: everything.
+/// The mode of the folder in which a socket is made: everything, for the server's user alone.
 const MAKING_MODE: u32 = 0o700;
 
-/// Who may ask over a control's socket: its mode, and the number of the group that it is given to, if it
-/// is given to one.
+/// Who may use a control socket: its mode, and the number of its group, if it is given one.
 #[derive(Clone, Copy)]
 pub struct Access {
-    /// The mode, as 0o660.
+    /// The mode, such as 0o660.
     pub mode: u32,
     /// The number of the group.
     pub group: Option<u32>,
 }
 
-/// The listening socket of a server's control.
+/// The listening control socket of a server.
 #[derive(Drop)]
 pub struct Control {
     listener: UnixListener,
 }
 
 impl Control {
-    /// Makes the socket, whose calls do not wait. Who may write to it, and may enter its folder, may ask.
+    /// Makes the socket, which does not block. Whoever may write to it, and may enter its folder,
+    /// may ask.
     ///
-    /// It is made in a folder beside it that nobody else may enter, named as it and `.new`, and has its
-    /// mode and group before it takes its place: so nobody else can ask meanwhile. A socket that is
-    /// there, and that nobody answers at, is removed first: it is left by a server that was killed. The
-    /// error is the system's: the path is too long for a socket, a file of another kind or a socket that
-    /// is answered has it, the folder may not be written to, or the group may not be given.
+    /// It is made in a folder beside it that no other user may enter, with its name and `.new`, and
+    /// has its mode and group before it is moved to its place: so no other user can ask in between.
+    /// An existing socket at which no server answers is removed first: a killed server has left it.
+    /// The error is the system's: the path is too long for a socket, it is a file of another kind
+    /// or a socket at which a server answers, the folder may not be written to, or the group may
+    /// not be given.
     pub fn bind<R: Files<File = File> + Net>(
         rt: &R,
         alloc: Global,
@@ -77,7 +78,7 @@ impl Control {
         Ok(Control { listener: bound? })
     }
 
-    /// The socket, at which operators connect.
+    /// The socket to which operators connect.
     pub fn listener(&self) -> &UnixListener
         ensures { result.now ≡ self.now.listener }
     {
@@ -85,7 +86,7 @@ impl Control {
     }
 }
 
-/// A socket that is made at one path, has its mode and group there, and then moves to another.
+/// Makes a socket at one path, with its mode and group, and then moves it to another.
 fn bind_at<R: Files<File = File> + Net>(
     rt: &R,
     made: &str,
@@ -102,15 +103,15 @@ fn bind_at<R: Files<File = File> + Net>(
     Ok(listener)
 }
 
-/// Removes the folder that a socket is made in, with a socket that a server left there that was killed
-/// as it made one.
+/// Removes the folder in which a socket is made, with the socket of a server that was killed
+/// meanwhile.
 fn remove_making<R: Files<File = File>>(rt: &R, folder: &str, made: &str) {
-    // what is not there, or cannot be removed, is found where the folder is made
+    // what is missing, or cannot be removed, is found when the folder is made
     let _ = fs::remove_file(rt, made);
     let _ = fs::remove_dir(rt, folder);
 }
 
-/// Whether a socket is there at which nobody answers.
+/// Whether there is a socket at which no server answers.
 fn is_left<R: Files<File = File> + Net>(rt: &R, path: &str) -> bool {
     match fs::symlink_metadata(rt, path) {
         Ok(found) if found.file_type().is_socket() => UnixStream::connect(rt, path).is_err(),
@@ -118,7 +119,7 @@ fn is_left<R: Files<File = File> + Net>(rt: &R, path: &str) -> bool {
     }
 }
 
-/// An operator who has connected: for him the server has `PATIENCE_SECS` seconds.
+/// An operator who has connected, with `PATIENCE_SECS` seconds from then on.
 #[derive(Drop)]
 pub struct Operator<'a, C> {
     stream: &'a UnixStream,
@@ -127,7 +128,7 @@ pub struct Operator<'a, C> {
 }
 
 impl<'a, C: Clock> Operator<'a, C> {
-    /// The operator who has connected just now. The error is the system's.
+    /// An operator who has just connected. The error is the system's.
     pub fn new(clock: &'a C, stream: &'a UnixStream) -> io::Result<Operator<'a, C>> {
         stream.set_read_timeout(Some(Duration::from_secs(SILENCE_SECS)))?;
         stream.set_write_timeout(Some(Duration::from_secs(SILENCE_SECS)))?;
@@ -138,8 +139,8 @@ impl<'a, C: Clock> Operator<'a, C> {
         })
     }
 
-    /// The command that he asks for: `None` where the line is no command's. The error is the
-    /// system's, or that he takes too long or memory is refused.
+    /// The command of the operator, or `None` if the line is no command. The error is the system's,
+    /// or comes if the operator takes too long or memory is refused.
     pub fn asked(&self, alloc: Global) -> io::Result<Option<Command>> {
         let mut room = [0u8; LINE_LEN];
         let mut line = Line { operator: self };
@@ -152,7 +153,7 @@ impl<'a, C: Clock> Operator<'a, C> {
         }
     }
 
-    /// Answers him. Where he does not read it in time he has no more of it.
+    /// Sends an answer. An operator who does not read it in time gets only a part.
     pub fn answer(&self, text: &[u8]) {
         let mut to = self.stream;
         for part in text.chunks(PART_LEN) {
@@ -162,7 +163,7 @@ impl<'a, C: Clock> Operator<'a, C> {
         }
     }
 
-    /// Whether he has taken as long as he may.
+    /// Whether the operator's time is over.
     fn has_taken_long(&self) -> bool {
         match self.start.elapsed(self.clock) {
             Ok(passed) => passed.as_secs() >= PATIENCE_SECS,
@@ -171,7 +172,7 @@ impl<'a, C: Clock> Operator<'a, C> {
     }
 }
 
-/// The line that an operator sends.
+/// The line of an operator.
 #[derive(Drop)]
 struct Line<'a, C> {
     operator: &'a Operator<'a, C>,

@@ -9,25 +9,25 @@ use std::io;
 use std::net::SocketAddr;
 use thiserror::Error;
 
-/// Why a server has not started, or has ended without being asked. It prints as the line for standard
+/// Why a server has not started, or has ended without a request. It prints as the line for standard
 /// error.
 #[derive(Clone, Copy, Debug, Error)]
 pub enum RunFault {
     /// A socket could not be bound to this address and port.
     #[error("{0}: cannot be bound")]
     Unbound(SocketAddr),
-    /// A worker has not started on a thread of its own.
+    /// A worker has not started on its own thread.
     #[error("no thread for each receiver")]
     Threads,
-    /// A call of the system failed without which nothing can be received.
+    /// A system call failed that receiving depends on.
     #[error("a socket failed")]
     Down,
     /// Memory was refused at the start.
     #[error("no memory")]
     NoMemory,
-    /// The disk took what was written to it, and then could not say that it has it. What was answered
-    /// before stands. Nothing more may be recorded by this process; the next one goes on from what the
-    /// disk then has.
+    /// The disk took what was written to it, and then could not say that it has it. What was
+    /// answered before stands. This process must record nothing more; the next one goes on from
+    /// what the disk then has.
     #[error("the disk cannot be synced")]
     Unsynced,
 }
@@ -35,8 +35,8 @@ pub enum RunFault {
 impl RunFault {
     ghost use Rattle.rld_edges.specs.Fault.{gravity, status_of};
 
-    /// How the server ends: where its start or a call to the system failed, where memory was refused, or
-    /// where the disk could not be synced.
+    /// The exit status of the server: a start or a system call that failed, refused memory, or a
+    /// disk that could not be synced.
     pub fn status(self) -> EndStatus
         ensures { result ≡ status_of self }
     {
@@ -47,7 +47,7 @@ impl RunFault {
         }
     }
 
-    /// How grave it is: what was recorded counts most, and that a thread is missing least.
+    /// Its gravity: what was recorded counts most, and a missing thread least.
     fn gravity(self) -> u8
         ensures { result ≡ gravity self }
     {
@@ -92,8 +92,8 @@ impl From<io::Error> for RunFault {
     }
 }
 
-/// The fault of a server whose workers ended so: the gravest, and of those that are as grave the first.
-/// A worker that ended because it was asked to has none.
+/// The fault of a server whose workers ended with these results: the gravest, and of several the
+/// first. A worker that ended on request has none.
 pub fn outcome_of(ended: &[Result<(), RunFault>]) -> Result<(), RunFault>
     ensures { fault_in result ≡ gravest ended.now }
 {

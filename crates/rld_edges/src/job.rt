@@ -7,25 +7,25 @@ use crate::sockets::{Bound, Pair, Sockets};
 use rsl_event::Port;
 use std::alloc::{AllocError, Global};
 
-/// What a worker of a server does.
+/// The job of a worker of a server.
 #[derive(Clone, Copy, Drop)]
 pub enum Job<'a> {
-    /// It takes datagrams from this socket, for this port.
+    /// Receive datagrams from this socket, for this port.
     Receive(&'a Bound, Port),
-    /// It makes ticks.
+    /// Make ticks.
     Tick,
-    /// It answers operators.
+    /// Answer operators.
     Answer(&'a Control),
-    /// It writes on standard error.
+    /// Write to standard error.
     Report,
-    /// It shows the server to those who ask.
+    /// Show the server to clients.
     Show,
 }
 
 impl Sockets {
-    /// The jobs of a server's workers: the receivers that the server's file gives each socket, and one
-    /// worker each that makes ticks, that answers at the control, and that writes on standard error. It
-    /// fails only where memory is refused.
+    /// The jobs of a server's workers: the receivers that the server's file gives each socket, and
+    /// one worker each that makes ticks, answers on the control socket, and writes to standard
+    /// error. It fails only if memory is refused.
     #[tactic(auto, using(crate::proofs::Pushing::three_more))]
     pub fn jobs<'a>(
         &'a self,
@@ -79,7 +79,7 @@ fn push_receivers<'a>(
     Ok(())
 }
 
-/// The port of each receiver among these jobs. It fails only where memory is refused.
+/// The port of each receiver among these jobs. It fails only if memory is refused.
 pub fn ports_of(alloc: Global, jobs: &[Job<'_>]) -> Result<Vec<Port>, AllocError>
     ensures { IfOk result (λ ports. ports.items ≡ filter_map port_of jobs.now) }
 {

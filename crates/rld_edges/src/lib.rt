@@ -1,9 +1,9 @@
-//! The edges of the server that an operator keeps: its UDP sockets, the control at which an operator asks,
-//! standard error, and waiting for them; the jobs of its workers, what these tell each other of starts
-//! and ends, and the faults that they end with. The promise: each socket has as many receivers as
-//! the server's file says (`specs/Jobs.antt`), and it is said which fault of the workers is the server's,
-//! and how it then ends (`specs/Fault.antt`). What a socket gives, or that a worker sees what another
-//! told, stands in no clause.
+//! The edges of the operator's server: its UDP sockets, its control socket, standard error, and
+//! waiting for them; the jobs of its workers, how these note their starts and ends, and the faults
+//! with which they end. The promise: each socket has as many receivers as the server's file says
+//! (`specs/Jobs.antt`), and it is defined which fault of the workers is the server's, and its exit
+//! status (`specs/Fault.antt`). No clause speaks of what a socket gives, or says that a worker sees
+//! what another noted.
 #![tactic(auto)]
 
 mod control;

@@ -7,15 +7,15 @@ use std::net::Net;
 use std::os::fd::AsRawFd;
 use std::time::Duration;
 
-/// How long a wait takes at most, in seconds.
+/// The longest wait, in seconds.
 const WAIT_SECS: u64 = 1;
 
 const _: () = prove!(WAIT_SECS == 1);
 
-/// The name of the one socket that is waited for.
+/// The token of the one socket.
 const SOCKET: Token = Token(0);
 
-/// What waits for one socket, whose own calls do not wait.
+/// Waits for one socket, which does not block.
 #[derive(Drop)]
 pub struct Readiness {
     poll: Poll,
@@ -23,8 +23,8 @@ pub struct Readiness {
 }
 
 impl Readiness {
-    /// What waits for this socket. `Down` comes where the system has no room to wait for it, and
-    /// `NoMemory` where memory is refused.
+    /// The readiness of this socket. `Down` comes if the system has no resources to wait for it,
+    /// and `NoMemory` if memory is refused.
     pub fn of<N: Net, S: AsRawFd>(
         net: &N,
         alloc: Global,
@@ -38,9 +38,9 @@ impl Readiness {
         Ok(Readiness { poll, events })
     }
 
-    /// Waits until the socket may have something, for at most a second. To be called after a call
-    /// on the socket that would have waited: it sees only what has come since then. The error is
-    /// the system's.
+    /// Waits until the socket may have something, for at most a second. Call it after a call on the
+    /// socket that would have blocked: it sees only what has come since then. The error is the
+    /// system's.
     pub fn wait(&mut self) -> io::Result<()> {
         self.poll
             .poll(&mut self.events, Some(Duration::from_secs(WAIT_SECS)))

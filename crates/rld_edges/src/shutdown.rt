@@ -2,13 +2,13 @@ use std::sync::atomic::{AtomicBool, AtomicU64, Ordering};
 use std::thread;
 use std::time::{self, Duration};
 
-/// How often a worker looks whether all workers have started.
+/// How many times a worker checks whether all workers have started.
 const START_LOOKS: u64 = 5_000;
 
-/// How long it sleeps between two looks, in milliseconds.
+/// How long it sleeps between two checks, in milliseconds.
 const START_SLEEP_MILLIS: u64 = 1;
 
-/// What a worker finds that waits for the others.
+/// The result of a worker's wait for the others.
 #[derive(Clone, Copy)]
 pub enum Start {
     /// All have started.
@@ -19,7 +19,7 @@ pub enum Start {
     Missing,
 }
 
-/// What the workers of a server tell each other: how many have started, and that all shall end.
+/// The state that the workers of a server share: how many have started, and that all are to end.
 #[derive(Drop)]
 pub struct Shutdown {
     workers: u64,
@@ -37,9 +37,9 @@ impl Shutdown {
         }
     }
 
-    /// Notes that a worker has started, and waits until all have, for some five seconds at most.
-    /// Gives `Over` as soon as one has ended, and `Missing` where one has not started by then. A
-    /// worker for which no thread can be made starts only once another has ended.
+    /// Notes that a worker has started, and waits until all have, for about five seconds at most.
+    /// Gives `Over` as soon as one has ended, and `Missing` if one has not started by then. A
+    /// worker without a thread of its own starts only once another has ended.
     pub fn await_start<C: time::Clock>(&self, clock: &C) -> Start {
         self.started.fetch_add(1, Ordering::SeqCst);
         for _ in 0..START_LOOKS {
@@ -54,12 +54,12 @@ impl Shutdown {
         Start::Missing
     }
 
-    /// Tells all workers to end.
+    /// Notes that all workers are to end.
     pub fn end(&self) {
         self.is_over.store(true, Ordering::SeqCst);
     }
 
-    /// Whether all workers shall end.
+    /// Whether all workers are to end.
     pub fn is_over(&self) -> bool {
         self.is_over.load(Ordering::SeqCst)
     }

@@ -10,13 +10,13 @@ use std::net::{IpAddr, Net, SocketAddr, UdpSocket};
 /// A UDP socket of a server.
 #[derive(Drop)]
 pub struct Bound {
-    /// The socket, whose calls do not wait.
+    /// The socket, which does not block.
     pub socket: UdpSocket,
     /// Whether Status-Server packets are answered on it.
     pub status_server: bool,
 }
 
-/// Both sockets of a `[[listen]]` of the server's file.
+/// The two sockets of a `[[listen]]` of the server's file.
 #[derive(Drop)]
 pub struct Pair {
     /// The address of both sockets.
@@ -29,22 +29,22 @@ pub struct Pair {
     pub auth: Bound,
     /// The socket for accounting.
     pub acct: Bound,
-    /// How many receivers take from each of both sockets.
+    /// How many receivers each of the two sockets has.
     pub receivers: u16,
 }
 
-/// The UDP sockets of a server, of which nothing was read yet.
+/// The UDP sockets of a server, before the first read.
 #[derive(Drop)]
 pub struct Sockets {
     pub(crate) pairs: Vec<Pair>,
 }
 
 impl Sockets {
-    /// Binds both sockets of each `[[listen]]`, in the file's order. No call on them waits.
+    /// Binds the two sockets of each `[[listen]]`, in the file's order. They do not block.
     ///
-    /// `Unbound` comes with the first address and port that cannot be bound: there is no room for a
-    /// socket, the address is not this machine's, or the port is taken or not allowed. `NoMemory`
-    /// comes where memory is refused. The sockets that were bound before are then closed.
+    /// `Unbound` comes with the first address and port that cannot be bound: there is no memory for
+    /// a socket, the address is not this machine's, or the port is taken or not allowed. `NoMemory`
+    /// comes if memory is refused. The sockets that were bound before are then closed.
     pub fn bind<N: Net>(net: &N, alloc: Global, listens: &[Listen]) -> Result<Sockets, RunFault>
         ensures { IfOk result (λ sockets. map receivers_in sockets.pairs.items
             ≡ map (λ (listen : OneListen). listen.receivers) listens.now) }
@@ -64,7 +64,7 @@ impl Sockets {
     }
 }
 
-/// Both sockets of a `[[listen]]`.
+/// The two sockets of a `[[listen]]`.
 fn pair_of<N: Net>(net: &N, listen: &Listen) -> Result<Pair, RunFault>
     ensures { IfOk result (λ pair. pair.receivers ≡ listen.now.receivers) }
 {
@@ -82,7 +82,7 @@ fn pair_of<N: Net>(net: &N, listen: &Listen) -> Result<Pair, RunFault>
     })
 }
 
-/// A socket that is bound there, and whose calls do not wait.
+/// A socket bound to this address, which does not block.
 fn bind_socket<N: Net>(net: &N, address: SocketAddr, status_server: bool) -> Result<Bound, RunFault>
     ensures { IfOk result (λ bound. bound.status_server ≡ status_server) }
 {

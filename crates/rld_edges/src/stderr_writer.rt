@@ -7,17 +7,17 @@ use std::net::Net;
 use std::os::fd::RawFd;
 use std::time::Duration;
 
-/// The number of standard error.
+/// The file descriptor of standard error.
 const STANDARD_ERROR: RawFd = 2;
 
-/// How long it is waited for, in milliseconds.
+/// How long a write waits for room, in milliseconds.
 const WAIT_MILLIS: u64 = 100;
 
-/// The name of the one thing that is waited for.
+/// The token of standard error.
 const ROOM: Token = Token(0);
 
-/// Standard error, which is written to only where it has room: a pipe or a socket that nobody reads
-/// keeps no worker waiting.
+/// Standard error, which is written to only if it has room: a pipe or a socket without a reader
+/// blocks no worker.
 #[derive(Drop)]
 pub struct StderrWriter {
     poll: Poll,
@@ -26,8 +26,8 @@ pub struct StderrWriter {
 }
 
 impl StderrWriter {
-    /// Standard error of this process. `Down` comes where the system has no room to wait for it, and
-    /// `NoMemory` where memory is refused.
+    /// Standard error of this process. `Down` comes if the system has no resources to wait for it,
+    /// and `NoMemory` if memory is refused.
     pub fn of<N: Net>(net: &N, alloc: Global) -> Result<StderrWriter, RunFault> {
         let poll = Poll::new(net)?;
         let events = Events::with_capacity(alloc, 1)?;
@@ -42,15 +42,15 @@ impl StderrWriter {
         })
     }
 
-    /// Whether it takes 4,096 octets without a wait, which is waited for for a tenth of a second. A
-    /// file always takes them, as far as the system can say.
+    /// Whether it takes 4,096 octets without blocking, after a wait of a tenth of a second at most.
+    /// A file always does, as far as the system can say.
     pub fn has_room(&mut self) -> bool {
         !self.can_fill || self.find_room().unwrap_or(true)
     }
 
     /// Whether the system says that it has room.
     fn find_room(&mut self) -> io::Result<bool> {
-        // asked anew, since it reports a change alone
+        // registered again, since it reports a change alone
         self.poll
             .registry()
             .reregister(&mut SourceFd(&STANDARD_ERROR), ROOM, Interest::WRITABLE)?;

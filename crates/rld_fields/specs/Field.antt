@@ -2,14 +2,14 @@
 -- spelling.
 --
 -- Reading goes from left to right. It gives the value and the octets after it, or the first fault:
--- its cause, and how many octets are left where it stands. Fields are put together here, and the
--- lemmas of this crate put together in the same way that they are read as they are spelled.
+-- its cause, and how many octets are left at it. Fields are put together here, and in the same way
+-- the lemmas of this crate that they are read as they are spelled.
 use Rattle.std.specs.Prelude.{◌≡◌, ℕ, ◌<◌, ◌≤◌, List, [], ◌∷◌, ◌++◌, length, take, drop, slice_index, Bool, true, false, Option, Some, None, Result, Ok, Err, IfSome, nat_lt, nat_eq, if◌then◌else◌}
 use Rattle.rld_fields.specs.declared.fault.Cause.{Cause}
 use Rattle.rld_fields.specs.declared.fault.Cause.TheVariants.{CutShort, TooLong, UnknownTag}
 use Rattle.rld_fields.specs.declared.fault.Fault.{Fault}
 
--- what reading gives
+-- the result of reading
 abbrev pub Reading : Type 0 → Type 0
 Reading A = Result (A × List ℕ) Fault
 
@@ -27,19 +27,19 @@ pub record IsRead {A : Type 0} (field : Field A) : Type 0 where
   -- what is read of octets is spelled so in them, and has a spelling
   pub spelled : (octets : List ℕ) (x : A) (rest : List ℕ) → AreOctets octets
       → field.read octets ≡ Ok (x, rest) → (octets ≡ field.spell x ++ rest) × field.Fits x
-  -- what has a spelling is read where it is spelled, whatever follows
+  -- what has a spelling is read from it, whatever follows
   pub again : (x : A) (rest : List ℕ) → field.Fits x → field.read (field.spell x ++ rest) ≡ Ok (x, rest)
 
--- a fault, where these octets are left
+-- a fault with these octets left
 abbrev pub fault_at : {A : Type 0} → Cause → List ℕ → Result A Fault
 fault_at cause octets = Err (record { cause = cause; left = length octets })
 
--- what is read after a value that was read
+-- what is read after another value
 abbrev pub then_read : {A B : Type 0} → Reading A → (A → List ℕ → Reading B) → Reading B
 then_read (Ok x) next = next x.0 x.1
 then_read (Err fault) next = Err fault
 
--- a value that is made of one that was read
+-- a value made of another one that was read
 abbrev pub made_of : {A B : Type 0} → (A → B) → Reading A → Reading B
 made_of make (Ok x) = Ok (make x.0, x.1)
 made_of make (Err fault) = Err fault
@@ -58,7 +58,7 @@ octet_at (first ∷ rest) = Ok (first, rest)
 abbrev pub octet : Field ℕ
 octet = record { spell = λ n. n ∷ []; read = octet_at; Fits = λ n. n < 256 }
 
--- octets, of which there is this number
+-- this number of octets
 unfoldable pub fixed_at : ℕ → List ℕ → Reading (List ℕ)
 fixed_at count octets =
     if nat_lt (length octets) count then fault_at CutShort octets
@@ -71,7 +71,7 @@ fixed count = record {
   Fits = λ octets. length octets ≡ count;
 }
 
--- at most 253 octets, after an octet that has their number
+-- at most 253 octets, after an octet with their number
 unfoldable pub short_at : List ℕ → Reading (List ℕ)
 short_at [] = fault_at CutShort []
 short_at (count ∷ rest) =
@@ -103,7 +103,7 @@ flag = record { spell = flag_spelled; read = flag_at; Fits = λ x. Unit {0} }
 
 -- ---- fields that are made of others
 
--- a value that passes a check: one that does not is refused for this cause, where it begins
+-- a value that passes a check; any other is refused for this cause, where it begins
 abbrev pub passing : {A : Type 0} → Cause → (check : A → Bool) → (place : List ℕ) → A → List ℕ → Reading A
 passing cause check place x rest = if check x then Ok (x, rest) else fault_at cause place
 
@@ -114,7 +114,7 @@ checked cause check field = record {
   Fits = λ x. field.Fits x × (check x ≡ true);
 }
 
--- one after the other
+-- one field after the other
 abbrev pub both : {A B : Type 0} → Field A → Field B → Field (A × B)
 both a b = record {
   spell = λ x. a.spell x.0 ++ b.spell x.1;
@@ -122,7 +122,7 @@ both a b = record {
   Fits = λ x. a.Fits x.0 × b.Fits x.1;
 }
 
--- a value that is seen as another: made of it, with these parts
+-- a value seen as another: made of it, with these parts
 abbrev pub seen_as : {A B : Type 0} → (make : A → B) → (parts : B → A) → Field A → Field B
 seen_as make parts field = record {
   spell = λ x. field.spell (parts x);
@@ -130,7 +130,7 @@ seen_as make parts field = record {
   Fits = λ x. field.Fits (parts x);
 }
 
--- a 0 for none, or a 1 and what there is
+-- a 0 for none, or a 1 and the value
 abbrev pub option_spelled : {A : Type 0} → Field A → Option A → List ℕ
 option_spelled field None = 0 ∷ []
 option_spelled field (Some x) = 1 ∷ field.spell x

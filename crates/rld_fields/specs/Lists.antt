@@ -1,4 +1,4 @@
--- Lists: how many values there are, and each of them.
+-- Lists: the number of values, and each of them.
 use Rattle.std.specs.Prelude.{ℕ, zero, suc, List, [], ◌∷◌, ◌++◌, length, Result, Ok, Err}
 use Rattle.std.specs.List.{flat_map, All}
 use Rattle.rld_fields.specs.Field.{Field, Reading, then_read, made_of, fault_at}
@@ -12,7 +12,7 @@ values_at read zero octets = Ok ([], octets)
 values_at read (suc count) octets =
     then_read (read octets) (λ x rest. made_of (λ xs. x ∷ xs) (values_at read count rest))
 
--- the values that a list has, after their number, which a field of its own spells
+-- the values of a list, after their number, which a field of its own spells
 abbrev pub listed : {A : Type 0} → (count : Field ℕ) → Field A → Field (List A)
 listed count field = record {
   spell = λ xs. count.spell (length xs) ++ flat_map field.spell xs;

@@ -1,13 +1,12 @@
--- Numbers, each in its one form: below 253 an octet with the number, else an octet 253, 254 or 255
--- and the number in 2, 4 or 8 octets, the highest first. A number that has a shorter form is refused
--- in a longer one.
+-- Numbers, each in its shortest form: below 253 an octet with the number, else an octet 253, 254 or
+-- 255 and the number in 2, 4 or 8 octets, high octet first. A number in a longer form is refused.
 use Rattle.std.specs.Prelude.{ℕ, ◌<◌, ◌≤◌, ◌^◌, Bool, ◌&&◌, List, [], ◌∷◌, length, take, drop, nat_lt, nat_le, nat_eq, Ok, Err, if◌then◌else◌}
 use Rattle.std.specs.Int.{Width, w16, w32, w64, byte_len, from_be_bytes, to_be_bytes}
 use Rattle.rld_fields.specs.declared.fault.Cause.{Cause}
 use Rattle.rld_fields.specs.declared.fault.Cause.TheVariants.{CutShort, LongNumber}
 use Rattle.rld_fields.specs.Field.{Field, Reading, fault_at, then_read, passing}
 
--- a number in as many octets as its width has, the highest first
+-- a number in as many octets as its width has, high octet first
 unfoldable pub wide_at : Width → List ℕ → Reading ℕ
 wide_at w octets =
     if nat_lt (length octets) (byte_len w) then fault_at CutShort octets
@@ -20,7 +19,7 @@ wide w limit = record { spell = to_be_bytes w; read = wide_at w; Fits = λ n. n 
 abbrev pub pair : Field ℕ
 pair = wide w16 (2 ^ 16)
 
--- a number in its one form
+-- a number in its shortest form
 unfoldable pub number_octets : ℕ → List ℕ
 number_octets n =
     if nat_lt n 253 then n ∷ []
@@ -28,8 +27,7 @@ number_octets n =
     else (if nat_lt n (2 ^ 32) then 254 ∷ to_be_bytes w32 n
     else 255 ∷ to_be_bytes w64 n))
 
--- a number that is at least `least`, else it is refused at its mark, which the octets `behind`
--- follow
+-- a number of at least `least`; any other is refused at its mark, which the octets `behind` follow
 abbrev pub at_least : (least mark : ℕ) → List ℕ → Reading ℕ → Reading ℕ
 at_least least mark behind (Ok x) = if nat_lt x.0 least then fault_at LongNumber (mark ∷ behind) else Ok x
 at_least least mark behind (Err fault) = Err fault
@@ -45,7 +43,7 @@ number_at (mark ∷ behind) =
 abbrev pub number : Field ℕ
 number = record { spell = number_octets; read = number_at; Fits = λ n. n < 2 ^ 64 }
 
--- a number below a limit: one that is not is refused for this cause
+-- a number below a limit; any other is refused for this cause
 abbrev pub within : Cause → (limit : ℕ) → (place : List ℕ) → ℕ → List ℕ → Reading ℕ
 within cause limit place n rest =
     if nat_lt n limit then Ok (n, rest) else fault_at cause place
@@ -57,7 +55,7 @@ abbrev pub below : Cause → (limit : ℕ) → Field ℕ
 below cause limit =
     record { spell = number_octets; read = below_at cause limit; Fits = λ n. n < limit }
 
--- a number from the least to the most: another is refused for this cause
+-- a number from `least` to `most`; any other is refused for this cause
 abbrev pub is_between : (least most : ℕ) → ℕ → Bool
 is_between least most n = nat_le least n && nat_le n most
 
@@ -72,7 +70,7 @@ between cause least most = record {
   Fits = λ n. (least ≤ n) × (n ≤ most);
 }
 
--- a number that is always the same: another is refused for this cause
+-- a number that is always the same; any other is refused for this cause
 abbrev pub exact : Cause → (value : ℕ) → (place : List ℕ) → ℕ → List ℕ → Reading (Unit {0})
 exact cause value place n rest =
     if nat_eq n value then Ok (tt, rest) else fault_at cause place

@@ -1,4 +1,4 @@
--- What a reader of the code answers: what reading gives.
+-- The answer of a reader of the code: the result of reading.
 use Rattle.std.specs.Prelude.{◌≡◌, ℕ, List, Result, Ok, Err}
 use Rattle.rld_fields.specs.declared.fault.Fault.{Fault}
 use Rattle.rld_fields.specs.declared.fault.ReadFault.{ReadFault}

@@ -4,25 +4,25 @@ ghost use Rattle.rld_fields.specs.declared.fault.ReadFault.TheVariants.{NoMemory
 use std::alloc::{AllocError, AllocFailed};
 use thiserror::Error;
 
-/// What is wrong with octets, so that nothing is read of them.
+/// Why octets cannot be read.
 #[derive(Clone, Copy, Debug, PartialEq, Eq, Error)]
 pub enum Cause {
     /// The octets end before the value does.
     #[error("cut short")]
     CutShort,
-    /// A number is spelled in more octets than its size takes.
+    /// A number has more octets than it needs.
     #[error("a number in too many octets")]
     LongNumber,
-    /// A number is out of the range that it stands for.
+    /// A number is out of its range.
     #[error("a number out of range")]
     OutOfRange,
-    /// An account has a number that none has.
+    /// No account has this number.
     #[error("an account that is not there")]
     NoAccount,
-    /// A client has a number that none has.
+    /// No client has this number.
     #[error("a client that is not there")]
     NoClient,
-    /// A name is none that an account can have.
+    /// No account can have this name.
     #[error("a name that no account can have")]
     BadName,
     /// An answer is kept for longer than a place is reserved.
@@ -34,13 +34,13 @@ pub enum Cause {
     /// The octets are of another version of the format.
     #[error("another version of the format")]
     OtherFormat,
-    /// They are of another version of the session rule.
+    /// The octets are of another version of the session rule.
     #[error("another version of the session rule")]
     OtherRule,
-    /// A tag is none of those that can stand there.
+    /// A tag is unknown.
     #[error("an unknown tag")]
     UnknownTag,
-    /// Octets stand after the last value.
+    /// There are octets after the last value.
     #[error("octets behind the end")]
     Trailing,
 }
@@ -50,12 +50,12 @@ pub enum Cause {
 pub struct Fault {
     /// What is wrong.
     pub cause: Cause,
-    /// How many octets stand from the fault to the end.
+    /// The octets from the fault to the end.
     pub left: usize,
 }
 
 impl Fault {
-    /// Where the fault stands in octets of this number: how many stand before it.
+    /// The offset of the fault in octets of this length.
     pub fn offset(self, len: usize) -> usize
         ensures { result ≡ len - self.left }
     {

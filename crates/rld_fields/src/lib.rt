@@ -1,10 +1,10 @@
-//! Fields of a format: numbers, octets, flags, options and lists, spelled in octets and read from
-//! them.
+//! Fields of a binary format: numbers, octets, flags, options and lists, written to octets and read
+//! from them.
 //!
 //! The promise: each value has one spelling, what is read is spelled so, and what is spelled so is
-//! read, whatever follows. Where octets spell nothing, the first fault is named, with its place.
-//! `specs/Field.antt` says what a field is and how fields are put together; it knows nothing of what
-//! they stand for.
+//! read, whatever follows. If octets spell nothing, the first fault is named, with its offset.
+//! `specs/Field.antt` says what a field is and how fields are put together; it knows nothing of
+//! their meaning.
 #![tactic(auto)]
 
 mod fault;

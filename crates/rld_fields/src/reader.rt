@@ -10,7 +10,7 @@ use std::marker::Model;
 /// The most octets of a name or an id.
 pub const MAX_SHORT_LEN: usize = 253;
 
-/// The mark of a number in 2 octets. An octet below it is a number itself.
+/// The mark of a number in 2 octets. An octet below it is the number itself.
 pub(crate) const MARK_2: u8 = 253;
 
 /// The mark of a number in 4 octets.
@@ -19,8 +19,8 @@ pub(crate) const MARK_4: u8 = 254;
 /// The mark of a number in 8 octets.
 pub(crate) const MARK_8: u8 = 255;
 
-/// Octets that are read from left to right. A contract sees those that are left. After a fault
-/// nothing is said of what is left.
+/// A reader of octets, from left to right. A contract sees those that are left. After a fault
+/// nothing is known of what is left.
 #[derive(Drop)]
 pub struct Reader<'a> {
     rest: &'a [u8],
@@ -42,14 +42,14 @@ impl<'a> Reader<'a> {
         Reader { rest: octets }
     }
 
-    /// How many octets are left.
+    /// The number of octets left.
     pub fn left(&self) -> usize
         ensures { result ≡ length self.now }
     {
         self.rest.len()
     }
 
-    /// A fault where the reader stands.
+    /// A fault at the reader's position.
     pub fn fault(&self, cause: Cause) -> Fault
         ensures { result ≡ record { cause = cause; left = length self.now } }
     {
@@ -59,7 +59,7 @@ impl<'a> Reader<'a> {
         }
     }
 
-    /// The next octet. `CutShort` comes where none is left.
+    /// The next octet. `CutShort` comes if none is left.
     pub fn octet(&mut self) -> Result<u8, Fault>
         ensures { Reads result self.new (octet_at self.old) }
     {
@@ -72,7 +72,7 @@ impl<'a> Reader<'a> {
         }
     }
 
-    /// The next `count` octets, lent. `CutShort` comes where fewer are left.
+    /// The next `count` octets. `CutShort` comes if fewer are left.
     #[tactic(auto, unfolding(crate::specs::Field::fixed_at))]
     pub fn octets(&mut self, count: usize) -> Result<&'a [u8], Fault>
         ensures { ReadsSeen (λ octets. octets.now) result self.new (fixed_at count self.old) }
@@ -85,7 +85,7 @@ impl<'a> Reader<'a> {
         Ok(front)
     }
 
-    /// The 4 octets that are next, as those of an address.
+    /// The next 4 octets. `CutShort` comes if fewer are left.
     #[tactic(auto, unfolding(crate::specs::Field::fixed_at))]
     pub fn octets_4(&mut self) -> Result<[u8; 4], Fault>
         ensures { Reads result self.new (fixed_at 4 self.old) }
@@ -96,7 +96,7 @@ impl<'a> Reader<'a> {
         Ok(octets)
     }
 
-    /// The 16 octets that are next, as those of an authenticator.
+    /// The next 16 octets. `CutShort` comes if fewer are left.
     #[tactic(auto, unfolding(crate::specs::Field::fixed_at))]
     pub fn octets_16(&mut self) -> Result<[u8; 16], Fault>
         ensures { Reads result self.new (fixed_at 16 self.old) }
@@ -107,8 +107,8 @@ impl<'a> Reader<'a> {
         Ok(octets)
     }
 
-    /// At most 253 octets after their number, lent. `TooLong` comes where the number is over 253,
-    /// `CutShort` where fewer are left.
+    /// At most 253 octets after their number. `TooLong` comes if the number is over 253, `CutShort`
+    /// if fewer are left.
     #[tactic(auto, unfolding(crate::specs::Field::short_at))]
     pub fn short(&mut self) -> Result<&'a [u8], Fault>
         ensures { ReadsSeen (λ octets. octets.now) result self.new (short_at self.old) }
@@ -121,7 +121,7 @@ impl<'a> Reader<'a> {
         self.octets(count)
     }
 
-    /// A 0 for no or a 1 for yes. `UnknownTag` comes at another octet, `CutShort` where none is left.
+    /// A 0 for no or a 1 for yes. `UnknownTag` comes at another octet, `CutShort` if none is left.
     #[tactic(auto, unfolding(crate::specs::Field::flag_at))]
     pub fn flag(&mut self) -> Result<bool, Fault>
         ensures { Reads result self.new (flag_at self.old) }
@@ -134,7 +134,7 @@ impl<'a> Reader<'a> {
         }
     }
 
-    /// A number in 2 octets, the higher first. `CutShort` comes where fewer are left.
+    /// A number in 2 octets, high octet first. `CutShort` comes if fewer are left.
     #[tactic(auto, unfolding(crate::specs::Numbers::wide_at))]
     pub fn pair(&mut self) -> Result<u16, Fault>
         ensures { Reads result self.new (wide_at w16 self.old) }
@@ -147,7 +147,7 @@ impl<'a> Reader<'a> {
         Ok(u16::from_be_bytes([front[0], front[1]]))
     }
 
-    /// A number in 4 octets, in the same way.
+    /// A number in 4 octets, high octet first.
     #[tactic(auto, unfolding(crate::specs::Numbers::wide_at))]
     fn wide_4(&mut self) -> Result<u32, Fault>
         ensures { Reads result self.new (wide_at w32 self.old) }
@@ -160,7 +160,7 @@ impl<'a> Reader<'a> {
         Ok(u32::from_be_bytes([front[0], front[1], front[2], front[3]]))
     }
 
-    /// A number in 8 octets, in the same way.
+    /// A number in 8 octets, high octet first.
     #[tactic(auto, unfolding(crate::specs::Numbers::wide_at))]
     fn wide_8(&mut self) -> Result<u64, Fault>
         ensures { Reads result self.new (wide_at w64 self.old) }
@@ -175,8 +175,8 @@ impl<'a> Reader<'a> {
         ]))
     }
 
-    /// A number in its one form. `CutShort` comes where octets of it are not there, `LongNumber`
-    /// where it has a shorter form.
+    /// A number in its shortest form. `CutShort` comes if octets of it are missing, `LongNumber` if
+    /// it has a shorter form.
     #[tactic(auto, unfolding(crate::specs::Numbers::number_at))]
     pub fn number(&mut self) -> Result<u64, Fault>
         ensures { Reads result self.new (number_at self.old) }
@@ -190,8 +190,7 @@ impl<'a> Reader<'a> {
         }
     }
 
-    /// A number below a limit. The given cause comes where it is not, and the faults of `number`
-    /// before that.
+    /// A number below a limit. `cause` comes if it is not, after the faults of `number`.
     #[tactic(auto, unfolding(crate::specs::Numbers::below_at))]
     pub fn below(&mut self, cause: Cause, limit: u64) -> Result<u64, Fault>
         ensures read { Reads result self.new (below_at cause limit self.old) }
@@ -202,8 +201,8 @@ impl<'a> Reader<'a> {
         if number < limit { Ok(number) } else { Err(out) }
     }
 
-    /// A number from the least to the most. The given cause comes where it is another, and the faults
-    /// of `number` before that.
+    /// A number from `least` to `most`. `cause` comes if it is any other, after the faults of
+    /// `number`.
     #[tactic(auto, unfolding(crate::specs::Numbers::between_at))]
     pub fn between(&mut self, cause: Cause, least: u64, most: u64) -> Result<u64, Fault>
         ensures read { Reads result self.new (between_at cause least most self.old) }
@@ -218,8 +217,8 @@ impl<'a> Reader<'a> {
         }
     }
 
-    /// A number that is always this. The given cause comes where it is another, and the faults of
-    /// `number` before that.
+    /// A number that is always `value`. `cause` comes if it is any other, after the faults of
+    /// `number`.
     #[tactic(auto, unfolding(crate::specs::Numbers::exactly_at))]
     pub fn exactly(&mut self, cause: Cause, value: u64) -> Result<(), Fault>
         ensures { ReadsSeen (λ _. tt) result self.new (exactly_at cause value self.old) }

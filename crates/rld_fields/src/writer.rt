@@ -6,7 +6,7 @@ ghost use Rattle.rld_fields.specs.Numbers.{number_octets};
 use crate::reader::{MARK_2, MARK_4, MARK_8};
 use std::alloc::AllocError;
 
-/// Spells a number after the octets that are there. It fails only where memory is refused.
+/// Appends a number. It fails only if memory is refused.
 #[tactic(auto, unfolding(crate::specs::Numbers::number_octets))]
 pub fn push_number(out: &mut Vec<u8>, number: u64) -> Result<(), AllocError>
     ensures { OnOk result (out.new.items ≡ out.old.items ++ number_octets number) }
@@ -26,14 +26,14 @@ pub fn push_number(out: &mut Vec<u8>, number: u64) -> Result<(), AllocError>
     Ok(())
 }
 
-/// Spells a number in 2 octets. It fails only where memory is refused.
+/// Appends a number in 2 octets. It fails only if memory is refused.
 pub fn push_pair(out: &mut Vec<u8>, number: u16) -> Result<(), AllocError>
     ensures { OnOk result (out.new.items ≡ out.old.items ++ to_be_bytes w16 number) }
 {
     out.extend_from_slice(&number.to_be_bytes())
 }
 
-/// Spells at most 253 octets after their number. It fails only where memory is refused.
+/// Appends at most 253 octets after their number. It fails only if memory is refused.
 pub fn push_short(out: &mut Vec<u8>, octets: &[u8]) -> Result<(), AllocError>
     requires { length octets.now ≤ 253 }
     ensures { OnOk result (out.new.items ≡ out.old.items ++ short.spell octets.now) }
@@ -42,7 +42,7 @@ pub fn push_short(out: &mut Vec<u8>, octets: &[u8]) -> Result<(), AllocError>
     out.extend_from_slice(octets)
 }
 
-/// Spells a flag. It fails only where memory is refused.
+/// Appends a flag. It fails only if memory is refused.
 pub fn push_flag(out: &mut Vec<u8>, yes: bool) -> Result<(), AllocError>
     ensures { OnOk result (out.new.items ≡ out.old.items ++ flag_spelled yes) }
 {

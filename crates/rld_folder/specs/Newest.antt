@@ -9,7 +9,7 @@ abbrev pub Precedes : (one other : Generation) → Type 0
 Precedes one other =
     (one.era < other.era) ⊎ ((one.era ≡ other.era) × (one.number < other.number))
 
--- the same, as a test
+-- `Precedes` as a test
 abbrev pub precedes : (one other : Generation) → Bool
 precedes one other =
     nat_lt one.era other.era || (one.era == other.era && nat_lt one.number other.number)

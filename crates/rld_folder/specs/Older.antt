@@ -1,4 +1,4 @@
--- Which files of a folder no start needs any more, and how long they are kept.
+-- The files of a folder that no start needs any more, and how long they are kept.
 use Rattle.std.specs.Prelude.{ℕ, ◌+◌, ◌*◌, ◌<◌, ◌==◌, ◌||◌, ◌&&◌, Bool, false, not, nat_lt, List, if◌then◌else◌, Option, Some, None}
 use Rattle.std.specs.List.{filter_map, list_any}
 use Rattle.rld_folder.specs.Newest.{precedes}
@@ -6,7 +6,7 @@ use Rattle.rld_folder.specs.declared.name.Generation.{Generation}
 use Rattle.rld_folder.specs.declared.name.FileName.{FileName}
 use Rattle.rld_folder.specs.declared.name.FileName.TheVariants.{Lock, Era, Log}
 
--- the generation that a file is the log of, where it is before the newest one
+-- the generation of a log before the newest one
 abbrev pub older_log : (newest : Generation) → FileName → Option Generation
 older_log newest Lock = None
 older_log newest (Era era) = None
@@ -26,11 +26,11 @@ is_log_of era (Log generation) = generation.era == era
 abbrev pub has_log : (files archived : List FileName) → (era : ℕ) → Bool
 has_log files archived era = list_any (is_log_of era) files || list_any (is_log_of era) archived
 
--- an era before that of the newest generation, of which no log is left
+-- an era before that of the newest generation, without a log
 abbrev pub is_logless : (files archived : List FileName) → (newest : Generation) → (era : ℕ) → Bool
 is_logless files archived newest era = nat_lt era newest.era && not (has_log files archived era)
 
--- the era that a file is the table of, where it is such a one
+-- the era of a table, if it is such an era
 abbrev pub logless_era : (files archived : List FileName) → (newest : Generation) → FileName → Option ℕ
 logless_era files archived newest Lock = None
 logless_era files archived newest (Log generation) = None
@@ -41,7 +41,7 @@ logless_era files archived newest (Era era) =
 abbrev pub logless_eras : (files archived : List FileName) → (newest : Generation) → List ℕ
 logless_eras files archived newest = filter_map (logless_era files archived newest) files
 
--- at second `now` a file that last changed at second `changed` has been kept for more than `days`
--- days, of 86,400 seconds
+-- at second `now` a file that last changed at second `changed` is older than `days` days, of 86,400
+-- seconds
 abbrev pub IsExpired : (days changed now : ℕ) → Type 0
 IsExpired days changed now = changed + days * 86400 < now

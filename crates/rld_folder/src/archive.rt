@@ -1,5 +1,5 @@
-//! What becomes of the logs that no start needs any more: they go to a folder of their own beside the
-//! others, `archive`, or they are removed, and so are the tables of eras of which no log is left.
+//! The logs that no start needs any more: they are moved to the folder `archive` beside the others,
+//! or removed, and so are the tables of eras without a log.
 
 ghost use Rattle.std.specs.Prelude.{◌≡◌, All, IfOk};
 ghost use Rattle.rld_folder.specs.Newest.{Precedes};
@@ -14,21 +14,21 @@ use std::io::ErrorKind;
 use std::rt::Files;
 use std::time::UNIX_EPOCH;
 
-/// Shows that the log of a generation is on the disk, as the log stood when this value was made.
-/// Only `Folder::sync_log` makes one.
+/// Proof that the log of a generation is on the disk, as it was when this value was made. Only
+/// `Folder::sync_log` makes one.
 #[derive(Drop)]
 pub struct Synced {
     generation: Generation,
 }
 
-/// Shows that the log of a generation was removed, and that the names of the folder were synced then.
-/// Only `Folder::remove_log` makes one.
+/// Proof that the log of a generation was removed, and the names of the folder synced. Only
+/// `Folder::remove_log` makes one.
 #[derive(Drop)]
 pub struct Removed {
     generation: Generation,
 }
 
-/// What became of several files: the first fault, where one has a fault.
+/// The first fault of several files, if any.
 fn first_fault(
     before: Result<(), FolderFault>,
     next: Result<(), FolderFault>,
@@ -39,7 +39,7 @@ fn first_fault(
     }
 }
 
-/// Whether a folder cannot be listed because there is none, or a file has its name.
+/// Whether a folder cannot be listed because it is missing, or is a file.
 fn is_none(kind: ErrorKind) -> bool {
     kind == ErrorKind::NotFound || kind == ErrorKind::NotADirectory
 }
@@ -63,7 +63,7 @@ fn remove_file<R: Files<File = File>>(files: &R, path: &str) -> Result<(), Folde
     }
 }
 
-/// The second since 1970 at which a file changed last.
+/// The second since 1970 of a file's last change.
 fn changed<R: Files<File = File>>(files: &R, path: &str) -> Result<u64, FolderFault> {
     let found = match fs::metadata(files, path) {
         Ok(found) => found,
@@ -79,14 +79,14 @@ fn changed<R: Files<File = File>>(files: &R, path: &str) -> Result<u64, FolderFa
 }
 
 impl Folder {
-    /// The path of its archive.
+    /// The path of the archive.
     fn archive_path(&self, alloc: Global) -> Result<String, AllocError> {
         let path = self.path.as_str();
         format!(in alloc; "{path}/archive")
     }
 
-    /// Puts the octets of a log on the disk, whoever wrote them. `Unopened` where it is not there or
-    /// cannot be opened, and `Unsynced` where the system cannot say that the disk has them.
+    /// Puts the octets of a log on the disk, whoever wrote them. `Unopened` comes if it is missing
+    /// or cannot be opened, and `Unsynced` if the system cannot say that the disk has them.
     pub fn sync_log<R: Files<File = File>>(
         &self,
         files: &R,
@@ -106,8 +106,8 @@ impl Folder {
         }
     }
 
-    /// Removes a log. `Unremoved` where it is not there or cannot be removed; after `Unsynced` it is
-    /// gone, and a loss of power may bring it back.
+    /// Removes a log. `Unremoved` comes if it is missing or cannot be removed; after `Unsynced` it
+    /// is gone, but a loss of power may bring it back.
     pub fn remove_log<R: Files<File = File>>(
         &self,
         files: &R,
@@ -122,8 +122,8 @@ impl Folder {
         Ok(Removed { generation })
     }
 
-    /// Removes logs before a generation whose log is on the disk. Where it fails for one the others are
-    /// removed all the same, and the first fault is given, as of `remove_log`.
+    /// Removes logs before a generation whose log is on the disk. After a fault of one the others
+    /// are removed all the same, and the first fault is given, as of `remove_log`.
     pub fn remove_logs<R: Files<File = File>>(
         &self,
         files: &R,
@@ -142,10 +142,9 @@ impl Folder {
         outcome
     }
 
-    /// Removes the tables of eras, and then syncs the names. Where it fails for one the others are
-    /// removed all the same, and the first fault is given: `Unremoved` where a table is not there
-    /// or cannot be removed. After `Unsynced` they are gone, and a loss of power may bring them
-    /// back.
+    /// Removes the tables of eras, and then syncs the names. After a fault of one the others are
+    /// removed all the same, and the first fault is given: `Unremoved` if a table is missing or
+    /// cannot be removed. After `Unsynced` they are gone, but a loss of power may bring them back.
     pub fn remove_eras<R: Files<File = File>>(
         &self,
         files: &R,
@@ -173,13 +172,13 @@ impl Folder {
         remove_file(files, path.as_str())
     }
 
-    /// Moves logs before a generation whose log is on the disk to the archive, which is made, with mode
-    /// 700, where it is not there. Where it fails for one the others are moved all the same, and the first
-    /// fault is given.
+    /// Moves logs before a generation whose log is on the disk to the archive, which is made, with
+    /// mode 700, if it is missing. After a fault of one the others are moved all the same, and the
+    /// first fault is given.
     ///
-    /// `Unmade` where the archive cannot be made; then nothing has changed. `Unmoved` where a log is
-    /// not there or cannot be moved, or the archive has one of its name. After `Unsynced` they are
-    /// moved, and a loss of power may undo that.
+    /// `Unmade` comes if the archive cannot be made; then nothing has changed. `Unmoved` comes if a
+    /// log is missing or cannot be moved, or the archive has one of its name. After `Unsynced` they
+    /// are moved, but a loss of power may undo that.
     pub fn archive_logs<R: Files<File = File>>(
         &self,
         files: &R,
@@ -217,8 +216,8 @@ impl Folder {
         move_file(files, from.as_str(), to.as_str())
     }
 
-    /// The files of its archive, in no order; none where there is no archive. `Unread` comes where the
-    /// system does not list them, and `NoMemory` where memory is refused.
+    /// The files of the archive, in no order; none if there is no archive. `Unread` comes if the
+    /// system does not list them, and `NoMemory` if memory is refused.
     pub fn archived<R: Files<File = File> + Alloc<A = Global> + Clone + Drop>(
         &self,
         rt: &R,
@@ -231,10 +230,10 @@ impl Folder {
         }
     }
 
-    /// Removes the logs of the archive that have been kept for more than `days` days at second
-    /// `now` since 1970, by the moment of their last change. Where it fails for one the others are
-    /// removed all the same, and the first fault is given: `Unread` where the archive, or what the
-    /// system knows of a log, cannot be read, and `Unremoved` where one cannot be removed.
+    /// Removes the logs of the archive whose last change is more than `days` days before second
+    /// `now` since 1970. After a fault of one the others are removed all the same, and the first
+    /// fault is given: `Unread` if the archive, or the date of a log, cannot be read, and
+    /// `Unremoved` if one cannot be removed.
     pub fn remove_expired<R: Files<File = File> + Alloc<A = Global> + Clone + Drop>(
         &self,
         rt: &R,
@@ -253,7 +252,7 @@ impl Folder {
     }
 }
 
-/// Removes a file that has been kept for more than `days` days at second `now` since 1970.
+/// Removes a file whose last change is more than `days` days before second `now` since 1970.
 fn remove_if_expired<R: Files<File = File>>(
     files: &R,
     path: &str,

@@ -8,19 +8,19 @@ pub enum FolderFault {
     /// Memory was refused.
     #[error("no memory")]
     NoMemory,
-    /// The folder is not there and could not be made.
+    /// The folder is missing and could not be made.
     #[error("cannot be made")]
     Unmade,
     /// The folder, or its list of files, could not be read.
     #[error("cannot be read")]
     Unread,
-    /// What has its name is no folder.
+    /// Its name is not that of a folder.
     #[error("is no folder")]
     NoFolder,
     /// The folder belongs to another user than the one who runs the process.
     #[error("belongs to another user")]
     Foreign,
-    /// A link stands where a file of the server should.
+    /// A link is in the place of a file of the server.
     #[error("has a link in place of a file")]
     Linked,
     /// Others than its owner may write to the folder.
@@ -50,8 +50,7 @@ pub enum FolderFault {
 }
 
 impl FolderFault {
-    /// The fault of a call of the system that failed: that memory was refused, where it was, and else
-    /// this one.
+    /// The fault of a failed system call: `NoMemory` if memory was refused, and else this one.
     pub(crate) fn of(error: &io::Error, fault: FolderFault) -> FolderFault {
         match error.kind() {
             ErrorKind::OutOfMemory => FolderFault::NoMemory,

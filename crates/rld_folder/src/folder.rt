@@ -7,26 +7,26 @@ use std::io::{self, ErrorKind, Read, Write};
 use std::os::unix::fs::{DirBuilderExt, FileTypeExt, MetadataExt, OpenOptionsExt, PermissionsExt};
 use std::rt::Files;
 
-/// What only the owner of the folder may do with it: everything.
+/// The mode of the folder: everything, for its owner alone.
 const FOLDER_MODE: u32 = 0o700;
 
-/// What only the owner of a file may do with it: read and write.
+/// The mode of a file: read and write, for its owner alone.
 const FILE_MODE: u32 = 0o600;
 
-/// The rights of others than the owner to write.
+/// The mode bits by which others than the owner may write.
 const OTHERS_WRITE: u32 = 0o022;
 
 /// The folder of a server, which this process has locked until the value is dropped.
 ///
-/// That its files are there after a loss of power is the system's word: each call that makes one
-/// syncs the file and the folder before it returns.
+/// The system is trusted to keep its files over a loss of power: each call that makes one syncs the
+/// file and the folder before it returns.
 #[derive(Drop)]
 pub struct Folder {
     pub(crate) path: String,
     lock: File,
 }
 
-/// Makes the folder where there is none, for its owner alone.
+/// Makes the folder if it is missing, for its owner alone.
 pub(crate) fn make_folder<R: Files>(files: &R, path: &str) -> Result<(), FolderFault> {
     match DirBuilder::new().mode(FOLDER_MODE).create(files, path) {
         Ok(()) => Ok(()),
@@ -35,7 +35,8 @@ pub(crate) fn make_folder<R: Files>(files: &R, path: &str) -> Result<(), FolderF
     }
 }
 
-/// Checks that this is a folder of the user who runs the process, and that nobody else may write to it.
+/// Checks that this is a folder of the user who runs the process, and that no other user may write
+/// to it.
 fn check_folder<R: Files>(files: &R, path: &str) -> Result<(), FolderFault> {
     let found = match fs::metadata(files, path) {
         Ok(found) => found,
@@ -53,17 +54,17 @@ fn check_folder<R: Files>(files: &R, path: &str) -> Result<(), FolderFault> {
     Ok(())
 }
 
-/// Checks that no link stands at a path of the folder. Nobody else may write to the folder, so none is put
-/// there afterwards.
+/// Checks that there is no link at a path of the folder. No other user may write to the folder, so
+/// none appears later.
 fn check_no_link<R: Files>(files: &R, path: &str) -> Result<(), FolderFault> {
     match fs::symlink_metadata(files, path) {
         Ok(found) if found.file_type().is_symlink() => Err(FolderFault::Linked),
-        // what is not there, or cannot be looked at, is found where it is opened
+        // what is missing, or cannot be read, is found by the open
         Ok(_) | Err(_) => Ok(()),
     }
 }
 
-/// Takes the lock, which the system gives back when the process ends, however it ends.
+/// Takes the lock, which the system releases when the process ends, however it ends.
 fn take_lock(lock: &File) -> Result<(), FolderFault> {
     match lock.try_lock() {
         Ok(()) => Ok(()),
@@ -78,7 +79,7 @@ pub(crate) fn path_in(alloc: Global, folder: &str, file: FileName) -> Result<Str
     format!(in alloc; "{folder}/{name}")
 }
 
-/// The files of a server among what a folder has.
+/// The server's files in a folder.
 pub(crate) fn files_among<R: Files<File = File> + Clone + Drop>(
     alloc: Global,
     entries: ReadDir<R>,
@@ -91,7 +92,7 @@ pub(crate) fn files_among<R: Files<File = File> + Clone + Drop>(
                     files.push(file)?;
                 }
             }
-            // A name that is no UTF-8 is none of a server's.
+            // A name that is not UTF-8 is not one of the server's.
             Err(error) if error.kind() == ErrorKind::InvalidFilename => {}
             Err(error) => return Err(FolderFault::of(&error, FolderFault::Unread)),
         }
@@ -111,7 +112,7 @@ pub(crate) fn sync_names<R: Files<File = File>>(files: &R, path: &str) -> Result
     }
 }
 
-/// A new file, or the one that is there, for its owner to read and write.
+/// A new file, or the existing one, for its owner to read and write.
 fn open_file<R: Files<File = File>>(files: &R, path: &str) -> io::Result<File> {
     OpenOptions::new()
         .read(true)
@@ -122,15 +123,15 @@ fn open_file<R: Files<File = File>>(files: &R, path: &str) -> io::Result<File> {
 }
 
 impl Folder {
-    /// Opens a server's folder and locks it. It is made, with mode 700, where it is not there; the
-    /// folder that it stands in has to be.
+    /// Opens a server's folder and locks it. It is made, with mode 700, if it is missing; its
+    /// parent has to exist.
     ///
-    /// `Unmade` where it is not there and cannot be made, `Unread` where the system tells nothing of it,
-    /// `NoFolder` where a file has its name, `Foreign` where it belongs to another user, `Exposed` where
-    /// others than its owner may write to it, and `Linked` where its lock is a link: then nothing in it
-    /// has changed. `Unlocked` where its lock cannot be opened or taken, and `Busy`
-    /// where another process has it: then at most an empty `lock` is new in it. `NoMemory` where memory
-    /// is refused.
+    /// `Unmade` comes if it is missing and cannot be made, `Unread` if the system tells nothing of
+    /// it, `NoFolder` if it is a file, `Foreign` if it belongs to another user, `Exposed` if others
+    /// than its owner may write to it, and `Linked` if its lock is a link: then nothing in it has
+    /// changed. `Unlocked` comes if its lock cannot be opened or taken, and `Busy` if another
+    /// process has it: then at most an empty `lock` is new in it. `NoMemory` comes if memory is
+    /// refused.
     pub fn open<R: Files<File = File>>(
         files: &R,
         alloc: Global,
@@ -156,9 +157,9 @@ impl Folder {
         path_in(alloc, self.path.as_str(), file)
     }
 
-    /// Its files, in no order: what has another name is no concern of this server's. `Unread` comes
-    /// where the system does not list them, and `NoMemory` where memory is refused; nothing in the
-    /// folder changes.
+    /// The server's files, in no order; files with other names are ignored. `Unread` comes if the
+    /// system does not list them, and `NoMemory` if memory is refused; nothing in the folder
+    /// changes.
     pub fn files<R: Files<File = File> + Alloc<A = Global> + Clone + Drop>(
         &self,
         rt: &R,
@@ -169,8 +170,8 @@ impl Folder {
         }
     }
 
-    /// The log of a generation that is there. `Linked` where a link stands in its place, and `Unopened`
-    /// where it is not there or cannot be opened.
+    /// The existing log of a generation. `Linked` comes if a link is in its place, and `Unopened`
+    /// if it is missing or cannot be opened.
     pub fn open_log<R: Files<File = File>>(
         &self,
         files: &R,
@@ -189,9 +190,9 @@ impl Folder {
         }
     }
 
-    /// The log of a new generation, which is empty. Its name is synced; its octets are the log's to
-    /// sync. `Unopened` where it is there or cannot be made. After `Unsynced` it is there, and a loss of
-    /// power may take it away.
+    /// The empty log of a new generation. Its name is synced; the log has to sync its octets.
+    /// `Unopened` comes if it exists or cannot be made. After `Unsynced` it exists, but a loss of
+    /// power may remove it.
     pub fn create_log<R: Files<File = File>>(
         &self,
         files: &R,
@@ -203,8 +204,8 @@ impl Folder {
         Ok(FileLog::new(file))
     }
 
-    /// The octets of an era's table. `Linked` where a link stands in its place, `Unopened` where it is not
-    /// there, `Unread` where it cannot be read.
+    /// The octets of an era's table. `Linked` comes if a link is in its place, `Unopened` if it is
+    /// missing, `Unread` if it cannot be read.
     pub fn read_era<R: Files<File = File>>(
         &self,
         files: &R,
@@ -224,9 +225,9 @@ impl Folder {
         }
     }
 
-    /// Writes the table of a new era and syncs it. `Unopened` where it is there or cannot be made. After
-    /// `Unwritten` a part of it may stand there, and after `Unsynced` a loss of power may take it away, or
-    /// a part of it: its number is not to be used again.
+    /// Writes the table of a new era and syncs it. `Unopened` comes if it exists or cannot be made.
+    /// After `Unwritten` a part of it may be there, and after `Unsynced` a loss of power may remove
+    /// it, or a part of it: do not use its number again.
     pub fn write_era<R: Files<File = File>>(
         &self,
         files: &R,
@@ -244,7 +245,7 @@ impl Folder {
         self.sync(files)
     }
 
-    /// A file that is not there yet, for its owner to read and write.
+    /// A new file, for its owner to read and write.
     fn create<R: Files<File = File>>(
         &self,
         files: &R,
@@ -264,7 +265,7 @@ impl Folder {
         }
     }
 
-    /// Syncs the names of its files.
+    /// Syncs the names of the folder's files.
     pub(crate) fn sync<R: Files<File = File>>(&self, files: &R) -> Result<(), FolderFault> {
         sync_names(files, self.path.as_str())
     }

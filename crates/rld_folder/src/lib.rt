@@ -1,5 +1,5 @@
-//! The folder of a server: which file is which, which generation is the newest, and the one process
-//! that may write there.
+//! The folder of a server: the names of its files, its newest generation, and the lock of the one
+//! process that may write there.
 #![tactic(auto)]
 
 mod archive;

@@ -25,15 +25,15 @@ pub enum FileName {
     Log(Generation),
 }
 
-/// The number that a word writes, if it is a number's own text: what is only like one, as `07` or
-/// `+7`, may be taken for it.
+/// The number of a word, if it is the number's own text. A similar word, such as `07` or `+7`, may
+/// give a number too.
 fn number_of(word: &str) -> Option<u64>
     ensures { (number : ℕ) → number < 2 ^ 64 → word.now ≡ decimal number → result ≡ Some number }
 {
     word.parse().ok()
 }
 
-/// The number after a beginning.
+/// The number after the beginning of a name.
 fn number_behind(name: &str, beginning: &str) -> Option<u64>
     ensures only { (number : ℕ) → number < 2 ^ 64 → name.now ≡ beginning.now ++ decimal number →
         result ≡ Some number }
@@ -51,7 +51,7 @@ fn words_behind(name: &str) -> Option<(&str, &str)>
     name.strip_prefix("log-")?.split_once('-')
 }
 
-/// The generation of which `log-` and two numbers tell.
+/// The generation of a name of `log-` and two numbers.
 fn generation_behind(name: &str) -> Option<Generation>
     ensures { (era number : ℕ) → era < 2 ^ 64 → number < 2 ^ 64 →
         name.now ≡ codes "log-" ++ (decimal era ++ (codes "-" ++ decimal number)) →
@@ -65,7 +65,7 @@ fn generation_behind(name: &str) -> Option<Generation>
 }
 
 impl FileName {
-    /// Its text.
+    /// The name of the file.
     pub fn text(self, alloc: Global) -> Result<String, AllocError>
         ensures { IfOk result (λ text. string_bytes text ≡ name_of self) }
     {
@@ -76,7 +76,7 @@ impl FileName {
         }
     }
 
-    /// The file that may have this name: none other has.
+    /// The only file that may have this name.
     fn guess(name: &str) -> Option<FileName>
         ensures { (file : OneName) → IsName file → name.now ≡ name_of file → result ≡ Some file }
     {
@@ -89,7 +89,7 @@ impl FileName {
         Some(FileName::Log(generation_behind(name)?))
     }
 
-    /// The file that has this name, or `None` where none has.
+    /// The file with this name, or `None` if no file of a server has it.
     pub fn read(alloc: Global, name: &str) -> Result<Option<FileName>, AllocError>
         ensures found { IfOk result (λ read. IfSome read (λ file. name.now ≡ name_of file)) }
         ensures only { (file : OneName) → IsName file → name.now ≡ name_of file →

@@ -5,7 +5,7 @@ ghost use Rattle.rld_folder.specs.declared.name.FileName.{FileName as OneName};
 use crate::name::{FileName, Generation};
 
 impl Generation {
-    /// Whether this one is of an earlier era, or has an earlier number in the same.
+    /// Whether this one is of an earlier era, or has a lower number in the same era.
     pub fn precedes(self, other: Generation) -> bool
         ensures before { IsTrue result ↔ Precedes self other }
         ensures test { result ≡ precedes self other }
@@ -24,7 +24,7 @@ impl Generation {
     }
 }
 
-/// The newest generation with one file more.
+/// The newest generation once another file is looked at.
 fn newer(limit: Option<Generation>, best: Option<Generation>, file: FileName) -> Option<Generation>
     ensures { (files : List OneName) → IsNewest limit files best →
         IsNewest limit (files ++ file ∷ []) result }
@@ -41,8 +41,7 @@ fn newer(limit: Option<Generation>, best: Option<Generation>, file: FileName) ->
     }
 }
 
-/// The newest generation among files; with a limit the newest of those before it. `None` where there
-/// is none.
+/// The newest generation among files, or with a limit the newest before it.
 pub fn newest_generation(files: &[FileName], limit: Option<Generation>) -> Option<Generation>
     ensures { IsNewest limit files.now result }
 {

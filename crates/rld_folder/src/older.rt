@@ -1,4 +1,4 @@
-//! The logs that no start needs any more, and the tables of eras of which no log is left.
+//! The logs that no start needs any more, and the tables of eras without a log.
 
 ghost use Rattle.std.specs.Prelude.{◌≡◌, ◌↔◌, All, IfOk, IfSome, IsTrue};
 ghost use Rattle.std.specs.List.{list_any};
@@ -11,7 +11,7 @@ use std::alloc::{AllocError, Global};
 /// The seconds of a day.
 const DAY_SECS: u64 = 86_400;
 
-/// The generation that a file is the log of, where it is before the newest one.
+/// The generation of a log before the newest one.
 fn older_log(newest: Generation, file: FileName) -> Option<Generation>
     ensures older { result ≡ older_log newest file }
     ensures before { IfSome result (λ log. Precedes log newest) }
@@ -22,8 +22,8 @@ fn older_log(newest: Generation, file: FileName) -> Option<Generation>
     }
 }
 
-/// The generations before the newest one whose logs are among these files, in their order. It fails
-/// only where memory is refused.
+/// The generations before the newest one whose logs are among these files, in order. It fails only
+/// if memory is refused.
 pub fn older_logs(
     alloc: Global,
     files: &[FileName],
@@ -65,15 +65,14 @@ fn has_log(files: &[FileName], archived: &[FileName], era: u64) -> bool
     has_log_among(files, era) || has_log_among(archived, era)
 }
 
-/// Whether an era is before that of the newest generation, and no log of it is left.
+/// Whether an era is before that of the newest generation, and has no log.
 fn is_logless(files: &[FileName], archived: &[FileName], newest: Generation, era: u64) -> bool
     ensures { result ≡ is_logless files.now archived.now newest era }
 {
     era < newest.era && !has_log(files, archived, era)
 }
 
-/// The era that a file is the table of, where it is before that of the newest generation and no log of
-/// it is left.
+/// The era of a table, if it is before that of the newest generation and has no log.
 fn logless_era(
     files: &[FileName],
     archived: &[FileName],
@@ -92,9 +91,9 @@ fn logless_era(
     }
 }
 
-/// The eras before that of the newest generation whose tables are among the files of a folder, and of
-/// which no log is left there or in its archive, in the order of the files. It fails only where memory
-/// is refused.
+/// The eras before that of the newest generation whose tables are among the files of a folder, and
+/// that have no log there or in its archive, in the order of the files. It fails only if memory is
+/// refused.
 pub fn logless_eras(
     alloc: Global,
     files: &[FileName],
@@ -112,8 +111,8 @@ pub fn logless_eras(
     Ok(eras)
 }
 
-/// Whether a file that last changed at `changed` has been kept for more than `days` days at `now`.
-/// Both moments are in seconds since 1970.
+/// Whether a file that last changed at `changed` is older than `days` days at `now`. Both moments
+/// are in seconds since 1970.
 pub fn is_expired(days: u16, changed: u64, now: u64) -> bool
     ensures { IsTrue result ↔ IsExpired days changed now }
 {

@@ -1,5 +1,5 @@
--- The line of a move: `FILE NUMBER MOMENT MOVE KEY=VALUE .. -> DECISION`, with one space between the
--- words and a line feed at the end.
+-- The line of a move: `FILE NUMBER MOMENT MOVE KEY=VALUE .. -> DECISION`, with one space between
+-- the words and a line feed at the end.
 use Rattle.std.specs.Prelude.{◌≡◌, ℕ, ◌+◌, List, [], ◌∷◌, ◌++◌, length, Option, None, Some, codes, slice_get}
 use Rattle.std.specs.Fmt.{decimal}
 use Rattle.std.specs.Option.{option_map_or}
@@ -31,7 +31,7 @@ abbrev pub word_if : {A : Type 0} → (key : List ℕ) → (text : A → List �
 word_if key text None = []
 word_if key text (Some value) = word key (text value)
 
--- what an access server calls itself
+-- the name of an access server
 abbrev pub name_words : NasName → List ℕ
 name_words (Identifier name) = word (codes "nas") (escaped name)
 name_words (Address address) = word (codes "nas-address") (hex address)
@@ -44,7 +44,7 @@ client_address config client = option_map_or (λ client. client.address) (slice_
 abbrev pub nas_words : Configuration → Nas → List ℕ
 nas_words config nas = word (codes "client") (dotted (client_address config nas.client)) ++ name_words nas.name
 
--- where a request came from
+-- the source of a request
 unfoldable pub source_word : Source → List ℕ
 source_word source =
     word (codes "source") (dotted source.address ++ (58 ∷ decimal source.port))
@@ -53,7 +53,7 @@ source_word source =
 unfoldable pub authenticator_word : List ℕ → List ℕ
 authenticator_word authenticator = word (codes "authenticator") (hex authenticator)
 
--- what an Access-Request is known by
+-- the key of an Access-Request
 unfoldable pub key_words : Key → List ℕ
 key_words key =
     source_word key.source ++ (word (codes "id") (decimal key.id) ++ authenticator_word key.authenticator)
@@ -65,12 +65,12 @@ account_name config account = option_map_or (λ entry. entry.name) (slice_get co
 abbrev pub account_word : Configuration → (account : ℕ) → List ℕ
 account_word config account = word (codes "account") (escaped (account_name config account))
 
--- an ask, from its word on
+-- an ask, from its verb on
 unfoldable pub ask_text : Configuration → (account : ℕ) → Key → Nas → List ℕ
 ask_text config account key nas =
     codes "ask" ++ (account_word config account ++ (nas_words config nas ++ key_words key))
 
--- an account's own move, from its word on
+-- an own move, from its verb on
 abbrev pub act_text : Configuration → (account : ℕ) → Act → List ℕ
 act_text config account (acts.Ask key nas) = ask_text config account key nas
 act_text config account (acts.Alive nas session bundle class) =
@@ -80,7 +80,7 @@ act_text config account (acts.Alive nas session bundle class) =
 act_text config account (acts.Stop nas session) =
     codes "stop" ++ (account_word config account ++ (nas_words config nas
     ++ word (codes "session") (escaped session)))
--- no account's own: no log has these
+-- not own moves: no log has these
 act_text config account (acts.Sweep nas) = []
 act_text config account acts.Tick = []
 
@@ -89,7 +89,7 @@ note_words config note =
     nas_words config note.nas ++ (word (codes "status") (decimal note.status)
     ++ (word (codes "name") (escaped note.name) ++ word (codes "session") (escaped note.session)))
 
--- a move, from its word on
+-- a move, from its verb on
 unfoldable pub move_text : Configuration → Move → List ℕ
 move_text config (Own account event) = act_text config account event.act
 move_text config (Sweep moment nas) = codes "restart" ++ nas_words config nas
@@ -102,7 +102,7 @@ moment_of (Sweep moment nas) = moment
 moment_of (Tick moment) = moment
 moment_of (Stray moment note) = moment
 
--- a decision: that of a move which asks nothing is `done`
+-- a decision: that of a move which is no ask is `done`
 abbrev pub decision_text : Decision → List ℕ
 decision_text (Accept number) = codes "accept " ++ decimal number
 decision_text LimitReject = codes "reject limit"
@@ -114,8 +114,8 @@ line file config number moved decision =
     escaped file ++ (32 ∷ (decimal number ++ (32 ∷ (decimal (moment_of moved) ++ (32 ∷ (move_text config moved
     ++ (codes " -> " ++ (decision_text decision ++ 10 ∷ []))))))))
 
--- the lines of moves, each with the decision of the books at that point; before the first of them
--- the era had `number` moves
+-- the lines of moves, each with the decision of the books at that point; the era had `number` moves
+-- before the first of them
 unfoldable pub lines_of : (file : List ℕ) → Configuration → (number : ℕ) → (server : List BooksSeen)
     → List Move → List ℕ
 lines_of file config number server [] = []
@@ -123,7 +123,7 @@ lines_of file config number server (moved ∷ moves) =
     line file config (number + 1) moved (decision_in server moved)
     ++ lines_of file config (number + 1) (server_after server moved) moves
 
--- the lines of the moves that a payload spells, and the books and the number of moves after them
+-- the lines of the moves in a payload, and the books and the number of moves after them
 pub record IsPrinted (file : List ℕ) (config : Configuration) (number : ℕ) (server : List BooksSeen)
     (payload lines : List ℕ) (next : ℕ) (after : List BooksSeen) : Type 0 where
   pub moves : List Move

@@ -10,8 +10,8 @@ use rld_start::{Cause, Wrong};
 use rsl_accounts::Config;
 use std::alloc::Global;
 
-/// A configuration whose era's file has these octets. It is refused where the octets spell no table,
-/// and where no configuration has the table that they spell.
+/// A configuration of an era with this file. It is refused if the octets spell no table, or if no
+/// configuration has that table.
 pub(crate) fn config_of(alloc: Global, file: &[u8]) -> Result<Config, LinesFault>
     ensures { IfOk result (λ config.
         (boot : ℕ) × (file.now ≡ era_octets (table_of boot config))) }

@@ -4,7 +4,7 @@ use rsl_wire::NoMemory;
 use std::alloc::AllocError;
 use std::io;
 
-/// Why the lines of a log are not written, or not all.
+/// Why the lines of a log are not written, or not all of them.
 #[derive(Clone, Copy)]
 pub enum LinesFault {
     /// Memory was refused.

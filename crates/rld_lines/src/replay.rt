@@ -24,41 +24,40 @@ use std::io::Write;
 /// The log of a generation, as it was read.
 #[derive(Drop)]
 pub struct LogFile<'a> {
-    /// How its lines name it.
+    /// Its name in the lines.
     pub name: &'a str,
-    /// The generation that it has the name of.
+    /// The generation of its name.
     pub generation: Generation,
     /// Its octets.
     pub octets: Vec<u8>,
 }
 
-/// What was found in a log whose lines were written.
+/// What was found in a log when its lines were written.
 #[derive(Clone, Copy)]
 pub struct Printed {
-    /// How many moves it has.
+    /// The number of its moves.
     pub moves: u64,
-    /// How many octets follow its whole frames: its torn end.
+    /// The octets of its torn end.
     pub torn: usize,
 }
 
-/// The books of a log, and what its lines are made with.
+/// The books of a log, and the rest of what its lines need.
 #[derive(Drop)]
 struct Replay<'a> {
     config: &'a Config,
     file: &'a str,
     books: ServerBooks,
-    /// How many moves of the era were replayed.
+    /// The number of moves of the era replayed so far.
     number: u64,
 }
 
-/// The fault of a log in which something is wrong at an offset.
+/// The fault of a log with a damage at an offset.
 fn wrong(offset: usize, cause: Cause) -> LinesFault {
     LinesFault::Log(Wrong { offset, cause })
 }
 
 impl<'a> Replay<'a> {
-    /// Makes a move of a batch that begins at an offset of the file, and writes its line after the
-    /// octets that are there.
+    /// Makes a move of a batch that begins at an offset of the file, and appends its line.
     #[tactic(auto, unfolding(crate::specs::Lines::line))]
     fn push_line(
         &mut self,
@@ -112,7 +111,7 @@ impl<'a> Replay<'a> {
         Ok(())
     }
 
-    /// The lines of the batch that a payload spells.
+    /// The lines of the batch in a payload.
     fn lines_of(&mut self, alloc: Global, part: Part<'_>) -> Result<Vec<u8>, LinesFault>
         ensures config { self.new.config ≡ self.old.config }
         ensures file { self.new.file ≡ self.old.file }
@@ -145,7 +144,7 @@ impl<'a> Replay<'a> {
     }
 }
 
-/// Writes the lines of a generation that has this header and these payloads: how many there are.
+/// Writes the lines of a generation with this header and these payloads, and gives their number.
 fn write_moves<W: Write>(
     alloc: Global,
     config: &Config,
@@ -165,21 +164,20 @@ fn write_moves<W: Write>(
     Ok(replay.number.saturating_sub(header.lines))
 }
 
-/// The frames of a log with these octets, in which none is spoilt.
+/// The frames of a log with these octets, unless one is spoilt.
 fn frames_of(octets: Vec<u8>) -> Result<Frames, StoreFault> {
     let frames = Frames::of(octets)?;
     check_torn(&frames)?;
     Ok(frames)
 }
 
-/// Writes the lines of a log, of an era whose file has the octets of `table`.
+/// Writes the lines of a log, of an era whose file is `table`.
 ///
-/// Of a log whose generation was not begun there are none. `Table` comes where `table` is damaged,
-/// and `Log` where a frame is spoilt before a whole one, or where the header is not that of the
-/// log's name and of the table: then none is written. `Log` comes too where a payload spells
-/// nothing that can stand there or what it spells is of no account of the era, `Unwritten` where
-/// the writer failed, and `NoMemory` where memory is refused. Where a batch has such a payload, the
-/// lines of the batches before it are written.
+/// A log whose generation was not begun has none. `Table` comes if `table` is damaged, and `Log` if
+/// a frame is spoilt before a whole one, or if the header is not that of the log's name and of the
+/// table: then no line is written. `Log` also comes if a payload spells nothing that can be there,
+/// or something of no account of the era, `Unwritten` if the writer failed, and `NoMemory` if
+/// memory is refused. The lines of the batches before such a payload are written.
 pub fn write_lines<W: Write>(
     alloc: Global,
     table: &[u8],

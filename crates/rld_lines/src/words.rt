@@ -61,7 +61,7 @@ fn push_hex_word(out: &mut Vec<u8>, key: &str, octets: &[u8]) -> Result<(), Allo
     push_hex(out, octets)
 }
 
-/// Writes what an access server calls itself.
+/// Writes the name of an access server.
 fn push_name(out: &mut Vec<u8>, name: &NasName) -> Result<(), AllocError>
     ensures { OnOk result (out.new.items ≡ out.old.items ++ name_words name.now) }
 {
@@ -82,7 +82,7 @@ fn push_nas(out: &mut Vec<u8>, config: &Config, nas: &Nas) -> Result<(), AllocEr
     push_name(out, &nas.name)
 }
 
-/// Writes the word of where a request came from.
+/// Writes the word of the source of a request.
 #[tactic(auto, unfolding(crate::specs::Lines::source_word))]
 fn push_source(out: &mut Vec<u8>, source: Source) -> Result<(), AllocError>
     ensures { OnOk result (out.new.items ≡ out.old.items ++ source_word source) }
@@ -102,7 +102,7 @@ fn push_authenticator(out: &mut Vec<u8>, authenticator: &[u8]) -> Result<(), All
     push_hex_word(out, "authenticator", authenticator)
 }
 
-/// Writes the words by which an Access-Request is known.
+/// Writes the words of the key of an Access-Request.
 #[tactic(auto, unfolding(crate::specs::Lines::key_words))]
 fn push_request(out: &mut Vec<u8>, key: &Key) -> Result<(), AllocError>
     ensures { OnOk result (out.new.items ≡ out.old.items ++ key_words key.now) }
@@ -141,7 +141,7 @@ fn push_class(out: &mut Vec<u8>, class: Option<u64>) -> Result<(), AllocError>
     }
 }
 
-/// Writes an ask, from its word on.
+/// Writes an ask, from its verb on.
 #[tactic(auto, unfolding(crate::specs::Lines::ask_text))]
 fn push_ask(
     out: &mut Vec<u8>,
@@ -162,7 +162,7 @@ fn push_ask(
     Ok(())
 }
 
-/// Writes an account's own move, from its word on.
+/// Writes an own move, from its verb on.
 fn push_act(
     out: &mut Vec<u8>,
     config: &Config,
@@ -209,7 +209,7 @@ fn push_note(out: &mut Vec<u8>, config: &Config, note: &Note) -> Result<(), Allo
     push_octets_word(out, "session", note.session.as_slice())
 }
 
-/// Writes a move, from its word on.
+/// Writes a move, from its verb on.
 #[tactic(auto, unfolding(crate::specs::Lines::move_text))]
 pub(crate) fn push_move(out: &mut Vec<u8>, config: &Config, moved: &Move) -> Result<(), AllocError>
     requires { MoveFits (counts_of config.now) moved.now }

@@ -13,8 +13,8 @@ use Rattle.rld_lives.specs.Lives.{ObeyTheRule}
 abbrev pub planned : List (List (List Move)) → List Move
 planned plans = flat_map joined plans
 
--- Whatever ended the lives: each account's decisions, book and places over the history that they left
--- are the rule's, and the places never exceed its limit.
+-- However the lives ended: each account's decisions, book and places over the history that they
+-- left are the rule's, and the places never exceed its limit.
 abbrev pub AnsweredLivesObeyTheRule : Type 0
 AnsweredLivesObeyTheRule =
     (config : Configuration) (account : ℕ) (entry : Entry) (history left : List Move)

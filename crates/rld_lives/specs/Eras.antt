@@ -1,6 +1,6 @@
 -- The count over every era, whatever books it opened with. In the first era the rule finds all by
--- looking back (`specs/Lives.antt`). An era that follows opens with books of the one before it, and what
--- came before them is not looked back at: there each account goes on with the book that it began with.
+-- looking back (`specs/Lives.antt`). A later era opens with books of the one before it, and nothing
+-- looks back beyond them: there each account goes on with the book that it began with.
 use Rattle.std.specs.Prelude.{◌≡◌, ℕ, List, slice_get, take, Option, Some}
 use Rattle.rsl_accounts.specs.Configuration.{Configuration}
 use Rattle.rsl_accounts.specs.Limits.{IsConfiguration}
@@ -21,7 +21,7 @@ use Rattle.rld_books.specs.Server.{journal_of, new_server, replay}
 use Rattle.rld_spelling.specs.Eras.{EraSeen}
 use Rattle.rld_spelling.specs.Tables.{table_of}
 
--- a book that is found, of an account with these rules, which has no more places than they allow
+-- a book, if there is one, of an account with these rules, with no more places than they allow
 pub record IsFoundWithin (rules : Rules) (found : Option RuledBook) : Type 0 where
   pub ruled : RuledBook
   pub there : found ≡ Some ruled
@@ -49,7 +49,7 @@ pub record GoesOnWithin (account : ℕ) (begun : RuledBook) (lines : List Line)
       → line.decision ≡ (step begun.rules (after_own account begun (take n lines)).book event).1
   -- its book is what its own events have made of the one that it began with
   pub there : book_in server account ≡ Some (after_own account begun lines)
-  -- and its places never exceed its limit
+  -- its places never exceed its limit
   pub never_more : (n : ℕ) → IsWithinLimit (after_own account begun (take n lines))
 
 -- what the moves of an era that opened with these books leave within limits
@@ -67,8 +67,8 @@ ErasStayWithinLimits =
     → IsConfiguration config → AreWithinLimits config opening
     → StaysWithinLimits config opening moves
 
--- Every era opens within limits: the first with new books, one with another account file with what is
--- admitted of whatever books, and one that a rebase begins with books that were so, cut to a moment.
+-- Every era opens within limits: the first with new books, one with another account file with the
+-- books admitted from any others, and one that a rebase begins with such books, cut to a moment.
 pub record ErasOpenWithinLimits : Type 0 where
   pub new : (config : Configuration) → IsConfiguration config
       → AreWithinLimits config (new_server config)

@@ -10,7 +10,7 @@ use Rattle.rld_lives.specs.Life.{AreLives, IsLifeTold, Outcome}
 use Rattle.rld_lives.specs.declared.living.Step.{Step}
 use Rattle.rld_lives.specs.declared.living.Step.TheVariants.{Batch, Roll}
 
--- the moves of each batch that a life is to answer
+-- the moves of each batch of a life
 abbrev pub batches_of : List Step → List (List Move)
 batches_of [] = []
 batches_of (Batch batch ∷ steps) = batch.items ∷ batches_of steps
@@ -24,7 +24,7 @@ pub record HasLived (config : Configuration) (opening : List BooksSeen) (history
   pub life : IsLifeTold opening history batches told left
   pub has : HasHistory config opening left file
 
--- Each crash leaves a file of a life. Of a loss of power it is the premise that no torn write of a
+-- Each crash leaves a file of a life. For a loss of power the premise is that no torn write of a
 -- frame passes for one.
 abbrev pub LeavesLife : Configuration → (opening : List BooksSeen)
     → (tears : List ℕ → List ℕ → Type 0) → (history : List Move) → (batches : List (List Move))

@@ -14,13 +14,13 @@ use Rattle.rld_store.specs.declared.fault.RecordFault.TheVariants.{Failed, Ended
 abbrev pub joined : List (List Move) → List Move
 joined batches = flat_map (λ (batch : List Move). batch) batches
 
--- what came of a batch: the decisions on its moves, or that it was not recorded
+-- the result of a batch: the decisions on its moves, or that it was not recorded
 abbrev pub Outcome : Type 0
 Outcome = Result RecordedSeen RecordFault
 
--- What came of batches, one after another, by the books from these on. One that was recorded has the
--- decisions of the books, which then make its moves. One that was not leaves the books as they are,
--- and the next is tried, unless nothing more can be recorded.
+-- The results of batches, one after another, given the books before. A recorded batch has the
+-- decisions of the books, which then make its moves. A batch that was not recorded leaves the books
+-- as they are, and the next is tried, unless nothing more can be recorded.
 abbrev pub AreOutcomes : (server : List BooksSeen) → (batches : List (List Move))
     → (outcomes : List Outcome) → Type 0
 AreOutcomes server [] outcomes = outcomes ≡ []
@@ -37,7 +37,7 @@ recorded (batch ∷ batches) [] = []
 recorded (batch ∷ batches) (Ok answer ∷ outcomes) = batch ++ recorded batches outcomes
 recorded (batch ∷ batches) (Err fault ∷ outcomes) = recorded batches outcomes
 
--- the moves of a batch that was not recorded, as none was after it, whole; or none
+-- the moves of a batch that was not recorded, and none after it was, whole; or none
 abbrev pub MayBeLeft : (moves : List Move) → (batches : List (List Move))
     → (outcomes : List Outcome) → Type 0
 MayBeLeft moves [] outcomes = moves ≡ []
@@ -47,9 +47,9 @@ MayBeLeft moves (batch ∷ batches) (Err fault ∷ outcomes) =
     ((moves ≡ batch) × AllByRecursion (λ (outcome : Outcome). IsErr outcome) outcomes)
     ⊎ MayBeLeft moves batches outcomes
 
--- A life after a history, of which the first life began with these books: its batches come out by the
--- books after all moves before them, and the history that it leaves has the moves of those that were
--- recorded, and perhaps those of one after them that was not.
+-- A life after a history, of which the first life began with these books: its batches are decided
+-- by the books after all earlier moves, and the history that it leaves has the moves of those that
+-- were recorded, and perhaps those of another one that was not.
 pub record IsLife (begun : List BooksSeen) (history : List Move) (batches : List (List Move))
     (outcomes : List Outcome) (left : List Move) : Type 0 where
   pub came_out : AreOutcomes (replay begun history) batches outcomes
@@ -57,7 +57,7 @@ pub record IsLife (begun : List BooksSeen) (history : List Move) (batches : List
   pub may_be_left : MayBeLeft more batches outcomes
   pub left_is : left ≡ (history ++ recorded batches outcomes) ++ more
 
--- the same of a life that may not have begun: then it tells nothing, and leaves the history
+-- `IsLife` of a life that may not have begun: then it tells nothing, and leaves the history
 abbrev pub IsLifeTold : (begun : List BooksSeen) → (history : List Move)
     → (batches : List (List Move)) → (told : Option (List Outcome)) → (left : List Move) → Type 0
 IsLifeTold begun history batches None left = left ≡ history
@@ -74,7 +74,7 @@ AreLives begun history (batches ∷ plans) (one ∷ told) left =
 AreLives begun history [] (one ∷ told) left = ⊥
 AreLives begun history (batches ∷ plans) [] left = ⊥
 
--- the journal of a history has the moves of a batch, in their order, with these decisions
+-- the journal of a history has the moves of a batch, in order, with these decisions
 pub record Stands (begun : List BooksSeen) (history batch : List Move) (answer : List Decision)
     : Type 0 where
   pub before : List Line
@@ -84,7 +84,7 @@ pub record Stands (begun : List BooksSeen) (history batch : List Move) (answer :
   pub moves : map (λ (line : Line). line.moved) lines ≡ batch
   pub decisions : map (λ (line : Line). line.decision) lines ≡ answer
 
--- Whatever ended the lives, each batch that one of them answered stands in the history that they
+-- However the lives ended, each batch that one of them answered stands in the history that they
 -- left, with the decisions that were answered.
 abbrev pub WhatIsAnsweredStands : Type 0
 WhatIsAnsweredStands =

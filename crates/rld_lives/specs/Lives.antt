@@ -1,5 +1,5 @@
--- Lives of a server. The moves of all lives are one history, which the log keeps; each decision, book
--- and number of places is the session rule's over the account's own events in that history.
+-- Lives of a server. The moves of all lives are one history, which the log keeps; each decision,
+-- book and number of places is the session rule's over the account's own events in that history.
 use Rattle.std.specs.Prelude.{◌≡◌, ℕ, ◌≤◌, List, ◌++◌, slice_get, take, Some}
 use Rattle.std.specs.List.{flat_map}
 use Rattle.rsl_accounts.specs.Configuration.{Configuration}
@@ -24,7 +24,8 @@ use Rattle.rld_books.specs.Server.{AreTakenIn, journal_of, new_server, replay}
 abbrev pub all_moves : List (List Move) → List Move
 all_moves lives = flat_map (λ (life : List Move). life) lives
 
--- what the journal of a history says of an account with these rules, and what the books are after it
+-- what the journal of a history says of an account with these rules, and what the books are after
+-- it
 pub record ObeyTheRule (account : ℕ) (rules : Rules) (lines : List Line) (server : List BooksSeen)
     : Type 0 where
   -- each event of its own has the decision that the rule finds by looking back
@@ -37,7 +38,7 @@ pub record ObeyTheRule (account : ℕ) (rules : Rules) (lines : List Line) (serv
   pub there : book_in server account ≡ Some ruled
   pub ruled_by : ruled.rules ≡ rules
   pub book : ruled.book ≡ book_of rules (past_of rules (own_in account lines))
-  -- and so its places are the rule's, and never more than its limit
+  -- so its places are the rule's, and never more than its limit
   pub places : places_in rules ruled.book ≡ places_after rules (own_in account lines)
   pub never_more : (n : ℕ) → places_after rules (own_in account (take n lines)) ≤ rules.places
 
@@ -50,18 +51,18 @@ LivesObeyTheRule =
     → ObeyTheRule account entry.rules (journal_of (new_server config) (all_moves lives))
     (replay (new_server config) (all_moves lives))
 
--- the books after more moves
+-- the books after further moves
 abbrev pub BooksGoOn : List BooksSeen → (earlier life : List Move) → Type 0
 BooksGoOn server earlier life =
     replay server (earlier ++ life) ≡ replay (replay server earlier) life
 
--- the journal of more moves
+-- the journal of further moves
 abbrev pub JournalGoesOn : List BooksSeen → (earlier life : List Move) → Type 0
 JournalGoesOn server earlier life =
     journal_of server (earlier ++ life)
     ≡ journal_of server earlier ++ journal_of (replay server earlier) life
 
--- A life that begins with the books of the lives before it goes on as if there had been no restart.
+-- A life that begins with the books of the earlier lives goes on as if there had been no restart.
 abbrev pub RestartsChangeNothing : Type 0
 RestartsChangeNothing =
     (server : List BooksSeen) (earlier life : List Move)

@@ -10,8 +10,8 @@ use Rattle.rsl_shard.specs.declared.moved.Move.{Move}
 use Rattle.rsl_shard.specs.declared.moved.Move.TheVariants.{Own, Sweep, Tick, Stray}
 use Rattle.rld_books.specs.Server.{AreTakenIn, journal_of, new_server, replay}
 
--- whether a move of the log is a shard's: what is an account's own is that of the account's shard, a
--- sweep or a tick is each shard's, a stray is shard 0's
+-- whether a move of the log is a shard's: an own move is that of the account's shard, a sweep or a
+-- tick is every shard's, a stray is shard 0's
 abbrev pub is_move_of : (shards shard : ℕ) → Move → Bool
 is_move_of shards shard (Own account event) = account % shards == shard
 is_move_of shards shard (Sweep moment nas) = true

@@ -1,10 +1,10 @@
 //! Lives of a server: the moves of all lives are one history, and each decision is the session
 //! rule's over the account's own events in it.
 //!
-//! `specs/Life.antt` says what a life answers and leaves, `specs/Leaving.antt` what a crash leaves of
-//! it, `specs/Lives.antt` what holds of the history of all lives, `specs/Counted.antt` that this holds
-//! of what lives have answered, `specs/Eras.antt` what holds in every era, and `specs/Shards.antt` which
-//! moves of the log are a shard's.
+//! `specs/Life.antt` says what a life answers and leaves, `specs/Leaving.antt` what a crash leaves
+//! of it, `specs/Lives.antt` what holds of the history of all lives, `specs/Counted.antt` that this
+//! holds of what lives have answered, `specs/Eras.antt` what holds in every era, and
+//! `specs/Shards.antt` which moves of the log are a shard's.
 #![tactic(auto)]
 
 pub mod laws;

@@ -23,32 +23,32 @@ use rsl_shard::Move;
 use rsl_wire::NoMemory;
 use std::alloc::Global;
 
-/// What came of a batch: the decisions on its moves, or that it was not recorded.
+/// The result of a batch: the decisions on its moves, or that it was not recorded.
 pub type Outcome = Result<Recorded, RecordFault>;
 
-/// What a life does at a time.
+/// A step of a life.
 #[derive(Drop)]
 pub enum Step {
-    /// It is to answer this batch.
+    /// It answers this batch.
     Batch(Vec<Move>),
-    /// It goes on in the generation of this header, in the log that follows its own. Where none begins
-    /// there it goes on in its own, and that log is gone.
+    /// It goes on in the generation of this header, in the next log. If none begins there, it goes
+    /// on in its own, and that log is gone.
     Roll(Header),
 }
 
 /// What a life does, and how it ends.
 #[derive(Drop)]
 pub struct Plan {
-    /// Its batches, and where it goes on in a next generation, one after another.
+    /// Its steps, one after another.
     pub steps: Vec<Step>,
-    /// How it ends, after the last of them or where nothing more could be recorded.
+    /// How it ends, after the last step or when nothing more could be recorded.
     pub ending: Ending,
 }
 
 /// What lives have answered and left.
 #[derive(Drop)]
 pub struct Lived<L: Crash> {
-    /// For each life what came of its batches, if it began.
+    /// For each life that began, the results of its batches.
     pub told: Vec<Option<Vec<Outcome>>>,
     /// The log, as the last of them left it.
     pub log: L,
@@ -61,11 +61,11 @@ struct OneLife<L: Log> {
     log: L,
 }
 
-/// A life: records batches one after another, and gives what came of each. It goes on after one that
-/// was not recorded, unless nothing more can be recorded. Where it goes on in a next generation neither
-/// its books nor its history change.
+/// A life: records batches one after another, and gives their results. It goes on after one that
+/// was not recorded, unless nothing more can be recorded. A next generation changes neither its
+/// books nor its history.
 ///
-/// It fails only where memory for the outcomes is refused, before the first step.
+/// It fails only if memory for the results is refused, before the first step.
 pub fn live<L: Crash + Drop>(
     alloc: Global,
     store: &mut Store<L>,
@@ -76,7 +76,7 @@ pub fn live<L: Crash + Drop>(
         AreOutcomes store.old.books (batches_of steps.items) outcomes.items) }
     ensures err { OnErr result (store.new ≡ store.old) }
 
-    // A crash leaves what was recorded, and perhaps a batch after it that was not, whole.
+    // A crash leaves what was recorded, and perhaps another batch that was not, whole.
     ensures lived { IfOk result (λ outcomes. IsTrue (L.Log.tells store.new.log) →
         (config : Configuration) (opening : List BooksSeen) (history : List OneMove) →
         StandsFor config opening store.old.counts L.Log.tears store.old.end (L.Log.seen store.old.log)
@@ -103,7 +103,7 @@ pub fn live<L: Crash + Drop>(
     Ok(outcomes)
 }
 
-/// Goes on in the generation of this header, in the log that follows the store's, if it begins there.
+/// Goes on in the generation of this header, in the next log, if it begins there.
 fn roll_on<L: Crash + Drop>(alloc: Global, store: &mut Store<L>, header: Header)
     ensures told { IsTrue (L.Log.tells store.new.log) → IsTrue (L.Log.tells store.old.log) }
     ensures books { store.new.books ≡ store.old.books }
@@ -124,8 +124,8 @@ fn roll_on<L: Crash + Drop>(alloc: Global, store: &mut Store<L>, header: Header)
     let _older = store.roll(alloc, header, next);
 }
 
-/// A life over a log that the one before it left. Where the log cannot be opened, or memory is
-/// refused, it does not begin.
+/// A life over the log that the one before left. If the log cannot be opened, or memory is refused,
+/// it does not begin.
 fn live_over<L: Crash + Drop>(
     alloc: Global,
     config: &Config,
@@ -160,10 +160,10 @@ fn live_over<L: Crash + Drop>(
     }
 }
 
-/// Lives one after another, each over what the one before it left, and each ended by a crash of the
-/// kind that its plan says. The log is handed back where memory for what they tell is refused.
+/// Lives one after another, each over what the one before left, and each ended by the crash of its
+/// plan. The log is handed back if memory for their results is refused.
 ///
-/// The premises: the log tells what it holds, and of a loss of power, that no torn write of a frame
+/// The premises: the log tells what it holds, and after a loss of power no torn write of a frame
 /// passes for one.
 pub fn lives<L: Crash + Drop>(
     alloc: Global,

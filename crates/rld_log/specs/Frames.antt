@@ -1,5 +1,5 @@
--- Frames. A frame is four octets of length, sixteen of MD5, and a payload. A file is whole frames, and
--- after them a torn end or nothing.
+-- Frames. A frame is four octets of length, sixteen of MD5, and a payload. A file is whole frames,
+-- followed by a torn end or nothing.
 use Rattle.std.specs.Prelude.{◌≡◌, ℕ, ◌<◌, ◌^◌, List, ◌++◌, length}
 use Rattle.std.specs.List.{flat_map, AllByRecursion}
 use Rattle.std.specs.Int.{w32, to_be_bytes}
@@ -8,8 +8,8 @@ use Rattle.md5.specs.Md5.{md5}
 unfoldable pub digest : List ℕ → List ℕ
 digest payload = md5 payload
 
--- What has the shape of a frame: the length of the payload, sixteen octets in the place of its digest,
--- and the payload.
+-- A block, in the shape of a frame: the length of the payload, sixteen octets in the place of its
+-- digest, and the payload.
 unfoldable pub block : (sum payload : List ℕ) → List ℕ
 block sum payload = to_be_bytes w32 (length payload) ++ (sum ++ payload)
 
@@ -26,20 +26,20 @@ frame payload = block (digest payload) payload
 abbrev pub frames : List (List ℕ) → List ℕ
 frames payloads = flat_map frame payloads
 
--- nothing at the front has the shape of a frame
+-- there is no block at the front
 abbrev pub NoBlock : List ℕ → Type 0
 NoBlock octets = (sum payload rest : List ℕ) → IsBlock sum payload → octets ≡ block sum payload ++ rest → ⊥
 
--- no frame stands at the front
+-- there is no frame at the front
 abbrev pub NoFrame : List ℕ → Type 0
 NoFrame octets = (payload rest : List ℕ) → Fits payload → octets ≡ frame payload ++ rest → ⊥
 
--- a frame stands at the front, or after what has the shape of one
+-- there is a frame at the front, or after a block at the front
 pub data HasFrame : List ℕ → Type 0 where
   first : (octets payload rest : List ℕ) → Fits payload → octets ≡ frame payload ++ rest → HasFrame octets
   behind : (octets sum payload rest : List ℕ) → IsBlock sum payload → octets ≡ block sum payload ++ rest → HasFrame rest → HasFrame octets
 
--- what a write may leave that was cut short: no frame stands in it
+-- what a write that was cut short may leave: there is no frame in it
 abbrev pub IsTorn : List ℕ → Type 0
 IsTorn tail = HasFrame tail → ⊥
 
@@ -50,8 +50,8 @@ pub record HasPayloads (file : List ℕ) (payloads : List (List ℕ)) : Type 0 w
   pub fit : AllByRecursion Fits payloads
   pub torn : IsTorn tail
 
--- A file that is damaged at an offset: frames stand up to it, none stands there, and one stands
--- after what has the shape of frames.
+-- A file that is damaged at an offset: frames stand up to it, none is there, and one comes after
+-- blocks.
 pub record IsDamagedAt (file : List ℕ) (at : ℕ) : Type 0 where
   pub payloads : List (List ℕ)
   pub tail : List ℕ

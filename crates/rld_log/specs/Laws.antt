@@ -7,11 +7,11 @@ use Rattle.rld_log.specs.Log.{Detects, Shortens}
 abbrev pub HaveOneReading : Type 0
 HaveOneReading = (file : List ℕ) (some other : List (List ℕ)) → HasPayloads file some → HasPayloads file other → some ≡ other
 
--- a damaged file has none
+-- a damaged file has no list of payloads
 abbrev pub HaveNoReading : Type 0
 HaveNoReading = (file : List ℕ) (at : ℕ) (payloads : List (List ℕ)) → IsDamagedAt file at → HasPayloads file payloads → ⊥
 
--- and is damaged at one offset
+-- a damaged file is damaged at one offset
 abbrev pub HaveOneOffset : Type 0
 HaveOneOffset = (file : List ℕ) (some other : ℕ) → IsDamagedAt file some → IsDamagedAt file other → some ≡ other
 

@@ -1,4 +1,4 @@
--- What the calls of a log do to what it holds, and what a crash may leave of it.
+-- What the calls of a log do to it, and what a crash may leave of it.
 use Rattle.std.specs.Prelude.{◌≡◌, ◌⊎◌, ℕ, ◌<◌, List, ◌++◌, length, take}
 use Rattle.rld_log.specs.declared.log.Ending.{Ending}
 use Rattle.rld_log.specs.declared.log.Ending.TheVariants.{Kill, PowerLoss}
@@ -10,8 +10,8 @@ pub record Shortens (octets tail : List ℕ) : Type 0 where
   pub few : count < length octets
   pub is : tail ≡ take count octets
 
--- What is left of octets whose write was cut short: by a kill a beginning of them, by a loss of power
--- what the log says.
+-- What is left of octets whose write was cut short: after a kill a beginning of them, after a loss
+-- of power what the log says.
 abbrev pub Tears : (by_power : List ℕ → List ℕ → Type 0) → Ending → List ℕ → List ℕ → Type 0
 Tears by_power Kill = Shortens
 Tears by_power PowerLoss = by_power
@@ -20,7 +20,7 @@ Tears by_power PowerLoss = by_power
 abbrev pub Detects : (tears : List ℕ → List ℕ → Type 0) → Type 0
 Detects tears = (payload tail : List ℕ) → Fits payload → tears (frame payload) tail → IsTorn tail
 
--- the premise of what is said of a loss of power; a kill needs none
+-- the premise of a statement on a loss of power; one on a kill needs none
 abbrev pub Premise : (by_power : List ℕ → List ℕ → Type 0) → Ending → Type 0
 Premise by_power Kill = Unit {0}
 Premise by_power PowerLoss = Detects by_power
@@ -43,7 +43,7 @@ Cuts len old new = (new ≡ old) ⊎ (new ≡ take len old)
 abbrev pub Follows : (step : List ℕ → List ℕ → Type 0) → (old new : List ℕ → Type 0) → Type 0
 Follows step old new = (left : List ℕ) → new left → (before : List ℕ) × old before × step before left
 
--- no crash leaves anything else than before
+-- no crash leaves anything new
 abbrev pub NoMore : (old new : Ending → List ℕ → Type 0) → Type 0
 NoMore old new = (ending : Ending) (left : List ℕ) → new ending left → old ending left
 

@@ -1,4 +1,4 @@
--- What is seen of a log in memory.
+-- How a log in memory is seen.
 use Rattle.std.specs.Prelude.{◌≡◌, ℕ, true, List, []}
 use Rattle.rld_log.specs.declared.memory.MemoryLog.{MemoryLog}
 

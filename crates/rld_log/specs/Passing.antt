@@ -1,4 +1,4 @@
--- What reading a file from its front has come to.
+-- The state of reading a file from its start.
 use Rattle.std.specs.Prelude.{◌≡◌, ℕ, List, ◌++◌}
 use Rattle.std.specs.List.{AllByRecursion}
 use Rattle.rld_log.specs.Frames.{Fits, frames}

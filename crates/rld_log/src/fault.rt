@@ -13,13 +13,13 @@ pub enum LogFault {
     /// The octets could not be read.
     #[error("cannot be read")]
     Unread,
-    /// The octets could not be written. A part of them may stand at the end.
+    /// The octets could not be written. Some of them may be at the end.
     #[error("cannot be written")]
     Unwritten,
     /// The file could not be cut.
     #[error("cannot be cut")]
     Uncut,
-    /// The file could not be synced, now or earlier: it is to be given up.
+    /// The file could not be synced, now or earlier: give it up.
     #[error("cannot be synced")]
     Unsynced,
 }
@@ -40,10 +40,10 @@ impl<T: Drop> From<AllocFailed<T>> for LogFault {
     }
 }
 
-/// A frame was spoilt before a whole one.
+/// A spoilt frame before a whole one.
 #[derive(Clone, Copy, Debug, PartialEq, Eq, Error)]
 #[error("{offset}: damaged")]
 pub struct Damage {
-    /// Where the spoilt frame begins, in octets from the front of the file.
+    /// The offset of the spoilt frame in the file, in octets.
     pub offset: usize,
 }

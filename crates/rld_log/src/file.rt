@@ -10,20 +10,20 @@ use std::os::unix::fs::FileExt;
 enum End {
     /// It has this length.
     At(u64),
-    /// It was not read yet, or a write or a cut failed: it has to be read or cut first.
+    /// It was not read, or a write or a cut failed: it has to be read or cut first.
     Unknown,
     /// A sync failed. The system may have dropped what was written, and a later sync would not say
-    /// so: every call fails from now on.
+    /// so: every further call fails.
     Lost,
 }
 
 /// A log in a file of the system.
 ///
-/// It tells nothing: that a file does what a `Log` that tells does is trusted, and is argued here.
-/// `read` returns what the process and those before it wrote. `append` makes one write at the end,
-/// and only where the end is known: after a torn write nothing is added. `cut` sets the length.
+/// It tells nothing: it is trusted, and argued here, that a file does what a `Log` that tells does.
+/// `read` returns what this process and earlier ones wrote. `append` makes one write at the end,
+/// and only if the end is known: after a torn write nothing is appended. `cut` sets the length.
 /// `sync` asks the system to put octets and length on the disk, and believes its answer. The file
-/// must have no other writer, and its name has to be synced in its folder by whoever makes it.
+/// must have no other writer, and its creator has to sync its name in its folder.
 #[derive(Drop)]
 pub struct FileLog {
     file: File,
@@ -31,7 +31,7 @@ pub struct FileLog {
 }
 
 impl FileLog {
-    /// A log in a file that is open for reading and writing. Read it or cut it first.
+    /// A log in a file that is open for reading and writing. Read it or cut it before you append.
     pub fn new(file: File) -> FileLog {
         FileLog {
             file,
@@ -39,14 +39,14 @@ impl FileLog {
         }
     }
 
-    /// The fault, after which the end of the file is unknown.
+    /// Forgets the end of the file, and gives the fault.
     fn failed(&mut self, fault: LogFault) -> LogFault {
         self.end = End::Unknown;
         fault
     }
 }
 
-/// All octets of a file, from its front.
+/// All octets of a file, from its start.
 fn octets_of(file: &mut File, alloc: Global) -> io::Result<Vec<u8>> {
     let mut octets = Vec::new(alloc);
     file.seek(SeekFrom::Start(0))?;

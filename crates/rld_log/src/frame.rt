@@ -5,13 +5,13 @@ ghost use Rattle.rld_log.specs.Frames.{Fits, HasFrame, IsBlock, NoBlock, NoFrame
 use md5::{Digest, Md5};
 use std::alloc::{AllocError, Global};
 
-/// How many octets a digest has.
+/// Octets of a digest.
 const DIGEST_LEN: usize = 16;
 
-/// How many octets of a frame stand before its payload: its length and its digest.
+/// Octets of a frame before its payload: its length and its digest.
 pub const HEAD_LEN: usize = 20;
 
-/// What has the shape of a frame, and what stands after it.
+/// Octets in the shape of a frame, and the octets after them.
 #[derive(Clone, Copy)]
 pub(crate) struct Block<'a> {
     /// The octets in the place of the digest.
@@ -63,7 +63,7 @@ fn number_at(octets: &[u8]) -> Option<(u32, &[u8])>
     Some((number, rest))
 }
 
-/// What has the shape of a frame at the front.
+/// The block at the front: octets in the shape of a frame.
 pub(crate) fn first_block(octets: &[u8]) -> Option<Block<'_>>
     ensures some { IfSome result (λ found. octets.now ≡ block found.sum.now found.payload.now ++ found.rest.now) }
     ensures shape { IfSome result (λ found. IsBlock found.sum.now found.payload.now) }
@@ -84,9 +84,8 @@ pub(crate) fn first_block(octets: &[u8]) -> Option<Block<'_>>
     Some(Block { sum, payload, rest })
 }
 
-/// The payload of the frame at the front, and the octets after it. There is none where the octets
-/// are too short for a frame of the length that they begin with, or where the digest is not that of
-/// the payload.
+/// The payload of the frame at the front, and the octets after it. `None` if the octets are too
+/// short for a frame of the length at their front, or if the digest is not that of the payload.
 pub(crate) fn first_frame(octets: &[u8]) -> Option<(&[u8], &[u8])>
     ensures some { IfSome result (λ found. octets.now ≡ frame found.0.now ++ found.1.now) }
     ensures fits { IfSome result (λ found. Fits found.0.now) }
@@ -102,7 +101,7 @@ pub(crate) fn first_frame(octets: &[u8]) -> Option<(&[u8], &[u8])>
     Some((found.payload, found.rest))
 }
 
-/// Whether a frame stands at the front, or after what has the shape of one.
+/// Whether there is a frame at the front, or after a block at the front.
 pub(crate) fn has_frame(octets: &[u8]) -> bool
     ensures { IsTrue result ↔ HasFrame octets.now }
 {

@@ -10,18 +10,18 @@ pub enum Ending {
     PowerLoss,
 }
 
-/// A file to which octets are added at its end.
+/// A file to which octets are appended.
 ///
 /// A contract sees what it holds and what a crash may leave, as long as `tells` is true. A file of
-/// the system tells nothing. After a call that failed, what is known is what a crash may leave, and
-/// that what stood there stands there still.
+/// the system tells nothing. After a call that failed, only this is known: what a crash may leave,
+/// and that the earlier octets are still there.
 pub trait Log {
     ghost use Rattle.std.specs.Prelude.{◌≡◌, ℕ, Bool, false, IsTrue, List, [], ◌++◌, take, IfOk, OnErr, OnOk};
     ghost use Rattle.rld_log.specs.declared.log.Ending.{Ending as OneEnding};
     ghost use Rattle.rld_log.specs.declared.log.Ending.TheVariants.{Kill};
     ghost use Rattle.rld_log.specs.Log.{Adds, Appends, Cuts, Extends, Follows, NoMore, Only, Tears};
 
-    /// Whether the log says what it holds, and what a crash may leave.
+    /// Whether the log tells what it holds, and what a crash may leave.
     ghost tells: { Self → Bool } = { λ _. false };
 
     /// The octets that a read returns.
@@ -30,7 +30,7 @@ pub trait Log {
     /// What a crash of each kind may leave now.
     ghost may_leave: { Self → OneEnding → List ℕ → Type 0 } = { λ _ _ _. Unit {0} };
 
-    /// What a loss of power may leave of a write of these octets, beside all of them.
+    /// What a loss of power may leave of a write of these octets, except all of them.
     ghost tears: { List ℕ → List ℕ → Type 0 } = { λ _ _. Unit {0} };
 
     /// All the octets.
@@ -40,7 +40,7 @@ pub trait Log {
         ensures same { IsTrue (tells self.new) → seen self.new ≡ seen self.old }
         ensures crash { IsTrue (tells self.new) → NoMore (may_leave self.old) (may_leave self.new) };
 
-    /// Adds octets at the end. Until a sync a loss of power may tear them.
+    /// Appends octets. Until a sync a loss of power may tear them.
     fn append(&mut self, octets: &[u8]) -> Result<(), LogFault>
         ensures told { IsTrue (tells self.new) → IsTrue (tells self.old) }
         ensures written { IsTrue (tells self.new) → OnOk result (seen self.new ≡ seen self.old ++ octets.now) }
@@ -58,8 +58,7 @@ pub trait Log {
         ensures crash { IsTrue (tells self.new) → (ending : OneEnding) →
             Follows (Cuts len) (may_leave self.old ending) (may_leave self.new ending) };
 
-    /// After it a crash leaves what a read returns. Where it fails nothing more may be asked of the
-    /// log.
+    /// Makes a crash leave what a read returns. After a fault the log must not be used any more.
     fn sync(&mut self) -> Result<(), LogFault>
         ensures told { IsTrue (tells self.new) → IsTrue (tells self.old) }
         ensures same { IsTrue (tells self.new) → seen self.new ≡ seen self.old }
@@ -67,7 +66,7 @@ pub trait Log {
         ensures durable { IsTrue (tells self.new) → OnOk result (Only (seen self.old) (may_leave self.new)) };
 }
 
-/// A log whose process or machine can stop and come back, and that another can follow.
+/// A log whose process or machine can stop and come back, and which another can follow.
 pub trait Crash: Log {
     ghost use Rattle.std.specs.Prelude.{◌≡◌, [], IfOk, IsTrue};
     ghost use Rattle.rld_log.specs.Log.{Only};
@@ -78,7 +77,7 @@ pub trait Crash: Log {
         ensures left { IsTrue (Self.Log.tells self.new) → Self.Log.may_leave self.old ending (Self.Log.seen self.new) }
         ensures settled { IsTrue (Self.Log.tells self.new) → Only (Self.Log.seen self.new) (Self.Log.may_leave self.new) };
 
-    /// Another log, which has nothing, for what follows this one.
+    /// An empty log, to follow this one.
     fn next_log(&self, alloc: Global) -> Result<Self, LogFault>
         ensures told { IfOk result (λ next. IsTrue (Self.Log.tells next) → IsTrue (Self.Log.tells self.now)) }
         ensures empty { IfOk result (λ next. IsTrue (Self.Log.tells next) → Self.Log.seen next ≡ []) }

@@ -7,12 +7,12 @@ use crate::fault::LogFault;
 use crate::log::{Crash, Ending, Log};
 use std::alloc::{AllocError, Global};
 
-/// What was done to a log since its last sync.
+/// A change of a log since its last sync.
 #[derive(Drop)]
 pub(crate) enum Step {
-    /// These octets were added.
+    /// These octets were appended.
     Append(Vec<u8>),
-    /// A beginning of these octets was added.
+    /// A beginning of these octets was appended.
     Broken(Vec<u8>),
     /// It was cut to this length.
     Cut(usize),
@@ -26,16 +26,16 @@ pub struct Life {
     /// How many calls fail after those; then all succeed. An append that fails leaves half of its
     /// octets.
     pub failing: u64,
-    /// How many of the octets added since the last sync a loss of power leaves. It undoes a cut where
-    /// it leaves none.
+    /// How many of the octets appended since the last sync a loss of power leaves. It undoes a cut
+    /// if it leaves none.
     pub kept: usize,
 }
 
-/// A log in memory, for proofs and tests: its calls fail and its lives end as each `Life` says.
-/// A kill leaves what was written; a loss of power leaves what was synced, and as many octets more
+/// A log in memory, for proofs and tests: its calls fail and its lives end as each `Life` says. A
+/// kill leaves what was written; a loss of power leaves what was synced, and as many further octets
 /// as the life says.
 ///
-/// It tells what it holds, unless it was refused memory as it was restarted.
+/// It tells what it holds, unless memory was refused at a restart.
 #[derive(Drop)]
 pub struct MemoryLog {
     alloc: Global,
@@ -51,8 +51,8 @@ pub struct MemoryLog {
 impl MemoryLog {
     ghost use Rattle.rld_log.specs.MemorySeen.{IsNewLog, octets_of};
 
-    /// A log with these octets, all synced, whose lives go as is said one after another; after the
-    /// last of them no call fails, and a loss of power leaves what was synced.
+    /// A log with these octets, all synced, and these lives, one after another. After the last of
+    /// them no call fails, and a loss of power leaves what was synced.
     pub fn new(alloc: Global, octets: Vec<u8>, lives: Vec<Life>) -> Result<MemoryLog, AllocError>
         ensures { IfOk result (IsNewLog octets.items) }
     {
@@ -69,7 +69,7 @@ impl MemoryLog {
         })
     }
 
-    /// What a read would return.
+    /// The octets that a read would return.
     pub fn octets(&self) -> &[u8]
         ensures { result.now ≡ octets_of self.now }
     {
@@ -86,7 +86,7 @@ fn note(steps: &mut Vec<Step>, step: Step) -> Result<(), LogFault>
     Ok(())
 }
 
-/// Makes a step again as a crash leaves it, and counts down the octets that a loss of power keeps.
+/// Repeats a step as a crash leaves it, and counts down the octets that a loss of power keeps.
 fn take_step(
     octets: &mut Vec<u8>,
     step: &Step,
@@ -113,7 +113,7 @@ fn take_step(
     Ok(())
 }
 
-/// Adds as many of the octets as are kept.
+/// Appends as many of the octets as are kept.
 fn add_beginning(octets: &mut Vec<u8>, added: &[u8], kept: &mut usize) -> Result<(), AllocError>
     ensures { OnOk result (Appends Shortens added.now octets.old.items octets.new.items) }
 {
@@ -122,7 +122,7 @@ fn add_beginning(octets: &mut Vec<u8>, added: &[u8], kept: &mut usize) -> Result
     octets.extend_from_slice(&added[..count])
 }
 
-/// Adds half of the octets, as an append that fails does.
+/// Appends half of the octets, like an append that fails.
 fn add_half(octets: &mut Vec<u8>, added: &[u8]) -> Result<(), AllocError>
     ensures ok { OnOk result (Appends Shortens added.now octets.old.items octets.new.items) }
     ensures err { OnErr result (octets.new.items ≡ octets.old.items) }
@@ -130,7 +130,7 @@ fn add_half(octets: &mut Vec<u8>, added: &[u8]) -> Result<(), AllocError>
     octets.extend_from_slice(&added[..added.len() / 2])
 }
 
-/// What a crash of this kind leaves of octets that were synced, after these steps; and a copy.
+/// What a crash of this kind leaves of synced octets, after these steps; and a copy.
 fn left_by(
     alloc: Global,
     synced: &[u8],
@@ -162,7 +162,7 @@ fn count_call(life: &mut Life, fault: LogFault) -> Result<(), LogFault> {
     Ok(())
 }
 
-/// The life with this index; after the last one no call fails, and a loss of power keeps nothing.
+/// The life with this index. After the last one no call fails, and a loss of power keeps nothing.
 fn life_at(lives: &[Life], index: usize) -> Life {
     lives.get(index).copied().unwrap_or(Life {
         calls: 0,
@@ -233,7 +233,7 @@ impl Crash for MemoryLog {
         self.life = life_at(&self.lives, self.index);
     }
 
-    /// Its lives are those of this log from now on.
+    /// The lives of the new log are those of this one from now on.
     fn next_log(&self, alloc: Global) -> Result<MemoryLog, LogFault> {
         Ok(MemoryLog {
             alloc,

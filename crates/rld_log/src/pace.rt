@@ -5,16 +5,16 @@ use crate::ticks::Ticks;
 pub enum Pace {
     /// Each time.
     Always,
-    /// The first time after each tick has begun.
+    /// The first time after each tick.
     Second,
-    /// Only where a kill might undo something.
+    /// Only if a kill might undo something.
     Never,
 }
 
 /// When the logs of a server are synced to the disk.
 #[derive(Clone, Copy)]
 pub struct Pacing<'a> {
-    /// The pace of each of them.
+    /// The pace of every log.
     pub pace: Pace,
     /// The ticks of the server.
     pub ticks: &'a Ticks,

@@ -15,25 +15,25 @@ use std::alloc::Global;
 pub(crate) enum End {
     /// What a read returns, and nothing else.
     Settled,
-    /// Perhaps something else: it was just taken, it was cut, or an append failed.
+    /// Perhaps something else: it is new, it was cut, or an append failed.
     Unsettled,
-    /// A sync failed: each call fails from now on.
+    /// A sync failed: every further call fails.
     Lost,
 }
 
 /// A log whose syncs reach the disk as its pace says.
 ///
-/// With `Pace::Always` it is the log underneath. With the others a sync does nothing where a kill
-/// leaves just what a read returns and the pace asks for no more; so each clause of `Log` speaks of a
-/// kill there, also where it names a loss of power.
+/// With `Pace::Always` it is the log underneath. With any other pace a sync does nothing if a kill
+/// leaves just what a read returns and the pace asks for no more; so each clause of `Log` on a
+/// crash is on a kill, even if it names a loss of power.
 ///
-/// Once a sync failed each call fails, as `Unsynced`.
+/// After a sync that failed every call fails with `Unsynced`.
 #[derive(Drop)]
 pub struct PacedLog<'a, L: Log> {
     pub(crate) log: L,
     pub(crate) pace: Pace,
     ticks: &'a Ticks,
-    /// How many ticks had begun when it was last synced, settled, to the disk.
+    /// How many ticks had begun at its last sync to the disk while it was settled.
     pub(crate) synced: Option<u64>,
     pub(crate) end: End,
     ghost settles: { end ≡ settled → IsTrue (L.tells log) → KillLeaves (L.seen log) (L.may_leave log) },
@@ -50,7 +50,7 @@ fn needs_disk(pace: Pace, end: End, synced: Option<u64>, begun: u64) -> bool
     }
 }
 
-/// The ending that a crash is reckoned as.
+/// The ending that a crash counts as.
 fn reckoned_ending(pace: Pace, ending: Ending) -> Ending
     ensures { result ≡ reckoned pace ending }
 {
@@ -61,7 +61,7 @@ fn reckoned_ending(pace: Pace, ending: Ending) -> Ending
 }
 
 impl<'a, L: Log> PacedLog<'a, L> {
-    /// This log with a pace. Its first sync reaches the disk.
+    /// A log with a pace. Its first sync reaches the disk.
     pub fn new(log: L, pacing: Pacing<'a>) -> PacedLog<'a, L>
         ensures log { result.log ≡ log }
         ensures pace { result.pace ≡ pacing.entry.pace }
@@ -84,9 +84,9 @@ impl<'a, L: Log> PacedLog<'a, L> {
         log
     }
 
-    /// Syncs the log to the disk, where `begun` ticks have begun: after it a loss of power, too,
-    /// leaves what a read returns. What an unsettled log has may be less than what was answered, as
-    /// of a generation whose header alone stands there: its sync is not counted.
+    /// Syncs the log to the disk after `begun` ticks have begun, so that a loss of power, too,
+    /// leaves what a read returns. The sync of an unsettled log does not count, as it may hold less
+    /// than what was answered: the header of a new generation alone.
     fn sync_disk(&mut self, begun: u64) -> Result<(), LogFault>
         ensures told { IsTrue (L.tells self.new.log) → IsTrue (L.tells self.old.log) }
         ensures pace { self.new.pace ≡ self.old.pace }
@@ -112,7 +112,7 @@ impl<'a, L: Log> PacedLog<'a, L> {
         Ok(())
     }
 
-    /// Syncs the log to the disk where it has to be.
+    /// Syncs the log to the disk if it has to.
     fn sync_at(&mut self, begun: u64) -> Result<(), LogFault>
         ensures told { IsTrue (L.tells self.new.log) → IsTrue (L.tells self.old.log) }
         ensures pace { self.new.pace ≡ self.old.pace }
@@ -175,14 +175,14 @@ impl<L: Log> Log for PacedLog<'_, L> {
 }
 
 impl<'a, L: Crash> Crash for PacedLog<'a, L> {
-    /// A crash that is reckoned as a kill is one.
+    /// A crash that counts as a kill is one.
     fn restart(&mut self, ending: Ending) {
         self.end = End::Unsettled;
         self.synced = None;
         self.log.restart(reckoned_ending(self.pace, ending));
     }
 
-    /// Its pace is that of this log.
+    /// The new log has the pace of this one.
     fn next_log(&self, alloc: Global) -> Result<PacedLog<'a, L>, LogFault> {
         let pacing = Pacing {
             pace: self.pace,

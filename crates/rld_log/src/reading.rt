@@ -6,7 +6,7 @@ use crate::fault::Damage;
 use crate::frame::{first_block, first_frame, has_frame};
 use std::alloc::{AllocError, Global};
 
-/// The octets of a file, and the length of its whole frames: no digest is made of them again.
+/// The octets of a file, and the length of its whole frames, whose digests are not computed again.
 #[derive(Drop)]
 pub struct Frames {
     octets: Vec<u8>,
@@ -15,8 +15,8 @@ pub struct Frames {
 }
 
 impl Frames {
-    /// The frames of a file with these octets; what stands after them is a torn end. A file is
-    /// damaged where a frame stands after one that was spoilt.
+    /// The frames of a file with these octets, which end with a torn end. A file is damaged if a
+    /// frame comes after a spoilt one.
     pub fn of(octets: Vec<u8>) -> Result<Frames, Damage>
         ensures octets { IfOk result (λ found. found.octets.items ≡ octets.items) }
         ensures damage { IfErr result (λ damage. IsDamagedAt octets.items damage.offset) }
@@ -25,7 +25,7 @@ impl Frames {
         Ok(Frames { octets, whole })
     }
 
-    /// Their payloads, in their order.
+    /// The payloads of the frames, in order.
     pub fn payloads(&self, alloc: Global) -> Result<Vec<&[u8]>, AllocError>
         ensures { IfOk result (λ found.
             HasPayloads self.now.octets.items (map (λ payload. payload.now) found.items)) }
@@ -34,7 +34,7 @@ impl Frames {
         payloads_in(alloc, whole)
     }
 
-    /// How many octets they have.
+    /// The octets of the whole frames.
     pub fn whole(&self) -> usize
         ensures is { result ≡ self.now.whole }
         ensures ends { ∥ EndsAt self.now.octets.items result ∥₁ }
@@ -42,7 +42,7 @@ impl Frames {
         self.whole
     }
 
-    /// What stands after them: a torn end.
+    /// The torn end after the frames.
     pub fn torn(&self) -> &[u8]
         ensures is { result.now ≡ drop self.now.whole self.now.octets.items }
         ensures len { length self.now.octets.items ≡ self.now.whole + length result.now }

@@ -11,8 +11,8 @@ use crate::frame::frame_of;
 use crate::log::Log;
 use std::alloc::Global;
 
-/// Writes the frame of a payload at the end of the log, and does not sync it: a kill leaves it, and
-/// a loss of power may tear it.
+/// Appends the frame of a payload without a sync: a kill leaves it, and a loss of power may tear
+/// it.
 pub fn write<L: Log>(alloc: Global, log: &mut L, payload: &[u8]) -> Result<(), LogFault>
     requires { Fits payload.now }
     ensures told { IsTrue (L.tells log.new) → IsTrue (L.tells log.old) }
@@ -27,8 +27,8 @@ pub fn write<L: Log>(alloc: Global, log: &mut L, payload: &[u8]) -> Result<(), L
     log.append(&frame)
 }
 
-/// Records a payload: writes its frame at the end of the log, and syncs it. Where it fails the
-/// payload is recorded or not, whole, and the log has to be mended or opened again before the next.
+/// Records a payload: appends its frame, and syncs the log. After a fault the payload is recorded
+/// whole or not at all, and the log has to be mended or opened again before the next.
 pub fn record<L: Log>(alloc: Global, log: &mut L, payload: &[u8]) -> Result<(), LogFault>
     requires { Fits payload.now }
     ensures told { IsTrue (L.tells log.new) → IsTrue (L.tells log.old) }
@@ -45,9 +45,9 @@ pub fn record<L: Log>(alloc: Global, log: &mut L, payload: &[u8]) -> Result<(), 
     Ok(())
 }
 
-/// Cuts off what a record or a write that failed may have left after the whole frames, which have
-/// `whole` octets, and syncs that: then the log is settled without the payload. It may be tried
-/// again where it fails, but not after a sync that failed.
+/// Cuts off what a failed record or write may have left after the whole frames, which have `whole`
+/// octets, and syncs that: then the log is settled without the payload. After a fault it may be
+/// tried again, unless a sync failed.
 pub fn mend<L: Log>(log: &mut L, whole: usize) -> Result<(), LogFault>
     ensures told { IsTrue (L.tells log.new) → IsTrue (L.tells log.old) }
     ensures settled { IsTrue (L.tells log.new) → (before : List (List ℕ)) → AllByRecursion Fits before → whole ≡ length (frames before) →

@@ -10,7 +10,7 @@ use Rattle.rld_look.specs.Totals.{plus}
 use Rattle.rld_look.specs.declared.accounts.TheConstants.{MOST_FULLEST}
 use Rattle.rld_look.specs.declared.look.AccountLook.{AccountLook}
 
--- what is shown of the account whose row it is: its name, and the row; nothing of a row of no account
+-- what is shown of the account of a row: its name, and the row; nothing for a row of no account
 abbrev pub look_of : Configuration → Row → Option AccountLook
 look_of config row =
     option_map (λ entry. record { name = entry.name; row = row }) (slice_get config.accounts row.account)
@@ -19,21 +19,21 @@ look_of config row =
 abbrev pub looks_of : Configuration → List Row → List AccountLook
 looks_of config rows = filter_map (look_of config) rows
 
--- how much of its places an account has free, in millionths; all where it has none
+-- the free part of an account's places, in millionths; all if it has none
 abbrev pub free : Row → ℕ
 free row = if row.places == 0 then 1000000 else 1000000 - row.held * 1000000 / row.places
 
--- the account with less free is before the other, and of two with as much the first one in the file
+-- the account with less free comes first, and of two with as much the first in the file
 abbrev pub by_fullness : Row → Row → Ordering
 by_fullness one two = ordering_then (nat_cmp (free one) (free two)) (nat_cmp one.account two.account)
 
--- what is shown of the first accounts in that order, by the rows that are of accounts
+-- what is shown of the first accounts in that order, from the rows that are of accounts
 abbrev pub AreFullest : Configuration → List Row → List AccountLook → Type 0
 AreFullest config rows looks =
     (sorted : List Row) × IsPermutation (filter (λ row. nat_lt row.account (length config.accounts)) rows) sorted
     × IsSorted by_fullness sorted × (looks ≡ looks_of config (take MOST_FULLEST sorted))
 
--- how many places are held by rows, after those that were found before
+-- the number of places that rows hold, added to `held`
 abbrev pub held_after : (held : ℕ) → List Row → ℕ
 held_after held [] = held
 held_after held (row ∷ rows) = held_after (plus held row.held) rows

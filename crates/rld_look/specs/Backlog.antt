@@ -1,4 +1,4 @@
--- What waits for its line, and how much of what was refused gets none.
+-- The refusals that wait for their lines, and the numbers of those that get none.
 use Rattle.std.specs.Prelude.{◌≡◌, ◌≢◌, ℕ, ◌+◌, ◌<◌, ◌≤◌, List, [], ◌∷◌, ◌++◌, map}
 use Rattle.rld_counts.specs.Counts.{count_in, counts_of}
 use Rattle.rld_counts.specs.Ends.{number_of}
@@ -9,7 +9,7 @@ use Rattle.rld_look.specs.declared.backlog.Noted.TheVariants.{Waits, LeftOut, No
 use Rattle.rld_look.specs.declared.backlog.TheConstants.{MOST_LINES}
 use Rattle.rld_look.specs.declared.refusal.Refusal.{Refusal}
 
--- the refusals that wait, the oldest first, and how many of each cause were left out
+-- the refusals that wait, oldest first, and the numbers left out of each cause
 pub record BacklogSeen : Type 0 where
   pub waiting : List Refusal
   pub left_out : List ℕ
@@ -24,11 +24,11 @@ ends_of refusals = map (λ one. one.end) refusals
 abbrev pub of_cause : End → List End → ℕ
 of_cause end ends = how_many (number_of end) (map number_of ends)
 
--- how many refusals of a cause wait
+-- the number of refusals of a cause that wait
 abbrev pub lines_of : End → BacklogSeen → ℕ
 lines_of end backlog = of_cause end (ends_of backlog.waiting)
 
--- one more ended so, and no other count changed
+-- another one ended so, and no other count changed
 abbrev pub IsCounted : End → (old new : List ℕ) → Type 0
 IsCounted end old new =
     (count_in new end ≡ kept (count_in old end + 1))
@@ -45,8 +45,8 @@ IsNoted refusal old new Waits =
 IsNoted refusal old new LeftOut = (MOST_LINES ≤ lines_of refusal.end old) × IsLeftOut refusal.end old new
 IsNoted refusal old new NoMemory = (lines_of refusal.end old < MOST_LINES) × IsLeftOut refusal.end old new
 
--- of what was noted since it was empty, as much waits as is not left out, of each cause; and of none
--- too much waits
+-- of all that was noted since it was empty, what is not left out waits, of each cause; and no more
+-- than the most of a cause
 pub record HasNoted (ends : List End) (backlog : BacklogSeen) : Type 0 where
   pub all : (end : End) → kept (of_cause end ends) ≡ kept (lines_of end backlog + count_in backlog.left_out end)
   pub few : (end : End) → lines_of end backlog ≤ MOST_LINES

@@ -7,7 +7,7 @@ use Rattle.rld_counts.specs.Tally.{kept}
 use Rattle.rld_counts.specs.declared.end.End.{End}
 use Rattle.rld_look.specs.declared.look.ClientLook.{ClientLook}
 
--- the counts if there are some, else counts of no datagram
+-- the counts, if there are any, else those of no datagram
 abbrev pub counts_or_none : Option (List ℕ) → List ℕ
 counts_or_none counts = unwrap_or counts (counts_of [])
 
@@ -17,7 +17,7 @@ AreBoth auth acct both =
     (end : End) → count_in both end
     ≡ kept (count_in (counts_or_none auth) end + count_in (counts_or_none acct) end)
 
--- it is of the client with this number: its address, and its counts at both ports
+-- the client with this number: its address, and its counts at both ports
 pub record IsClientLook (config : Configuration) (auth acct : CellSeen) (client : ℕ) (look : ClientLook) : Type 0 where
   pub address : option_map (λ found. found.address) (slice_get config.clients client) ≡ Some look.address
   pub counts : AreBoth (slice_get auth.clients client) (slice_get acct.clients client) look.counts

@@ -9,8 +9,8 @@ use Rattle.rld_look.specs.Totals.{plus}
 use Rattle.rld_look.specs.declared.history.Came.{Came}
 use Rattle.rld_look.specs.declared.look.Minute.{Minute}
 
--- the whole minutes that are kept, the oldest first; the number of the one that is going on, since 1970,
--- and whether that is whole; and what had come before it
+-- the whole minutes that are kept, oldest first; the number of the present one, since 1970, and
+-- whether it is whole; and what had come before it
 pub record HistorySeen : Type 0 where
   pub minutes : List Minute
   pub current : ℕ
@@ -20,7 +20,7 @@ pub record HistorySeen : Type 0 where
 abbrev pub no_came : Came
 no_came = record { accepts = 0; limit_rejects = 0; rejects = 0; accounting = 0 }
 
--- at the start, in a minute that is not whole
+-- the history at the start, in a minute that is not whole
 abbrev pub nothing_yet : (now : ℕ) → HistorySeen
 nothing_yet now = record {
   minutes = [];
@@ -29,7 +29,7 @@ nothing_yet now = record {
   before = no_came;
 }
 
--- with datagrams more that ended in one way
+-- what has come, with further datagrams that ended in one way
 abbrev pub with_came : Came → Kind → (number : ℕ) → Came
 with_came came Accepted number = record { accepts = plus came.accepts number; limit_rejects = came.limit_rejects; rejects = came.rejects; accounting = came.accounting }
 with_came came LimitRejected number = record { accepts = came.accepts; limit_rejects = plus came.limit_rejects number; rejects = came.rejects; accounting = came.accounting }
@@ -38,16 +38,16 @@ with_came came Accounted number = record { accepts = came.accepts; limit_rejects
 with_came came Dropped number = came
 with_came came Failed number = came
 
--- after those that were found before
+-- what has come, added to earlier numbers
 abbrev pub came_after : (counts : List ℕ) → Came → List End → Came
 came_after counts came [] = came
 came_after counts came (end ∷ ends) = came_after counts (with_came came (kind_of end) (count_in counts end)) ends
 
--- what has come, by these counts
+-- what has come, from these counts
 abbrev pub came_in : (counts : List ℕ) → Came
 came_in counts = came_after counts no_came all_ends
 
--- a minute: what has come since it began, and what is held at its end
+-- a minute: what has come since it began, and the places held at its end
 abbrev pub minute_of : (number : ℕ) → (before after : Came) → (held : ℕ) → Minute
 minute_of number before after held = record {
   start = min (number * 60) (2 ^ 64 - 1);
@@ -58,16 +58,16 @@ minute_of number before after held = record {
   held = held;
 }
 
--- the last 60
+-- the last 60 minutes
 abbrev pub last_minutes : List Minute → List Minute
 last_minutes minutes = drop (length minutes - 60) minutes
 
--- a minute more, if it was whole
+-- the minutes with another one, if it was whole
 abbrev pub kept_minutes : List Minute → Minute → (is_whole : Bool) → List Minute
 kept_minutes minutes minute false = minutes
 kept_minutes minutes minute true = last_minutes (minutes ++ minute ∷ [])
 
--- once the minute is over: that of this number goes on
+-- the history once the minute is over and the minute with this number begins
 abbrev pub with_minute : HistorySeen → (next : ℕ) → Came → (held : ℕ) → HistorySeen
 with_minute history next came held = record {
   minutes = kept_minutes history.minutes (minute_of history.current history.before came held) history.is_whole;

@@ -18,7 +18,7 @@ use Rattle.rld_look.specs.declared.priority.Sink.{Sink}
 use Rattle.rld_look.specs.declared.priority.Sink.TheVariants.{Journal, Plain}
 use Rattle.rld_look.specs.declared.refusal.Refusal.{Refusal}
 
--- a mark as journald reads it at the front of a line
+-- a mark that journald reads at the front of a line
 abbrev pub mark_of : Sink → Priority → List ℕ
 mark_of Plain priority = []
 mark_of Journal Error = codes "<3>"
@@ -66,7 +66,7 @@ line_of sink refusal places =
     front_words sink refusal.end ++ (source_words refusal.source
     ++ (asker_words refusal ++ (cause_words refusal.end ++ held_words places)))
 
--- ---- those that were left out
+-- ---- the refusals that were left out
 
 unfoldable pub number_words : Sink → End → (number : ℕ) → List ℕ
 number_words sink end number = mark_of sink (priority_of (kind_of end)) ++ decimal number

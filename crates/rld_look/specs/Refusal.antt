@@ -24,7 +24,7 @@ is_refused kinds.Failed = true
 abbrev pub is_refusal : End → Bool
 is_refusal end = is_refused (kind_of end)
 
--- the attributes that a datagram has, or none where they cannot be read
+-- the attributes of a datagram, or none if they cannot be read
 abbrev pub attributes_or_none : Result (List Attribute) ℕ → List Attribute
 attributes_or_none (Ok attributes) = attributes
 attributes_or_none (Err at) = []
@@ -36,7 +36,7 @@ attributes_by (Err fault) = []
 abbrev pub attributes_of : (octets : List ℕ) → List Attribute
 attributes_of octets = attributes_by (packet_of octets)
 
--- the refusal of a datagram that has these attributes
+-- the refusal of a datagram with these attributes
 abbrev pub refusal_with : Refused → List Attribute → Refusal
 refusal_with refused attributes = record {
   moment = refused.moment;

@@ -4,7 +4,7 @@ use Rattle.rsl_shard.specs.declared.row.Row.{Row}
 use Rattle.rld_look.specs.declared.look.AccountLook.{AccountLook}
 use Rattle.rld_look.specs.declared.totals.Totals.{Totals}
 
--- a sum, at most the greatest number of 64 bits
+-- a sum, at most 2^64 - 1
 abbrev pub plus : ℕ → ℕ → ℕ
 plus a b = min (a + b) (2 ^ 64 - 1)
 
@@ -20,7 +20,7 @@ no_totals = record {
   full = 0;
 }
 
--- with what one account more holds
+-- the totals with another account
 abbrev pub with_row : Totals → Row → Totals
 with_row totals row = record {
   accounts = plus totals.accounts 1;
@@ -33,7 +33,7 @@ with_row totals row = record {
   full = plus totals.full (if nat_le row.places row.held then 1 else 0);
 }
 
--- after those that were found before
+-- the totals of accounts, added to others
 abbrev pub totals_after : Totals → List AccountLook → Totals
 totals_after totals [] = totals
 totals_after totals (account ∷ accounts) = totals_after (with_row totals account.row) accounts

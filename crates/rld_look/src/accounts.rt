@@ -8,7 +8,7 @@ use rsl_shard::Row;
 use rsl_wire::NoMemory;
 use std::alloc::Global;
 
-/// How many of the fullest accounts are shown at most.
+/// The most of the fullest accounts that are shown.
 pub const MOST_FULLEST: usize = 50;
 
 const _: () = prove!(MOST_FULLEST == 50);
@@ -17,8 +17,8 @@ const _: () = prove!(MOST_FULLEST == 50);
 const ALL: u64 = 1_000_000;
 
 impl AccountsLook {
-    /// What each account holds, in file order, by the rows of all shards in the second `now` since 1970. A
-    /// row of no account is passed over. It fails only where memory is refused.
+    /// What each account holds, in file order, from the rows of all shards in the second `now`
+    /// since 1970. A row of no account is skipped. It fails only if memory is refused.
     pub fn of(
         alloc: Global,
         now: u64,
@@ -37,9 +37,9 @@ impl AccountsLook {
     }
 }
 
-/// What the fullest accounts hold, at most `MOST_FULLEST` of them, by the rows of all shards: first the
-/// account with the smallest part of its places free, and of two with as much the first one in the file. A
-/// row of no account is passed over. It fails only where memory is refused.
+/// What the fullest accounts hold, at most `MOST_FULLEST` of them, from the rows of all shards:
+/// first the account with the smallest part of its places free, and of several with as much the
+/// first in the file. A row of no account is skipped. It fails only if memory is refused.
 pub fn fullest_looks(
     alloc: Global,
     config: &Config,
@@ -54,7 +54,7 @@ pub fn fullest_looks(
     Ok(looks)
 }
 
-/// How much of its places an account has free, in millionths; all where it has none.
+/// The free part of an account's places, in millionths; all if it has none.
 fn free(row: &Row) -> u64
     ensures { result ≡ free row.now }
 {
@@ -64,7 +64,8 @@ fn free(row: &Row) -> u64
     }
 }
 
-/// What the account of each row holds, in the order of the rows. It fails only where memory is refused.
+/// What the account of each row holds, in the order of the rows. It fails only if memory is
+/// refused.
 #[tactic(auto, using(crate::proofs::Showing::look_steps))]
 fn looks_of(alloc: Global, config: &Config, rows: &[Row]) -> Result<Vec<AccountLook>, NoMemory>
     ensures { IfOk result (λ looks. looks.items ≡ looks_of config.now rows.now) }
@@ -78,8 +79,8 @@ fn looks_of(alloc: Global, config: &Config, rows: &[Row]) -> Result<Vec<AccountL
     Ok(looks)
 }
 
-/// What the account of a row holds; none where the row is of no account. It fails only where memory is
-/// refused.
+/// What the account of a row holds, or `None` if the row is of no account. It fails only if memory
+/// is refused.
 fn look_of(alloc: Global, config: &Config, row: &Row) -> Result<Option<AccountLook>, NoMemory>
     ensures { IfOk result (λ look. look ≡ look_of config.now row.now) }
 {
@@ -90,7 +91,7 @@ fn look_of(alloc: Global, config: &Config, row: &Row) -> Result<Option<AccountLo
     Ok(Some(AccountLook { name, row: *row }))
 }
 
-/// How many places all of these rows hold, at most 2^64 - 1.
+/// The number of places that these rows hold, at most 2^64 - 1.
 pub fn held_in(rows: &[Row]) -> u64
     ensures { result ≡ held_in rows.now }
 {

@@ -10,24 +10,24 @@ use std::alloc::Global;
 use std::marker::Model;
 use std::mem;
 
-/// How many refusals of a cause get lines each time that lines are written.
+/// The most refusals of a cause that get lines each time that lines are written.
 pub const MOST_LINES: u64 = 20;
 
 const _: () = prove!(MOST_LINES == 20);
 
-/// What became of a refusal that was noted.
+/// What became of a noted refusal.
 #[derive(Clone, Copy)]
 pub enum Noted {
     /// It waits for its line.
     Waits,
-    /// It is left out: as many of its cause wait as may.
+    /// It is left out: the most of its cause are waiting.
     LeftOut,
-    /// It is left out, since memory for it was refused.
+    /// It is left out, because memory for it was refused.
     NoMemory,
 }
 
-/// The refusals that wait for their lines, and how many of each cause get none. A contract sees the
-/// list of those that wait, the oldest first, and the counts of the others.
+/// The refusals that wait for their lines, and the numbers of each cause that get none. A contract
+/// sees the list of those that wait, oldest first, and the counts of the others.
 #[derive(Drop)]
 pub struct Backlog {
     waiting: Vec<Refusal>,
@@ -47,12 +47,13 @@ impl Model for Backlog {
     ghost invariant = { λ it. it.lines ≡ counts_of (ends_of it.waiting.items) };
 }
 
-/// What was taken from a backlog: of what it had noted, as much waited as was not left out, of each cause.
+/// What was taken from a backlog: of all that it had noted, what waited, and the counts of what was
+/// left out.
 #[derive(Drop)]
 pub struct Taken {
-    /// The refusals that waited, the oldest first: at most `MOST_LINES` of each cause.
+    /// The refusals that waited, oldest first: at most `MOST_LINES` of each cause.
     pub waited: Vec<Refusal>,
-    /// How many more of each cause there were.
+    /// The numbers of the others, by cause.
     pub left_out: Counts,
 }
 
@@ -69,8 +70,8 @@ impl Backlog {
         }
     }
 
-    /// Notes a datagram that was refused. It waits for its line where fewer than `MOST_LINES` of its
-    /// cause do; else it is left out, and counted.
+    /// Notes a refused datagram. It waits for its line if fewer than `MOST_LINES` of its cause do;
+    /// else it is left out, and counted.
     pub fn note(&mut self, alloc: Global, refused: &Refused<'_>) -> Noted
         ensures noted { IsNoted (refusal_of refused.now) self.old self.new result }
         ensures all { (ends : List OneEnd) → HasNoted ends self.old →
@@ -92,8 +93,8 @@ impl Backlog {
         }
     }
 
-    /// Leaves out a datagram that was refused, where as many of its cause wait as may, and gives whether
-    /// it has. Else nothing changes, and it can be noted.
+    /// Leaves out a refused datagram if the most of its cause are waiting, and gives whether it
+    /// has. Else nothing changes, and it can be noted.
     pub fn leave_out(&mut self, end: End) -> bool
         ensures left_out { result ≡ true →
             (MOST_LINES ≤ lines_of end self.old) × IsLeftOut end self.old self.new }
@@ -108,7 +109,7 @@ impl Backlog {
         false
     }
 
-    /// Whether as many refusals of a cause wait as may.
+    /// Whether the most refusals of a cause are waiting.
     fn is_full(&self, end: End) -> bool
         ensures full { result ≡ true → MOST_LINES ≤ lines_of end self.now }
         ensures few { result ≡ false → lines_of end self.now < MOST_LINES }
@@ -134,8 +135,8 @@ impl Backlog {
         }
     }
 
-    /// Adds what was taken from another backlog, after what waits. Where more than `MOST_LINES` of
-    /// a cause would wait, and where memory is refused, they are left out, and counted.
+    /// Adds what was taken from another backlog, after what waits. If more than `MOST_LINES` of a
+    /// cause would wait, or memory is refused, they are left out, and counted.
     pub fn join(&mut self, taken: Taken)
         ensures { (ends others : List OneEnd) → HasNoted ends self.old →
             HasNoted others (record { waiting = taken.waited.items; left_out = taken.left_out }) →
@@ -156,7 +157,7 @@ impl Backlog {
         }
     }
 
-    /// Adds a refusal. It waits where fewer than `MOST_LINES` of its cause do; else, and where memory is
+    /// Adds a refusal. It waits if fewer than `MOST_LINES` of its cause do; else, or if memory is
     /// refused, it is left out, and counted.
     fn push(&mut self, refusal: Refusal)
         ensures { (ends : List OneEnd) → HasNoted ends self.old →
@@ -172,7 +173,7 @@ impl Backlog {
     }
 }
 
-/// Adds a refusal if there is room and memory is not refused, and gives whether it has.
+/// Adds a refusal unless the list is full or memory is refused, and gives whether it has.
 fn push_unless(is_full: bool, waiting: &mut Vec<Refusal>, refusal: Refusal) -> bool
     ensures pushed { result ≡ true →
         (is_full ≡ false) × (waiting.new.items ≡ waiting.old.items ++ refusal ∷ []) }
@@ -184,7 +185,7 @@ fn push_unless(is_full: bool, waiting: &mut Vec<Refusal>, refusal: Refusal) -> b
     waiting.push(refusal).is_ok()
 }
 
-/// Adds the refusal of a datagram. It fails only where memory is refused.
+/// Adds the refusal of a datagram. It fails only if memory is refused.
 fn push_refusal(
     alloc: Global,
     waiting: &mut Vec<Refusal>,

@@ -1,4 +1,4 @@
-/// The build of a program that runs.
+/// The build of a running program.
 #[derive(Clone, Copy)]
 pub struct Build {
     /// Its version.
@@ -7,7 +7,7 @@ pub struct Build {
     pub proof: Proof,
 }
 
-/// Whether a build is proved, by what the one who started it says: no program can see that of itself.
+/// Whether a build is proved, as whoever started it says: no program can see that of itself.
 #[derive(Clone, Copy)]
 pub enum Proof {
     /// It is, from the sources of the commit with this name.

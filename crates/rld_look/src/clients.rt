@@ -6,8 +6,8 @@ use rld_counts::{Cell, Counts};
 use rsl_accounts::Config;
 use std::alloc::{AllocError, Global};
 
-/// How the datagrams of each client ended at both ports, in file order, by what the receivers of each
-/// port have counted. It fails only where memory is refused.
+/// How the datagrams of each client ended at both ports, in file order, from the counts of the
+/// receivers of each port. It fails only if memory is refused.
 pub fn client_looks(
     alloc: Global,
     config: &Config,
@@ -36,7 +36,7 @@ fn client_look(config: &Config, auth: &Cell, acct: &Cell, client: u32) -> Client
     }
 }
 
-/// The counts of both ports together. A cell that is not for a client has counted nothing of it.
+/// The counts of both ports together. A cell that is not for a client has no counts of it.
 fn both(auth: Option<Counts>, acct: Option<Counts>) -> Counts
     ensures { AreBoth auth acct result }
 {
@@ -45,7 +45,7 @@ fn both(auth: Option<Counts>, acct: Option<Counts>) -> Counts
     counts
 }
 
-/// The counts if there are some, else counts of no datagram.
+/// The counts, if there are any, else those of no datagram.
 fn counts_or_none(counts: Option<Counts>) -> Counts
     ensures { result ≡ counts_or_none counts }
 {

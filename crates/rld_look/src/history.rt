@@ -14,18 +14,18 @@ use rld_counts::{Counts, End, Kind};
 use std::alloc::{AllocError, Global};
 use std::marker::Model;
 
-/// How many minutes are kept.
+/// The number of minutes kept.
 const MINUTES: usize = 60;
 
-/// How long a minute is, in seconds.
+/// The seconds of a minute.
 const MINUTE_SECS: u64 = 60;
 
 const _: () = prove!(MINUTES == 60 && MINUTE_SECS == 60);
 
-/// What came in each of the last minutes: the last 60 whole ones, as the clock divides hours. The minute
-/// in which a server starts is none of them.
+/// What came in each of the last 60 whole minutes of the clock. The minute in which a server starts
+/// is not one of them.
 ///
-/// Where the clock is set the minute in which that happens has another length.
+/// If the clock is set, the minute in which that happens has another length.
 #[derive(Drop)]
 pub struct History {
     minutes: Vec<Minute>,
@@ -48,8 +48,8 @@ impl Model for History {
 }
 
 impl History {
-    /// The history of a server that starts at the second `now` since 1970. It fails only where
-    /// memory is refused.
+    /// The history of a server that starts at the second `now` since 1970. It fails only if memory
+    /// is refused.
     pub fn new(alloc: Global, now: u64) -> Result<History, AllocError>
         ensures { IfOk result (λ history. history ≡ nothing_yet now) }
     {
@@ -68,9 +68,9 @@ impl History {
         now / MINUTE_SECS != self.current
     }
 
-    /// Ends the minute that is going on, and begins the minute of the second `now` since 1970.
-    /// `counts` are the ends of all datagrams until then, and `held` the places that are held. It
-    /// fails only where memory is refused, and then the history is as before.
+    /// Ends the present minute, and begins the minute of the second `now` since 1970. `counts` are
+    /// the ends of all datagrams until then, and `held` the number of places held. It fails only if
+    /// memory is refused; then the history is as before.
     pub fn begin_minute(&mut self, now: u64, counts: &Counts, held: u64) -> Result<(), AllocError>
         ensures ok { OnOk result (self.new
             ≡ with_minute self.old (now / 60) (came_in counts.now) held) }
@@ -85,7 +85,7 @@ impl History {
         Ok(())
     }
 
-    /// The minute that is going on, at its end.
+    /// The present minute, at its end.
     fn minute(&self, came: &Came, held: u64) -> Minute
         ensures { result ≡ minute_of self.now.current self.now.before came.now held }
     {
@@ -100,7 +100,7 @@ impl History {
         }
     }
 
-    /// The last whole minutes, at most 60, the oldest first.
+    /// The last whole minutes, at most 60, oldest first.
     pub fn minutes(&self) -> &[Minute]
         ensures { result.now ≡ self.now.minutes }
     {
@@ -108,7 +108,7 @@ impl History {
     }
 }
 
-/// What had come at a moment.
+/// The numbers of what has come at a moment.
 #[derive(Clone, Copy)]
 pub(crate) struct Came {
     pub(crate) accepts: u64,
@@ -130,7 +130,7 @@ impl Came {
         }
     }
 
-    /// What these counts say.
+    /// The numbers of these counts.
     fn of(counts: &Counts) -> Came
         ensures { result ≡ came_in counts.now }
     {
@@ -141,7 +141,7 @@ impl Came {
         came
     }
 
-    /// These with `number` datagrams more of which this became.
+    /// These numbers with `number` further datagrams of this kind.
     fn with(mut self, kind: Kind, number: u64) -> Came
         ensures { result ≡ with_came self kind number }
     {
@@ -156,7 +156,7 @@ impl Came {
     }
 }
 
-/// Adds a minute after those that are kept, if it was whole: the oldest then makes room.
+/// Adds a minute if it was whole, in place of the oldest if the list is full.
 fn keep_last(minutes: &mut Vec<Minute>, minute: Minute, is_whole: bool) -> Result<(), AllocError>
     ensures ok { OnOk result (minutes.new.items
         ≡ kept_minutes minutes.old.items minute is_whole) }

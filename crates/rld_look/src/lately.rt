@@ -7,12 +7,12 @@ use rsl_wire::NoMemory;
 use std::alloc::{AllocError, Global};
 use std::marker::Model;
 
-/// How many refusals are kept to be looked at.
+/// The most refusals kept for a look.
 pub const MOST_LATELY: usize = 64;
 
 const _: () = prove!(MOST_LATELY == 64);
 
-/// The last refusals. A contract sees their list, the oldest first.
+/// The last refusals. A contract sees their list, oldest first.
 #[derive(Drop)]
 pub(crate) struct Lately {
     refusals: HeapCircularBuffer<Refusal>,
@@ -30,7 +30,7 @@ impl Model for Lately {
 }
 
 impl Lately {
-    /// No refusals yet, with room for as many as are kept. It fails only where memory is refused.
+    /// No refusals, with room for the most that are kept. It fails only if memory is refused.
     pub(crate) fn new(alloc: Global) -> Result<Lately, AllocError>
         ensures { IfOk result (λ lately. lately ≡ []) }
     {
@@ -39,14 +39,14 @@ impl Lately {
         })
     }
 
-    /// Adds a refusal; the oldest goes where `MOST_LATELY` are there.
+    /// Adds a refusal, in place of the oldest if there are `MOST_LATELY`.
     pub(crate) fn push(&mut self, refusal: Refusal)
         ensures { self.new ≡ keep_last MOST_LATELY (self.old ++ refusal ∷ []) }
     {
         let _oldest = self.refusals.push_back(refusal);
     }
 
-    /// Copies of the last refusals, the oldest first. It fails only where memory is refused.
+    /// Copies of the last refusals, oldest first. It fails only if memory is refused.
     pub(crate) fn copies(&self, alloc: Global) -> Result<Vec<Refusal>, NoMemory>
         ensures { IfOk result (λ copies. copies.items ≡ self.now) }
     {
@@ -58,7 +58,7 @@ impl Lately {
     }
 }
 
-/// Adds copies of refusals. It fails only where memory is refused.
+/// Adds copies of refusals. It fails only if memory is refused.
 fn push_copies(
     alloc: Global,
     copies: &mut Vec<Refusal>,

@@ -1,11 +1,10 @@
-//! What an operator sees of a running server: what it shows of itself at a moment, as plain data
-//! for whoever prints it; and refusals, the datagrams that were not served, with what an operator
-//! learns of each.
+//! What a running server shows of itself at a moment, as plain data for printing; and refusals, the
+//! datagrams that were not served, with what an operator learns of each.
 //!
-//! The promise: totals are those of all accounts (`specs/Totals.antt`), the fullest accounts are the first ones
-//! in the order of `specs/Accounts.antt`, and a minute of the history has what came since it began
-//! (`specs/History.antt`). Which ends are refusals, and what an operator learns of one, is said in
-//! `specs/Refusal.antt`.
+//! The promise: totals are those of all accounts (`specs/Totals.antt`), the fullest accounts are
+//! the first ones in the order of `specs/Accounts.antt`, and a minute of the history has what came
+//! since it began (`specs/History.antt`). Which ends are refusals, and what an operator learns of
+//! one, is in `specs/Refusal.antt`.
 #![tactic(auto)]
 
 mod accounts;

@@ -11,19 +11,19 @@ use rsl_event::{NasName, Source};
 use rsl_wire::Octets;
 use std::alloc::AllocError;
 
-/// How many places an account has, and how many it holds.
+/// The places of an account.
 #[derive(Clone, Copy)]
 pub struct Places {
-    /// How many it holds.
+    /// The number that it holds.
     pub held: u32,
-    /// How many it has.
+    /// The number that it has.
     pub all: u32,
 }
 
 impl Refusal {
-    /// Writes the line of the refusal. `places` are those of the account that it names, if there is
-    /// one, when the line is written. It fails only where memory is refused; a part of the line may
-    /// then have been written.
+    /// Writes the line of the refusal. `places` are those of its account, if there is one, when the
+    /// line is written. It fails only if memory is refused; a part of the line may then have been
+    /// written.
     #[tactic(auto, unfolding(crate::specs::Line::line_of))]
     pub fn write_line(
         &self,
@@ -41,8 +41,8 @@ impl Refusal {
     }
 }
 
-/// Writes a line for each cause of which some were left out, with their number. It fails only where
-/// memory is refused; a part of the lines may then have been written.
+/// Writes a line for each cause of which some refusals were left out, with their number. It fails
+/// only if memory is refused; a part of the lines may then have been written.
 #[tactic(auto, unfolding(crate::specs::Line::left_out_lines))]
 pub fn write_left_out(out: &mut Vec<u8>, sink: Sink, left_out: &Counts) -> Result<(), AllocError>
     ensures { OnOk result (out.new.items ≡ out.old.items ++ left_out_lines sink left_out.now) }
@@ -50,7 +50,7 @@ pub fn write_left_out(out: &mut Vec<u8>, sink: Sink, left_out: &Counts) -> Resul
     push_among(out, sink, left_out, &End::all())
 }
 
-/// Writes how many were left out of each of these causes, where any were.
+/// Writes the number left out of each of these causes, if any were.
 fn push_among(
     out: &mut Vec<u8>,
     sink: Sink,
@@ -66,7 +66,7 @@ fn push_among(
     Ok(())
 }
 
-/// Writes how a line begins: its mark, and the port.
+/// Writes the start of a line: its mark, and the port.
 #[tactic(auto, unfolding(crate::specs::Line::front_words))]
 fn push_front(out: &mut Vec<u8>, sink: Sink, end: End) -> Result<(), AllocError>
     ensures { OnOk result (out.new.items ≡ out.old.items ++ front_words sink end) }
@@ -76,7 +76,7 @@ fn push_front(out: &mut Vec<u8>, sink: Sink, end: End) -> Result<(), AllocError>
     push_text(out, end.port())
 }
 
-/// Writes where a datagram came from.
+/// Writes the source of a datagram.
 #[tactic(auto, unfolding(crate::specs::Line::source_words))]
 fn push_source(out: &mut Vec<u8>, source: Source) -> Result<(), AllocError>
     ensures { OnOk result (out.new.items ≡ out.old.items ++ source_words source) }
@@ -96,7 +96,7 @@ fn push_asker(out: &mut Vec<u8>, refusal: &Refusal) -> Result<(), AllocError>
     push_account(out, &refusal.name)
 }
 
-/// Writes what an access server calls itself, if it does.
+/// Writes the name of an access server, if it has one.
 fn push_nas(out: &mut Vec<u8>, name: &NasName) -> Result<(), AllocError>
     ensures { OnOk result (out.new.items ≡ out.old.items ++ nas_words name.now) }
 {
@@ -135,7 +135,7 @@ fn push_cause(out: &mut Vec<u8>, end: End) -> Result<(), AllocError>
     push_text(out, end.name())
 }
 
-/// Writes how many places are held of all, if they are known, and ends the line.
+/// Writes the held places of all, if they are known, and ends the line.
 fn push_held(out: &mut Vec<u8>, places: Option<Places>) -> Result<(), AllocError>
     ensures { OnOk result (out.new.items ≡ out.old.items ++ held_words places) }
 {
@@ -148,7 +148,7 @@ fn push_held(out: &mut Vec<u8>, places: Option<Places>) -> Result<(), AllocError
     push_text(out, "\n")
 }
 
-/// Writes how many were left out of a cause, if any were.
+/// Writes the number left out of a cause, if any were.
 fn push_if_any(out: &mut Vec<u8>, sink: Sink, end: End, number: u64) -> Result<(), AllocError>
     ensures { OnOk result
         (out.new.items ≡ out.old.items ++ left_out_if_any sink end number) }
@@ -160,7 +160,7 @@ fn push_if_any(out: &mut Vec<u8>, sink: Sink, end: End, number: u64) -> Result<(
     }
 }
 
-/// Writes how many were left out of a cause.
+/// Writes the number left out of a cause.
 #[tactic(auto, unfolding(crate::specs::Line::left_out_line))]
 fn push_left_out(out: &mut Vec<u8>, sink: Sink, end: End, number: u64) -> Result<(), AllocError>
     ensures { OnOk result (out.new.items ≡ out.old.items ++ left_out_line sink end number) }
@@ -171,7 +171,7 @@ fn push_left_out(out: &mut Vec<u8>, sink: Sink, end: End, number: u64) -> Result
     push_text(out, "\n")
 }
 
-/// Writes what the number is of, and the port.
+/// Writes the cause of the number, and the port.
 fn push_more(out: &mut Vec<u8>, end: End) -> Result<(), AllocError>
     ensures { OnOk result (out.new.items ≡ out.old.items ++ more_words end) }
 {
@@ -180,7 +180,7 @@ fn push_more(out: &mut Vec<u8>, end: End) -> Result<(), AllocError>
     Ok(())
 }
 
-/// Writes how a line begins that has the number of a cause: its mark, and the number.
+/// Writes the start of a line with the number of a cause: its mark, and the number.
 #[tactic(auto, unfolding(crate::specs::Line::number_words))]
 fn push_number(out: &mut Vec<u8>, sink: Sink, end: End, number: u64) -> Result<(), AllocError>
     ensures { OnOk result (out.new.items ≡ out.old.items ++ number_words sink end number) }

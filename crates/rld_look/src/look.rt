@@ -8,22 +8,22 @@ use rld_counts::{Counts, Histogram};
 use rsl_accounts::Text;
 use rsl_shard::Row;
 
-/// What a running server shows of itself at a moment. A second is one since 1970.
+/// What a running server shows of itself at a moment. Seconds are since 1970.
 #[derive(Drop)]
 pub struct Look {
     /// The build that runs.
     pub build: Build,
     /// The second of its start.
     pub start: u64,
-    /// The second in which it was looked at.
+    /// The second of the look.
     pub now: u64,
     /// The number of its era.
     pub era: u64,
     /// The number of the generation that it writes.
     pub generation: u64,
-    /// How many moves that generation has.
+    /// The number of moves of that generation.
     pub moves: u64,
-    /// The octets of memory that the books of its accounts take.
+    /// The memory of its accounts' books, in octets.
     pub memory: u64,
     /// Whether batches are being recorded.
     pub recording: Recording,
@@ -37,13 +37,13 @@ pub struct Look {
     pub acct_times: Histogram,
     /// What all accounts hold.
     pub totals: Totals,
-    /// The accounts that hold most of their places, the fullest first: at most `MOST_FULLEST`.
+    /// The accounts that hold most of their places, fullest first: at most `MOST_FULLEST`.
     pub fullest: Vec<AccountLook>,
-    /// The last whole minutes, at most 60, the oldest first.
+    /// The last whole minutes, at most 60, oldest first.
     pub minutes: Vec<Minute>,
-    /// The datagrams that were refused lately, the oldest first.
+    /// The last refused datagrams, oldest first.
     pub refusals: Vec<Refusal>,
-    /// What waits at each socket, in the order of the server's file. A socket of which the system
+    /// The queue of each socket, in the order of the server's file. A socket of which the system
     /// says nothing is left out.
     pub sockets: Vec<SocketLook>,
 }
@@ -51,7 +51,7 @@ pub struct Look {
 /// What the accounts of a running server hold at a moment.
 #[derive(Drop)]
 pub struct AccountsLook {
-    /// The second in which they were looked at, since 1970.
+    /// The second of the look, since 1970.
     pub now: u64,
     /// What each account holds, in file order.
     pub accounts: Vec<AccountLook>,
@@ -78,17 +78,17 @@ pub struct AccountLook {
 /// What came in a minute, and what was held at its end.
 #[derive(Clone, Copy)]
 pub struct Minute {
-    /// The second in which it began.
+    /// The second in which it began, since 1970.
     pub start: u64,
-    /// How many Access-Accepts were sent.
+    /// The Access-Accepts sent.
     pub accepts: u64,
-    /// How many Access-Rejects were sent because no place was free.
+    /// The Access-Rejects sent because no place was free.
     pub limit_rejects: u64,
-    /// How many Access-Rejects were sent for any other cause.
+    /// The Access-Rejects sent for any other cause.
     pub rejects: u64,
-    /// How many Accounting-Responses were sent.
+    /// The Accounting-Responses sent.
     pub accounting: u64,
-    /// How many places were held at its end.
+    /// The places held at its end.
     pub held: u64,
 }
 
@@ -101,14 +101,15 @@ impl Minute {
     }
 }
 
-/// What waits at a UDP socket, as the system gives it.
+/// The queue of a UDP socket, as the system reports it.
 #[derive(Clone, Copy)]
 pub struct SocketLook {
     /// The socket's UDP port.
     pub port: u16,
-    /// How much of its room is taken by datagrams that wait, in octets.
+    /// The octets of its receive buffer that waiting datagrams take.
     pub waiting: u64,
-    /// How many datagrams the system has dropped for want of room since the socket was bound.
+    /// The datagrams that the system has dropped since the socket was bound because the buffer was
+    /// full.
     pub dropped: u64,
 }
 
@@ -117,6 +118,6 @@ pub struct SocketLook {
 pub enum Recording {
     /// Batches are being recorded.
     Recorded,
-    /// A batch was not recorded lately: the disk is full or fails, or memory is refused.
+    /// A batch was not recorded recently: the disk is full or fails, or memory is refused.
     Failing,
 }

@@ -1,4 +1,4 @@
-//! How a running server is shown to those who ask for it.
+//! Showing a running server.
 
 use crate::look::{AccountsLook, Look};
 use rsl_wire::NoMemory;
@@ -7,21 +7,21 @@ use std::net::Net;
 use std::sync::Wait;
 use std::time::Clock;
 
-/// A server that is shown.
+/// A server that can be shown.
 pub trait Shown {
-    /// What it shows of itself now. It fails only where memory is refused.
+    /// What it now shows of itself. It fails only if memory is refused.
     fn take_look(&self) -> Result<Look, NoMemory>;
 
-    /// What its accounts hold now. It fails only where memory is refused.
+    /// What its accounts now hold. It fails only if memory is refused.
     fn take_accounts(&self) -> Result<AccountsLook, NoMemory>;
 
-    /// Whether the server shall end.
+    /// Whether the server is to end.
     fn is_over(&self) -> bool;
 }
 
-/// What shows a server to those who ask, from a thread of its own.
+/// Shows a server to clients, on its own thread.
 pub trait Pages {
-    /// Shows a server until it shall end, which is noticed within a second. The error is the
-    /// system's, where whoever asks cannot be waited for.
+    /// Shows a server until it is to end, which is noticed within a second. The error is the
+    /// system's, if waiting for clients fails.
     fn show<S: Shown, R: Net + Clock + Wait>(&self, rt: &R, server: &S) -> io::Result<()>;
 }

@@ -3,28 +3,28 @@ ghost use Rattle.rld_look.specs.Line.{mark_of, priority_of};
 
 use rld_counts::Kind;
 
-/// Who reads the lines that a server writes.
+/// The reader of the lines that a server writes.
 #[derive(Clone, Copy)]
 pub enum Sink {
-    /// systemd's journal, which takes a mark at the front of a line as its priority.
+    /// The journal of systemd, which takes a mark at the front of a line as its priority.
     Journal,
     /// A person, a file or another program.
     Plain,
 }
 
-/// How grave a line is, by the names of RFC 5424 section 6.2.1.
+/// The priority of a line, by the names of RFC 5424 section 6.2.1.
 #[derive(Clone, Copy)]
 pub enum Priority {
     /// The server does not do its work.
     Error,
-    /// Something is set up wrongly, or fails.
+    /// Something is misconfigured, or fails.
     Warning,
     /// Something that an operator may want to know.
     Notice,
 }
 
 impl Priority {
-    /// What stands before a line of this priority: a mark that the journal reads, or nothing.
+    /// The prefix of a line of this priority: a mark that the journal reads, or nothing.
     pub fn mark(self, sink: Sink) -> &'static str
         ensures { result.now ≡ mark_of sink self }
     {
@@ -36,8 +36,8 @@ impl Priority {
         }
     }
 
-    /// The priority of the line of a datagram of which this became. A reject is the business of a
-    /// customer; any other is that of whoever runs the access servers or this server.
+    /// The priority of the line of a datagram of this kind. A reject concerns a customer; any other
+    /// refusal concerns whoever runs the access servers or this server.
     pub fn of(kind: Kind) -> Priority
         ensures { result ≡ priority_of kind }
     {

@@ -9,31 +9,31 @@ use rsl_event::{NasName, Source};
 use rsl_wire::{Attrs, NoMemory, Octets, read};
 use std::alloc::Global;
 
-/// A datagram that has ended, as a receiver knows it.
+/// A datagram that has ended, as a receiver sees it.
 #[derive(Clone, Copy)]
 pub struct Refused<'a> {
     /// When it ended, in seconds since 1970.
     pub moment: u64,
-    /// Where it came from.
+    /// Its source.
     pub source: Source,
     /// The number of the client that has this address, if there is one.
     pub client: Option<u32>,
-    /// Its octets, or none where they are not at hand.
+    /// Its octets, or none if they are not available.
     pub octets: &'a [u8],
     /// How it ended.
     pub end: End,
 }
 
-/// What an operator learns of a datagram that was refused.
+/// What an operator learns of a refused datagram.
 #[derive(Drop)]
 pub struct Refusal {
     /// When it ended, in seconds since 1970.
     pub moment: u64,
-    /// Where it came from.
+    /// Its source.
     pub source: Source,
     /// The number of the client that has this address, if there is one.
     pub client: Option<u32>,
-    /// What the access server calls itself: unnamed also where the datagram's attributes cannot be
+    /// The name of the access server. It is also unnamed if the datagram's attributes cannot be
     /// read.
     pub nas: NasName,
     /// The first User-Name (RFC 2865 section 5.1), if the datagram's attributes can be read and
@@ -44,7 +44,7 @@ pub struct Refusal {
 }
 
 impl Refusal {
-    /// The refusal of this datagram. It fails only where memory is refused.
+    /// The refusal of this datagram. It fails only if memory is refused.
     pub fn of(alloc: Global, refused: &Refused<'_>) -> Result<Refusal, NoMemory>
         ensures { IfOk result (λ refusal. refusal ≡ refusal_of refused.now) }
     {
@@ -57,7 +57,7 @@ impl Refusal {
         named(alloc, refused, &attributes)
     }
 
-    /// An equal refusal. It fails only where memory is refused.
+    /// An equal refusal. It fails only if memory is refused.
     pub fn try_copy(&self, alloc: Global) -> Result<Refusal, NoMemory>
         ensures { IfOk result (λ copy. copy ≡ self.now) }
     {
@@ -72,8 +72,8 @@ impl Refusal {
     }
 }
 
-/// Whether a datagram that ended so was refused: it came to the authentication port and got no
-/// accept, or it came to the accounting port and got no answer.
+/// Whether a datagram that ended so was refused: on the authentication port it got no accept, or on
+/// the accounting port no answer.
 pub fn is_refusal(end: End) -> bool
     ensures { result ≡ is_refusal end }
 {
@@ -115,8 +115,8 @@ fn named(alloc: Global, refused: &Refused<'_>, attributes: &Attrs<'_>) -> Result
     })
 }
 
-/// What an access server calls itself: its NAS-Identifier (RFC 2865 section 5.32), else its
-/// NAS-IP-Address (RFC 2865 section 5.4), else nothing.
+/// The name of an access server: its NAS-Identifier (RFC 2865 section 5.32), else its
+/// NAS-IP-Address (RFC 2865 section 5.4), else none.
 fn nas_name(
     alloc: Global,
     identifier: Option<&[u8]>,

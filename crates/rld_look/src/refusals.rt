@@ -6,8 +6,8 @@ use rsl_wire::NoMemory;
 use std::alloc::{AllocError, Global};
 use std::sync::{Mutex, Wait};
 
-/// The refusals of a server: what each of its receivers notes, behind a lock of its own, and what was
-/// refused lately, for whoever looks. One worker takes what waits and writes the lines. No lock is held
+/// The refusals of a server: what each of its receivers notes, each under a lock of its own, and
+/// the last ones, for a look. One worker takes what waits and writes the lines. No lock is held
 /// while a line is written, and no receiver waits for another.
 #[derive(Drop)]
 pub struct Refusals {
@@ -16,7 +16,7 @@ pub struct Refusals {
 }
 
 impl Refusals {
-    /// The refusals of `receivers` receivers, none yet. It fails only where memory is refused.
+    /// The refusals of `receivers` receivers, empty at first. It fails only if memory is refused.
     pub fn new(alloc: Global, receivers: usize) -> Result<Refusals, AllocError> {
         let mut backlogs = Vec::new(alloc);
         for _ in 0..receivers {
@@ -28,8 +28,8 @@ impl Refusals {
         })
     }
 
-    /// Leaves out a datagram that ended so at this receiver, where as many refusals of its cause wait
-    /// there as may, and gives whether it has. A flood of refusals costs a receiver no more.
+    /// Leaves out a datagram that ended so at this receiver if the most refusals of its cause are
+    /// waiting there, and gives whether it has. A flood of refusals costs a receiver no more.
     pub fn leave_out<R: Wait>(&self, rt: &R, receiver: usize, end: End) -> bool {
         match self.backlogs.as_slice().get(receiver) {
             Some(backlog) => backlog.lock(rt).leave_out(end),
@@ -48,8 +48,8 @@ impl Refusals {
         }
     }
 
-    /// Takes what waits at all receivers, at most `MOST_LINES` of each cause, and the counts of what was
-    /// left out since it was taken last. Those of one receiver stand together, the oldest first.
+    /// Takes what waits at all receivers, at most `MOST_LINES` of each cause, and the counts of
+    /// what was left out since the last call. Those of one receiver are together, oldest first.
     pub fn take<R: Wait>(&self, rt: &R, alloc: Global) -> Taken {
         let mut all = Backlog::new(alloc);
         for backlog in self.backlogs.as_slice() {
@@ -58,13 +58,12 @@ impl Refusals {
         all.take(alloc)
     }
 
-    /// Keeps a refusal whose line is written, to be looked at.
+    /// Keeps a refusal whose line is written, for a look.
     pub fn keep<R: Wait>(&self, rt: &R, refusal: Refusal) {
         self.lately.lock(rt).push(refusal);
     }
 
-    /// The last refusals that were kept, at most 64, the oldest first. It fails only where memory
-    /// is refused.
+    /// The last refusals kept, at most 64, oldest first. It fails only if memory is refused.
     pub fn lately<R: Wait>(&self, rt: &R, alloc: Global) -> Result<Vec<Refusal>, NoMemory> {
         self.lately.lock(rt).copies(alloc)
     }

@@ -1,4 +1,4 @@
-//! The system's tables of UDP sockets: `/proc/self/net/udp`, and `/proc/self/net/udp6` of those on IPv6
+//! The system's tables of UDP sockets: `/proc/self/net/udp`, and `/proc/self/net/udp6` for IPv6
 //! addresses (proc(5)).
 
 ghost use Rattle.std.specs.Prelude.{◌≡◌, IfSome};
@@ -6,8 +6,8 @@ ghost use Rattle.std.specs.Prelude.{◌≡◌, IfSome};
 use crate::look::SocketLook;
 use std::net::{IpAddr, Ipv4Addr, Ipv6Addr};
 
-/// What a table says of the socket that is bound to this address and port. `None` comes where the
-/// table has no such socket, or has something else where a number should stand.
+/// The entry of a table for the socket bound to this address and port. `None` if the table has no
+/// such socket, or something other than a number where one should be.
 pub fn socket_in(table: &str, address: IpAddr, port: u16) -> Option<SocketLook>
     ensures { IfSome result (λ socket. socket.port ≡ port) }
 {
@@ -19,9 +19,9 @@ pub fn socket_in(table: &str, address: IpAddr, port: u16) -> Option<SocketLook>
     None
 }
 
-/// What a line says of that socket. Its words are the slot, the local address, the remote one, the
-/// state, the octets that wait to be sent and to be received, and more; the last is how many datagrams
-/// were dropped.
+/// The entry of a line, if it is of that socket. Its words are the slot, the local address, the
+/// remote one, the state, the octets that wait to be sent and to be received, and more; the last is
+/// the number of dropped datagrams.
 fn socket_on(line: &str, address: IpAddr, port: u16) -> Option<SocketLook>
     ensures { IfSome result (λ socket. socket.port ≡ port) }
 {
@@ -62,18 +62,18 @@ fn is_host(digits: &str, address: IpAddr) -> bool {
     }
 }
 
-/// The octets of an IPv4 address as a number in the order of the machine: the first is the least.
+/// An IPv4 address as a number in the byte order of the machine: the first octet is the lowest.
 fn number_of_ipv4(address: Ipv4Addr) -> u32 {
     u32::from_le_bytes(address.octets())
 }
 
-/// The octets of an IPv6 address as four such numbers of 32 bits, one after the other.
+/// An IPv6 address as four such numbers of 32 bits, one after the other.
 fn number_of_ipv6(address: Ipv6Addr) -> u128 {
     let [a, b, c, d, e, f, g, h, i, j, k, l, m, n, o, p] = address.octets();
     u128::from_be_bytes([d, c, b, a, h, g, f, e, l, k, j, i, p, o, n, m])
 }
 
-/// The number after the colon of a word, in hexadecimal digits.
+/// The hexadecimal number after the colon of a word.
 fn hex_behind_colon(word: &str) -> Option<u64> {
     let (_, digits) = word.split_once(':')?;
     u64::from_str_radix(digits, 16).ok()

@@ -8,21 +8,21 @@ use rsl_shard::Row;
 /// What all accounts hold, each number at most 2^64 - 1.
 #[derive(Clone, Copy)]
 pub struct Totals {
-    /// How many accounts there are.
+    /// The number of accounts.
     pub accounts: u64,
     /// The places that they have.
     pub places: u64,
     /// The places that they hold.
     pub held: u64,
-    /// How many of their links are reserved.
+    /// The number of their reserved links.
     pub reserved: u64,
-    /// How many of their links are bound and live.
+    /// The number of their bound links that are live.
     pub live: u64,
-    /// How many of their links are bound and stale.
+    /// The number of their bound links that are stale.
     pub stale: u64,
-    /// How many of their alives were over.
+    /// The number of their alives that found no place.
     pub over: u64,
-    /// How many accounts have no free place.
+    /// The number of accounts with no free place.
     pub full: u64,
 }
 
@@ -43,7 +43,7 @@ impl Totals {
         }
     }
 
-    /// The totals of the accounts whose rows these are. A row of no account is passed over.
+    /// The totals of the accounts with these rows. A row of no account is skipped.
     #[tactic(auto, using(crate::proofs::Showing::total_steps))]
     pub fn of(config: &Config, rows: &[Row]) -> Totals
         ensures { result ≡ totals_of (looks_of config.now rows.now) }
@@ -57,7 +57,7 @@ impl Totals {
         totals
     }
 
-    /// These totals with one account more.
+    /// These totals with another account.
     fn with(self, row: &Row) -> Totals
         ensures { result ≡ with_row self row.now }
     {

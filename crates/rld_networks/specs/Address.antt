@@ -15,7 +15,7 @@ ipv4 octets = V4 (record { octets = octets })
 abbrev pub ipv6 : (segments : List ℕ) → IpAddr
 ipv6 segments = V6 (record { segments = segments })
 
--- the address that a text writes, with nothing after it
+-- the address of a text, with nothing after it
 unfoldable pub ip_address_of : (text : List ℕ) → Option IpAddr
 ip_address_of text =
     option_or (option_map ipv4 (whole_value (read_ipv4 text)))
@@ -44,7 +44,7 @@ same_family (V4 one) (V4 other) = true
 same_family (V6 one) (V6 other) = true
 same_family one other = false
 
--- how many bits the address has, and the number that they are
+-- the number of bits of the address, and their number
 abbrev pub width : IpAddr → ℕ
 width (V4 address) = 32
 width (V6 address) = 128
@@ -53,21 +53,21 @@ abbrev pub bits : IpAddr → ℕ
 bits (V4 address) = ipv4_bits address
 bits (V6 address) = ipv6_bits address
 
--- the number that its first `len` bits are
+-- the first `len` bits of the address as a number
 abbrev pub front : IpAddr → (len : ℕ) → ℕ
 front address len = bits address / 2 ^ (width address - len)
 
--- whether they are one address
+-- whether two addresses are equal
 abbrev pub same_address : IpAddr → IpAddr → Bool
 same_address one other = same_family one other && bits one == bits other
 
--- whether a socket that is bound to the one address takes what comes to the other: it is the same, or
--- the one means every address, 0.0.0.0 each of IPv4 and :: each
+-- whether a socket bound to one address receives what comes to the other: they are equal, or the
+-- one is the wildcard address of its family, 0.0.0.0 or ::
 abbrev pub covers : IpAddr → IpAddr → Bool
 covers one other =
     same_address one other || bits one == 0 && (is_ipv6 one || same_family one other)
 
--- the first `len` bits of the address are a prefix: it is canonical and has as many, and all bits
+-- the first `len` bits of the address are a prefix: it is canonical and long enough, and all bits
 -- after them are 0
 abbrev pub is_prefix : IpAddr → (len : ℕ) → Bool
 is_prefix address len =

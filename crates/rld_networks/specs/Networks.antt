@@ -1,4 +1,4 @@
--- Which client an address stands for.
+-- The client of an address.
 use Rattle.std.specs.Prelude.{ℕ, nat_lt, List, [], ◌∷◌, filter, if◌then◌else◌, Option, Some, None}
 use Rattle.std.specs.Net.Addr.{ipv4_octets}
 use Rattle.std.specs.declared.net.ip_addr.IpAddr.{IpAddr}
@@ -7,19 +7,19 @@ use Rattle.rld_networks.specs.Address.{canonical}
 use Rattle.rld_networks.specs.Prefix.{holds}
 use Rattle.rld_networks.specs.declared.network.Network.{Network}
 
--- the one of two with the longer prefix, the first of equals
+-- the network of the two with the longer prefix, or the first if they are equal
 abbrev pub first_longest : Option Network → Option Network → Option Network
 first_longest None other = other
 first_longest (Some network) None = Some network
 first_longest (Some network) (Some other) =
     if nat_lt network.prefix.len other.prefix.len then Some other else Some network
 
--- the one of some with the longest prefix, the first of equals
+-- the network with the longest prefix, and of several the first
 abbrev pub longest : List Network → Option Network
 longest [] = None
 longest (network ∷ networks) = first_longest (Some network) (longest networks)
 
--- of the networks that hold an address the one with the longest prefix
+-- the network with the longest prefix among those that hold an address
 abbrev pub network_of : List Network → IpAddr → Option Network
 network_of networks address = longest (filter (λ network. holds network.prefix address) networks)
 
@@ -30,7 +30,7 @@ client_by (Some network) address = Some network.client
 client_by None (V4 address) = Some (ipv4_octets address)
 client_by None (V6 address) = None
 
--- the IPv4 address of the client that an address stands for
+-- the IPv4 address of the client of an address
 unfoldable pub client_of : List Network → IpAddr → Option (List ℕ)
 client_of networks address =
     client_by (network_of networks (canonical address)) (canonical address)

@@ -1,4 +1,4 @@
--- Prefixes of addresses: which text is one, and which addresses it holds.
+-- Prefixes of addresses: their texts, and which addresses they hold.
 use Rattle.std.specs.Prelude.{ℕ, ◌+◌, ◌-◌, ◌*◌, ◌==◌, Bool, ◌&&◌, nat_le, List, [], ◌∷◌, take, drop, if◌then◌else◌, position, Option, Some, None, option_and_then}
 use Rattle.std.specs.declared.net.ip_addr.IpAddr.{IpAddr}
 use Rattle.rld_networks.specs.Address.{canonical, front, ip_address_of, is_prefix, same_address, same_family}
@@ -20,7 +20,7 @@ is_digit octet = nat_le 48 octet && nat_le octet 57
 abbrev pub is_first_digit : ℕ → Bool
 is_first_digit octet = nat_le 49 octet && nat_le octet 57
 
--- the number up to 199 that one to three decimal digits write, the first of several not 0
+-- the number of one to three decimal digits without a leading 0, up to 199
 abbrev pub decimal_of : (text : List ℕ) → Option ℕ
 decimal_of (a ∷ []) = if is_digit a then Some (a - 48) else None
 decimal_of (a ∷ b ∷ []) =
@@ -29,13 +29,13 @@ decimal_of (a ∷ b ∷ c ∷ []) =
     if a == 49 && is_digit b && is_digit c then Some (100 + 10 * (b - 48) + (c - 48)) else None
 decimal_of _ = None
 
--- the prefix of an address and a number of bits, if they are one
+-- the prefix of an address and a number of bits, if it is one
 abbrev pub prefix_in : Option IpAddr → Option ℕ → Option Prefix
 prefix_in (Some address) (Some len) =
     if is_prefix address len then Some (record { address = address; len = len }) else None
 prefix_in _ _ = None
 
--- the prefix that a text writes: an address, a slash and a decimal number
+-- the prefix of a text: an address, a slash and a decimal number
 unfoldable pub prefix_of : (text : List ℕ) → Option Prefix
 prefix_of text =
     option_and_then

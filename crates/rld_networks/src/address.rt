@@ -21,8 +21,8 @@ const IPV4_BITS: u8 = 32;
 /// The bits of an IPv6 address.
 const IPV6_BITS: u8 = 128;
 
-/// The address that a text writes: IPv4 as four decimal numbers with dots, or IPv6 (RFC 4291 section
-/// 2.2). `None` for any other text.
+/// The address of a text: IPv4 as four decimal numbers with dots, or IPv6 (RFC 4291 section 2.2).
+/// `None` for any other text.
 pub fn ip_address_of(text: &[u8]) -> Option<IpAddr>
     ensures { result ≡ ip_address_of text.now }
 {
@@ -32,8 +32,8 @@ pub fn ip_address_of(text: &[u8]) -> Option<IpAddr>
     }
 }
 
-/// The address itself, but a.b.c.d for the IPv6 address ::ffff:a.b.c.d, by which a socket on an IPv6
-/// address tells it (RFC 4291 section 2.5.5.2).
+/// The address itself, but a.b.c.d for the IPv6 address ::ffff:a.b.c.d, as which an IPv6 socket
+/// reports it (RFC 4291 section 2.5.5.2).
 pub fn canonical(address: IpAddr) -> IpAddr
     ensures { result ≡ canonical address }
 {
@@ -60,22 +60,22 @@ pub(crate) fn same_family(one: IpAddr, other: IpAddr) -> bool
     one.is_ipv4() == other.is_ipv4()
 }
 
-/// Whether two addresses are one.
+/// Whether two addresses are equal.
 pub fn same_address(one: IpAddr, other: IpAddr) -> bool
     ensures { result ≡ same_address one other }
 {
     same_family(one, other) && bits(one) == bits(other)
 }
 
-/// Whether a socket that is bound to the one address takes what comes to the other: it is the same, or
-/// the one means every address, 0.0.0.0 each of IPv4 and :: each.
+/// Whether a socket bound to `one` receives what comes to `other`: they are equal, or `one` is the
+/// wildcard address of its family, 0.0.0.0 or ::.
 pub fn covers(one: IpAddr, other: IpAddr) -> bool
     ensures { result ≡ covers one other }
 {
     same_address(one, other) || bits(one) == 0 && (one.is_ipv6() || same_family(one, other))
 }
 
-/// How many bits the address has.
+/// The number of bits of the address.
 fn width(address: IpAddr) -> u8
     ensures { result ≡ width address }
 {
@@ -95,7 +95,7 @@ fn bits(address: IpAddr) -> u128
     }
 }
 
-/// How many bits of an address are left after the first `len`.
+/// The number of bits of an address after the first `len`.
 fn rest(address: IpAddr, len: u8) -> u8
     ensures { result ≡ width address - len }
 {
@@ -109,8 +109,8 @@ pub(crate) fn front(address: IpAddr, len: u8) -> u128
     without_last(bits(address), rest(address, len))
 }
 
-/// Whether the first `len` bits of the address are a prefix: it is canonical, has as many, and all
-/// bits after them are 0.
+/// Whether the first `len` bits of the address are a prefix: it is canonical and long enough, and
+/// all bits after them are 0.
 pub(crate) fn is_prefix(address: IpAddr, len: u8) -> bool
     ensures { result ≡ is_prefix address len }
 {

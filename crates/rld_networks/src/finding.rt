@@ -1,4 +1,4 @@
-//! Which client an address stands for.
+//! Finding the client of an address.
 ghost use Rattle.std.specs.Prelude.{◌≡◌, Some};
 ghost use Rattle.rld_networks.specs.Networks.{client_of, first_longest, network_of};
 ghost use Rattle.rld_networks.specs.Prefix.{holds, same_prefix};
@@ -8,9 +8,9 @@ use crate::network::Network;
 use crate::prefix::Prefix;
 use std::net::IpAddr;
 
-/// The IPv4 address of the client that an address stands for: that of the network with the longest
-/// prefix among those that hold it; else an IPv4 address itself. An IPv6 address that no network holds
-/// is no client's. ::ffff:a.b.c.d counts as a.b.c.d.
+/// The IPv4 address of the client of an address: that of the network with the longest prefix among
+/// those that hold it; else an IPv4 address itself. An IPv6 address that no network holds is no
+/// client's. ::ffff:a.b.c.d counts as a.b.c.d.
 #[tactic(auto, unfolding(crate::specs::Networks::client_of))]
 pub fn client_of(networks: &[Network], address: IpAddr) -> Option<[u8; 4]>
     ensures { result ≡ client_of networks.now address }
@@ -23,7 +23,7 @@ pub fn client_of(networks: &[Network], address: IpAddr) -> Option<[u8; 4]>
     }
 }
 
-/// Of the networks that hold an address the one with the longest prefix.
+/// The network with the longest prefix among those that hold an address.
 #[tactic(auto, using(crate::proofs::Longest::longest_steps))]
 fn network_of(networks: &[Network], address: IpAddr) -> Option<Network>
     ensures { result ≡ network_of networks.now address }
@@ -37,7 +37,7 @@ fn network_of(networks: &[Network], address: IpAddr) -> Option<Network>
     found
 }
 
-/// The one of two with the longer prefix, the first of equals.
+/// The network of the two with the longer prefix, or the first if they are equal.
 fn first_longest(found: Option<Network>, network: Network) -> Network
     ensures { Some result ≡ first_longest found (Some network) }
 {
@@ -48,14 +48,14 @@ fn first_longest(found: Option<Network>, network: Network) -> Network
 }
 
 impl Prefix {
-    /// Whether both hold the same addresses.
+    /// Whether both prefixes hold the same addresses.
     pub fn is_same(&self, other: &Prefix) -> bool
         ensures { result ≡ same_prefix self.now other.now }
     {
         same_address(self.address, other.address) && self.len == other.len
     }
 
-    /// Whether it holds the address.
+    /// Whether the prefix holds the address.
     fn holds(&self, address: IpAddr) -> bool
         ensures { result ≡ holds self.now address }
     {

@@ -1,8 +1,8 @@
-//! Networks: the prefixes of addresses that stand for clients, IPv4 and IPv6.
+//! Networks: prefixes of IPv4 and IPv6 addresses that stand for clients.
 //!
-//! The promise: of the networks that hold an address the one with the longest prefix says which client
-//! it is, and an address that no network holds is its own IPv4 client or no client's
-//! (`specs/Networks.antt`). What a prefix is, which text is one, and which addresses it holds, is in
+//! The promise: of the networks that hold an address the one with the longest prefix names its
+//! client, and an address that no network holds is its own IPv4 client or no client's
+//! (`specs/Networks.antt`). What a prefix is, its text, and which addresses it holds, is in
 //! `specs/Prefix.antt`.
 #![tactic(auto)]
 

@@ -1,13 +1,13 @@
 use std::fmt;
 use std::net::IpAddr;
 
-/// A prefix of addresses, as 192.0.2.0/24 or 2001:db8:7::/64 (RFC 4632 section 3.1, RFC 4291 section
-/// 2.3). It prints so.
+/// A prefix of addresses, such as 192.0.2.0/24 or 2001:db8:7::/64 (RFC 4632 section 3.1, RFC 4291
+/// section 2.3), which is how it prints.
 #[derive(Clone, Copy, Debug)]
 pub struct Prefix {
-    /// The first address that it holds: no ::ffff:a.b.c.d, which is written as IPv4.
+    /// The first address that it holds. It is never ::ffff:a.b.c.d, which is written as IPv4.
     pub address: IpAddr,
-    /// How many bits of an address have to be those of this one: 0 to 32, or to 128 for IPv6.
+    /// The number of bits that an address shares with this one: 0 to 32, or to 128 for IPv6.
     pub len: u8,
 }
 

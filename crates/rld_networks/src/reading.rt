@@ -1,4 +1,4 @@
-//! Prefixes as they are written.
+//! Reading prefixes.
 ghost use Rattle.std.specs.Prelude.{◌≡◌, ◌≤◌, ◌<◌, ◌-◌, ◌==◌, IfSome, length, position};
 ghost use Rattle.rld_networks.specs.Prefix.{decimal_of, is_digit, is_first_digit, prefix_in, prefix_of};
 
@@ -6,10 +6,10 @@ use crate::address::{ip_address_of, is_prefix};
 use crate::prefix::Prefix;
 use std::net::IpAddr;
 
-/// The prefix that a text writes: an address, a slash, and how many of its bits have to be the same,
-/// as `192.0.2.0/24` or `2001:db8:7::/64`. `None` for any other text: where the number is over 32, or
-/// over 128 for IPv6, or begins with a 0, where a bit after that many is set, as in `192.0.2.1/24`,
-/// and where the address is IPv4 but written as ::ffff:a.b.c.d.
+/// The prefix of a text: an address, a slash, and the number of its bits that count, such as
+/// `192.0.2.0/24` or `2001:db8:7::/64`. `None` for any other text: a number over 32, or over 128
+/// for IPv6, or with a leading 0; a bit set after that many, as in `192.0.2.1/24`; or an IPv4
+/// address written as ::ffff:a.b.c.d.
 #[tactic(auto, unfolding(crate::specs::Prefix::prefix_of))]
 pub fn prefix_of(text: &[u8]) -> Option<Prefix>
     ensures { result ≡ prefix_of text.now }
@@ -21,7 +21,7 @@ pub fn prefix_of(text: &[u8]) -> Option<Prefix>
     )
 }
 
-/// Where the first slash of a text stands.
+/// The offset of the first slash of a text.
 fn first_slash(text: &[u8]) -> Option<usize>
     ensures place { result ≡ position (λ octet. octet == 47) text.now }
     ensures within { IfSome result (λ slash. slash < length text.now) }
@@ -29,7 +29,7 @@ fn first_slash(text: &[u8]) -> Option<usize>
     text.iter().position(|octet| *octet == b'/')
 }
 
-/// The prefix of an address and a number of bits, if they are one.
+/// The prefix of an address and a number of bits, if it is one.
 fn prefix_in(address: Option<IpAddr>, len: Option<u8>) -> Option<Prefix>
     ensures { result ≡ prefix_in address len }
 {
@@ -39,7 +39,7 @@ fn prefix_in(address: Option<IpAddr>, len: Option<u8>) -> Option<Prefix>
     }
 }
 
-/// The number up to 199 that one to three decimal digits write, the first of several not 0.
+/// The number of one to three decimal digits without a leading 0, up to 199.
 fn decimal_of(text: &[u8]) -> Option<u8>
     ensures { result ≡ decimal_of text.now }
 {

@@ -10,8 +10,8 @@ use Rattle.rsl_shard.specs.declared.row.Row.{Row}
 abbrev pub hex_digit : ℕ → ℕ
 hex_digit digit = if nat_lt digit 10 then 48 + digit else 55 + digit
 
--- an octet of a string (RFC 8259 section 7): a quote and a backslash have a backslash before them, a
--- control character is `\u` and four hexadecimal digits
+-- an octet of a string (RFC 8259 section 7): a quote and a backslash have a backslash before them,
+-- a control character is `\u` and four hexadecimal digits
 abbrev pub json_octet : ℕ → List ℕ
 json_octet octet =
     if octet == 34 then codes "\\\""
@@ -27,7 +27,7 @@ member_json name number = codes ",\"" ++ (name ++ (codes "\":" ++ decimal number
 unfoldable pub name_json : (name : List ℕ) → List ℕ
 name_json name = codes "\n{\"name\":\"" ++ (flat_map json_octet name ++ codes "\"")
 
--- how an account's links are, and the end of its object
+-- the links of an account, and the end of its object
 unfoldable pub links_json : Row → List ℕ
 links_json row =
     member_json (codes "live") row.live
@@ -53,7 +53,7 @@ abbrev pub list_json : List AccountLook → List ℕ
 list_json [] = []
 list_json (first ∷ others) = account_json first ++ flat_map more_json others
 
--- the whole: the second since 1970, and the accounts in the order of the file
+-- the whole: the second since 1970, and the accounts in file order
 unfoldable pub accounts_json : AccountsLook → List ℕ
 accounts_json look =
     codes "{\"now\":" ++ (decimal look.now

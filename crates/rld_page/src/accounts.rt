@@ -5,7 +5,7 @@ use crate::html::Html;
 use rld_look::{AccountLook, Look};
 use std::alloc::AllocError;
 
-/// Writes the accounts that hold most of their places, the fullest first.
+/// Writes the accounts that hold most of their places, fullest first.
 pub(crate) fn write_accounts(html: &mut Html, look: &Look) -> Result<(), AllocError> {
     html.markup(
         "<section class=\"most\"><div class=\"top\"><h2>Fullest accounts</h2><p class=\"soft\">",
@@ -52,7 +52,7 @@ fn write_account(html: &mut Html, account: &AccountLook) -> Result<(), AllocErro
     html.markup("</tr>\n")
 }
 
-/// Writes a number that a narrow window has no room for.
+/// Writes a number for which a narrow window has no room.
 fn write_cell(html: &mut Html, number: u64) -> Result<(), AllocError> {
     html.markup("<td class=\"n more\">")?;
     write_grouped(html, number)?;

@@ -1,4 +1,4 @@
-//! How the datagrams of each port ended, by their cause.
+//! How the datagrams of each port ended, by cause.
 
 use crate::ends::words;
 use crate::figures::write_grouped;
@@ -17,7 +17,8 @@ pub(crate) fn write_causes(html: &mut Html, counts: &Counts) -> Result<(), Alloc
     html.markup("</div></section>\n")
 }
 
-/// Writes the table of a port by all its ends: the answers that came, then all else that did.
+/// Writes the table of a port from all its ends: the answers that occurred, then the other ends
+/// that did.
 fn write_port(
     html: &mut Html,
     port: &'static str,
@@ -34,7 +35,7 @@ fn write_port(
     html.markup("</td></tr></tfoot></table>\n")
 }
 
-/// Writes those of the ends that came and are answers, or that came and are none.
+/// Writes the ends that occurred and are answers, or the others that occurred.
 fn write_ends(
     html: &mut Html,
     counts: &Counts,
@@ -49,7 +50,7 @@ fn write_ends(
     Ok(())
 }
 
-/// How many datagrams ended in one of these ways, at most 2^64 - 1.
+/// The number of datagrams that ended in one of these ways, at most 2^64 - 1.
 fn total(counts: &Counts, ends: &[End]) -> u64 {
     let mut sum = 0u64;
     for end in ends {
@@ -58,7 +59,7 @@ fn total(counts: &Counts, ends: &[End]) -> u64 {
     sum
 }
 
-/// Writes how many datagrams ended so, if any did.
+/// Writes the number of datagrams that ended in this way, if any did.
 fn write_end(html: &mut Html, end: End, number: u64) -> Result<(), AllocError> {
     if number == 0 {
         return Ok(());

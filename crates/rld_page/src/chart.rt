@@ -1,5 +1,6 @@
-//! The last hour, as two charts in SVG: logins and rejects of each minute, and the places held at its
-//! end. Both are 60 minutes wide and 1,000 units high, and are stretched to their place on the page.
+//! The last hour, as two charts in SVG: logins and rejects of each minute, and the places held at
+//! its end. Both are 60 minutes wide and 1,000 units high, and are stretched to their place on the
+//! page.
 
 ghost use Rattle.std.specs.Prelude.{◌≡◌, ◌≤◌};
 
@@ -8,10 +9,10 @@ use crate::html::Html;
 use rld_look::{Look, Minute};
 use std::alloc::AllocError;
 
-/// How many minutes a chart has room for.
+/// The minutes of a chart.
 const MINUTES: usize = 60;
 
-/// How wide a minute is.
+/// The width of a minute.
 const MINUTE_WIDTH: u64 = 10;
 
 const _: () = prove!(THOUSANDTHS == 1_000);
@@ -23,12 +24,12 @@ pub(crate) fn write_charts(html: &mut Html, look: &Look) -> Result<(), AllocErro
     write_held(html, minutes)
 }
 
-/// The minutes that a chart has room for: the last ones.
+/// The last minutes, as many as a chart has room for.
 fn latest(minutes: &[Minute]) -> &[Minute] {
     &minutes[minutes.len().saturating_sub(MINUTES)..]
 }
 
-/// How many Access-Requests were answered in a minute.
+/// The Access-Requests answered in a minute.
 fn answered(minute: &Minute) -> u64 {
     minute
         .accepts
@@ -36,7 +37,7 @@ fn answered(minute: &Minute) -> u64 {
         .saturating_add(minute.rejects)
 }
 
-/// The most Access-Requests that were answered in one of these minutes.
+/// The most Access-Requests answered in one of these minutes.
 fn most_answered(minutes: &[Minute]) -> u64 {
     let mut most = 0u64;
     for minute in minutes {
@@ -45,7 +46,7 @@ fn most_answered(minutes: &[Minute]) -> u64 {
     most
 }
 
-/// The most places that were held at the end of one of these minutes.
+/// The most places held at the end of one of these minutes.
 fn most_held(minutes: &[Minute]) -> u64 {
     let mut most = 0u64;
     for minute in minutes {
@@ -54,7 +55,7 @@ fn most_held(minutes: &[Minute]) -> u64 {
     most
 }
 
-/// Where the first of these minutes begins, so that the last one ends at the right.
+/// The left edge of the first of these minutes, so that the last one ends at the right.
 fn first_left(minutes: &[Minute]) -> u64 {
     (MINUTES.saturating_sub(minutes.len()) as u64).saturating_mul(MINUTE_WIDTH)
 }
@@ -118,12 +119,12 @@ fn write_held(html: &mut Html, minutes: &[Minute]) -> Result<(), AllocError> {
     write_axis(html, minutes, most)
 }
 
-/// Writes the lines behind a chart: at its foot, in the middle and at the most.
+/// Writes the grid lines of a chart: at its foot, in the middle and at the most.
 fn write_rules(html: &mut Html) -> Result<(), AllocError> {
     html.markup("<path class=\"rule\" d=\"M0 0H600M0 500H600M0 1000H600\"/>\n")
 }
 
-/// Writes what stands below a chart: when it begins and ends, and what its height is.
+/// Writes the labels below a chart: when it begins and ends, and what its height is.
 fn write_axis(html: &mut Html, minutes: &[Minute], most: u64) -> Result<(), AllocError> {
     html.markup("<p class=\"axis\"><span>")?;
     match minutes.last() {
@@ -140,7 +141,7 @@ fn write_axis(html: &mut Html, minutes: &[Minute], most: u64) -> Result<(), Allo
     html.markup("</span></p></section>\n")
 }
 
-/// Writes the bar of a minute: accepts, above them rejects for want of a place, above them all others.
+/// Writes the bar of a minute: accepts, above them limit rejects, above them all other rejects.
 fn write_bar(html: &mut Html, minute: &Minute, left: u64, most: u64) -> Result<(), AllocError> {
     html.markup("<g><title>")?;
     write_clock(html, minute.start)?;
@@ -165,7 +166,7 @@ fn write_bar(html: &mut Html, minute: &Minute, left: u64, most: u64) -> Result<(
     html.markup("</g>\n")
 }
 
-/// Writes a piece of a bar, from one height to another; none where they are the same.
+/// Writes a piece of a bar, from one height to another, unless they are equal.
 fn write_piece(
     html: &mut Html,
     front: &'static str,
@@ -185,14 +186,14 @@ fn write_piece(
     html.markup("\"/>")
 }
 
-/// Writes where a minute is touched to read its numbers: over the whole height.
+/// Writes the area of a minute that shows its numbers: the whole height.
 fn write_touch(html: &mut Html, left: u64) -> Result<(), AllocError> {
     html.markup("<rect class=\"touch\" x=\"")?;
     html.number(left)?;
     html.markup("\" y=\"0\" width=\"10\" height=\"1000\"/>")
 }
 
-/// Writes where a minute is touched to read the places that were held at its end.
+/// Writes the area of a minute that shows the places held at its end.
 fn write_held_touch(html: &mut Html, minute: &Minute, left: u64) -> Result<(), AllocError> {
     html.markup("<g><title>")?;
     write_clock(html, minute.start.saturating_add(60))?;
@@ -203,7 +204,7 @@ fn write_held_touch(html: &mut Html, minute: &Minute, left: u64) -> Result<(), A
     html.markup("</g>\n")
 }
 
-/// Writes the outline of what lies below the curve.
+/// Writes the outline of the area below the curve.
 fn write_area(html: &mut Html, minutes: &[Minute], most: u64) -> Result<(), AllocError> {
     let left = first_left(minutes).saturating_add(MINUTE_WIDTH / 2);
     html.markup("M")?;

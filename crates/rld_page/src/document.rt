@@ -13,12 +13,12 @@ use crate::summary::{write_numbers, write_state};
 use rld_look::{Look, Recording};
 use std::alloc::{AllocError, Global};
 
-/// The page for a browser: one file of HTML, without a script and without anything from elsewhere, that
-/// is loaded again each ten seconds. It fails only where memory is refused.
+/// The page for a browser: one file of HTML, without a script and without anything from elsewhere,
+/// that reloads every ten seconds. It fails only if memory is refused.
 ///
-/// It shows whether the server records, the places held of all, the rates of the last minute, the last
-/// hour, the fullest accounts, how datagrams ended since the start, what was refused lately, and what
-/// waits at the sockets. Where accounts are shown it is at most 50 of them.
+/// It shows whether the server records, the places held of all, the rates of the last minute, the
+/// last hour, the fullest accounts, how datagrams ended since the start, the last refusals, and the
+/// queues of the sockets. It shows at most 50 accounts.
 pub fn page(alloc: Global, look: &Look) -> Result<Vec<u8>, AllocError>
     ensures { IfOk result (λ text. IsHtml text.items) }
 {
@@ -27,7 +27,7 @@ pub fn page(alloc: Global, look: &Look) -> Result<Vec<u8>, AllocError>
     Ok(text)
 }
 
-/// All that stands after the document's type.
+/// The page after its document type.
 fn behind_type(alloc: Global, look: &Look) -> Result<Vec<u8>, AllocError> {
     let mut html = Html::new(alloc);
     write_head(&mut html, look)?;
@@ -44,7 +44,7 @@ fn behind_type(alloc: Global, look: &Look) -> Result<Vec<u8>, AllocError> {
     Ok(html.into_octets())
 }
 
-/// Writes the head of the document. Its title says what is looked at first.
+/// Writes the head of the document, with a title that sums up the state.
 fn write_head(html: &mut Html, look: &Look) -> Result<(), AllocError> {
     html.markup("<html lang=\"en\">\n<head>\n<meta charset=\"utf-8\">\n")?;
     html.markup("<meta name=\"viewport\" content=\"width=device-width, initial-scale=1\">\n")?;

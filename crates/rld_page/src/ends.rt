@@ -1,8 +1,8 @@
-//! How a datagram ended, in words.
+//! The ends of datagrams in words.
 
 use rld_counts::{AcctEnd, AuthEnd, End};
 
-/// What the page says of an end.
+/// The words of the page for an end.
 pub(crate) fn words(end: End) -> &'static str {
     match end {
         End::Auth(end) => auth_words(end),
@@ -10,7 +10,7 @@ pub(crate) fn words(end: End) -> &'static str {
     }
 }
 
-/// What the page says of how a datagram ended that came to the authentication port.
+/// The words of the page for an end on the authentication port.
 fn auth_words(end: AuthEnd) -> &'static str {
     match end {
         AuthEnd::Short => "Dropped: too short",
@@ -36,7 +36,7 @@ fn auth_words(end: AuthEnd) -> &'static str {
     }
 }
 
-/// What the page says of how a datagram ended that came to the accounting port.
+/// The words of the page for an end on the accounting port.
 fn acct_words(end: AcctEnd) -> &'static str {
     match end {
         AcctEnd::Short => "Dropped: too short",

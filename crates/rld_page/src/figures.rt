@@ -1,4 +1,4 @@
-//! Numbers as people read them.
+//! Numbers for people.
 
 ghost use Rattle.std.specs.Prelude.{◌≡◌, ◌≤◌};
 ghost use Rattle.rld_page.specs.Figures.{share_of, tenths_of};
@@ -7,11 +7,10 @@ use crate::html::Html;
 use httpdate::HttpDate;
 use std::alloc::AllocError;
 
-/// How many thousandths a whole has.
+/// The thousandths of a whole.
 pub(crate) const THOUSANDTHS: u64 = 1_000;
 
-/// How much of a whole a part is, in thousandths, rounded down: a part that is more than the whole is
-/// all of it, and of nothing each part is nothing.
+/// The share of a part in a whole, in thousandths, rounded down: at most all, and 0 of nothing.
 pub(crate) fn share(part: u64, whole: u64) -> u64
     ensures share { result ≡ share_of part whole }
     ensures most { result ≤ 1000 }
@@ -23,7 +22,7 @@ pub(crate) fn share(part: u64, whole: u64) -> u64
     (part * 1_000 / u128::from(whole)) as u64
 }
 
-/// Datagrams a second, in tenths, by those of a minute: rounded to the nearest.
+/// Datagrams a second, in tenths, from those of a minute, rounded to the nearest.
 pub(crate) fn tenths(a_minute: u64) -> u64
     ensures { result ≡ tenths_of a_minute }
 {
@@ -73,7 +72,7 @@ pub(crate) fn write_tenths(html: &mut Html, tenths: u64) -> Result<(), AllocErro
     html.digit((tenths % 10) as u8)
 }
 
-/// Writes a second since 1970 as a date and a time of the day, as HTTP spells them.
+/// Writes a second since 1970 as a date and a time, as HTTP writes them.
 pub(crate) fn write_date(html: &mut Html, second: u64) -> Result<(), AllocError> {
     match HttpDate::from_unix_secs(second) {
         Ok(date) => html.text(&date.to_bytes()),
@@ -94,7 +93,7 @@ pub(crate) fn write_moment(html: &mut Html, second: u64) -> Result<(), AllocErro
     }
 }
 
-/// Writes the hour and the minute of the day of a second since 1970.
+/// Writes the hour and the minute of a second since 1970.
 pub(crate) fn write_clock(html: &mut Html, second: u64) -> Result<(), AllocError> {
     match HttpDate::from_unix_secs(second % 86_400) {
         Ok(date) => html.text(&date.to_bytes()[17..22]),

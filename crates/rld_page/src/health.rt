@@ -3,7 +3,7 @@ ghost use Rattle.rld_page.specs.Health.{health_of, health_text};
 
 use rld_look::Recording;
 
-/// Whether a server is well: it is as long as its batches are recorded, since it answers nothing else.
+/// Whether a server is well: whether its batches are recorded, since it answers nothing else.
 #[derive(Clone, Copy)]
 pub enum Health {
     /// The server is well.
@@ -13,7 +13,7 @@ pub enum Health {
 }
 
 impl Health {
-    /// The health of a server which records so.
+    /// The health of a server with this recording.
     pub fn of(recording: Recording) -> Health
         ensures { result ≡ health_of recording }
     {
@@ -23,7 +23,7 @@ impl Health {
         }
     }
 
-    /// The line that says it, with its line feed.
+    /// The line of the health, with its line feed.
     pub fn text(self) -> &'static str
         ensures { result.now ≡ health_text self }
     {

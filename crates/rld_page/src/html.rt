@@ -1,4 +1,4 @@
-//! A text of HTML that is being written.
+//! HTML that is being written.
 
 ghost use Rattle.std.specs.Prelude.{◌≡◌, ◌+◌, ◌<◌, ◌++◌, ◌∷◌, [], IsTrue, OnOk};
 ghost use Rattle.std.specs.Fmt.{decimal};
@@ -9,8 +9,8 @@ ghost use Rattle.rld_values.specs.Values.{dotted, word};
 use rld_values::{push_decimal, push_dotted, push_text, push_word};
 use std::alloc::{AllocError, Global};
 
-/// A text of HTML that is being written. Only three things get into it: markup, which is a literal of
-/// this program; numbers; and octets that are escaped.
+/// HTML that is being written. Only three things get into it: markup, which is a literal of this
+/// program; numbers; and octets that are escaped.
 #[derive(Drop)]
 pub(crate) struct Html {
     out: Vec<u8>,
@@ -26,14 +26,14 @@ impl Html {
         }
     }
 
-    /// The text, as far as it is written.
+    /// The text so far.
     pub(crate) fn into_octets(self) -> Vec<u8>
         ensures { result.items ≡ self.out.items }
     {
         self.out
     }
 
-    /// Writes markup. It is `'static`, so no name of an account or a datagram's octets can be handed in.
+    /// Writes markup. It is `'static`, so it cannot be an account's name or a datagram's octets.
     pub(crate) fn markup(&mut self, markup: &'static str) -> Result<(), AllocError>
         ensures { OnOk result (self.new.out.items ≡ self.old.out.items ++ markup.now) }
     {
@@ -69,8 +69,8 @@ impl Html {
         Ok(())
     }
 
-    /// Writes octets that a stranger may have sent, as lines of the log and of the control have them: what
-    /// is no letter, digit or one of `%+,-./:=@_` is escaped. So it is no markup either.
+    /// Writes octets from a stranger as the log lines and the control have them: any that is not a
+    /// letter, a digit or one of `%+,-./:=@_` is escaped, so there is no markup in them either.
     pub(crate) fn word(&mut self, octets: &[u8]) -> Result<(), AllocError>
         ensures { OnOk result (self.new.out.items ≡ self.old.out.items ++ word octets.now) }
     {

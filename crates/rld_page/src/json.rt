@@ -9,8 +9,8 @@ use rld_values::{push_decimal, push_text};
 use rsl_shard::Row;
 use std::alloc::{AllocError, Global};
 
-/// What each account holds, in the order of the file, as an object of JSON: `now` is the second since
-/// 1970, and `accounts` has an object for each account. It fails only where memory is refused.
+/// What each account holds, in file order, as a JSON object: `now` is the second since 1970, and
+/// `accounts` has an object for each account. It fails only if memory is refused.
 ///
 /// Names are texts in UTF-8, and so is the whole.
 #[tactic(auto, unfolding(crate::specs::Json::accounts_json))]
@@ -66,7 +66,7 @@ fn push_account(out: &mut Vec<u8>, account: &AccountLook) -> Result<(), AllocErr
     push_row(out, &account.row)
 }
 
-/// Writes how an account begins, with its name.
+/// Writes the start of an account, with its name.
 #[tactic(auto, unfolding(crate::specs::Json::name_json))]
 fn push_name(out: &mut Vec<u8>, name: &[u8]) -> Result<(), AllocError>
     ensures { OnOk result (out.new.items ≡ out.old.items ++ name_json name.now) }
@@ -88,7 +88,7 @@ fn push_row(out: &mut Vec<u8>, row: &Row) -> Result<(), AllocError>
     push_links(out, row)
 }
 
-/// Writes how an account's links are, and the end of its object.
+/// Writes the links of an account, and the end of its object.
 #[tactic(auto, unfolding(crate::specs::Json::links_json))]
 fn push_links(out: &mut Vec<u8>, row: &Row) -> Result<(), AllocError>
     ensures { OnOk result (out.new.items ≡ out.old.items ++ links_json row.now) }
@@ -110,7 +110,7 @@ fn push_member(out: &mut Vec<u8>, name: &str, number: u64) -> Result<(), AllocEr
     push_decimal(out, number)
 }
 
-/// Writes what stands between the quotes of a string.
+/// Writes the contents of a string, between its quotes.
 fn push_string(out: &mut Vec<u8>, octets: &[u8]) -> Result<(), AllocError>
     ensures { OnOk result (out.new.items ≡ out.old.items ++ flat_map json_octet octets.now) }
 {

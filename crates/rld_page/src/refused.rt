@@ -1,4 +1,4 @@
-//! What was refused lately.
+//! The last refusals.
 
 use crate::ends::words;
 use crate::figures::write_moment;
@@ -7,7 +7,7 @@ use rld_look::Refusal;
 use rsl_event::NasName;
 use std::alloc::AllocError;
 
-/// Writes what was refused lately, the last first.
+/// Writes the last refusals, newest first.
 pub(crate) fn write_refused(html: &mut Html, refusals: &[Refusal]) -> Result<(), AllocError> {
     html.markup(
         "<section class=\"most\"><div class=\"top\"><h2>Refused lately</h2><p class=\"soft\">times are UTC</p></div>\n",
@@ -45,7 +45,7 @@ fn write_refusal(html: &mut Html, refusal: &Refusal) -> Result<(), AllocError> {
     html.markup("</td></tr>\n")
 }
 
-/// Writes what an access server calls itself.
+/// Writes the name of an access server.
 fn write_nas(html: &mut Html, nas: &NasName) -> Result<(), AllocError> {
     match nas {
         NasName::Identifier(name) => html.word(name.as_slice()),

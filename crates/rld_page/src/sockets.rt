@@ -1,11 +1,11 @@
-//! What waits at the sockets, and what the system dropped there.
+//! The queues of the sockets, and what the system dropped there.
 
 use crate::figures::write_grouped;
 use crate::html::Html;
 use rld_look::SocketLook;
 use std::alloc::AllocError;
 
-/// Writes what waits at each socket, and what was dropped there before the server saw it.
+/// Writes the queue of each socket, and what was dropped there before the server saw it.
 pub(crate) fn write_sockets(html: &mut Html, sockets: &[SocketLook]) -> Result<(), AllocError> {
     if sockets.is_empty() {
         return Ok(());

@@ -1,7 +1,7 @@
-//! How the page looks: one style sheet, in light and in dark, for narrow and for wide windows.
+//! The style sheet of the page, in light and in dark, for narrow and for wide windows.
 
-/// The style sheet. Its colours have names: `login`, `limit` and `reject` are those of the three parts
-/// of a minute's bar.
+/// The style sheet. Its colours have names: `login`, `limit` and `reject` are those of the three
+/// parts of a minute's bar.
 pub(crate) const STYLE: &str = "\
 :root{color-scheme:light dark;--paper:#f7f7f4;--card:#fff;--ink:#1d1f21;--soft:#62666d;--line:#e3e3dd;\
 --login:#2f6db3;--limit:#d9930d;--reject:#b9432f;--held:#23806c;--good:#1e7b4f;--bad:#b3261e}\

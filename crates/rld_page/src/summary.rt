@@ -1,4 +1,4 @@
-//! The head of the page: the state of the server, and the numbers that are looked at first.
+//! The head of the page: the state of the server, and its main numbers.
 
 use crate::figures::{share, tenths, write_date, write_grouped, write_tenths, write_width};
 use crate::health::Health;
@@ -26,7 +26,7 @@ pub(crate) fn write_state(html: &mut Html, look: &Look) -> Result<(), AllocError
     html.markup(" moves</p></header>\n")
 }
 
-/// Writes the numbers that are looked at first.
+/// Writes the main numbers.
 pub(crate) fn write_numbers(html: &mut Html, look: &Look) -> Result<(), AllocError> {
     html.markup("<section class=\"numbers\" aria-label=\"Summary\"><dl>\n")?;
     write_places(html, &look.totals)?;
@@ -37,12 +37,12 @@ pub(crate) fn write_numbers(html: &mut Html, look: &Look) -> Result<(), AllocErr
     html.markup("</dl></section>\n")
 }
 
-/// How many Access-Rejects were sent in a minute.
+/// The Access-Rejects sent in a minute.
 fn rejects(minute: &Minute) -> u64 {
     minute.limit_rejects.saturating_add(minute.rejects)
 }
 
-/// Writes the places that are held of all.
+/// Writes the held places of all.
 fn write_places(html: &mut Html, totals: &Totals) -> Result<(), AllocError> {
     html.markup("<div><dt>Places held</dt><dd>")?;
     write_grouped(html, totals.held)?;
@@ -53,7 +53,7 @@ fn write_places(html: &mut Html, totals: &Totals) -> Result<(), AllocError> {
     html.markup("\"></i></span></div>\n")
 }
 
-/// Writes how many came a second in the last whole minute.
+/// Writes the rate of the last whole minute, by the second.
 fn write_rate(
     html: &mut Html,
     name: &'static str,

@@ -1,4 +1,4 @@
-//! What an operator is answered. No lock is held while an answer is made of what was looked at, or written.
+//! Answers to operators. No lock is held while an answer is made of a look, or written.
 
 ghost use Rattle.std.specs.Prelude.{◌<◌, IfOk, IfSome, length};
 ghost use Rattle.std.specs.Arc.{arc_value};
@@ -51,7 +51,7 @@ where
         }
     }
 
-    /// Does what is asked, and answers what came of it.
+    /// Does a command, and sends the answer.
     fn do_command(&self, operator: &Operator<'_, R>, command: Command) {
         match self.answer_to(command) {
             Ok(text) => operator.answer(text.as_slice()),
@@ -59,7 +59,7 @@ where
         }
     }
 
-    /// The answer to a command, which is done.
+    /// Does a command, and gives the answer.
     fn answer_to(&self, command: Command) -> Result<Vec<u8>, AskFault> {
         match command {
             Command::Status(form) => self.status(form),
@@ -81,7 +81,7 @@ where
         Ok(octets)
     }
 
-    /// What the server is and does.
+    /// The answer to `status`.
     fn status(&self, form: Form) -> Result<Vec<u8>, AskFault> {
         let look = self.look()?;
         match form {
@@ -90,7 +90,7 @@ where
         }
     }
 
-    /// What each account of a selection holds.
+    /// The answer to `accounts`.
     fn accounts(&self, form: Form, selection: Selection) -> Result<Vec<u8>, AskFault> {
         let look = self.accounts_look()?;
         let accounts = look.accounts.as_slice();
@@ -102,7 +102,7 @@ where
         SystemClock::new(self.rt, self.plan.start).now()
     }
 
-    /// The links of the account with this name.
+    /// The answer to `sessions`: the links of the account with this name.
     fn sessions(&self, form: Form, name: &[u8]) -> Result<Vec<u8>, AskFault> {
         let Some(held) = self.held_by(name)? else {
             return Err(AskFault::UnknownAccount);
@@ -138,8 +138,8 @@ where
         }
     }
 
-    /// Frees the place of a session by the Stop that its access server would have sent. Where no link is
-    /// bound to the session nothing is recorded.
+    /// Frees the place of a session by the Stop that its access server would have sent. If no link
+    /// is bound to the session, nothing is recorded.
     fn free(&self, named: &NamedSession) -> Result<Vec<u8>, AskFault> {
         if self.record_stop(named)? {
             self.told(Reply::Done(b"freed\n"))
@@ -148,8 +148,8 @@ where
         }
     }
 
-    /// Records the Stop of a session, if a link is bound to it, and gives whether one is. The lock is held
-    /// from the look at the accounts and the links until the Stop is recorded.
+    /// Records the Stop of a session, if a link is bound to it, and gives whether one is. The lock
+    /// is held from the look-up of the account and its links until the Stop is recorded.
     fn record_stop(&self, named: &NamedSession) -> Result<bool, AskFault> {
         let mut state = self.state.lock(self.rt);
         let stop = Stop::of(self.alloc, state.accounts(), self.plan.boot, named)?;

@@ -2,23 +2,23 @@ use rld_control::FreeFault;
 use rsl_wire::NoMemory;
 use std::alloc::{AllocError, AllocFailed};
 
-/// Why a running server does not do what it is asked.
+/// Why a running server does not do a request.
 #[derive(Clone, Copy)]
 pub(crate) enum AskFault {
-    /// The line is no command's.
+    /// The line is no command.
     UnknownCommand,
     /// No account has the name.
     UnknownAccount,
-    /// There is no Stop of the session that is named.
+    /// The named session has no Stop.
     Free(FreeFault),
-    /// The Stop was not recorded, and so nothing was freed.
+    /// The Stop was not recorded, so nothing was freed.
     Unrecorded,
     /// Memory was refused.
     NoMemory,
 }
 
 impl AskFault {
-    /// The answer that says why.
+    /// The text of the answer.
     pub(crate) fn text(self) -> &'static str {
         match self {
             AskFault::UnknownCommand => "error unknown command\n",

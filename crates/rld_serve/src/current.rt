@@ -3,10 +3,10 @@ use rld_turn::Present;
 use rsl_accounts::Config;
 use std::sync::Arc;
 
-/// The accounts, clients and rules that a server has now, and the era that they are of.
+/// The present accounts, clients and rules of a server, and their era.
 ///
-/// A receiver holds a read guard on it while it takes a turn, and so does who looks at the server, so that
-/// what is seen is of the same accounts. A reload changes it behind a write guard.
+/// A receiver holds a read guard on it for a turn, and so does a look at the server, so that all of
+/// it is of the same accounts. A reload changes it under a write guard.
 #[derive(Drop)]
 pub(crate) struct Current {
     pub(crate) config: Arc<Config>,
@@ -14,7 +14,7 @@ pub(crate) struct Current {
 }
 
 impl Current {
-    /// What turns go by.
+    /// What turns depend on.
     pub(crate) fn present<'b>(&'b self, plan: &Plan<'b>) -> Present<'b> {
         Present::new(&*self.config, plan.networks, plan.boot)
     }

@@ -1,9 +1,9 @@
-//! The server that an operator keeps, while it runs: receivers on its UDP sockets and a worker
-//! that makes a tick each second, those that answer at the control, write on standard error and show the
-//! server, each on a thread of its own, over one state behind one lock. What becomes of a datagram is the
-//! business of `rld_turn`, what is done to the state that of `rld_state`, and sockets, waits and faults
-//! stand in `rld_edges`. The promise: the state is changed by the calls of `rld_state` alone, since its
-//! fields are private there; that each worker does its job is read from the code.
+//! The operator's server while it runs: receivers on its UDP sockets, a worker that makes a tick
+//! each second, and workers that answer on the control socket, write to standard error and show the
+//! server, each on its own thread, over one state under one lock. `rld_turn` handles a datagram,
+//! `rld_state` changes the state, and `rld_edges` has sockets, waits and faults. The promise: only
+//! the calls of `rld_state` change the state, since its fields are private there; that each worker
+//! does its job is read from the code.
 #![tactic(auto)]
 
 mod accounts;

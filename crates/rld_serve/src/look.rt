@@ -22,14 +22,14 @@ use std::time;
 /// The system's table of UDP sockets on IPv4 addresses (proc(5)).
 const IPV4_TABLE: &str = "/proc/self/net/udp";
 
-/// The system's table of UDP sockets on IPv6 addresses; a socket on `::` that takes both kinds is
-/// one of them.
+/// The system's table of UDP sockets on IPv6 addresses, which has a socket on `::` that takes both
+/// kinds.
 const IPV6_TABLE: &str = "/proc/self/net/udp6";
 
-/// The most octets of a table that are read: it has up to 180 a socket.
+/// The most octets of a table that are read; a socket has up to 180.
 const MAX_TABLE_LEN: u32 = 1_048_576;
 
-/// What the store shows of itself, and the accounts that it is of.
+/// What the store shows of itself, and its accounts.
 #[derive(Drop)]
 pub(crate) struct Holdings {
     config: Arc<Config>,
@@ -46,8 +46,9 @@ impl Holdings {
 }
 
 impl<'a, G, A, R: time::Clock + Wait> Server<'a, G, A, R> {
-    /// What the server shows of itself now. Each receiver is looked at by itself, and the store after
-    /// them: the lock of each is held only while that is copied. It fails only where memory is refused.
+    /// What the server now shows of itself. Each receiver is looked at alone, and the store after
+    /// them: each lock is held only while the data under it is copied. It fails only if memory is
+    /// refused.
     pub(crate) fn look(&self) -> Result<Look, NoMemory> {
         let (auth, acct, holdings) = self.gather()?;
         let mut counts = Counts::new();
@@ -80,15 +81,16 @@ impl<'a, G, A, R: time::Clock + Wait> Server<'a, G, A, R> {
         })
     }
 
-    /// What the accounts hold now. The store's lock is held only while its rows are copied. It fails
-    /// only where memory is refused.
+    /// What the accounts now hold. The store's lock is held only while its rows are copied. It
+    /// fails only if memory is refused.
     pub(crate) fn accounts_look(&self) -> Result<AccountsLook, NoMemory> {
         let holdings = self.holdings()?;
         let now = SystemClock::new(self.rt, self.plan.start).now();
         AccountsLook::of(self.alloc, now, &*holdings.config, holdings.rows.as_slice())
     }
 
-    /// What the receivers of each port have counted, and what the store shows: all of the same accounts.
+    /// The counts of the receivers of each port, and what the store shows, all of the same
+    /// accounts.
     fn gather(&self) -> Result<(Cell, Cell, Holdings), NoMemory> {
         let current = self.current.read(self.rt);
         let clients = current.config.clients();
@@ -98,15 +100,15 @@ impl<'a, G, A, R: time::Clock + Wait> Server<'a, G, A, R> {
         Ok((auth, acct, self.holdings()?))
     }
 
-    /// Ends the minute that is going on, if another has begun at this second. Where memory for that is
-    /// refused it goes on.
+    /// Ends the present minute, if another has begun at this second. If memory for that is refused,
+    /// the minute goes on.
     pub(crate) fn end_minute_if_over(&self, now: u64) {
         if self.history.lock(self.rt).has_passed(now) {
             let _ = self.end_minute(now);
         }
     }
 
-    /// Ends the minute that is going on. It fails only where memory is refused.
+    /// Ends the present minute. It fails only if memory is refused.
     fn end_minute(&self, now: u64) -> Result<(), NoMemory> {
         let readings = self.board.read(self.rt, self.alloc, 0)?;
         let holdings = self.holdings()?;
@@ -116,7 +118,7 @@ impl<'a, G, A, R: time::Clock + Wait> Server<'a, G, A, R> {
         Ok(())
     }
 
-    /// What the store shows. Its lock is held as long as the rows are copied.
+    /// What the store shows. Its lock is held while the rows are copied.
     pub(crate) fn holdings(&self) -> Result<Holdings, NoMemory> {
         let state = self.state.lock(self.rt);
         let rows = state.recorder().rows(self.alloc)?;
@@ -145,7 +147,7 @@ impl<'a, G, A, R: time::Clock + Wait> Server<'a, G, A, R> {
         Ok(minutes)
     }
 
-    /// What waits at each socket of which the system says it.
+    /// The queue of each socket that the system reports.
     fn socket_looks(&self) -> Result<Vec<SocketLook>, NoMemory> {
         let mut looks = Vec::new(self.alloc);
         let of_ipv4 = self.socket_table(IPV4_TABLE);
@@ -165,7 +167,7 @@ impl<'a, G, A, R: time::Clock + Wait> Server<'a, G, A, R> {
         Ok(looks)
     }
 
-    /// One of the system's tables of sockets: empty where it cannot be read.
+    /// One of the system's tables of sockets, empty if it cannot be read.
     fn socket_table(&self, path: &str) -> String {
         let octets = read_file(self.files, self.alloc, path, MAX_TABLE_LEN);
         let octets = octets.unwrap_or(Vec::new(self.alloc));

@@ -1,4 +1,4 @@
-//! The workers that take datagrams.
+//! The workers that receive datagrams.
 
 use crate::accounts::Accounts;
 use crate::server::Server;
@@ -14,7 +14,7 @@ use std::net::Net;
 use std::sync::Wait;
 use std::time;
 
-/// What a receiver has to itself, from turn to turn.
+/// What a receiver keeps from turn to turn.
 #[derive(Drop)]
 struct Place<'a, R: Wait + time::Clock> {
     receiver: Receiver,
@@ -22,7 +22,7 @@ struct Place<'a, R: Wait + time::Clock> {
     watcher: Watcher<'a, R>,
 }
 
-/// What comes after a turn on a socket.
+/// What follows a turn on a socket.
 enum Next {
     /// Another turn at once, since more may wait there.
     Turn,
@@ -36,8 +36,9 @@ where
     A: Accounts,
     R: Net + Eprint + time::Clock + Wait,
 {
-    /// Takes datagrams from a socket, for a port, until the server shall end: each turn by the accounts that
-    /// it has then. Receivers are the first of all jobs, so a receiver has the number of its job.
+    /// Receives datagrams from a socket, for a port, until the server is to end: each turn with the
+    /// accounts that are then present. Receivers are the first of all jobs, so a receiver has the
+    /// number of its job.
     pub(crate) fn receive_all(
         &self,
         bound: &Bound,
@@ -72,8 +73,8 @@ where
         Ok(())
     }
 
-    /// Takes a turn on a socket. `Down` comes where the socket failed, and `Unsynced` where nothing more can
-    /// be recorded.
+    /// Takes a turn on a socket. `Down` comes if the socket failed, and `Unsynced` if nothing more
+    /// can be recorded.
     fn take_turn(
         &self,
         bound: &Bound,

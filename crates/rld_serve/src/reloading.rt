@@ -1,4 +1,4 @@
-//! How the accounts of a running server are read anew.
+//! Reading the accounts of a running server again.
 
 ghost use Rattle.std.specs.Prelude.{◌≡◌, IfOk, IfSome, length};
 
@@ -16,16 +16,16 @@ use rsl_accounts::Config;
 use std::sync::{Arc, Wait};
 use std::{fmt, time};
 
-/// What stands ready before the receivers wait, so that they need not wait long.
+/// What is prepared before the receivers wait, so that they wait only shortly.
 #[derive(Drop)]
 struct Change {
     /// The accounts, clients and rules that were read.
     config: Arc<Config>,
-    /// Another handle of these, for the era.
+    /// Another handle to these, for the state.
     held: Arc<Config>,
-    /// The files of the era that they begin, if the present one does not go on.
+    /// The files of their era, if the present one does not go on.
     next: Option<NextEra<FileLog>>,
-    /// Counts for their clients, if these are others.
+    /// Counts for their clients, if these have changed.
     counts: Option<Vec<ClientCounts>>,
 }
 
@@ -43,8 +43,9 @@ where
     A: Accounts,
     R: time::Clock + Wait,
 {
-    /// Reads the accounts anew, and goes on by them: within the present era if it has their table, and
-    /// else in a new one. Gives the answer to whoever asked. Where it says `error` all goes on as before.
+    /// Reads the accounts again, and goes on with them: within the present era if it has their
+    /// table, and else in a new one. Gives the answer to the operator. If it is `error`, nothing
+    /// has changed.
     pub(crate) fn reload(&self) -> Result<Vec<u8>, AskFault> {
         let config = match self.accounts.read(self.alloc) {
             Ok(config) => config,
@@ -61,14 +62,14 @@ where
         }
     }
 
-    /// The answer that says why something is not done.
+    /// The answer to a command that is not done.
     fn refusal<T: fmt::Display>(&self, why: &T) -> Result<Vec<u8>, AskFault> {
         let why = format!(in self.alloc; "{why}")?;
         self.told(Reply::Refused(why.as_bytes()))
     }
 
-    /// Goes on by other accounts. What is left of the former ones and of a former era is dropped once the
-    /// receivers go on: a handle of the accounts is held until then.
+    /// Goes on with other accounts. What is left of the former accounts and of a former era is
+    /// dropped once the receivers go on: a handle to the accounts is held until then.
     fn change_accounts(&self, config: Config) -> Result<Reloaded, ReloadFault> {
         let accounts = self.state.lock(self.rt).config()?;
         let change = self.change_to(&*accounts, config)?;
@@ -78,7 +79,7 @@ where
         Ok(reloaded)
     }
 
-    /// Makes ready what a change from these accounts to other ones wants.
+    /// Prepares a change from these accounts to other ones.
     fn change_to(&self, former: &Config, config: Config) -> Result<Change, ReloadFault>
         ensures { IfOk result (λ change. IfSome change.counts
             (λ each. length each.items ≡ length self.now.board.places.items)) }
@@ -103,7 +104,7 @@ where
         })
     }
 
-    /// Makes the files of the era that these accounts begin.
+    /// Makes the files of the era of these accounts.
     fn next_era(&self, config: &Config) -> Result<NextEra<FileLog>, RollFault> {
         Ok(
             self.generations
@@ -111,7 +112,7 @@ where
         )
     }
 
-    /// Does a change, between the turns of all receivers.
+    /// Makes a change, between the turns of all receivers.
     fn do_change(&self, change: Change) -> Result<Changed<'a>, ReloadFault>
         requires { IfSome change.counts
             (λ each. length each.items ≡ length self.now.board.places.items) }
@@ -132,8 +133,8 @@ where
         Ok(changed)
     }
 
-    /// Goes on by other accounts, in the era whose files were made for them, or in the present one if none
-    /// were.
+    /// Goes on with other accounts, in the era whose files were made for them, or in the present
+    /// one if there are none.
     fn go_on_by(
         &self,
         config: Arc<Config>,

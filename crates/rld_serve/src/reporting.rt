@@ -1,5 +1,5 @@
-//! The lines that a server writes on standard error. One worker writes all of them, so that no other
-//! waits for whoever reads them.
+//! The lines of a server on standard error. One worker writes all of them, so that no other waits
+//! for the reader.
 
 use crate::accounts::Accounts;
 use crate::look::Holdings;
@@ -17,17 +17,17 @@ use std::time::{self, Duration};
 /// How long the worker sleeps at a time, in milliseconds.
 const SLEEP_MILLIS: u64 = 200;
 
-/// How often it sleeps between two reports of refusals: for a second, in which each cause has its lines
-/// once.
+/// How many times it sleeps between two reports of refusals: for a second, in which each cause gets
+/// its lines once.
 const SLEEPS: u64 = 5;
 
 const _: () = prove!(SLEEP_MILLIS * SLEEPS == 1_000);
 
-/// How many reports may wait to be written, but for refusals.
+/// How many reports may wait to be written, except refusals.
 pub(crate) const MOST_TOLD: usize = 64;
 
 impl<G, A, R: Wait> Server<'_, G, A, R> {
-    /// Has a report written, but for refusals. It is left out where `MOST_TOLD` reports wait.
+    /// Queues a report to be written. It is left out if `MOST_TOLD` reports wait.
     pub(crate) fn tell(&self, told: Told) {
         let _ = self.told.lock(self.rt).try_push_back(told);
     }
@@ -39,9 +39,9 @@ where
     A: Accounts,
     R: Net + Eprint + time::Clock + Wait,
 {
-    /// Says on standard error what is to be reported, until the server shall end: refusals each
-    /// second, and all else five times a second. What finds no room there is written later, or of
-    /// refusals how many there were.
+    /// Writes reports to standard error, until the server is to end: refusals each second, and all
+    /// else five times a second. What finds no room there is written later; of refusals only their
+    /// number.
     pub(crate) fn report_all(&self) -> Result<(), RunFault> {
         let mut writer = StderrWriter::of(self.rt, self.alloc)?;
         if !self.has_started()? {
@@ -62,8 +62,8 @@ where
         Ok(())
     }
 
-    /// Lets a second pass, or the time until the server shall end. What is to be reported
-    /// meanwhile, but for refusals, is written.
+    /// Lets a second pass, or the time until the server is to end. Reports other than refusals are
+    /// written meanwhile.
     fn pass_second(&self, writer: &mut StderrWriter) {
         for _ in 0..SLEEPS {
             if self.shutdown.is_over() {
@@ -92,7 +92,7 @@ where
         }
     }
 
-    /// Writes what is to be reported, but for refusals, and gives whether all of it found room.
+    /// Writes the reports other than refusals, and gives whether all of them found room.
     fn report_told(&self, writer: &mut StderrWriter) -> bool {
         for _ in 0..MOST_TOLD {
             if !writer.has_room() {
@@ -109,7 +109,7 @@ where
         true
     }
 
-    /// What the store shows, where that is wanted and memory is not refused.
+    /// What the store shows, if a line needs it and memory is not refused.
     fn holdings_for(&self, taken: &Taken) -> Option<Holdings> {
         if taken.waited.iter().all(|refusal| refusal.name.is_none()) {
             return None;
@@ -133,7 +133,7 @@ where
         written.is_ok() && self.write(writer, line.as_slice())
     }
 
-    /// Writes how many refusals were left out, and gives whether that found room.
+    /// Writes the numbers of refusals left out, and gives whether they found room.
     fn report_left_out(&self, writer: &mut StderrWriter, left_out: &Counts) -> bool {
         let mut lines = Vec::new(self.alloc);
         let written = write_left_out(&mut lines, self.plan.sink, left_out);

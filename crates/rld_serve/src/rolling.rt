@@ -1,4 +1,4 @@
-//! How one generation follows another while the server runs.
+//! Generations that follow one another while the server runs.
 
 use crate::accounts::Accounts;
 use crate::server::Server;
@@ -9,7 +9,7 @@ use std::net::Net;
 use std::sync::Wait;
 use std::time;
 
-/// What the worker that makes ticks knows of the generations.
+/// What the worker that makes ticks keeps about the generations.
 #[derive(Drop)]
 pub(crate) struct Rolls {
     timer: RollTimer,
@@ -18,7 +18,7 @@ pub(crate) struct Rolls {
 }
 
 impl Rolls {
-    /// What that worker knows in a server that has just begun a generation.
+    /// The state of that worker when a generation has just begun.
     pub(crate) fn new() -> Rolls {
         Rolls {
             timer: RollTimer::new(),
@@ -34,8 +34,8 @@ where
     A: Accounts,
     R: Net + Eprint + time::Clock + Wait,
 {
-    /// A second passes: where the next generation is due it begins, and old logs are put away. What
-    /// goes wrong is reported. `Unsynced` comes where nothing more can be recorded.
+    /// Lets a second pass: if the next generation is due, it begins, and old logs are put away.
+    /// Failures are reported. `Unsynced` comes if nothing more can be recorded.
     pub(crate) fn roll_if_due(&self, rolls: &mut Rolls, now: u64) -> Result<(), RunFault> {
         rolls.timer.pass_second();
         let moves = self.state.lock(self.rt).moves();
@@ -68,7 +68,7 @@ where
         Ok(())
     }
 
-    /// Puts old logs away, and reports where that fails.
+    /// Puts old logs away, and reports a failure.
     pub(crate) fn put_away(&self, rolls: &mut Rolls, now: u64) {
         let header = self.state.lock(self.rt).header();
         let newest = generation_named(&header);
@@ -76,7 +76,7 @@ where
         self.tell_if_any(notice_of_archive(&mut rolls.archive, outcome));
     }
 
-    /// Tells the operator, if there is something to tell.
+    /// Reports a notice, if there is one.
     fn tell_if_any(&self, notice: Option<Notice>) {
         if let Some(notice) = notice {
             self.tell(Told::Generations(notice));

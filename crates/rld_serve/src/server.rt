@@ -30,28 +30,28 @@ const TICK_SECS: u64 = 1;
 
 const _: () = prove!(TICK_SECS == 1);
 
-/// What a server is started with, but for its accounts, its sockets, its store and its folder.
+/// What a server starts with, besides its accounts, its sockets, its store and its folder.
 #[derive(Clone, Copy)]
 pub struct Plan<'a> {
     /// The build that runs.
     pub build: Build,
-    /// Which addresses stand for its clients.
+    /// The networks that stand for its clients.
     pub networks: &'a [Network],
     /// The boot number of its Classes.
     pub boot: u64,
-    /// The second of its start, since 1970: the moment where the clock cannot be read.
+    /// The second of its start, since 1970: the moment if the clock cannot be read.
     pub start: u64,
     /// When its logs are synced to the disk, and the ticks that it makes.
     pub pacing: Pacing<'a>,
-    /// The header of the generation that its store writes, of which it has no move.
+    /// The header of the generation that its store writes, with no move yet.
     pub header: Header,
-    /// What is said on standard error once all workers have started.
+    /// The text written to standard error once all workers have started.
     pub greeting: &'a str,
-    /// Who reads standard error.
+    /// The reader of standard error.
     pub sink: Sink,
 }
 
-/// A running server: what its workers share.
+/// A running server, which its workers share.
 #[derive(Drop)]
 pub(crate) struct Server<'a, G, A, R> {
     pub(crate) rt: &'a R,
@@ -71,31 +71,29 @@ pub(crate) struct Server<'a, G, A, R> {
     pub(crate) current: RwLock<Current>,
 }
 
-/// Serves until it is asked to end or cannot go on: takes RADIUS datagrams from the sockets and
-/// answers each once its move is recorded, and makes a tick each second. Each receiver has a thread of
-/// its own, and so has the worker that makes ticks, the one that answers at the control, the one that
-/// writes on standard error, and, if there are `pages`, the one that shows the server to those who ask for
-/// it.
+/// Serves until it is asked to end or cannot go on: receives RADIUS datagrams on the sockets,
+/// answers each once its move is recorded, and makes a tick each second. Each receiver has its own
+/// thread, and so have the worker that makes ticks, the one that answers on the control socket, the
+/// one that writes to standard error, and, if there are `pages`, the one that shows the server.
 ///
-/// The next generation begins after 1,000,000 moves or ten minutes, whichever comes first. Where it
-/// cannot begin the present one goes on, and it is tried again a minute later. At the start, and once a
-/// generation has begun, the logs before it are put away.
+/// The next generation begins after 1,000,000 moves or ten minutes, whichever comes first. If it
+/// cannot begin, the present one goes on, and it is tried again a minute later. At the start, and
+/// once a generation has begun, the logs before it are put away.
 ///
-/// Where an operator asks for it the accounts are read anew (`reload`), between the turns of all receivers.
-/// What comes meanwhile waits in the room of the sockets.
+/// On an operator's request the accounts are read again (`reload`), between the turns of all
+/// receivers. What comes meanwhile waits in the sockets' buffers.
 ///
-/// `greeting` is said on standard error once all workers have started. A batch that is not recorded
-/// is said there when it begins, and when batches are recorded again; so is a generation that
-/// cannot begin, and logs that cannot be put away. Each datagram that is refused has a line, up to
-/// 20 of a cause each second, and a line says how many more there were.
+/// `greeting` is written to standard error once all workers have started. A line says when batches
+/// are no longer recorded, and when they are again; so it does if a generation cannot begin, or
+/// logs cannot be put away. Each refused datagram has a line, up to 20 of a cause each second, and
+/// a line gives the number of the others.
 ///
-/// `Threads` comes where a worker has not started within some five seconds, `Down` where a socket
-/// fails, `Unsynced` where the store can record nothing more, and `NoMemory` where memory is refused
-/// at the start. All workers end then: no receiver goes on alone. Where several faults come, the
-/// gravest is given.
+/// `Threads` comes if a worker has not started within about five seconds, `Down` if a socket fails,
+/// `Unsynced` if the store can record nothing more, and `NoMemory` if memory is refused at the
+/// start. All workers then end: no receiver goes on alone. Of several faults the gravest is given.
 ///
-/// The system's tables of sockets are read by `files`: a thread may be handed no other handle of
-/// files than the system's own.
+/// `files` reads the system's tables of sockets: a thread can be given no other handle to files
+/// than the system's own.
 pub fn serve<'a, P, G, A, R>(
     rt: &'a R,
     files: &'a HostRuntime,
@@ -152,8 +150,8 @@ where
     run_jobs(&server, jobs.as_slice(), pages)
 }
 
-/// Has each job done on a thread of its own, and gives what they came to. That nothing more can be
-/// recorded is said also where each worker met another fault.
+/// Does each job on its own thread, and gives their results. That nothing more can be recorded is
+/// the fault even if each worker met another one.
 fn run_jobs<P, G, A, R>(
     server: &Server<'_, G, A, R>,
     jobs: &[Job<'_>],
@@ -188,8 +186,8 @@ where
     A: Accounts,
     R: Net + Eprint + time::Clock + Wait,
 {
-    /// Does the job with this number until the server shall end or the job fails, and then tells the
-    /// others to end.
+    /// Does the job with this number until the server is to end or the job fails, and then makes
+    /// the others end.
     fn work<P: Pages>(
         &self,
         job: Option<&Job<'_>>,
@@ -211,7 +209,7 @@ where
         outcome
     }
 
-    /// Tells that a worker has started, and waits for the others. Gives whether there is something to
+    /// Notes that a worker has started, and waits for the others. Gives whether there is work to
     /// do.
     pub(crate) fn has_started(&self) -> Result<bool, RunFault> {
         match self.shutdown.await_start(self.rt) {
@@ -221,7 +219,7 @@ where
         }
     }
 
-    /// The recorder, as a worker sees it whose batches are of this era, or the same in each.
+    /// The recorder for a worker whose batches are of this era, or of none.
     pub(crate) fn recorder(
         &self,
         era: Option<u64>,
@@ -247,8 +245,7 @@ where
         Ok(())
     }
 
-    /// Makes a tick each second, begins the next generation where it is due, and tells the operator of
-    /// what goes wrong.
+    /// Makes a tick each second, begins the next generation if it is due, and reports failures.
     fn tick(&self) -> Result<(), RunFault> {
         if !self.has_started()? {
             return Ok(());
@@ -274,7 +271,7 @@ where
         Ok(())
     }
 
-    /// Makes a tick, and gives whether it, or a batch of another worker since the last one, was not
+    /// Makes a tick, and gives whether it, or a batch of any worker since the last one, was not
     /// recorded.
     fn tick_once(
         &self,

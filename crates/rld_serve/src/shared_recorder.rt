@@ -4,9 +4,9 @@ use rsl_shard::Move;
 use std::alloc::Global;
 use std::sync::{Mutex, Wait};
 
-/// The recorder of a server, as one of its workers sees it: each call waits for the lock.
+/// The recorder of a server, for one of its workers: each call waits for the lock.
 ///
-/// It reports nothing to contracts, since others use the recorder too.
+/// It reports nothing to contracts, since others share the recorder.
 #[derive(Drop)]
 pub(crate) struct SharedRecorder<'a, S: Recorder, R: Wait> {
     rt: &'a R,
@@ -15,8 +15,8 @@ pub(crate) struct SharedRecorder<'a, S: Recorder, R: Wait> {
 }
 
 impl<'a, S: Recorder, R: Wait> SharedRecorder<'a, S, R> {
-    /// The recorder behind this lock, for batches that are prepared by the accounts of this era; where
-    /// none is given, for batches that are the same in each, as ticks are.
+    /// The recorder under this lock, for batches that are prepared with the accounts of this era,
+    /// or without an era for batches that no account is in, such as ticks.
     pub(crate) fn new(
         rt: &'a R,
         state: &'a Mutex<ServerState<S>>,
@@ -25,7 +25,7 @@ impl<'a, S: Recorder, R: Wait> SharedRecorder<'a, S, R> {
         SharedRecorder { rt, state, era }
     }
 
-    /// Whether a batch of any worker was not recorded since this call was made last.
+    /// Whether a batch of any worker was not recorded since the last call.
     pub(crate) fn take_failed(&self) -> bool {
         self.state.lock(self.rt).take_failed()
     }

@@ -1,4 +1,4 @@
-//! The worker that shows the server to those who ask.
+//! The worker that shows the server.
 
 use crate::accounts::Accounts;
 use crate::server::Server;
@@ -31,7 +31,7 @@ where
     A: Accounts,
     R: Net + Eprint + time::Clock + Wait,
 {
-    /// Shows the server to those who ask.
+    /// Shows the server until it is to end.
     pub(crate) fn show<P: Pages>(&self, pages: &P) -> Result<(), RunFault> {
         if self.has_started()? {
             pages.show(self.rt, self)?;

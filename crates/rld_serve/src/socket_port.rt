@@ -7,9 +7,9 @@ use std::alloc::Global;
 use std::io;
 use std::net::{SocketAddr, UdpSocket};
 
-/// A UDP socket that several receivers share, as one of them sees it in a turn. No call waits.
+/// A UDP socket that several receivers share, for one of them in a turn. No call blocks.
 ///
-/// A Status-Server packet is answered here, where it shall be, and the receiver sees nothing of it.
+/// It answers Status-Server packets itself if it is to; the receiver does not see them.
 #[derive(Drop)]
 pub(crate) struct SocketPort<'a> {
     socket: &'a UdpSocket,
@@ -19,7 +19,7 @@ pub(crate) struct SocketPort<'a> {
 }
 
 impl<'a> SocketPort<'a> {
-    /// A port over a socket whose calls do not wait.
+    /// A port over a socket that does not block.
     pub(crate) fn new(
         socket: &'a UdpSocket,
         alloc: Global,
@@ -33,13 +33,13 @@ impl<'a> SocketPort<'a> {
         }
     }
 
-    /// Whether the socket had nothing more when it was read last, so that it can be waited for.
+    /// Whether the last read found the socket empty, so that it can be waited for.
     pub(crate) fn is_drained(&self) -> bool {
         self.is_drained
     }
 
-    /// Answers a datagram, if it is a Status-Server packet that shall be answered, and gives whether it
-    /// was.
+    /// Answers a datagram, if it is a Status-Server packet that is to be answered, and gives
+    /// whether it was.
     fn answers_status(&self, datagram: &[u8], peer: SocketAddr) -> bool {
         let Some(service) = &self.status else {
             return false;
@@ -54,8 +54,8 @@ impl<'a> SocketPort<'a> {
     }
 }
 
-/// What a read of a socket into `room` octets gave: a datagram, cut to the room, with the peer that it came
-/// from, or none where the fault of the read passes. Every other fault is a `PortFault`.
+/// What a read of a socket into `room` octets gave: a datagram, cut to the room, with its peer, or
+/// none if the fault of the read passes. Any other fault is a `PortFault`.
 fn arrival(
     read: io::Result<(usize, SocketAddr)>,
     room: usize,
@@ -72,8 +72,8 @@ fn arrival(
 }
 
 impl PeerPort for SocketPort<'_> {
-    /// Takes a datagram, if one is there. Where a Status-Server packet was answered none is given, but
-    /// more may be there.
+    /// Takes a datagram, if there is one. After a Status-Server packet it gives none, but more may
+    /// be there.
     fn receive(&mut self, buffer: &mut [u8]) -> Result<Option<(usize, SocketAddr)>, PortFault> {
         let room = buffer.len();
         match arrival(self.socket.recv_from(buffer), room)? {
@@ -86,7 +86,7 @@ impl PeerPort for SocketPort<'_> {
         }
     }
 
-    /// Sends an answer. One for which the system has no room now is not sent, as one that is lost.
+    /// Sends an answer. If the system has no room for it now, it is lost like a dropped datagram.
     fn send(&mut self, octets: &[u8], to: SocketAddr) -> Result<(), PortFault> {
         match self.socket.send_to(octets, to) {
             Ok(_) => Ok(()),

@@ -4,7 +4,7 @@ use rsl_event::Port;
 use std::alloc::Global;
 use std::net::SocketAddr;
 
-/// What answers Status-Server packets that come to a port.
+/// Answers the Status-Server packets of a port.
 #[derive(Clone, Copy)]
 pub(crate) struct StatusService<'a> {
     pub(crate) present: Present<'a>,
@@ -12,8 +12,8 @@ pub(crate) struct StatusService<'a> {
 }
 
 impl StatusService<'_> {
-    /// The answer to a datagram that came from this peer, if it is a Status-Server packet that is
-    /// answered, and there is memory for an answer.
+    /// The answer to a datagram from this peer, if it is a Status-Server packet that is answered,
+    /// and memory for it is not refused.
     pub(crate) fn answer(
         &self,
         alloc: Global,

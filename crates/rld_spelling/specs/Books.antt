@@ -43,7 +43,7 @@ DecisionFits _ = Unit {0}
 abbrev pub decision_field : Field Decision
 decision_field = record { spell = decision_octets; read = decision_at; Fits = DecisionFits }
 
--- ---- what has a link
+-- ---- what holds a link
 
 unfoldable pub holder_octets : SavedHolder → List ℕ
 holder_octets (holders.Reserved number) = 0 ∷ number_octets number
@@ -66,7 +66,7 @@ HolderFits (holders.Bound session) = short.Fits session
 abbrev pub holder_field : Field SavedHolder
 holder_field = record { spell = holder_octets; read = holder_at; Fits = HolderFits }
 
--- ---- links: the access server, what has it, its bundle, and the clock at its last touch
+-- ---- links: the access server, what holds it, its bundle, and the clock at its last touch
 
 abbrev pub LinkParts : Type 0
 LinkParts = Nas × (SavedHolder × (Option (List ℕ) × ℕ))
@@ -174,7 +174,7 @@ kept_stop_field clients =
 
 -- ---- the whole book
 
--- a saved book, without where its lists lie in memory
+-- a saved book, without the addresses of its lists
 pub record BookSeen : Type 0 where
   pub clock : ℕ
   pub accepts : ℕ

@@ -1,5 +1,5 @@
--- An era's table as octets: what numbers stand for while it lasts. Its names, rules and counts are
--- within the limits of an account file, as `rsl_accounts` has them.
+-- An era's table as octets: what numbers stand for while the era lasts. Its names, rules and counts
+-- are within the limits of an account file, as `rsl_accounts` has them.
 use Rattle.std.specs.Prelude.{ℕ, List, ◌++◌, length}
 use Rattle.std.specs.List.{flat_map}
 use Rattle.rld_fields.specs.declared.fault.Cause.TheVariants.{BadName, OutOfRange}
@@ -71,7 +71,7 @@ client_field = record { spell = client_octets; read = client_at; Fits = ClientFi
 
 -- ---- the whole table
 
--- an era's table, without where its lists lie in memory
+-- an era's table, without the addresses of its lists
 pub record EraSeen : Type 0 where
   pub boot : ℕ
   pub shards : ℕ

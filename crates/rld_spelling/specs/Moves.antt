@@ -26,7 +26,7 @@ own_octets account moment (acts.Alive nas session bundle class) =
     ++ (option_spelled short bundle ++ option_spelled number class)))))
 own_octets account moment (acts.Stop nas session) =
     3 ∷ (number_octets moment ++ (number_octets account ++ (nas_octets nas ++ short.spell session)))
--- no account's own: these have no spelling
+-- not own moves: these have no spelling
 own_octets account moment (acts.Sweep nas) = []
 own_octets account moment acts.Tick = []
 
@@ -40,7 +40,7 @@ move_octets (Sweep moment nas) = 4 ∷ (number_octets moment ++ nas_octets nas)
 move_octets (Tick moment) = 5 ∷ number_octets moment
 move_octets (Stray moment note) = 6 ∷ (number_octets moment ++ note_octets note)
 
--- ---- what each kind of them is of
+-- ---- what each kind of move is of
 
 abbrev pub account_field : Counts → Field ℕ
 account_field counts = below NoAccount counts.accounts

@@ -1,5 +1,5 @@
--- What tells one Access-Request from another, as octets: the address and the port that it came from,
--- its Identifier and its Request Authenticator, as RFC 2865 section 3 has them.
+-- The key of an Access-Request as octets: the address and the port of its source, its Identifier
+-- and its Request Authenticator (RFC 2865 section 3).
 use Rattle.std.specs.Prelude.{ℕ, List, ◌∷◌, ◌++◌}
 use Rattle.std.specs.Int.{w16, to_be_bytes}
 use Rattle.rld_fields.specs.Field.{Field, Reading, both, seen_as, fixed, octet}

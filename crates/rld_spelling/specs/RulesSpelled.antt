@@ -44,7 +44,7 @@ rules_as =
     (both (between OutOfRange 0 64) (both (between OutOfRange 1 16)
     (both time (both time (both time (both time time))))))
 
--- an answer is kept for no longer than a place is reserved
+-- an answer is kept no longer than a place is reserved
 abbrev pub keeps : Rules → Bool
 keeps rules = nat_le rules.keep rules.reserve
 

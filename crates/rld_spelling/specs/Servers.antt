@@ -23,7 +23,7 @@ unfoldable pub name_at : List ℕ → Reading NasName
 name_at [] = fault_at CutShort []
 name_at (tag ∷ rest) = name_behind tag rest
 
--- a name that has a spelling: it has at most 253 octets, as the value of an attribute has
+-- a name that has a spelling: at most 253 octets, like the value of an attribute
 abbrev pub NameFits : NasName → Type 0
 NameFits (Identifier name) = length name ≤ 253
 NameFits (Address address) = length address ≤ 253

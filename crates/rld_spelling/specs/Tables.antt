@@ -14,7 +14,7 @@ account_row entry = record { name = entry.name; rules = entry.rules }
 abbrev pub client_row : Client → EraClient
 client_row client = record { address = client.address }
 
--- its names, rules and addresses, in their order
+-- its names, rules and addresses, in order
 abbrev pub table_of : (boot : ℕ) → Configuration → EraSeen
 table_of boot config = record {
   boot = boot;
@@ -23,7 +23,7 @@ table_of boot config = record {
   clients = map client_row config.clients;
 }
 
--- every configuration has a table that fits; an address has 4 octets, as that of the code has
+-- every configuration has a table that fits; an address has 4 octets, like that of the code
 abbrev pub TablesFit : Type 0
 TablesFit =
     (boot : ℕ) → boot < 2 ^ 64 → (config : Configuration) → IsConfiguration config

@@ -29,7 +29,7 @@ const ACCEPT: u8 = 1;
 
 const LIMIT_REJECT: u8 = 2;
 
-/// The tags of what has a link.
+/// The tags of what holds a link.
 const RESERVED: u8 = 0;
 
 const BOUND: u8 = 1;
@@ -73,7 +73,7 @@ fn read_decision(reader: &mut Reader) -> Result<Decision, Fault>
 
 // ---- links
 
-/// Whether what has a link has a spelling.
+/// Whether what holds a link has a spelling.
 fn holder_fits(holder: &SavedHolder) -> bool
     ensures { IsTrue result ↔ HolderFits holder.now }
 {
@@ -95,7 +95,7 @@ fn link_fits(link: &SavedLink, clients: u32) -> bool
     nas_fits(&link.nas, clients) && holder_fits(&link.holder) && option_fits(&link.bundle)
 }
 
-/// Spells what has a link.
+/// Spells what holds a link.
 #[tactic(auto, unfolding(crate::specs::Books::holder_octets))]
 fn push_holder(out: &mut Vec<u8>, holder: &SavedHolder) -> Result<(), AllocError>
     requires { HolderFits holder.now }
@@ -125,7 +125,7 @@ fn push_link(out: &mut Vec<u8>, link: &SavedLink, clients: u32) -> Result<(), Al
     push_number(out, link.touched)
 }
 
-/// Reads what has a link.
+/// Reads what holds a link.
 #[tactic(auto, unfolding(crate::specs::Books::holder_at))]
 fn read_holder(alloc: Global, reader: &mut Reader) -> Result<SavedHolder, ReadFault>
     ensures { ReadsIn result reader.new (holder_at reader.old) }
@@ -168,7 +168,7 @@ fn ask_fits(ask: &KeptAsk, clients: u32) -> bool
     nas_fits(&ask.nas, clients)
 }
 
-/// Every decision has a spelling: this call says so.
+/// Shows the prover that every decision has a spelling.
 fn decision_has_spelling(decision: Decision)
     ensures { DecisionFits decision }
 {
@@ -251,7 +251,7 @@ fn read_stop(alloc: Global, reader: &mut Reader, clients: u32) -> Result<KeptSto
     })
 }
 
-// ---- lists: each has its own loops
+// ---- lists
 
 /// Whether each of some links has a spelling.
 fn links_fit(links: &[SavedLink], clients: u32) -> bool
@@ -445,9 +445,8 @@ fn push_fitting(out: &mut Vec<u8>, book: &SavedBook, clients: u32) -> Result<(),
     push_stops(out, book.stops.as_slice(), clients)
 }
 
-/// Spells a book after the octets that are there. `Unfit` comes exactly where the book has no
-/// spelling, and then nothing is written. Where memory is refused, nothing is said of what stands
-/// after the earlier octets.
+/// Appends the spelling of a book. `Unfit` comes exactly if the book has no spelling; then nothing
+/// is written. If memory is refused, a part of it may have been appended.
 pub fn push_book(out: &mut Vec<u8>, book: &SavedBook, clients: u32) -> Result<(), SpellFault>
     ensures spelled { OnOk result (out.new.items ≡ out.old.items ++ book_octets (book_seen book.now)) }
     ensures fits { OnOk result ((book_field clients).Fits (book_seen book.now)) }
@@ -502,7 +501,7 @@ fn read_book_count(
     Ok(books)
 }
 
-/// Reads the books that all of the octets spell.
+/// Reads books from all of the octets.
 fn read_all(alloc: Global, octets: &[u8], clients: u32) -> Result<Vec<SavedBook>, ReadFault>
     ensures { Gives (λ books. books_seen books.items) result
         (all_of ((books_field clients).read octets.now)) }
@@ -517,8 +516,8 @@ fn read_all(alloc: Global, octets: &[u8], clients: u32) -> Result<Vec<SavedBook>
     }
 }
 
-/// The books of a snapshot, which all of the octets spell. It fails where memory is refused, and else
-/// with the first fault.
+/// The books of a snapshot, from all of the octets. It fails if memory is refused, and else with
+/// the first fault.
 pub fn read_books(alloc: Global, octets: &[u8], clients: u32) -> Result<Vec<SavedBook>, ReadFault>
     // What is read is spelled so.
     ensures found { IfOk result (λ books.
@@ -528,7 +527,7 @@ pub fn read_books(alloc: Global, octets: &[u8], clients: u32) -> Result<Vec<Save
     ensures only { (books : List BookSeen) → (books_field clients).Fits books →
         octets.now ≡ (books_field clients).spell books →
         Gives (λ books. books_seen books.items) result (Ok books) }
-    // Which fault it is.
+    // The fault is the first.
     ensures exact { Gives (λ books. books_seen books.items) result
         (all_of ((books_field clients).read octets.now)) }
 {

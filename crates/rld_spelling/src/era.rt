@@ -41,7 +41,7 @@ const MAX_TIME: u64 = 86_400;
 /// An account of an era.
 #[derive(Drop)]
 pub struct EraAccount {
-    /// Its User-Name: 1 to 64 visible characters of ASCII, an octet each.
+    /// Its User-Name: 1 to 64 octets, each a visible ASCII character.
     pub name: Octets,
     /// Its session limit.
     pub rules: Rules,
@@ -50,11 +50,12 @@ pub struct EraAccount {
 /// A client of an era.
 #[derive(Clone, Copy, PartialEq, Eq)]
 pub struct EraClient {
-    /// Its IPv4 address, its first octet first.
+    /// Its IPv4 address, first octet first.
     pub address: [u8; 4],
 }
 
-/// What holds while an era lasts. Accounts and clients have the numbers of their places here.
+/// The table of an era, which holds while the era lasts. Accounts and clients are numbered by their
+/// positions in it.
 #[derive(Drop)]
 pub struct Era {
     /// The boot number, with which each Class attribute of the era begins.
@@ -67,14 +68,14 @@ pub struct Era {
     pub clients: Vec<EraClient>,
 }
 
-/// Whether a name is one that an account can have: 1 to 64 octets, each a visible character of ASCII.
+/// Whether an account can have a name: 1 to 64 octets, each a visible ASCII character.
 fn is_name(name: &[u8]) -> bool
     ensures { result ≡ is_name name.now }
 {
     is_between(1, MAX_NAME_LEN, name.len()) && is_visible(name)
 }
 
-/// Whether each octet is a visible character of ASCII.
+/// Whether each octet is a visible ASCII character.
 fn is_visible(text: &[u8]) -> bool
     ensures { result ≡ is_visible text.now }
 {
@@ -82,7 +83,7 @@ fn is_visible(text: &[u8]) -> bool
         .all(|octet| is_between(0x21, 0x7e, usize::from(*octet)))
 }
 
-/// Whether a number is from the least to the most.
+/// Whether a number is from `least` to `most`.
 fn is_between(least: usize, most: usize, number: usize) -> bool
     ensures { result ≡ is_between least most number }
 {
@@ -118,7 +119,7 @@ fn read_time(reader: &mut Reader) -> Result<u64, Fault>
     reader.between(Cause::OutOfRange, 1, MAX_TIME)
 }
 
-/// Reads the rules of an account, whose times may disagree.
+/// Reads the rules of an account, without checking its times against each other.
 fn read_numbers(reader: &mut Reader) -> Result<Rules, Fault>
     ensures { Reads result reader.new (rules_as.read reader.old) }
 {
@@ -198,7 +199,7 @@ fn read_account(alloc: Global, reader: &mut Reader) -> Result<EraAccount, ReadFa
     Ok(EraAccount { name, rules })
 }
 
-/// Whether `count` is at least 1, and at most `most`.
+/// Whether `count` is 1 to `most`.
 fn is_count(count: u64, most: u64) -> bool
     ensures { IsTrue result ↔ ((1 ≤ count) × (count ≤ most)) }
 {
@@ -217,7 +218,7 @@ fn accounts_fit(accounts: &[EraAccount]) -> bool
     true
 }
 
-/// Every client has a spelling: this call says so.
+/// Shows the prover that every client has a spelling.
 #[tactic(auto, unfolding(crate::specs::Eras::ClientFits))]
 fn client_has_spelling(client: &EraClient)
     ensures { ClientFits client.now }
@@ -225,7 +226,7 @@ fn client_has_spelling(client: &EraClient)
     let _address = client.address;
 }
 
-/// Each of some clients has.
+/// Shows the prover that each of some clients has a spelling.
 fn clients_have_spelling(clients: &[EraClient])
     ensures { All ClientFits clients.now }
 {
@@ -333,8 +334,8 @@ fn read_clients(alloc: Global, reader: &mut Reader) -> Result<Vec<EraClient>, Re
 impl Era {
     ghost use Rattle.rld_spelling.specs.Eras.{EraSeen, era_seen, era_at, era_field, era_octets};
 
-    /// Whether the table has a spelling: 1 to 4 shards, 1 to 16,384 accounts with names and rules as
-    /// an account file may have, and 1 to 256 clients.
+    /// Whether the table has a spelling: 1 to 4 shards, 1 to 16,384 accounts with names and rules
+    /// that an account file may have, and 1 to 256 clients.
     #[tactic(auto, unfolding(crate::specs::Eras::EraFits))]
     pub fn fits(&self) -> bool
         ensures { IsTrue result ↔ era_field.Fits (era_seen self.now) }
@@ -359,9 +360,8 @@ impl Era {
         push_clients(out, self.clients.as_slice())
     }
 
-    /// Spells the table after the octets that are there. `Unfit` comes exactly where it has no
-    /// spelling, and then nothing is written. Where memory is refused, nothing is said of what
-    /// stands after the earlier octets.
+    /// Appends the spelling of the table. `Unfit` comes exactly if it has no spelling; then nothing
+    /// is written. If memory is refused, a part of it may have been appended.
     pub fn push(&self, out: &mut Vec<u8>) -> Result<(), SpellFault>
         ensures spelled { OnOk result (out.new.items ≡ out.old.items ++ era_octets (era_seen self.now)) }
         ensures fits { OnOk result (era_field.Fits (era_seen self.now)) }
@@ -392,7 +392,7 @@ impl Era {
         })
     }
 
-    /// Reads the table that all of the octets spell.
+    /// Reads a table from all of the octets.
     fn read_all(alloc: Global, octets: &[u8]) -> Result<Era, ReadFault>
         ensures { Gives era_seen result (all_of (era_at octets.now)) }
     {
@@ -405,8 +405,8 @@ impl Era {
         }
     }
 
-    /// The table that all of the octets spell. It fails where memory is refused, and else with the
-    /// first fault.
+    /// The table in all of the octets. It fails if memory is refused, and else with the first
+    /// fault.
     pub fn read(alloc: Global, octets: &[u8]) -> Result<Era, ReadFault>
         // What is read is spelled so.
         ensures found { IfOk result (λ era.
@@ -414,7 +414,7 @@ impl Era {
         // What is spelled so is read.
         ensures only { (era : EraSeen) → era_field.Fits era → octets.now ≡ era_octets era →
             Gives era_seen result (Ok era) }
-        // Which fault it is.
+        // The fault is the first.
         ensures exact { Gives era_seen result (all_of (era_at octets.now)) }
     {
         Era::read_all(alloc, octets)

@@ -8,8 +8,8 @@ use std::alloc::AllocError;
 pub enum SpellFault {
     /// Memory was refused.
     NoMemory,
-    /// The value has no spelling: a name or an id has over 253 octets, an account or a client is not
-    /// there, or what is called an account's own move is none.
+    /// The value has no spelling: a name or an id has over 253 octets, an account or a client is
+    /// not there, or an own move is not an ask, an alive or a stop.
     Unfit,
 }
 

@@ -11,7 +11,7 @@ use std::alloc::AllocError;
 /// The version of the format: of every spelling of this crate.
 pub const FORMAT_VERSION: u64 = 1;
 
-/// What stands at the beginning of a generation.
+/// The header of a generation.
 #[derive(Clone, Copy, PartialEq, Eq)]
 pub struct Header {
     /// The number of the era.
@@ -20,7 +20,7 @@ pub struct Header {
     pub generation: u64,
     /// The MD5 digest of the octets of the era's file.
     pub digest: [u8; 16],
-    /// How many lines the earlier generations of the era have.
+    /// The number of lines of the earlier generations of the era.
     pub lines: u64,
 }
 
@@ -28,9 +28,8 @@ impl Header {
     ghost use Rattle.rld_spelling.specs.declared.header.Header.{Header as OneHeader};
     ghost use Rattle.rld_spelling.specs.Headers.{header_at, header_field, header_octets};
 
-    /// Spells the header, after the versions of the format and of the session rule, and after the
-    /// octets that are there. It fails only where memory is refused, and then nothing is said of what
-    /// stands after the earlier octets.
+    /// Appends the spelling of the header, after the versions of the format and of the session
+    /// rule. It fails only if memory is refused; then a part of it may have been appended.
     #[tactic(auto, unfolding(crate::specs::Headers::header_octets))]
     pub fn push(&self, out: &mut Vec<u8>) -> Result<(), AllocError>
         ensures { OnOk result (out.new.items ≡ out.old.items ++ header_octets self.now) }
@@ -43,7 +42,7 @@ impl Header {
         push_number(out, self.lines)
     }
 
-    /// Every header has a spelling: this call says so.
+    /// Shows the prover that every header has a spelling.
     pub fn has_spelling(self)
         ensures { header_field.Fits self }
     {
@@ -69,7 +68,7 @@ impl Header {
         })
     }
 
-    /// Reads the header that all of the octets spell.
+    /// Reads a header from all of the octets.
     fn read_all(octets: &[u8]) -> Result<Header, Fault>
         ensures { result ≡ all_of (header_at octets.now) }
     {
@@ -82,8 +81,8 @@ impl Header {
         }
     }
 
-    /// The header that all of the octets spell, or the first fault: `OtherFormat` or `OtherRule` come
-    /// before what is wrong after the versions. It takes no memory.
+    /// The header in all of the octets, or the first fault: `OtherFormat` and `OtherRule` come
+    /// before what is wrong after the versions. It allocates nothing.
     pub fn read(octets: &[u8]) -> Result<Header, Fault>
         // What is read is spelled so.
         ensures found { IfOk result (λ header.
@@ -91,7 +90,7 @@ impl Header {
         // What is spelled so is read.
         ensures only { (header : OneHeader) → header_field.Fits header →
             octets.now ≡ header_octets header → result ≡ Ok header }
-        // Which fault it is.
+        // The fault is the first.
         ensures exact { result ≡ all_of (header_at octets.now) }
     {
         Header::read_all(octets)

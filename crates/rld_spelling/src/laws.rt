@@ -1,5 +1,5 @@
-//! The laws of spellings: each value is read as it is spelled. Each law is the contract of a function
-//! that does nothing.
+//! The laws of spellings: each value is read as it is spelled. Each law is the contract of a
+//! function that does nothing.
 
 ghost use Rattle.std.specs.Prelude.{◌≡◌, ◌++◌, ◌≤◌, ◌<◌, ◌^◌, List, ℕ};
 ghost use Rattle.rld_fields.specs.Field.{IsRead};
@@ -18,14 +18,14 @@ pub fn moves_are_read()
     ensures batches { (counts : SomeCounts) → FewEnough counts → IsRead (moves_field counts) }
 {}
 
-/// Octets begin with one move at most: no spelling of a move begins that of another.
+/// Octets begin with one move at most: no spelling of a move is the beginning of another's.
 pub fn one_move()
     ensures { (counts : SomeCounts) → FewEnough counts → (a b : OneMove) (x y : List ℕ) →
         MoveFits counts a → MoveFits counts b → move_octets a ++ x ≡ move_octets b ++ y →
         (a ≡ b) × (x ≡ y) }
 {}
 
-/// Each book is read as it is spelled, and so are those of a snapshot.
+/// Each book is read as it is spelled, and so are the books of a snapshot.
 pub fn books_are_read()
     ensures books { (clients : ℕ) → clients < 2 ^ 32 → IsRead (book_field clients) }
     ensures snapshots { (clients : ℕ) → clients < 2 ^ 32 → IsRead (books_field clients) }

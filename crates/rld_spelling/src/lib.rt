@@ -2,9 +2,10 @@
 //! generation.
 //!
 //! The promise: each value has one spelling, what is read is spelled so, and what is spelled so is
-//! read, whatever follows. Octets that spell nothing give the first fault, with its place; nothing is
-//! read that does not fit. `specs/Moves.antt` has the moves, `specs/Books.antt` the books,
-//! `specs/Eras.antt` the table and `specs/Headers.antt` the header. docs/FOLDER.md shows their octets.
+//! read, whatever follows. Octets that spell nothing give the first fault, with its offset; no
+//! value is read that does not fit. `specs/Moves.antt` has the moves, `specs/Books.antt` the books,
+//! `specs/Eras.antt` the table and `specs/Headers.antt` the header. docs/FOLDER.md shows their
+//! octets.
 //!
 //! Accounts and clients are numbers below given counts; this crate knows nothing else of the
 //! configuration.

@@ -36,9 +36,8 @@ const TICK: u8 = 5;
 
 const STRAY: u8 = 6;
 
-/// How many accounts and clients there are. An account and a client are named by numbers below
-/// these, in the order of the configuration. What is spelled and read of moves depends on nothing
-/// else.
+/// The numbers of accounts and clients. An account and a client are named by numbers below these,
+/// in the order of the configuration. The spelling of moves depends on nothing else.
 #[derive(Clone, Copy)]
 pub struct Counts {
     /// The accounts.
@@ -47,7 +46,7 @@ pub struct Counts {
     pub clients: u32,
 }
 
-/// Spells a number, if there is one.
+/// Spells an optional number.
 fn push_option_number(out: &mut Vec<u8>, class: Option<u64>) -> Result<(), AllocError>
     ensures { OnOk result (out.new.items ≡ out.old.items ++ option_spelled number class) }
 {
@@ -60,7 +59,7 @@ fn push_option_number(out: &mut Vec<u8>, class: Option<u64>) -> Result<(), Alloc
     }
 }
 
-/// Reads a number, if there is one.
+/// Reads an optional number.
 fn read_option_number(reader: &mut Reader) -> Result<Option<u64>, Fault>
     ensures { Reads result reader.new ((optional number).read reader.old) }
 {
@@ -71,7 +70,7 @@ fn read_option_number(reader: &mut Reader) -> Result<Option<u64>, Fault>
     }
 }
 
-/// Spells what is noted of a stray packet.
+/// Spells the note of a stray packet.
 fn push_note(out: &mut Vec<u8>, note: &Note) -> Result<(), AllocError>
     requires nas { NameFits note.now.nas.name }
     requires name { short.Fits note.now.name }
@@ -84,7 +83,7 @@ fn push_note(out: &mut Vec<u8>, note: &Note) -> Result<(), AllocError>
     push_short(out, note.session.as_slice())
 }
 
-/// Every number has a spelling, if there is one: this call says so.
+/// Shows the prover that every optional number has a spelling.
 fn option_has_spelling(number: Option<u64>)
     ensures { IfSome number (λ n. n < 2 ^ 64) }
 {
@@ -103,7 +102,7 @@ fn ids_fit(session: &Octets, bundle: &Option<Octets>) -> bool
 impl Counts {
     // ---- which moves have a spelling
 
-    /// Whether an account's own move has a spelling.
+    /// Whether an own move has a spelling.
     fn own_fits(self, account: u32, moment: u64, act: &Act) -> bool
         ensures { IsTrue result ↔ OwnFits self account moment act.now }
     {
@@ -127,8 +126,8 @@ impl Counts {
         }
     }
 
-    /// Whether a move has a spelling: its account and its client are there, its names and ids have at
-    /// most 253 octets, and what is called an account's own is an ask, an alive or a stop.
+    /// Whether a move has a spelling: its account and its client are there, its names and ids have
+    /// at most 253 octets, and an own move is an ask, an alive or a stop.
     pub fn fits(self, moved: &Move) -> bool
         ensures { IsTrue result ↔ MoveFits self moved.now }
     {
@@ -152,7 +151,7 @@ impl Counts {
 
     // ---- how moves are spelled
 
-    /// Spells an account's own move.
+    /// Spells an own move.
     fn push_own(
         self,
         out: &mut Vec<u8>,
@@ -221,9 +220,8 @@ impl Counts {
         }
     }
 
-    /// Spells a move after the octets that are there. `Unfit` comes exactly where the move has no
-    /// spelling, and then nothing is written. Where memory is refused, nothing is said of what stands
-    /// after the earlier octets.
+    /// Appends the spelling of a move. `Unfit` comes exactly if the move has no spelling; then
+    /// nothing is written. If memory is refused, a part of it may have been appended.
     pub fn push_move(self, out: &mut Vec<u8>, moved: &Move) -> Result<(), SpellFault>
         ensures spelled { OnOk result (out.new.items ≡ out.old.items ++ move_octets moved.now) }
         ensures fits { OnOk result (MoveFits self moved.now) }
@@ -375,7 +373,7 @@ impl Counts {
         Ok(moves)
     }
 
-    /// Reads the moves of a batch, which are all of the octets.
+    /// Reads the moves of a batch from all of the octets.
     fn read_all(self, alloc: Global, octets: &[u8]) -> Result<Vec<Move>, ReadFault>
         ensures { Gives (λ moves. moves.items) result (all_of ((moves_field self).read octets.now)) }
     {
@@ -389,8 +387,8 @@ impl Counts {
         }
     }
 
-    /// The moves of a batch, as `push_moves` spells them in all of the octets. It fails where memory is
-    /// refused, and else with the first fault.
+    /// The moves of a batch, as `push_moves` spells them, from all of the octets. It fails if
+    /// memory is refused, and else with the first fault.
     pub fn read_moves(self, alloc: Global, octets: &[u8]) -> Result<Vec<Move>, ReadFault>
         // What is read is spelled so.
         ensures found { IfOk result (λ moves.
@@ -398,7 +396,7 @@ impl Counts {
         // What is spelled so is read.
         ensures only { (moves : List OneMove) → (moves_field self).Fits moves →
             octets.now ≡ (moves_field self).spell moves → Gives (λ moves. moves.items) result (Ok moves) }
-        // Which fault it is.
+        // The fault is the first.
         ensures exact { Gives (λ moves. moves.items) result
             (all_of ((moves_field self).read octets.now)) }
     {
@@ -431,9 +429,9 @@ impl Counts {
         Ok(())
     }
 
-    /// Spells the moves of a batch after the octets that are there. `Unfit` comes exactly where one
-    /// of them has no spelling, and then nothing is written. Where memory is refused, nothing is
-    /// said of what stands after the earlier octets.
+    /// Appends the spelling of the moves of a batch. `Unfit` comes exactly if one of them has no
+    /// spelling; then nothing is written. If memory is refused, a part of it may have been
+    /// appended.
     pub fn push_moves(self, out: &mut Vec<u8>, moves: &[Move]) -> Result<(), SpellFault>
         ensures spelled { OnOk result (out.new.items ≡
             out.old.items ++ (moves_field self).spell moves.now) }

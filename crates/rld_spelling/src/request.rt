@@ -1,4 +1,4 @@
-//! What tells one Access-Request from another.
+//! The keys of Access-Requests.
 
 ghost use Rattle.std.specs.Prelude.{◌≡◌, ◌++◌, OnOk};
 ghost use Rattle.rld_fields.specs.Read.{Reads};
@@ -8,7 +8,7 @@ use rld_fields::{Fault, Reader, push_pair};
 use rsl_event::{Key, Source};
 use std::alloc::AllocError;
 
-/// Every key has a spelling: this call says so.
+/// Shows the prover that every key has a spelling.
 pub(crate) fn key_has_spelling(key: Key)
     ensures { key_field.Fits key }
 {

@@ -1,4 +1,4 @@
-//! Access servers, and the ids and names that stand beside them.
+//! Access servers, and the ids and names beside them.
 
 ghost use Rattle.std.specs.Prelude.{◌≡◌, ◌≤◌, ◌++◌, ◌↔◌, IsTrue, OnOk, IfSome, length};
 ghost use Rattle.rld_fields.specs.Field.{short, short_at, optional, option_spelled};
@@ -21,14 +21,14 @@ const UNNAMED: u8 = 2;
 
 // ---- ids
 
-/// Whether an id has a spelling: at most 253 octets, as the value of an attribute has.
+/// Whether an id has a spelling: at most 253 octets, like the value of an attribute.
 pub(crate) fn id_fits(id: &Octets) -> bool
     ensures { IsTrue result ↔ short.Fits id.now }
 {
     id.len() <= MAX_SHORT_LEN
 }
 
-/// Whether an id has a spelling, if there is one.
+/// Whether an optional id has a spelling.
 pub(crate) fn option_fits(id: &Option<Octets>) -> bool
     ensures { IsTrue result ↔ IfSome id.now short.Fits }
 {
@@ -38,7 +38,7 @@ pub(crate) fn option_fits(id: &Option<Octets>) -> bool
     }
 }
 
-/// Spells an id, if there is one.
+/// Spells an optional id.
 pub(crate) fn push_option(out: &mut Vec<u8>, id: &Option<Octets>) -> Result<(), AllocError>
     requires { IfSome id.now short.Fits }
     ensures { OnOk result (out.new.items ≡ out.old.items ++ option_spelled short id.now) }
@@ -63,7 +63,7 @@ pub(crate) fn read_id(alloc: Global, reader: &mut Reader) -> Result<Octets, Read
     }
 }
 
-/// Reads an id, if there is one.
+/// Reads an optional id.
 pub(crate) fn read_option(alloc: Global, reader: &mut Reader) -> Result<Option<Octets>, ReadFault>
     ensures { ReadsIn result reader.new ((optional short).read reader.old) }
 {
@@ -76,7 +76,7 @@ pub(crate) fn read_option(alloc: Global, reader: &mut Reader) -> Result<Option<O
 
 // ---- access servers
 
-/// Whether a name has a spelling: at most 253 octets, as the value of an attribute has.
+/// Whether a name has a spelling: at most 253 octets, like the value of an attribute.
 fn name_fits(name: &NasName) -> bool
     ensures { IsTrue result ↔ NameFits name.now }
 {
@@ -87,8 +87,8 @@ fn name_fits(name: &NasName) -> bool
     }
 }
 
-/// Whether an access server has a spelling: it is at one of `clients` clients, and its name has
-/// one.
+/// Whether an access server has a spelling: it is at one of `clients` clients, and its name has a
+/// spelling.
 pub(crate) fn nas_fits(nas: &Nas, clients: u32) -> bool
     ensures { IsTrue result ↔ (nas_field clients).Fits nas.now }
 {

@@ -1,4 +1,4 @@
--- What stands at the front of a log.
+-- The front of a log.
 use Rattle.std.specs.Prelude.{◌≡◌, ℕ, List, ◌++◌, drop}
 use Rattle.rld_log.specs.Frames.{EndsAt, Fits, frame}
 use Rattle.rld_spelling.specs.Headers.{header_field, header_octets}
@@ -7,7 +7,7 @@ use Rattle.rld_start.specs.Lengths.{HasSpoiltLength}
 use Rattle.rld_start.specs.declared.first.First.{First}
 use Rattle.rld_start.specs.declared.first.First.TheVariants.{Unbegun, Begun}
 
--- two whole frames stand at the front: the first has a header, the second a snapshot
+-- two whole frames are at the front: the first has a header, the second a snapshot
 pub record HasTwo (octets header snapshot : List ℕ) : Type 0 where
   pub rest : List ℕ
   pub header_fits : Fits header
@@ -20,12 +20,12 @@ pub record IsBegun (octets : List ℕ) (header : Header) : Type 0 where
   pub two : HasTwo octets (header_octets header) snapshot
   pub fits : header_field.Fits header
 
--- what stands at the front of a log: no two frames, or those of a generation that was begun
+-- the front of a log: no two frames, or those of a generation that was begun
 abbrev pub IsFirst : (octets : List ℕ) → First → Type 0
 IsFirst octets Unbegun = (header snapshot : List ℕ) → HasTwo octets header snapshot → ⊥
 IsFirst octets (Begun header) = IsBegun octets header
 
--- after the whole frames stands one whose digest is that of a front of what follows its head, and whose
--- length is another
+-- after the whole frames there is one whose digest is that of a prefix of what follows its head,
+-- and whose length is another
 abbrev pub IsSpoilt : (octets : List ℕ) → (at : ℕ) → Type 0
 IsSpoilt octets at = ∥ EndsAt octets at ∥₁ × HasSpoiltLength (drop at octets)

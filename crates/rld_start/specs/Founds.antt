@@ -19,7 +19,7 @@ abbrev pub IsLookAt : Generation → Look → Type 0
 IsLookAt generation (begun found) = found.generation ≡ generation
 IsLookAt generation (unbegun found) = found.generation ≡ generation
 
--- it was seen that a generation was not begun
+-- a look found that a generation was not begun
 abbrev pub WasPassed : (passed : List NotBegun) → Generation → Type 0
 WasPassed passed generation = Contains passed (record { generation = generation })
 
@@ -35,8 +35,8 @@ IsNewerPassed counts passed Lock = ⊤
 IsNewerPassed counts passed (Era era) = ⊤
 IsNewerPassed counts passed (Log generation) = Precedes counts generation → WasPassed passed generation
 
--- The generation that counts is among the files, and each newer log was passed over. Where none counts
--- each log is that of the first generation of its era.
+-- The generation that counts is among the files, and each newer log was passed over. If none
+-- counts, each log is that of the first generation of its era.
 abbrev pub IsNewestOf : (files : List FileName) → Option WasBegun → (passed : List NotBegun) → Type 0
 IsNewestOf files None passed = All IsFirstOrNone files
 IsNewestOf files (Some found) passed =
@@ -49,8 +49,8 @@ IsNewestBegun files newest = IsNewestOf files newest.begun newest.passed.items
 abbrev pub generation_in : Option WasBegun → Option Generation
 generation_in found = option_map (λ (found : WasBegun). found.generation) found
 
--- What was found is of the generation that counts: a new one of its era goes on from it, or a new era
--- has taken over what is admitted of its books. Where none counts nothing was found.
+-- What was found is of the generation that counts: a new one of its era goes on from it, or a new
+-- era has admitted its books. If none counts, nothing was found.
 abbrev pub IsFrom : Option Generation → Found → Type 0
 IsFrom None found = (found.generation ≡ 0) × (found.admitted ≡ None)
 IsFrom (Some generation) found =

@@ -1,4 +1,4 @@
--- What the archive of a folder may have.
+-- The files that the archive of a folder may have.
 use Rattle.std.specs.Prelude.{⊤, Option, Some, None}
 use Rattle.rld_folder.specs.Newest.{Precedes}
 use Rattle.rld_folder.specs.declared.name.Generation.{Generation}

@@ -1,4 +1,4 @@
--- What a server says as it starts, of what it found in its folder.
+-- The message of a starting server on what it found in its folder.
 use Rattle.std.specs.Prelude.{ℕ, List, [], ◌++◌, ◌==◌, if◌then◌else◌, codes, decimal, Option, None, Some}
 use Rattle.rld_start.specs.declared.count.Admitted.{Admitted}
 use Rattle.rld_start.specs.declared.count.Found.{Found}
@@ -17,7 +17,7 @@ abbrev pub torn_text : (torn : ℕ) → List ℕ
 torn_text torn =
     if torn == 0 then [] else numbered (codes ", torn end of ") torn ++ codes " octets cut off"
 
--- how many of the sessions of an era with another account file go on, on a line of its own
+-- how many sessions of an era with another account file go on, on a line of its own
 abbrev pub admitted_text : (sessions : ℕ) → Option Admitted → List ℕ
 admitted_text sessions None = []
 admitted_text sessions (Some admitted) =
@@ -26,7 +26,7 @@ admitted_text sessions (Some admitted) =
     ++ numbered (codes " sessions of era ") admitted.from.era
     ++ codes " go on"
 
--- by how many seconds the system's clock is behind what the folder has, on a line of its own
+-- how many seconds the system's clock is behind the books of the folder, on a line of its own
 abbrev pub behind_text : (behind : Option ℕ) → List ℕ
 behind_text None = []
 behind_text (Some secs) =

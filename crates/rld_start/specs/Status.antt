@@ -1,4 +1,4 @@
--- How a server ends that does not start.
+-- The exit status of a server that does not start.
 use Rattle.std.specs.Prelude.{ℕ}
 use Rattle.rld_folder.specs.declared.fault.FolderFault.{FolderFault}
 use Rattle.rld_folder.specs.declared.fault.FolderFault.TheVariants as folders
@@ -9,7 +9,7 @@ use Rattle.rld_start.specs.declared.fault.StartFault.TheVariants as faults
 use Rattle.rld_start.specs.declared.status.EndStatus.{EndStatus}
 use Rattle.rld_start.specs.declared.status.EndStatus.TheVariants.{Done, WrongInput, InputOutput, NoMemory, Unsynced}
 
--- the number with which the process ends
+-- the exit status of the process
 abbrev pub number_of : EndStatus → ℕ
 number_of Done = 0
 number_of WrongInput = 1
@@ -17,7 +17,7 @@ number_of InputOutput = 2
 number_of NoMemory = 3
 number_of Unsynced = 4
 
--- a folder of the wrong kind or with the wrong mode is the operator's to mend
+-- the operator has to mend a folder of the wrong kind or with the wrong mode
 abbrev pub status_of_folder : FolderFault → EndStatus
 status_of_folder folders.NoMemory = NoMemory
 status_of_folder folders.Unmade = InputOutput
@@ -41,7 +41,7 @@ status_of_log logs.Unwritten = InputOutput
 status_of_log logs.Uncut = InputOutput
 status_of_log logs.Unsynced = Unsynced
 
--- what stands in the folder and in the operator's files is wrong input
+-- what is in the folder and in the operator's files is wrong input
 abbrev pub status_of : StartFault → EndStatus
 status_of faults.NoMemory = NoMemory
 status_of (faults.Folder fault) = status_of_folder fault

@@ -1,12 +1,11 @@
--- What is wrong with a log that a store has refused, and where.
+-- The fault of a log that a store has refused, with its offset.
 use Rattle.std.specs.Prelude.{Option, None, Some}
 use Rattle.rld_start.specs.declared.wrong.Cause.TheVariants as causes
 use Rattle.rld_start.specs.declared.wrong.Wrong.{Wrong}
 use Rattle.rld_store.specs.declared.fault.StoreFault.{StoreFault}
 use Rattle.rld_store.specs.declared.fault.StoreFault.TheVariants as faults
 
--- what is wrong is said where it stands in the log; that the snapshot is not whole, where the header
--- begins
+-- the offset is that of the fault in the log, or that of the header if the snapshot is not whole
 abbrev pub wrong_of : StoreFault → Option Wrong
 wrong_of (faults.Damaged damage) = Some (record { offset = damage.offset; cause = causes.Damaged })
 wrong_of faults.Unbegun = Some (record { offset = 20; cause = causes.Alone })

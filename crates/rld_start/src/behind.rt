@@ -1,4 +1,4 @@
-//! A clock of the system that is behind the books: deadlines wait until it is there.
+//! A system clock that is behind the books: no deadline passes until it has caught up.
 
 ghost use Rattle.std.specs.Prelude.{◌≡◌, ℕ, length};
 ghost use Rattle.rld_books.specs.Clocks.{IsGreatestClock};
@@ -10,7 +10,7 @@ use rsl_accounts::Config;
 /// The fewest seconds that are reported.
 const TOLD_SECS: u64 = 60;
 
-/// By how many seconds the system's clock is behind another, where these are 60 or more.
+/// How many seconds the system's clock is behind another, if 60 or more.
 fn behind(now: u64, clock: u64) -> Option<u64>
     ensures { result ≡ behind now clock }
 {
@@ -18,8 +18,7 @@ fn behind(now: u64, clock: u64) -> Option<u64>
     if secs < TOLD_SECS { None } else { Some(secs) }
 }
 
-/// By how many seconds the system's clock is behind the greatest clock of these books, where these are
-/// 60 or more.
+/// How many seconds the system's clock is behind the greatest clock of these books, if 60 or more.
 pub(crate) fn behind_books(config: &Config, books: &ServerBooks, now: u64) -> Option<u64>
     ensures { (clock : ℕ)
         × (IsGreatestClock books.now (length config.now.accounts) clock × (result ≡ behind now clock)) }

@@ -1,4 +1,4 @@
-//! How an era follows one with another account file: with what is admitted of its books.
+//! An era after one with another account file, with the books admitted from it.
 
 ghost use Rattle.std.specs.Prelude.{◌≡◌, ◌+◌, ◌<◌, ◌^◌, ◌↔◌, ℕ, map, IfOk, IsTrue, Some};
 ghost use Rattle.std.specs.Option.{option_map};
@@ -30,10 +30,10 @@ use rsl_accounts::{Client, Config, Entry};
 use std::alloc::Global;
 use std::fs::{File, Files};
 
-/// Begins an era with the table of a configuration, where the newest generation that was begun is of an
-/// era with another one: with what is admitted of its books, and under its boot number, so that what
-/// was answered in it can be answered again. The new era's log is synced to the disk, whatever the
-/// pacing. A crash at any call leaves the old era, or the new one whole.
+/// Begins an era with the table of a configuration, after a generation of an era with another one:
+/// with the books admitted from it, and under its boot number, so that what it answered can be
+/// answered again. The new era's log is synced to the disk, whatever the pacing. A crash at any
+/// call leaves the old era, or the new one whole.
 pub(crate) fn change<'a, R: Files<File = File>>(
     files: &R,
     alloc: Global,
@@ -58,8 +58,8 @@ pub(crate) fn change<'a, R: Files<File = File>>(
     )
 }
 
-/// Begins an era after a generation that was opened by the accounts of its own one, with what is
-/// admitted of the books that its log gave.
+/// Begins an era after a generation that was opened by the accounts of its own era, with the books
+/// admitted from its log.
 fn change_from<'a, R: Files<File = File>>(
     files: &R,
     alloc: Global,
@@ -108,7 +108,7 @@ fn change_from<'a, R: Files<File = File>>(
     })
 }
 
-/// What a start finds where an era has begun that has taken over what this says. Its log has to be on the
+/// What a start finds when an era has begun that has admitted these books. Its log has to be on the
 /// disk.
 fn found_changed(
     alloc: Global,
@@ -138,9 +138,9 @@ fn found_changed(
     })
 }
 
-/// What is admitted of the books of a generation, in blank ones where these are there. `BadLog` with
-/// the cause `Misfit` comes for no books that a log gave, since what goes on can be put back
-/// (`rld_admit::laws::carried_books_fit`). `NoMemory` comes where memory is refused.
+/// The books admitted from a generation, in blank ones if there are any. `BadLog` with the cause
+/// `Misfit` comes for no books of a log, since what is carried over can be restored
+/// (`rld_admit::laws::carried_books_fit`). `NoMemory` comes if memory is refused.
 pub fn admitted_books(
     alloc: Global,
     old: &Config,
@@ -166,7 +166,7 @@ pub fn admitted_books(
     }
 }
 
-/// Syncs the log of a generation that was begun to the disk.
+/// Syncs the log of a begun generation to the disk.
 fn sync_begun<R: Files<File = File>>(
     files: &R,
     alloc: Global,
@@ -182,10 +182,10 @@ fn sync_begun<R: Files<File = File>>(
     }
 }
 
-/// Whether an era goes on where another configuration takes the place of one: whether both have the
-/// same names, rules, addresses and shards, in the same order. Passwords, secrets and reply attributes
-/// may differ. No table is made for that, as it is asked while receivers rest. The files of two eras are
-/// the same just where their tables are, since each is read as it is spelled
+/// Whether an era goes on when another configuration replaces its own: whether both have the same
+/// names, rules, addresses and shards, in the same order. Passwords, secrets and reply attributes
+/// may differ. No table is made for that, as receivers wait for it. The files of two eras are equal
+/// exactly if their tables are, since each is read as it is spelled
 /// (`rld_spelling::laws::eras_are_read`).
 pub fn is_same_era(old: &Config, new: &Config) -> bool
     ensures { (boot : ℕ) → IsTrue result ↔ (table_of boot old.now ≡ table_of boot new.now) }
@@ -209,7 +209,8 @@ pub fn has_same_clients(old: &Config, new: &Config) -> bool
     true
 }
 
-/// Whether a configuration has the accounts of another one, each under its number and by its rules.
+/// Whether a configuration has the accounts of another one, each under its number and with its
+/// rules.
 #[tactic(auto, using(crate::proofs::Alike::row_steps))]
 fn has_same_accounts(old: &Config, new: &Config) -> bool
     ensures { IsTrue result ↔ (map account_row old.now.accounts ≡ map account_row new.now.accounts) }
@@ -225,14 +226,14 @@ fn has_same_accounts(old: &Config, new: &Config) -> bool
     true
 }
 
-/// Whether two clients have one address.
+/// Whether two clients have the same address.
 fn is_same_client(old: &Client, new: &Client) -> bool
     ensures { IsTrue result ↔ (client_row old.now ≡ client_row new.now) }
 {
     old.address == new.address
 }
 
-/// Whether two accounts have one name and the same rules.
+/// Whether two accounts have the same name and the same rules.
 fn is_same_account(old: &Entry, new: &Entry) -> bool
     ensures { IsTrue result ↔ (account_row old.now ≡ account_row new.now) }
 {

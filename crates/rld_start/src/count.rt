@@ -4,37 +4,37 @@ ghost use Rattle.rld_start.specs.Counted.{sessions_in};
 use rld_folder::Generation;
 use rsl_shard::Row;
 
-/// What a new era has taken over of one with another account file.
+/// What a new era has taken over from one with another account file.
 #[derive(Clone, Copy)]
 pub struct Admitted {
-    /// The generation whose books it has taken over.
+    /// The generation of the admitted books.
     pub from: Generation,
-    /// How many sessions held a link in that generation.
+    /// The number of sessions that held a link in that generation.
     pub sessions: u64,
 }
 
-/// What a start found in the folder.
+/// What a start has found in the folder.
 #[derive(Clone, Copy)]
 pub struct Found {
     /// The number of the era.
     pub era: u64,
-    /// The number of the generation that was opened; 0 where none was, and the era is new.
+    /// The number of the generation that was opened, or 0 if the era is new.
     pub generation: u64,
-    /// How many moves the era has had so far.
+    /// The number of moves of the era so far.
     pub moves: u64,
-    /// How many sessions hold a link: the links that are bound.
+    /// The number of sessions that hold a link: bound links.
     pub sessions: u64,
-    /// How many octets of a torn end were cut off.
+    /// Octets of the torn end that was cut off.
     pub torn: usize,
-    /// By how many seconds the system's clock is behind the greatest clock of the books, where these
-    /// are 60 or more: until it is there no deadline passes.
+    /// How many seconds the system's clock is behind the greatest clock of the books, if 60 or
+    /// more: no deadline passes until it has caught up.
     pub behind: Option<u64>,
-    /// What the era has taken over, where it begins with this start since the account file is another
+    /// What the era has taken over, if it began with this start because the account file is another
     /// one.
     pub admitted: Option<Admitted>,
 }
 
-/// How many links are bound, in what accounts hold; at most 2^64 - 1.
+/// The number of bound links in what accounts hold, at most 2^64 - 1.
 pub fn sessions_in(rows: &[Row]) -> u64
     ensures { sessions_in rows.now < 2 ^ 64 → result ≡ sessions_in rows.now }
 {

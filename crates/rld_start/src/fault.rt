@@ -16,7 +16,7 @@ use std::fmt;
 pub enum StartFault {
     /// Memory was refused.
     NoMemory,
-    /// The folder cannot be used, or its files cannot be listed. It prints as `busy` where another
+    /// The folder cannot be used, or its files cannot be listed. It prints as `busy` if another
     /// process has the folder.
     Folder(FolderFault),
     /// A file of the folder cannot be opened or made, read, written or synced.
@@ -25,10 +25,10 @@ pub enum StartFault {
     Log(FileName, LogFault),
     /// A file is damaged.
     BadLog(BadLog),
-    /// The accounts, their rules, the clients' addresses or the shards are not those of the era of
-    /// this number.
+    /// The accounts, their rules, the clients' addresses or the shards are not those of the era
+    /// with this number.
     OtherAccounts(u64),
-    /// What was to be written to a new log has no spelling, or is too long for a file.
+    /// The contents of a new log have no spelling, or are too long for a file.
     Unwritable(FileName),
     /// No number is left for a new file.
     NoNumber,
@@ -39,12 +39,12 @@ pub enum StartFault {
 impl StartFault {
     ghost use Rattle.rld_start.specs.Status.{status_of};
 
-    /// The fault of a file in which something is wrong.
+    /// The fault of a damaged file.
     pub(crate) fn bad(file: FileName, wrong: Wrong) -> StartFault {
         StartFault::BadLog(BadLog { file, wrong })
     }
 
-    /// How the server ends.
+    /// The exit status of the server.
     pub fn status(&self) -> EndStatus
         ensures { result ≡ status_of self.now }
     {
@@ -61,7 +61,7 @@ impl StartFault {
     }
 }
 
-/// How a server ends whose folder, or a file of it, cannot be used.
+/// The exit status for a folder, or a file of it, that cannot be used.
 fn status_of_folder(fault: FolderFault) -> EndStatus
     ensures { result ≡ status_of_folder fault }
 {
@@ -81,7 +81,7 @@ fn status_of_folder(fault: FolderFault) -> EndStatus
     }
 }
 
-/// How a server ends whose log failed.
+/// The exit status for a log that failed.
 fn status_of_log(fault: LogFault) -> EndStatus
     ensures { result ≡ status_of_log fault }
 {
@@ -143,7 +143,7 @@ impl From<FolderFault> for StartFault {
     }
 }
 
-/// The fault of a file that was opened or made, read, written or synced in vain.
+/// The fault of a file that could not be opened, made, read, written or synced.
 pub(crate) fn file_fault(file: FileName, fault: FolderFault) -> StartFault {
     match fault {
         FolderFault::NoMemory => StartFault::NoMemory,
@@ -151,7 +151,7 @@ pub(crate) fn file_fault(file: FileName, fault: FolderFault) -> StartFault {
     }
 }
 
-/// The fault of a log that was read, written or synced in vain.
+/// The fault of a log that could not be read, written or synced.
 pub(crate) fn log_fault(file: FileName, fault: LogFault) -> StartFault {
     match fault {
         LogFault::NoMemory => StartFault::NoMemory,

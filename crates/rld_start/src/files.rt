@@ -1,4 +1,4 @@
-//! The files of a folder, each of whose faults says which file it is.
+//! The files of a folder, with faults that name the file.
 
 use crate::fault::{StartFault, file_fault};
 use rld_folder::{FileName, Folder, Generation};
@@ -6,7 +6,7 @@ use rld_log::FileLog;
 use std::alloc::Global;
 use std::fs::{File, Files};
 
-/// The log of a generation that is there.
+/// Opens the log of a generation.
 pub(crate) fn open_log<R: Files<File = File>>(
     files: &R,
     alloc: Global,
@@ -19,7 +19,7 @@ pub(crate) fn open_log<R: Files<File = File>>(
     }
 }
 
-/// The log of a new generation.
+/// Creates the log of a new generation.
 pub(crate) fn create_log<R: Files<File = File>>(
     files: &R,
     alloc: Global,
@@ -32,7 +32,7 @@ pub(crate) fn create_log<R: Files<File = File>>(
     }
 }
 
-/// The octets of an era's table.
+/// Reads the octets of an era's table.
 pub(crate) fn read_era<R: Files<File = File>>(
     files: &R,
     alloc: Global,

@@ -11,17 +11,17 @@ use rld_log::{Damage, Frames};
 use rld_spelling::Header;
 use rld_store::{Parts, StoreFault};
 
-/// What stands at the front of a log.
+/// The front of a log.
 #[derive(Clone, Copy)]
 pub enum First {
-    /// No whole snapshot: the generation was not begun.
+    /// It has no whole snapshot: the generation was not begun.
     Unbegun,
-    /// The header of a generation that has a whole snapshot.
+    /// It has a whole snapshot, after this header.
     Begun(Header),
 }
 
-/// Makes sure that what follows the whole frames of a log is a torn end. `Damage` comes where a frame
-/// stands there whose length is spoilt, with its whole payload after it.
+/// Checks that what follows the whole frames of a log is a torn end. `Damage` comes if there is a
+/// frame with a spoilt length and its whole payload.
 pub fn check_torn(frames: &Frames) -> Result<(), Damage>
     ensures spoilt { IfErr result (λ damage. IsSpoilt frames.now.octets.items damage.offset) }
 {
@@ -34,8 +34,8 @@ pub fn check_torn(frames: &Frames) -> Result<(), Damage>
 }
 
 impl First {
-    /// What stands at the front of a log with these payloads. `Malformed` comes where its generation was
-    /// begun and the header cannot be read.
+    /// The front of a log with these payloads. `Malformed` comes if its generation was begun and
+    /// the header cannot be read.
     pub fn of(payloads: &[&[u8]]) -> Result<First, StoreFault>
         ensures first { IfOk result (λ first. (octets : List ℕ) →
             HasPayloads octets (map (λ payload. payload.now) payloads.now) → IsFirst octets first) }

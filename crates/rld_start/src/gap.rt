@@ -1,4 +1,5 @@
-//! Whether the history has a gap: the archive has a log that the folder goes on from no more.
+//! The check for a gap in the history: a log in the archive that is not before the generation that
+//! counts.
 
 ghost use Rattle.std.specs.Prelude.{◌↔◌, All, IfNone, IfSome, IsOk, IsTrue};
 ghost use Rattle.rld_start.specs.Gaps.{IsEarlier};
@@ -31,8 +32,8 @@ fn later_log(archived: &[FileName], begun: Option<Generation>) -> Option<FileNam
     None
 }
 
-/// Makes sure that each log of the archive is before the generation that counts. `Gap` of the newest
-/// log of the archive where it is not, or where no generation counts.
+/// Checks that each log of the archive is before the generation that counts. `Gap` of the newest
+/// log of the archive comes if it is not, or if no generation counts.
 pub(crate) fn check_archive(
     archived: &[FileName],
     begun: Option<Generation>,

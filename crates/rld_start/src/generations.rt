@@ -1,4 +1,4 @@
-//! The logs of a server's folder while the server runs.
+//! The logs of a running server's folder.
 
 ghost use Rattle.std.specs.Prelude.{◌≡◌};
 
@@ -14,7 +14,7 @@ use rsl_accounts::Config;
 use std::alloc::Global;
 use std::fs::{File, Files};
 
-/// A log in which a generation can begin.
+/// A log for a new generation.
 #[derive(Drop)]
 pub struct NextLog<L> {
     /// The generation, whose number no log of the folder had.
@@ -24,7 +24,7 @@ pub struct NextLog<L> {
 }
 
 impl<L: Log> NextLog<L> {
-    /// The same log, synced as the pacing says.
+    /// The log, synced as the pacing says.
     pub fn paced(self, pacing: Pacing<'_>) -> NextLog<PacedLog<'_, L>>
         ensures generation { result.generation ≡ self.generation }
         ensures log { result.log.log ≡ self.log }
@@ -38,7 +38,8 @@ impl<L: Log> NextLog<L> {
     }
 }
 
-/// The logs of a server that runs: that of its next generation, and those that no start needs any more.
+/// The logs of a running server: that of its next generation, and those that no start needs any
+/// more.
 pub trait Generations {
     ghost use Rattle.std.specs.Prelude.{◌≡◌, IfOk, map};
     ghost use Rattle.rld_books.specs.Blank.{blank_book};
@@ -46,22 +47,22 @@ pub trait Generations {
     ghost use Rattle.rld_spelling.specs.Eras.{era_octets};
     ghost use Rattle.rld_spelling.specs.Tables.{table_of};
 
-    /// Makes the log of the generation that follows in this era, and syncs its name.
+    /// Makes the log of the next generation of this era, and syncs its name.
     ///
-    /// `NoNumber` where no number is left. The other faults are the folder's: `Unread` where its files
-    /// cannot be listed, `Unopened` where the log cannot be made; where its name cannot be synced
-    /// `Unsynced`, and then it is removed again, as far as it can be: an empty log is no generation. In
-    /// each case a start goes on from the generation that there was.
+    /// `NoNumber` comes if no number is left. The other faults are the folder's: `Unread` if its
+    /// files cannot be listed, `Unopened` if the log cannot be made, and `Unsynced` if its name
+    /// cannot be synced; then it is removed again if possible: an empty log is no generation. After
+    /// any fault a start goes on from the present generation.
     fn next_log(&self, alloc: Global, era: u64) -> Result<NextLog<FileLog>, StartFault>
         ensures { IfOk result (λ next. next.generation.era ≡ era) };
 
-    /// Makes the files of an era that follows, with the table of this configuration and boot number: the
-    /// table, and the empty log of its first generation. Both names and the table are synced. It has a
-    /// blank book of each account, so that nobody has to wait for these where the era begins.
+    /// Makes the files of the next era, with the table of this configuration and boot number: the
+    /// table, and the empty log of its first generation. Both names and the table are synced. It
+    /// also has a blank book of each account, so that nothing waits for these when the era begins.
     ///
-    /// `NoNumber` where no number is left. The other faults are the folder's, as of `next_log`, and
-    /// `NoMemory` where memory is refused. In each case, and until something stands in the log, a start
-    /// goes on from the generation that there was.
+    /// `NoNumber` comes if no number is left. The other faults are the folder's, as of `next_log`,
+    /// and `NoMemory` if memory is refused. After any fault, and until the log has a snapshot, a
+    /// start goes on from the present generation.
     fn next_era(
         &self,
         alloc: Global,
@@ -74,31 +75,32 @@ pub trait Generations {
             next.header.digest ≡ md5 (era_octets (table_of boot config.now))) }
         ensures blanks { IfOk result (λ next. next.blanks ≡ map blank_book config.now.accounts) };
 
-    /// Syncs the log of a generation to the disk, whatever the pacing. `Unopened` where it is not there
-    /// or cannot be opened, and `Unsynced` where the system cannot say that the disk has it.
+    /// Syncs the log of a generation to the disk, whatever the pacing. `Unopened` comes if it is
+    /// missing or cannot be opened, and `Unsynced` if the system cannot say that the disk has it.
     fn sync(&self, alloc: Global, generation: Generation) -> Result<Synced, FolderFault>
         ensures { IfOk result (λ synced. synced.generation ≡ generation) };
 
-    /// Removes the log of a generation that was not begun, or whose begin has failed: its snapshot may
-    /// stand there whole, and then a start would go on from it. Unless this is done nothing more may be
-    /// recorded in the generation before it, so what goes on there asks for what this gives.
+    /// Removes the log of a generation that was not begun, or whose begin failed: it may have a
+    /// whole snapshot, and then a start would go on from it. Until it is removed, nothing more may
+    /// be recorded in the generation before it; so what goes on there requires a `Removed`.
     ///
-    /// `Unremoved` where it cannot be removed. After `Unsynced` a loss of power may bring it back.
+    /// `Unremoved` comes if it cannot be removed. After `Unsynced` a loss of power may bring it
+    /// back.
     fn remove(&self, alloc: Global, generation: Generation) -> Result<Removed, FolderFault>
         ensures { IfOk result (λ removed. removed.generation ≡ generation) };
 
-    /// Puts away the logs before the newest generation, as the archive is kept, once the log of that one
-    /// is on the disk: they go to the folder `archive`, or are removed where nothing is kept. Logs that
-    /// were kept for as many days as they shall be at this second since 1970 are removed from it. Then
-    /// the table of each era before that of the newest generation is removed of which no log is left,
-    /// neither in the folder nor in its archive; where the archive keeps all logs, all tables stay.
+    /// Puts away the logs before the newest generation, once the log of that one is on the disk:
+    /// they are moved to the folder `archive`, or removed if nothing is kept. Logs that have been
+    /// kept long enough at this second since 1970 are removed from the archive. Then the table of
+    /// each era before that of the newest generation is removed if no log of the era is left, in
+    /// the folder or in its archive; if the archive keeps all logs, all tables stay.
     ///
-    /// The first fault is the folder's. What cannot be put away stays where it is, and is tried again by
-    /// the next call; nothing that a start needs is moved.
+    /// The first fault is the folder's. What cannot be put away stays in place, and the next call
+    /// tries it again; nothing that a start needs is moved.
     fn put_away(&self, alloc: Global, newest: Generation, now: u64) -> Result<(), FolderFault>;
 }
 
-/// The logs of a folder, which is locked as long as this value is there.
+/// The logs of a folder, which is locked until the value is dropped.
 #[derive(Drop)]
 pub struct FolderGenerations<'a, R> {
     files: &'a R,
@@ -107,7 +109,7 @@ pub struct FolderGenerations<'a, R> {
 }
 
 impl<'a, R: Files<File = File>> FolderGenerations<'a, R> {
-    /// The logs of `folder`, whose archive is kept as `archive` says.
+    /// The logs of `folder`, with this archive.
     pub fn new(files: &'a R, folder: Folder, archive: Archive) -> FolderGenerations<'a, R>
         ensures folder { result.folder ≡ folder }
         ensures archive { result.archive ≡ archive }
@@ -136,7 +138,7 @@ impl<'a, R: Files<File = File>> FolderGenerations<'a, R> {
         }
     }
 
-    /// Removes the tables of the eras before that of the newest generation of which no log is left.
+    /// Removes the tables of eras before that of the newest generation that have no log.
     fn remove_logless(&self, alloc: Global, newest: Generation) -> Result<(), FolderFault> {
         let names = self.folder.files(&(self.files, alloc))?;
         let archived = self.folder.archived(&(self.files, alloc))?;
@@ -144,8 +146,8 @@ impl<'a, R: Files<File = File>> FolderGenerations<'a, R> {
         self.folder.remove_eras(self.files, alloc, eras.as_slice())
     }
 
-    /// Removes what the archive keeps no more: logs that were kept long enough at this second, and the
-    /// tables of eras that then have no log.
+    /// Removes what the archive need not keep any longer: logs that were kept long enough at this
+    /// second, and the tables of eras that then have no log.
     fn remove_unkept(
         &self,
         alloc: Global,

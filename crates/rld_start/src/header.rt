@@ -17,9 +17,9 @@ pub fn generation_named(header: &Header) -> Generation
     }
 }
 
-/// Makes sure that a header is that of the generation which its file has the name of, and of the
-/// era's table, whose octets are given: where it is not, the fault has the cause `OtherGeneration`
-/// or `OtherTable`, the first of these that holds, and the offset of the header.
+/// Checks that a header has the generation of its file's name, and the digest of the era's table,
+/// whose octets are given. If not, the cause is `OtherGeneration` or `OtherTable`, the first that
+/// holds, and the offset that of the header.
 pub fn check_header(header: &Header, generation: Generation, table: &[u8]) -> Result<(), Wrong>
     ensures { MatchResult result (λ _. header_cause header.now generation table.now ≡ None)
         (λ wrong. (header_cause header.now generation table.now ≡ Some wrong.cause)
@@ -40,8 +40,8 @@ pub fn check_header(header: &Header, generation: Generation, table: &[u8]) -> Re
     Ok(())
 }
 
-/// The header of the generation that follows one which had `moves` moves, under the number
-/// `generation`. `None` where the moves of the era are no number of 64 bits.
+/// The header of the generation after one with `moves` moves, under the number `generation`. `None`
+/// if the moves of the era would be 2^64 or more.
 pub fn next_header(header: &Header, generation: u64, moves: u64) -> Option<Header>
     ensures { MatchOption result (2 ^ 64 ≤ header.now.lines + moves)
         (λ next. next ≡ header_after header.now generation moves) }

@@ -7,10 +7,10 @@ ghost use Rattle.rld_start.specs.Lengths.{HasFront, HasSpoiltLength};
 use md5::{Digest, Md5};
 use rld_log::HEAD_LEN;
 
-/// How many octets of a frame's head are its length.
+/// Octets of the length at a frame's head.
 const LENGTH_LEN: usize = 4;
 
-/// Whether a digest is that of what a hasher was given.
+/// Whether a digest is that of a hasher's input.
 fn is_digest_of(hasher: &Md5, sum: &[u8]) -> bool
     ensures { (given : List ℕ) → Holds hasher.now given → IsTrue result ↔ (sum.now ≡ md5 given) }
 {
@@ -18,8 +18,8 @@ fn is_digest_of(hasher: &Md5, sum: &[u8]) -> bool
     sum == digest.as_slice()
 }
 
-/// Whether a digest is that of a front of octets. It takes one digest an octet, each of two blocks at
-/// most.
+/// Whether a digest is that of a prefix of octets. It computes one digest for each octet, of two
+/// blocks at most.
 fn is_digest_of_front(sum: &[u8], octets: &[u8]) -> bool
     ensures { IsTrue result ↔ HasFront sum.now octets.now }
 {
@@ -33,8 +33,8 @@ fn is_digest_of_front(sum: &[u8], octets: &[u8]) -> bool
     is_digest_of(&hasher, sum)
 }
 
-/// Whether a frame stands at the front whose length is spoilt: its digest is that of a front of
-/// what follows its head. What a crash leaves of a frame is none, whatever names stand in it.
+/// Whether there is a frame with a spoilt length at the front: its digest is that of a prefix of
+/// what follows its head. What a crash leaves of a frame is none, whatever names it has.
 pub(crate) fn has_spoilt_length(octets: &[u8]) -> bool
     ensures { IsTrue result ↔ HasSpoiltLength octets.now }
 {

@@ -1,12 +1,12 @@
 //! The start of a server from its folder.
 //!
-//! The promise: a start goes on from the newest generation that was begun, under numbers that no file
-//! has, or it says what keeps it from that. Where the account file is another one, a new era begins with
-//! what is admitted of the books. Where a clock that was ahead has led the books past the
-//! present, a new era begins with the books cut to it. `specs/Numbers.antt` says which numbers follow,
-//! `specs/Firsts.antt` when a generation was begun, `specs/Founds.antt` which one counts, and
-//! `specs/Status.antt` how a server ends that does not start. What the files of the system give stands in
-//! no clause; `newest.rt` and `starting.rt` are written to be read.
+//! The promise: a start goes on from the newest generation that was begun, under numbers that no
+//! file has, or it says what prevents that. If the account file is another one, a new era begins
+//! with the books admitted from the old one. If a clock that was ahead has led the books past the
+//! present, `rebase` begins a new era with the books cut to it. `specs/Numbers.antt` says which
+//! numbers follow, `specs/Firsts.antt` when a generation was begun, `specs/Founds.antt` which one
+//! counts, and `specs/Status.antt` the exit status of a server that does not start. No clause
+//! speaks of what the system's files give; `newest.rt` and `starting.rt` are written to be read.
 #![tactic(auto)]
 
 mod behind;

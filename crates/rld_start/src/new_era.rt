@@ -1,4 +1,4 @@
-//! An era that begins.
+//! Beginning an era.
 
 ghost use Rattle.std.specs.Prelude.{◌≡◌, ◌+◌, IfOk};
 ghost use Rattle.md5.specs.Md5.{md5};
@@ -22,7 +22,7 @@ use std::fs::{File, Files};
 /// The number of an era's first generation.
 pub(crate) const FIRST: u64 = 1;
 
-/// An era whose table is on the disk, and an empty log in which its first generation can begin.
+/// An era whose table is on the disk, with an empty log for its first generation.
 #[derive(Drop)]
 pub struct NextEra<L> {
     /// The header of that generation.
@@ -34,7 +34,7 @@ pub struct NextEra<L> {
 }
 
 impl<L: Log> NextEra<L> {
-    /// The same era, whose log is synced as the pacing says.
+    /// The era, with a log that is synced as the pacing says.
     pub fn paced(self, pacing: Pacing<'_>) -> NextEra<PacedLog<'_, L>>
         ensures header { result.header ≡ self.header }
         ensures log { result.log.log ≡ self.log }
@@ -63,9 +63,9 @@ pub(crate) struct NewEra<'a> {
     pub(crate) header: Header,
 }
 
-/// Makes the files of an era with the table of these octets, under a number that no file of the folder
-/// has: the table, and the empty log of its first generation. Both names and the table are synced. A
-/// crash on the way, or after it, leaves no generation that was begun.
+/// Makes the files of an era with the table of these octets, under a number that no file of the
+/// folder has: the table, and the empty log of its first generation. Both names and the table are
+/// synced. A crash at any call leaves no generation that was begun.
 pub(crate) fn make_era<R: Files<File = File>>(
     files: &R,
     alloc: Global,
@@ -99,9 +99,9 @@ pub(crate) fn make_era<R: Files<File = File>>(
     })
 }
 
-/// Begins an era with the table of these octets and with these books, under a number that no file of
-/// the folder has, in a log that is synced as the pacing says. A crash on the way leaves no generation
-/// that was begun, or all of it.
+/// Begins an era with the table of these octets and with these books, under a number that no file
+/// of the folder has, in a log that is synced as the pacing says. A crash at any call leaves no
+/// generation that was begun, or all of it.
 pub(crate) fn begin_era<'a, R: Files<File = File>>(
     files: &R,
     alloc: Global,

@@ -18,8 +18,7 @@ use rld_store::{StoreFault, read_frames};
 use std::alloc::Global;
 use std::fs::{File, Files};
 
-/// A generation that was begun, its log, and the frames that were read of that. Only `look_at` makes
-/// one.
+/// A generation that was begun, its log, and the frames read from it. Only `look_at` makes one.
 #[derive(Drop)]
 pub(crate) struct Begun {
     pub(crate) generation: Generation,
@@ -28,26 +27,26 @@ pub(crate) struct Begun {
     pub(crate) frames: Frames,
 }
 
-/// That the log of a generation was read, and has no whole snapshot: it was not begun. Only `look_at`
-/// makes one.
+/// Proof that the log of a generation was read, and has no whole snapshot: it was not begun. Only
+/// `look_at` makes one.
 #[derive(Drop)]
 pub(crate) struct Unbegun {
     generation: Generation,
 }
 
-/// What a look at the log of a generation finds.
+/// The result of looking at the log of a generation.
 #[derive(Drop)]
 enum Look {
     Begun(Begun),
     Unbegun(Unbegun),
 }
 
-/// The generation that counts.
+/// The result of looking for the generation that counts.
 #[derive(Drop)]
 pub(crate) struct Newest {
-    /// The newest one that was begun, if there is one.
+    /// The newest generation that was begun, if there is one.
     pub(crate) begun: Option<Begun>,
-    /// Those that were passed over on the way to it.
+    /// The newer ones, which were not begun.
     pub(crate) passed: Vec<Unbegun>,
 }
 
@@ -61,8 +60,8 @@ pub(crate) fn generation_in(begun: &Option<Begun>) -> Option<Generation>
     }
 }
 
-/// The newest generation that was begun, if there is one. `Alone` of the newest log where there is none
-/// and a log is not that of the first generation of its era.
+/// The newest generation that was begun, if there is one. If there is none, `Alone` of the newest
+/// log comes unless each log is that of the first generation of its era.
 #[tactic(auto, using(crate::proofs::Passed::none_passed))]
 pub(crate) fn newest_begun<R: Files<File = File>>(
     files: &R,
@@ -98,7 +97,7 @@ pub(crate) fn newest_begun<R: Files<File = File>>(
     })
 }
 
-/// Opens the log of a generation, and looks whether that was begun.
+/// Opens the log of a generation, and checks whether it was begun.
 fn look_at<R: Files<File = File>>(
     files: &R,
     alloc: Global,
@@ -123,7 +122,7 @@ fn look_at<R: Files<File = File>>(
     }
 }
 
-/// The frames of a log, and what stands at its front.
+/// The frames of a log, and its front.
 fn first_in<L: Log>(alloc: Global, log: &mut L) -> Result<(Frames, First), StoreFault>
     ensures frames { IsTrue (L.tells log.new) → IfOk result (λ found. found.0.octets.items ≡ L.seen log.new) }
     ensures first { IsTrue (L.tells log.new) → IfOk result (λ found. IsFirst (L.seen log.old) found.1) }
@@ -156,8 +155,8 @@ fn are_first(names: &[FileName]) -> bool
     true
 }
 
-/// Makes sure that it may be so that no generation was begun: that each log is that of the first one of
-/// its era. `Alone` of the newest log where it may not.
+/// Checks that it is possible that no generation was begun: each log is that of the first
+/// generation of its era. Else `Alone` of the newest log comes.
 fn check_first(names: &[FileName]) -> Result<(), StartFault>
     ensures { OnOk result (All IsFirstOrNone names.now) }
 {

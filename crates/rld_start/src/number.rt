@@ -1,11 +1,11 @@
-//! The numbers of new eras and new generations: none is used twice.
+//! The numbers of new eras and generations, none of which is used twice.
 
 ghost use Rattle.std.specs.Prelude.{◌≡◌, ◌+◌, ◌^◌, ◌≤◌, MatchOption};
 ghost use Rattle.rld_start.specs.Numbers.{era_of, generation_of, greatest_by, greatest_of};
 
 use rld_folder::FileName;
 
-/// The number of the era that a file is of; 0 for a file of none.
+/// The number of the era of a file, or 0 if it has none.
 fn era_of(file: FileName) -> u64
     ensures { result ≡ era_of file }
 {
@@ -16,7 +16,7 @@ fn era_of(file: FileName) -> u64
     }
 }
 
-/// The number of the generation of this era that a file is the log of; 0 for any other file.
+/// The number of the generation of this era whose log a file is, or 0 for any other file.
 fn generation_of(era: u64, file: FileName) -> u64
     ensures { result ≡ generation_of era file }
 {
@@ -33,8 +33,8 @@ fn greater(some: u64, other: u64) -> u64
     if some < other { other } else { some }
 }
 
-/// The number of the era that a folder with these files begins next: one more than the greatest that
-/// any file has, and 1 where none has one. `None` where no number of 64 bits is left.
+/// The number of the next era in a folder with these files: one more than the greatest of any file,
+/// or 1 if there is none. `None` if no number of 64 bits is left.
 pub fn next_era(files: &[FileName]) -> Option<u64>
     ensures { MatchOption result (2 ^ 64 ≤ greatest_by era_of files.now + 1)
         (λ number. number ≡ greatest_by era_of files.now + 1) }
@@ -46,9 +46,8 @@ pub fn next_era(files: &[FileName]) -> Option<u64>
     most.checked_add(1)
 }
 
-/// The number of the generation of this era that a folder with these files begins next: one more than
-/// the greatest that a log of the era has, and 1 where there is none. `None` where no number of 64
-/// bits is left.
+/// The number of the next generation of this era in a folder with these files: one more than the
+/// greatest of a log of the era, or 1 if there is none. `None` if no number of 64 bits is left.
 pub fn next_generation(files: &[FileName], era: u64) -> Option<u64>
     ensures { MatchOption result (2 ^ 64 ≤ greatest_by (generation_of era) files.now + 1)
         (λ number. number ≡ greatest_by (generation_of era) files.now + 1) }

@@ -1,4 +1,4 @@
-//! How an era follows one whose clock is ahead: with its books, cut to the present.
+//! An era after one whose clock was ahead, with its books cut to the present.
 
 ghost use Rattle.std.specs.Prelude.{◌≡◌, ◌+◌, ◌<◌, ◌^◌, IfOk};
 ghost use Rattle.md5.specs.Md5.{md5};
@@ -19,26 +19,26 @@ use rsl_accounts::Config;
 use std::alloc::Global;
 use std::fs::{File, Files};
 
-/// What a rebase has done.
+/// The result of a rebase.
 #[derive(Clone, Copy)]
 pub struct Rebased {
     /// The generation whose books were cut.
     pub from: Generation,
     /// The number of the era that begins with them.
     pub era: u64,
-    /// How many moments were later than the present, and were cut: at most 2^64 - 1.
+    /// The number of moments that were later than the present and were cut, at most 2^64 - 1.
     pub moments: u64,
 }
 
-/// Begins a new era in the folder of a server that does not run: with the table of the newest
-/// generation that was begun, its boot number too, and with its books cut to `now`, in seconds since
-/// 1970 (`ServerBooks::cut`). The next start goes on from there.
+/// Begins a new era in the folder of a server that is not running: with the table and the boot
+/// number of the newest generation that was begun, and with its books cut to `now`, in seconds
+/// since 1970 (`ServerBooks::cut`). The next start goes on from there.
 ///
-/// The faults are those of `start`, in their order, and `OtherAccounts` before the log is opened where
-/// the era has another table than the configuration; `NoHistory` comes where no generation was begun.
-/// Until a fault of a new file nothing has changed in the folder but an empty `lock` and a torn end,
-/// which is cut off. Such a fault leaves the old era, or the new one whole where only its last sync
-/// failed: a later start goes on in that.
+/// The faults are those of `start`, in their order, and `OtherAccounts` before the log is opened if
+/// the era has another table than the configuration; `NoHistory` comes if no generation was begun.
+/// Until a fault of a new file nothing has changed in the folder but an empty `lock` and a torn
+/// end, which is cut off. Such a fault leaves the old era, or the new one whole if only its last
+/// sync failed: a later start goes on in that.
 pub fn rebase<R: Files<File = File> + Alloc<A = Global> + Clone + Drop>(
     rt: &R,
     alloc: Global,
@@ -88,17 +88,17 @@ fn rebase_begun<R: Files<File = File>>(
     })
 }
 
-/// An era that was begun with books that were cut.
+/// An era that was begun with cut books.
 #[derive(Drop)]
 struct CutEra<'a> {
     /// The era.
     begun: NewEra<'a>,
-    /// How many moments were cut: at most 2^64 - 1.
+    /// The number of moments that were cut, at most 2^64 - 1.
     moments: u64,
 }
 
-/// Begins an era with the table of a generation that was opened, and with the books that its log gave,
-/// cut to a moment.
+/// Begins an era with the table of an opened generation, and with the books of its log, cut to a
+/// moment.
 fn cut_from<'a, R: Files<File = File>>(
     files: &R,
     alloc: Global,
@@ -125,8 +125,8 @@ fn cut_from<'a, R: Files<File = File>>(
     Ok(CutEra { begun, moments })
 }
 
-/// The books of a generation, cut to a moment. They are put back as they fit, so `Misfit` comes for
-/// none that a log gave (`rld_books::laws::cut_books_fit`).
+/// The books of a generation, cut to a moment. They can be restored, so `Misfit` comes for no books
+/// of a log (`rld_books::laws::cut_books_fit`).
 fn cut_books(
     alloc: Global,
     config: &Config,

@@ -1,4 +1,4 @@
-//! Why a store refused a log.
+//! The faults of logs that a store refused.
 
 use crate::fault::{StartFault, log_fault};
 use crate::wrong::Wrong;

@@ -1,4 +1,4 @@
-//! A generation that was begun, opened again.
+//! Opening a generation that was begun again.
 
 ghost use Rattle.std.specs.Prelude.{◌≡◌, ℕ, List, [], IfOk, IsTrue, OnOk};
 ghost use Rattle.rld_spelling.specs.Eras.{era_octets};
@@ -22,7 +22,7 @@ use rsl_accounts::Config;
 use std::alloc::Global;
 use std::fs::{File, Files};
 
-/// The table of an era, as its file has it.
+/// The table of an era, from its file.
 #[derive(Drop)]
 pub(crate) struct EraTable {
     /// The octets of the file.
@@ -31,18 +31,18 @@ pub(crate) struct EraTable {
     pub(crate) boot: u64,
 }
 
-/// A generation that was opened, to go on from.
+/// A generation that was opened to go on from.
 #[derive(Drop)]
 pub(crate) struct Former<'a> {
-    /// Which one.
+    /// The generation.
     pub(crate) generation: Generation,
     /// The boot number of its era.
     pub(crate) boot: u64,
-    /// Its books and its log, and what was found there.
+    /// Its books and its log, and what was found in it.
     pub(crate) opened: Opened<PacedLog<'a, FileLog>>,
 }
 
-/// The table of the era of a generation that was begun, which is the one that its header names.
+/// The table of the era of a begun generation, which its header has to name.
 pub(crate) fn read_table<R: Files<File = File>>(
     files: &R,
     alloc: Global,
@@ -57,7 +57,7 @@ pub(crate) fn read_table<R: Files<File = File>>(
     }
 }
 
-/// Makes sure that an era has the table of a configuration.
+/// Checks that an era has the table of a configuration.
 pub(crate) fn check_accounts(
     alloc: Global,
     config: &Config,
@@ -73,7 +73,7 @@ pub(crate) fn check_accounts(
     }
 }
 
-/// Opens the log of a generation that was begun, by a configuration that has the table of its era.
+/// Opens the log of a begun generation, with a configuration that has the table of its era.
 pub(crate) fn reopen<'a>(
     alloc: Global,
     config: &Config,
@@ -100,7 +100,7 @@ pub(crate) fn reopen<'a>(
     })
 }
 
-/// Opens the log of a generation, of which these frames were read, as a store.
+/// Opens the log of a generation with these frames as a store.
 fn open_store<L: Log + Drop>(
     alloc: Global,
     config: &Config,

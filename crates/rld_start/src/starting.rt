@@ -1,4 +1,4 @@
-//! How a server starts from its folder.
+//! Starting a server from its folder.
 
 ghost use Rattle.std.specs.Prelude.{◌≡◌, ◌+◌, All, IfNone, IfOk, None, OnOk, Some};
 ghost use Rattle.rld_books.specs.Server.{new_server};
@@ -31,37 +31,37 @@ use rsl_accounts::Config;
 use std::alloc::Global;
 use std::fs::{File, Files};
 
-/// A server that can take up its work.
+/// A server that is ready to run.
 #[derive(Drop)]
 pub struct Started<'a> {
-    /// Its folder, which is locked as long as this value is there.
+    /// The folder, which is locked until the value is dropped.
     pub folder: Folder,
-    /// Its books, and the log of a new generation.
+    /// The books, and the log of a new generation.
     pub store: Store<PacedLog<'a, FileLog>>,
     /// The boot number of the era, with which each Class attribute begins.
     pub boot: u64,
     /// What was found in the folder.
     pub found: Found,
-    /// The header of the new generation, from which that of the next one follows.
+    /// The header of the new generation, from which the next one follows.
     pub header: Header,
 }
 
 /// Starts a server from its folder: opens and locks it, and goes on from the newest generation that
-/// was begun. Where the era of that one has the configuration's table, it goes on in a new generation
-/// of it; else in a new era, which begins with what is admitted of the books (`rld_admit::admit`) under
-/// the same boot number. Where no generation was begun, a new era begins, whose boot number is `now`,
-/// in seconds since 1970. Its logs are synced to the disk as the pacing says. Where the books' greatest
-/// clock is 60 seconds or more after `now`, what was found says so.
+/// was begun. If the era of that one has the configuration's table, it goes on in a new generation
+/// of it; else in a new era, which begins with the admitted books (`rld_admit::admit`) under the
+/// same boot number. If no generation was begun, a new era begins, whose boot number is `now`, in
+/// seconds since 1970. Its logs are synced to the disk as the pacing says. If the books' greatest
+/// clock is 60 seconds or more after `now`, `found` says so.
 ///
-/// The faults come in this order. Those of the folder: `busy` where another process has it.
-/// `BadLog` where a log that is looked at, from the newest to the one that counts, has a spoilt
-/// frame before a whole one, or where none counts and one is not the first of its era; and where a
-/// log of the archive is not before the one that counts, or is there and none counts. Of the one
-/// that counts: `BadLog` where the era's table has no spelling, and where the header or anything
-/// after it is of another generation or another table, or has no spelling. Until then nothing has
-/// changed in the folder but an empty `lock` and a torn end, which is cut off. Then come `NoNumber`
-/// and what keeps a file from being made, written or synced; a later start passes over what that
-/// leaves, or goes on in a new era that is whole. `NoMemory` comes where memory is refused.
+/// The faults come in this order. Those of the folder: `busy` if another process has it. `BadLog`
+/// if a log that is looked at, from the newest to the one that counts, has a spoilt frame before a
+/// whole one, or if none counts and one is not the first of its era; and if a log of the archive is
+/// not before the one that counts, or exists while none counts. Of the one that counts: `BadLog` if
+/// the era's table has no spelling, and if the header or anything after it is of another generation
+/// or another table, or has no spelling. Until then nothing has changed in the folder but an empty
+/// `lock` and a torn end, which is cut off. Then come `NoNumber` and the faults of making, writing
+/// or syncing a file; a later start passes over what that leaves, or goes on in a new era that is
+/// whole. `NoMemory` comes if memory is refused.
 pub fn start<'a, R: Files<File = File> + Alloc<A = Global> + Clone + Drop>(
     rt: &R,
     alloc: Global,
@@ -88,8 +88,8 @@ pub fn start<'a, R: Files<File = File> + Alloc<A = Global> + Clone + Drop>(
     )
 }
 
-/// Starts a server in a folder with these files: from the generation that counts, if there is one, and
-/// else in a new era. `Gap` comes where a log of the archive is not before that generation.
+/// Starts a server in a folder with these files: from the generation that counts, if there is one,
+/// and else in a new era. `Gap` comes if a log of the archive is not before that generation.
 fn take_up<'a, R: Files<File = File>>(
     files: &R,
     alloc: Global,
@@ -160,7 +160,7 @@ fn begin<'a, R: Files<File = File>>(
     })
 }
 
-/// Goes on from a generation: in its era where that has the table of the configuration, and else in a
+/// Goes on from a generation: in its era if that has the table of the configuration, and else in a
 /// new one.
 fn follow<'a, R: Files<File = File>>(
     files: &R,
@@ -209,7 +209,7 @@ fn go_on<'a, R: Files<File = File>>(
     go_on_from(files, alloc, config, folder, names, former, now, pacing)
 }
 
-/// Goes on from a generation that was opened, in a new one of its era, with the books that its log gave.
+/// Goes on from an opened generation, in a new one of its era, with the books of its log.
 fn go_on_from<'a, R: Files<File = File>>(
     files: &R,
     alloc: Global,
@@ -263,7 +263,7 @@ fn go_on_from<'a, R: Files<File = File>>(
     })
 }
 
-/// The header of the generation that follows one which had `moves` moves.
+/// The header of the generation after one with `moves` moves.
 fn following(header: &Header, names: &[FileName], moves: u64) -> Result<Header, StartFault>
     ensures { IfOk result (λ next. next ≡ header_after header.now
         (greatest_by (generation_of header.now.era) names.now + 1) moves) }
@@ -277,7 +277,7 @@ fn following(header: &Header, names: &[FileName], moves: u64) -> Result<Header, 
     }
 }
 
-/// Has a store go on in the log of a new generation.
+/// Lets a store go on in the log of a new generation.
 fn renew<'a, R: Files<File = File>>(
     files: &R,
     alloc: Global,

@@ -1,7 +1,7 @@
 ghost use Rattle.std.specs.Prelude.{◌≡◌};
 ghost use Rattle.rld_start.specs.Status.{number_of};
 
-/// How a server ends, as whoever started it can see.
+/// How a server ends: its exit status.
 #[derive(Clone, Copy)]
 pub enum EndStatus {
     /// All was done.
@@ -17,8 +17,8 @@ pub enum EndStatus {
 }
 
 impl EndStatus {
-    /// The number with which the process ends: 0 where all was done, 1 for wrong input, 2 where a
-    /// call to the system failed, 3 where memory was refused, and 4 for a disk that cannot be synced.
+    /// The exit status of the process: 0 if all was done, 1 for wrong input, 2 if a system call
+    /// failed, 3 if memory was refused, and 4 for a disk that cannot be synced.
     pub fn number(self) -> u8
         ensures { result ≡ number_of self }
     {

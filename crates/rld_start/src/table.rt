@@ -14,7 +14,7 @@ use rld_spelling::Era;
 use rsl_accounts::Config;
 use std::alloc::Global;
 
-/// The fault of an era's file, `len` octets long, that spells no table.
+/// The fault of an era's file of `len` octets that spells no table.
 fn malformed(era: u64, len: usize, fault: Fault) -> StartFault {
     let wrong = Wrong {
         offset: fault.offset(len),
@@ -23,7 +23,7 @@ fn malformed(era: u64, len: usize, fault: Fault) -> StartFault {
     StartFault::bad(FileName::Era(era), wrong)
 }
 
-/// The boot number of an era whose file has these octets.
+/// The boot number of an era with this file.
 pub(crate) fn boot_of(alloc: Global, era: u64, file: &[u8]) -> Result<u64, StartFault> {
     match Era::read(alloc, file) {
         Ok(table) => Ok(table.boot),
@@ -32,7 +32,7 @@ pub(crate) fn boot_of(alloc: Global, era: u64, file: &[u8]) -> Result<u64, Start
     }
 }
 
-/// A configuration whose era's file has these octets: by it the logs of the era are read.
+/// A configuration of an era with this file, by which the logs of the era are read.
 pub(crate) fn config_in(alloc: Global, era: u64, file: &[u8]) -> Result<Config, StartFault>
     ensures { IfOk result (λ config.
         (boot : ℕ) × (file.now ≡ era_octets (table_of boot config))) }

@@ -1,4 +1,4 @@
-//! What is said of a start and of a rebase, to whoever started the program.
+//! The messages of a start and of a rebase.
 
 ghost use Rattle.std.specs.Prelude.{◌≡◌, ◌++◌, IfOk, OnOk, string_bytes};
 ghost use Rattle.rld_start.specs.Greeting.{admitted_text, behind_text, generation_text, numbered, torn_text};
@@ -10,11 +10,11 @@ use std::alloc::{AllocError, Global};
 impl Found {
     ghost use Rattle.rld_start.specs.Greeting.{greeting};
 
-    /// What is said of the folder that a server starts from: its era, the generation that it goes
-    /// on from or that the era is new, the sessions that have a place, and the octets of a torn
-    /// end, if there was one. On a line of its own stands how many sessions of an era with another
-    /// account file go on, and on another by how much the system's clock is behind, where either
-    /// was found. There is no line feed at the end. It fails only where memory is refused.
+    /// The message of a start: its era, the generation that it goes on from or that the era is new,
+    /// the sessions that have a place, and the octets of a torn end, if there was one. Further
+    /// lines say how many sessions of an era with another account file go on, and by how much the
+    /// system's clock is behind, if either was found. It does not end in a line feed. It fails only
+    /// if memory is refused.
     pub fn greeting(&self, alloc: Global) -> Result<String, AllocError>
         ensures { IfOk result (λ text. string_bytes text ≡ greeting self.now) }
     {
@@ -33,8 +33,8 @@ impl Found {
 impl Rebased {
     ghost use Rattle.rld_start.specs.Rebased.{rebased};
 
-    /// What is said of a rebase, in one line with its line feed: the generation whose books were
-    /// cut, how many moments were, and the era that begins with them. It fails only where memory is
+    /// The message of a rebase, in one line with its line feed: the generation whose books were
+    /// cut, how many moments were, and the era that begins with them. It fails only if memory is
     /// refused.
     pub fn line(&self, alloc: Global) -> Result<String, AllocError>
         ensures { IfOk result (λ text. string_bytes text ≡ rebased self.now) }
@@ -50,7 +50,7 @@ impl Rebased {
     }
 }
 
-/// Writes which generation the server goes on from, if there is one.
+/// Writes the generation that the server goes on from, if there is one.
 fn write_generation(text: &mut String, generation: u64) -> Result<(), AllocError>
     ensures { OnOk result
         (string_bytes text.new ≡ string_bytes text.old ++ generation_text generation) }
@@ -62,7 +62,7 @@ fn write_generation(text: &mut String, generation: u64) -> Result<(), AllocError
     }
 }
 
-/// Writes what was cut off of the log, if anything.
+/// Writes how much of the log was cut off, if anything.
 fn write_torn(text: &mut String, torn: usize) -> Result<(), AllocError>
     ensures { OnOk result (string_bytes text.new ≡ string_bytes text.old ++ torn_text torn) }
 {
@@ -93,7 +93,7 @@ fn write_admitted(
     }
 }
 
-/// Writes by how many seconds the system's clock is behind, if it is.
+/// Writes how many seconds the system's clock is behind, if it is.
 fn write_behind(text: &mut String, behind: Option<u64>) -> Result<(), AllocError>
     ensures { OnOk result (string_bytes text.new ≡ string_bytes text.old ++ behind_text behind) }
 {

@@ -8,13 +8,13 @@ use rld_store::StoreFault;
 use std::fmt;
 use thiserror::Error;
 
-/// What is wrong with a file of the folder.
+/// The cause of a damaged file.
 #[derive(Clone, Copy, Debug, Error)]
 pub enum Cause {
     /// A frame was spoilt before a whole one.
     #[error("damaged")]
     Damaged,
-    /// What stands here spells nothing that can stand there.
+    /// The octets spell nothing that can be here.
     #[error("{0}")]
     Malformed(fields::Cause),
     /// The header has the numbers of another generation than the name of the file.
@@ -23,7 +23,7 @@ pub enum Cause {
     /// The header has the digest of another table than that of the era.
     #[error("a header of another table")]
     OtherTable,
-    /// The snapshot is none of the era's accounts.
+    /// The snapshot is not of the era's accounts.
     #[error("{0}")]
     Misfit(ServerFault),
     /// A move is of no account.
@@ -32,29 +32,29 @@ pub enum Cause {
     /// No account file has the table of the era.
     #[error("a table that no account file has")]
     NoConfiguration,
-    /// The snapshot is not whole, and no earlier generation is there that has one.
+    /// The snapshot is not whole, and there is no earlier generation with one.
     #[error("no whole snapshot, here or earlier")]
     Alone,
-    /// It stands in the archive, and the folder has no later generation that was begun: the history
-    /// has a gap.
+    /// It is in the archive, and the folder has no later generation that was begun: the history has
+    /// a gap.
     #[error("in the archive, and no later generation in the folder")]
     Gap,
 }
 
-/// What is wrong with a file, and where.
+/// The cause and the offset of a damage.
 #[derive(Clone, Copy, Debug, Error)]
 #[error("at {offset}: {cause}")]
 pub struct Wrong {
-    /// Where it stands, in octets from the front of the file.
+    /// The offset in the file, in octets.
     pub offset: usize,
-    /// What is wrong.
+    /// The cause.
     pub cause: Cause,
 }
 
 impl Wrong {
     ghost use Rattle.rld_start.specs.Wrongs.{wrong_of};
 
-    /// What is wrong with a log that a store has refused for what it has.
+    /// The fault of a log that a store has refused for its contents.
     pub fn of(fault: StoreFault) -> Option<Wrong>
         ensures { result ≡ wrong_of fault }
     {
@@ -79,7 +79,7 @@ impl Wrong {
 pub struct BadLog {
     /// The file.
     pub file: FileName,
-    /// What is wrong with it, and where.
+    /// Its cause and offset.
     pub wrong: Wrong,
 }
 

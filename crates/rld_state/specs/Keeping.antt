@@ -21,8 +21,8 @@ is_failed (Ok value) = false
 is_failed (Err Failed) = true
 is_failed (Err Ended) = false
 
--- how many moves a generation of `moves` moves has after a batch of `count` moves that came to
--- this: all of these more, or none
+-- the number of moves of a generation of `moves` moves after a batch of `count` moves with this
+-- outcome: all of these are added, or none
 abbrev pub moves_after : {T : Type 0} → (moves count : ℕ) → Result T RecordFault → ℕ
 moves_after moves count (Ok value) = plus moves count
 moves_after moves count (Err fault) = moves

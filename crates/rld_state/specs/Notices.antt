@@ -1,5 +1,5 @@
--- What is to be reported of a begin of a generation, and of old logs that are put away: once when
--- it goes wrong, and once when that is over.
+-- The notices on beginning a generation, and on putting old logs away: one when it goes wrong, and
+-- one when that is over.
 use Rattle.std.specs.Prelude.{Bool, true, false, Option, Some, None, Result, Ok, Err}
 use Rattle.rld_folder.specs.declared.fault.FolderFault.{FolderFault}
 use Rattle.rld_state.specs.declared.rolled.Notice.{Notice}

@@ -1,9 +1,9 @@
--- The places of one account, by the rows of all.
+-- The places of one account, from the rows of all.
 use Rattle.std.specs.Prelude.{ℕ, ◌==◌, List, [], ◌∷◌, Option, Some, None, if◌then◌else◌}
 use Rattle.rld_look.specs.declared.line.Places.{Places}
 use Rattle.rsl_shard.specs.declared.row.Row.{Row}
 
--- the first row that is the account's has them
+-- the places of the first row of the account
 unfoldable pub places_in : (account : ℕ) → List Row → Option Places
 places_in account [] = None
 places_in account (row ∷ rows) =

@@ -1,4 +1,4 @@
--- How grave a line is that an operator reads on standard error, but for refusals.
+-- The priority of a line that an operator reads on standard error, except refusals.
 use Rattle.rld_look.specs.declared.priority.Priority.{Priority}
 use Rattle.rld_look.specs.declared.priority.Priority.TheVariants as priorities
 use Rattle.rld_state.specs.declared.rolled.Notice.TheVariants.{NotBegun, Begun, NotPutAway, PutAway}
@@ -6,7 +6,7 @@ use Rattle.rld_state.specs.declared.told.Told.{Told}
 use Rattle.rld_state.specs.declared.told.Told.TheVariants.{Recording, Generations, Accounts}
 use Rattle.rld_state.specs.declared.trouble.News.TheVariants.{Began, Over}
 
--- an error where nothing is answered, a warning where something fails beside that, and else a notice
+-- an error if nothing is answered, a warning if anything else fails, and else a notice
 abbrev pub priority_of : Told → Priority
 priority_of (Recording Began) = priorities.Error
 priority_of (Recording Over) = priorities.Notice

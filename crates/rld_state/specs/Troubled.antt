@@ -1,4 +1,4 @@
--- What is reported of batches that are not recorded: once when it begins, and once when it ends.
+-- The reports on batches that are not recorded: one when it begins, and one when it ends.
 use Rattle.std.specs.Prelude.{Bool, true, false, Option, Some, None}
 use Rattle.rld_state.specs.declared.trouble.News.{News}
 use Rattle.rld_state.specs.declared.trouble.News.TheVariants.{Began, Over}

@@ -1,4 +1,4 @@
-//! How the accounts of a running server change: within its era, or with a new one.
+//! Changing the accounts of a running server, within its era or with a new one.
 
 ghost use Rattle.std.specs.Prelude.{◌≡◌, ◌||◌, [], ℕ, IfErr, IfOk, IsErrOf, IsTrue, OnErr, OnOk};
 ghost use Rattle.std.specs.Arc.{arc_value};
@@ -23,36 +23,37 @@ use rsl_accounts::Config;
 use std::alloc::Global;
 use std::sync::Arc;
 
-/// An era that was begun: its log is on the disk.
+/// An era that was begun, whose log is on the disk.
 #[derive(Drop)]
 pub(crate) struct Opening<L: Log> {
     /// The books that it opens with, and the log of its first generation.
     pub(crate) store: Store<L>,
     /// The header of that generation.
     pub(crate) header: Header,
-    /// What shows that the log is on the disk.
+    /// Proof that the log is on the disk.
     pub(crate) synced: Synced,
-    /// How it follows the present one.
+    /// The change from the present era.
     pub(crate) change: EraChange,
 }
 
-/// An era that goes on, and what is left of the former one. That takes some time to drop: let it be done
-/// where nobody waits.
+/// An era that goes on, and what is left of the former one, whose drop takes some time: drop it
+/// where no thread waits.
 #[derive(Drop)]
 pub struct Entered<L: Log> {
-    /// How it follows the former one.
+    /// The change from the former era.
     pub change: EraChange,
-    /// The store of the former one.
+    /// The store of the former era.
     pub former: Store<L>,
 }
 
 impl<L: Log + Drop> ServerState<Store<L>> {
-    /// Begins the era of other accounts, whose files were made, with what is admitted of the books. Its
-    /// log is synced to the disk, whatever the pacing, before anything is recorded in it.
+    /// Begins the era of other accounts, whose files were made, with the books admitted from the
+    /// present one. Its log is synced to the disk, whatever the pacing, before anything is recorded
+    /// in it.
     ///
-    /// Where that fails the log is removed before anything more is recorded, as where a generation does
-    /// not begin (`roll`): then the present era goes on. `Ended` comes where the log cannot be removed
-    /// for good, and where nothing more could be recorded before: then nothing more is recorded.
+    /// After a fault the log is removed before anything more is recorded, as of `roll`, and the
+    /// present era goes on. `Ended` comes if the removal of the log is not certain, and if nothing
+    /// more could be recorded before: then nothing more is recorded.
     pub fn begin_era<G: Generations>(
         &mut self,
         alloc: Global,
@@ -80,7 +81,7 @@ impl<L: Log + Drop> ServerState<Store<L>> {
             self.new.recorder.end (L.seen self.new.recorder.log) (L.may_leave self.new.recorder.log)
             self.new.recorder.whole self.new.recorder.books [] []) }
 
-        // Where it fails the present era stays, with its accounts, its log and its count.
+        // After a fault the present era stays, with its accounts, its log and its count.
         ensures same { OnErr result (self.new.recorder ≡ self.old.recorder) }
         ensures same_config { OnErr result (self.new.config ≡ self.old.config) }
         ensures same_header { OnErr result (self.new.header ≡ self.old.header) }
@@ -103,8 +104,8 @@ impl<L: Log + Drop> ServerState<Store<L>> {
         }
     }
 
-    /// Begins the era of other accounts in its log, and syncs that. What stands in the log where it fails
-    /// is to be removed.
+    /// Begins the era of other accounts in its log, and syncs that. After a fault the log has to be
+    /// removed.
     fn opening<G: Generations>(
         &self,
         alloc: Global,
@@ -152,9 +153,9 @@ impl<L: Log + Drop> ServerState<Store<L>> {
 }
 
 impl<L: Log + Drop> ServerState<Store<L>> {
-    /// What is admitted of the books to other accounts, as a store that begins the generation of this
-    /// header in an empty log, in the blank books that were made for them. What stands in the log where it
-    /// fails is to be removed.
+    /// The books admitted to other accounts, as a store that begins the generation of this header
+    /// in an empty log. Blank books that were made for those accounts are used up. After a fault
+    /// the log has to be removed.
     fn admit(
         &self,
         alloc: Global,

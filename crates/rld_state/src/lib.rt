@@ -1,12 +1,12 @@
-//! The state of a running server, as it stands behind its lock: the recorder, the accounts and the
-//! era of its books, and the generation that it writes. It records batches, goes on to the next
+//! The state of a running server, as its lock protects it: the recorder, the accounts and the era
+//! of its books, and the generation that it writes. It records batches, goes on to the next
 //! generation, and to other accounts within the era or with a new one; and it says when the next
 //! generation is due and what an operator is to learn. It has no thread, socket or lock of its own.
 //!
 //! The promise: of each call, what the recorder promises; a recorder that can record nothing more
-//! is asked no more, and a batch of another era is refused whole (`specs/Keeping.antt`); a
+//! is not called again, and a batch of another era is refused whole (`specs/Keeping.antt`); a
 //! generation or an era that does not begin leaves the present one as it was, and an era begins
-//! with what is admitted of the books, once its log is on the disk (`changing.rt`).
+//! with the admitted books, once its log is on the disk (`changing.rt`).
 #![tactic(auto)]
 
 mod changing;

@@ -4,8 +4,7 @@ ghost use Rattle.rld_state.specs.Places.{places_in};
 use rld_look::Places;
 use rsl_shard::Row;
 
-/// The places of an account, by the rows of all accounts; `None` where no row is that of the
-/// account.
+/// The places of an account, from the rows of all accounts; `None` if no row is the account's.
 #[tactic(auto, unfolding(crate::specs::Places::places_in))]
 pub fn places_in(rows: &[Row], account: u32) -> Option<Places>
     ensures { result ≡ places_in account rows.now }

@@ -3,25 +3,25 @@ use std::alloc::{AllocError, AllocFailed};
 use std::fmt;
 use thiserror::Error;
 
-/// What came of accounts that were read anew. It prints as the line of an answer, without its line feed.
+/// The result of a reload. It prints as the line of an answer, without its line feed.
 #[derive(Clone, Copy)]
 pub enum Reloaded {
-    /// The era of this number goes on: names, rules, addresses and shards are as before.
+    /// The era with this number goes on: names, rules, addresses and shards are as before.
     GoesOn(u64),
     /// A new era has begun.
     Begun(EraChange),
 }
 
-/// How an era has followed another while the server runs.
+/// The change of a running server from one era to the next.
 #[derive(Clone, Copy)]
 pub struct EraChange {
     /// The number of the era that has ended.
     pub former: u64,
-    /// How many sessions held a link in the era that has ended.
+    /// The number of sessions that held a link in the era that has ended.
     pub held: u64,
     /// The number of the era that has begun.
     pub era: u64,
-    /// How many of those sessions go on.
+    /// The number of those sessions that go on.
     pub sessions: u64,
 }
 
@@ -38,10 +38,10 @@ impl fmt::Display for Reloaded {
     }
 }
 
-/// Why the accounts stay as they are, though others were read.
+/// Why the accounts stay as they are after a reload.
 #[derive(Clone, Copy, Debug, Error)]
 pub enum ReloadFault {
-    /// The accounts have changed while others were made ready.
+    /// The accounts have changed while the others were prepared.
     #[error("the accounts have changed meanwhile")]
     Changed,
     /// The new era could not begin.

@@ -23,18 +23,18 @@ pub enum RollFault {
     /// Another era has begun meanwhile. Its log is gone.
     #[error("another era has begun")]
     Former,
-    /// Nothing more can be recorded: nothing could be recorded before, or the log of the next
-    /// generation could not be removed.
+    /// Nothing more can be recorded: nothing could before, or the removal of the next generation's
+    /// log is not certain.
     #[error("nothing more can be recorded")]
     Ended,
 }
 
-/// How a generation or an era did not begin.
+/// What follows a generation or an era that did not begin.
 #[derive(Drop)]
 pub enum NotBegun {
-    /// The present one goes on. The log of the other one was removed, as this shows.
+    /// The present one goes on. The log of the other one was removed.
     PassedOver(RollFault, Removed),
-    /// Nothing more is recorded: it could be no more before, or that log could not be removed.
+    /// Nothing more is recorded: nothing could be before, or that log could not be removed.
     Ended,
 }
 
@@ -90,8 +90,8 @@ pub enum Notice {
     PutAway,
 }
 
-/// What is to be reported of a begin of the next generation that came to `rolled`: nothing as long
-/// as it goes as before.
+/// The notice after an attempt to begin the next generation, if its outcome differs from the one
+/// before.
 pub fn notice_of_roll(trouble: &mut Trouble, rolled: Result<(), RollFault>) -> Option<Notice>
     ensures notice { result ≡ roll_notice trouble.old.is_there rolled }
     ensures kept { trouble.new.is_there ≡ is_err rolled }
@@ -103,8 +103,7 @@ pub fn notice_of_roll(trouble: &mut Trouble, rolled: Result<(), RollFault>) -> O
     }
 }
 
-/// What is to be reported of old logs that were put away, or not, as `outcome` says: nothing as
-/// long as it goes as before.
+/// The notice after an attempt to put old logs away, if its outcome differs from the one before.
 pub fn notice_of_archive(trouble: &mut Trouble, outcome: Result<(), FolderFault>) -> Option<Notice>
     ensures notice { result ≡ archive_notice trouble.old.is_there outcome }
     ensures kept { trouble.new.is_there ≡ is_err outcome }

@@ -25,9 +25,9 @@ use std::alloc::{AllocError, Global};
 use std::mem;
 use std::sync::Arc;
 
-/// What stands behind the lock of a server: its recorder, which is asked no more once it can record
+/// What the lock of a server protects: its recorder, which is not called again once it can record
 /// nothing more; the accounts, clients and rules of its books; the header of the generation that it
-/// writes, and how many moves that has; and whether a batch was not recorded lately.
+/// writes, and the number of its moves; and whether a batch was not recorded recently.
 #[derive(Drop)]
 pub struct ServerState<S: Recorder> {
     recorder: S,
@@ -39,8 +39,8 @@ pub struct ServerState<S: Recorder> {
 }
 
 impl<S: Recorder> ServerState<S> {
-    /// The state of a server over a recorder that was not asked yet, whose books are of this configuration,
-    /// and that writes the generation of this header, of which it has no move.
+    /// The state of a server with a recorder that has not been called, whose books are of this
+    /// configuration, and that writes the generation of this header, with no move yet.
     pub fn new(recorder: S, config: Arc<Config>, header: Header) -> ServerState<S>
         ensures recorder { result.recorder ≡ recorder }
         ensures config { result.config ≡ config }
@@ -59,9 +59,9 @@ impl<S: Recorder> ServerState<S> {
         }
     }
 
-    /// Records a batch, which was prepared by the accounts of the era `era`, as the recorder does,
-    /// and counts its moves. `Ended` comes where it has come before, and `Failed` where another era
-    /// goes on: its numbers are those of other accounts. Then the recorder is not asked.
+    /// Records a batch that was prepared with the accounts of the era `era`, and counts its moves.
+    /// `Ended` comes if it has come before, and `Failed` if another era goes on, whose numbers mean
+    /// other accounts; then the recorder is not called.
     pub fn record(
         &mut self,
         alloc: Global,
@@ -114,7 +114,7 @@ impl<S: Recorder> ServerState<S> {
         outcome
     }
 
-    /// Notes how a call of the recorder ended for a batch of `count` moves.
+    /// Notes the outcome of a call of the recorder for a batch of `count` moves.
     fn note(&mut self, outcome: &Result<Recorded, RecordFault>, count: u64)
         ensures recorder { self.new.recorder ≡ self.old.recorder }
         ensures config { self.new.config ≡ self.old.config }
@@ -137,7 +137,7 @@ impl<S: Recorder> ServerState<S> {
         self.has_ended
     }
 
-    /// How many moves the generation has that the recorder writes; at most 2^64 - 1.
+    /// The number of moves of the generation that the recorder writes, at most 2^64 - 1.
     pub fn moves(&self) -> u64
         ensures { result ≡ self.now.moves }
     {
@@ -151,23 +151,23 @@ impl<S: Recorder> ServerState<S> {
         self.header
     }
 
-    /// The accounts, clients and rules of its books. It fails only where they have as many owners as can
-    /// be counted.
+    /// The accounts, clients and rules of its books. It fails only if their reference count is at
+    /// its limit.
     pub fn config(&self) -> Result<Arc<Config>, AllocError>
         ensures { IfOk result (λ config. arc_value config ≡ arc_value self.now.config) }
     {
         Arc::try_clone(&self.config)
     }
 
-    /// The accounts, clients and rules, to look at.
+    /// The accounts, clients and rules, borrowed.
     pub fn accounts(&self) -> &Config
         ensures { result.now ≡ arc_value self.now.config }
     {
         &*self.config
     }
 
-    /// Passes over a generation that did not begin: the present one goes on once the log of that one was
-    /// removed. Where it was not, nothing more is recorded.
+    /// Passes over a generation that did not begin: the present one goes on once the log of that
+    /// one was removed. If it was not, nothing more is recorded.
     pub(crate) fn pass_over(
         &mut self,
         failed: Generation,
@@ -188,8 +188,9 @@ impl<S: Recorder> ServerState<S> {
         }
     }
 
-    /// Goes on by other accounts in the present era, if it has their table, and gives whether it has; where
-    /// it has not, all is as before. Nothing is copied or made for it, since receivers rest meanwhile.
+    /// Goes on with other accounts in the present era, if it has their table, and gives whether it
+    /// has; if not, nothing has changed. Nothing is copied or allocated, since receivers wait for
+    /// it.
     pub fn go_on(&mut self, config: Arc<Config>) -> bool
         ensures same { (boot : ℕ) → IsTrue result ↔
             (table_of boot (arc_value self.old.config) ≡ table_of boot (arc_value config)) }
@@ -203,14 +204,14 @@ impl<S: Recorder> ServerState<S> {
         goes_on
     }
 
-    /// The recorder, to look at.
+    /// The recorder, borrowed.
     pub fn recorder(&self) -> &S
         ensures { result.now ≡ self.now.recorder }
     {
         &self.recorder
     }
 
-    /// Whether a batch was not recorded since this call was made last.
+    /// Whether a batch was not recorded since the last call.
     pub fn take_failed(&mut self) -> bool
         ensures found { result ≡ self.old.has_failed }
         ensures same { self.new ≡ record self.old { has_failed = false } }
@@ -222,13 +223,13 @@ impl<S: Recorder> ServerState<S> {
 }
 
 impl<L: Log + Drop> ServerState<Store<L>> {
-    /// Goes on in the generation of a log that was made for it: its header counts the moves of the
-    /// present one, and it has none yet.
+    /// Goes on in the generation of this log: its header counts the moves of the present one, and
+    /// it has no move yet.
     ///
-    /// Where that fails the log is removed before anything more is recorded, since its snapshot may
-    /// stand there whole, and a start would go on from it: then the present generation goes on. `Ended`
-    /// comes where the log cannot be removed for good, and where nothing more could be recorded before:
-    /// then nothing more is recorded. A log of another era is `Former`, and removed too. The log of the
+    /// After a fault the log is removed before anything more is recorded, since its snapshot may be
+    /// whole, and a start would go on from it: then the present generation goes on. `Ended` comes
+    /// if the removal of the log is not certain, and if nothing more could be recorded before: then
+    /// nothing more is recorded. A log of another era is `Former`, and removed too. The log of the
     /// former generation is handed out.
     pub fn roll<G: Generations>(
         &mut self,
@@ -255,7 +256,7 @@ impl<L: Log + Drop> ServerState<Store<L>> {
             OnOk result (StandsFor config opening self.new.recorder.counts L.tears self.new.recorder.end (L.seen self.new.recorder.log)
             (L.may_leave self.new.recorder.log) self.new.recorder.whole self.new.recorder.books history []) }
 
-        // Where it fails the present generation stays, with its log and its count.
+        // After a fault the present generation stays, with its log and its count.
         ensures same { OnErr result (self.new.recorder ≡ self.old.recorder) }
         ensures same_header { OnErr result (self.new.header ≡ self.old.header) }
         ensures same_moves { OnErr result (self.new.moves ≡ self.old.moves) }
@@ -312,7 +313,8 @@ impl<L: Log + Drop> ServerState<Store<L>> {
         }
     }
 
-    /// Goes on in an era that was begun, by its accounts, and hands out the store of the former one.
+    /// Goes on in an era that was begun, with its accounts, and hands out the store of the former
+    /// one.
     pub(crate) fn enter(&mut self, opening: Opening<L>, config: Arc<Config>) -> Store<L>
         requires { opening.synced.generation ≡ generation_named opening.header }
         ensures recorder { self.new.recorder ≡ opening.store }

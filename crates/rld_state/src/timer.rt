@@ -1,16 +1,17 @@
 ghost use Rattle.std.specs.Prelude.{◌≡◌, ◌↔◌, IsTrue};
 ghost use Rattle.rld_state.specs.Due.{IsDue, just_begun, put_off, second_later};
 
-/// After how many moves a generation has to end.
+/// The most moves of a generation before the next one begins.
 const MOST_MOVES: u64 = 1_000_000;
 
-/// After how many seconds it has to end.
+/// The most seconds of a generation before the next one begins.
 const MOST_SECS: u64 = 600;
 
-/// How long the next generation waits after a begin that failed, in seconds.
+/// How long the next generation waits after a failed begin, in seconds.
 const PAUSE_SECS: u64 = 60;
 
-/// How long the generation of a running server has lasted, and how long the next one has still to wait.
+/// How long the generation of a running server has lasted, and how long the next one still has to
+/// wait.
 #[derive(Clone, Copy)]
 pub struct RollTimer {
     seconds: u64,
@@ -36,7 +37,7 @@ impl RollTimer {
         self.pause = self.pause.saturating_sub(1);
     }
 
-    /// Whether the next generation shall begin, where this one has `moves` moves.
+    /// Whether the next generation is due, if this one has `moves` moves.
     pub fn is_due(&self, moves: u64) -> bool
         ensures { IsTrue result ↔ IsDue self.now moves }
     {

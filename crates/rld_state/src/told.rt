@@ -7,19 +7,19 @@ use crate::trouble::News;
 use rld_look::{Priority, Sink};
 use std::fmt;
 
-/// What the server reports to its operator, but for refusals.
+/// What the server reports to its operator, except refusals.
 #[derive(Clone, Copy)]
 pub enum Told {
-    /// How batches are recorded.
+    /// Whether batches are recorded.
     Recording(News),
-    /// How generations follow each other, and where old logs go.
+    /// Whether generations begin, and old logs are put away.
     Generations(Notice),
-    /// What came of accounts that were read anew.
+    /// The result of a reload.
     Accounts(Reloaded),
 }
 
 impl Told {
-    /// How grave the report is.
+    /// The priority of the report.
     pub fn priority(self) -> Priority
         ensures { result ≡ priority_of self }
     {
@@ -36,9 +36,9 @@ impl Told {
 /// A report as a line of standard error, with its mark and its line feed.
 #[derive(Clone, Copy)]
 pub struct ToldLine {
-    /// Who reads it.
+    /// The reader of the line.
     pub sink: Sink,
-    /// What the line says.
+    /// The report.
     pub told: Told,
 }
 
@@ -54,7 +54,7 @@ impl fmt::Display for ToldLine {
     }
 }
 
-/// Lines of ASCII, as octets.
+/// ASCII octets as a text.
 #[derive(Clone, Copy)]
 pub struct Ascii<'a>(pub &'a [u8]);
 

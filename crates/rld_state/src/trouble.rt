@@ -3,10 +3,10 @@ ghost use Rattle.rld_state.specs.Troubled.{news_of};
 
 use std::fmt;
 
-/// What the server reports of how batches are recorded. It prints as a line of standard error.
+/// A change in whether batches are recorded. It prints as a line of standard error.
 #[derive(Clone, Copy)]
 pub enum News {
-    /// Batches are not recorded from now on.
+    /// Batches are no longer recorded.
     Began,
     /// Batches are recorded again.
     Over,
@@ -23,7 +23,7 @@ impl fmt::Display for News {
     }
 }
 
-/// Whether something goes wrong, as it was reported last.
+/// Whether something was failing when it was last reported.
 #[derive(Clone, Copy)]
 pub struct Trouble {
     is_there: bool,
@@ -32,15 +32,14 @@ pub struct Trouble {
 impl Trouble {
     ghost use Rattle.std.specs.Prelude.{false};
 
-    /// No trouble: all is well.
+    /// No trouble.
     pub fn new() -> Trouble
         ensures { result.is_there ≡ false }
     {
         Trouble { is_there: false }
     }
 
-    /// What is to be reported where something has failed, or has not: nothing as long as that is as
-    /// before.
+    /// The report after something has failed, or has not, if that differs from the last time.
     pub fn news(&mut self, has_failed: bool) -> Option<News>
         ensures news { result ≡ news_of self.old.is_there has_failed }
         ensures kept { self.new.is_there ≡ has_failed }

@@ -1,5 +1,5 @@
--- A generation of the log: a header, a snapshot of the books that it begins with, and the moves that
--- followed, batch by batch. Each of these is the payload of a frame.
+-- A generation of the log: a header, a snapshot of the books that it begins with, and the moves
+-- that followed, batch by batch. Each of these is the payload of a frame.
 use Rattle.std.specs.Prelude.{◌≡◌, ◌⊎◌, ℕ, ◌<◌, List, ◌∷◌, ◌++◌, length, map}
 use Rattle.std.specs.List.{flat_map, AllByRecursion}
 use Rattle.rsl_accounts.specs.Configuration.{Configuration}
@@ -16,7 +16,7 @@ use Rattle.rld_spelling.specs.Moves.{moves_field}
 use Rattle.rld_spelling.specs.declared.header.Header.{Header}
 use Rattle.rld_spelling.specs.declared.moves.Counts.{Counts}
 
--- how many accounts and clients there are
+-- the numbers of accounts and clients
 abbrev pub counts_of : Configuration → Counts
 counts_of config = record { accounts = length config.accounts; clients = length config.clients }
 
@@ -84,20 +84,20 @@ pub record HasHistory (config : Configuration) (opening : List BooksSeen) (histo
   pub has : HasPayloads file payloads
   pub are : AreOfHistory config opening history payloads
 
--- a file whose snapshot is not whole: it is no generation yet
+-- a file whose snapshot is not whole: its generation was not begun
 pub record IsUnbegun (file : List ℕ) : Type 0 where
   pub payloads : List (List ℕ)
   pub has : HasPayloads file payloads
   pub few : length payloads < 2
 
--- a file that stands for a history, or for that and a batch that was not answered, whole
+-- a file that stands for a history, or for it and an unanswered batch, whole
 abbrev pub HasHistoryOr : (config : Configuration) → (opening : List BooksSeen)
     → (history unanswered : List Move) → (file : List ℕ) → Type 0
 HasHistoryOr config opening history unanswered file =
     HasHistory config opening history file ⊎ HasHistory config opening (history ++ unanswered) file
 
--- Two files of which the newer counts where its snapshot is whole, and else the older: they stand
--- for a history, or for that and a batch that was not answered.
+-- Two files of which the newer counts if its snapshot is whole, and else the older: they stand for
+-- a history, or for it and an unanswered batch.
 abbrev pub StandForHistory : (config : Configuration) → (opening : List BooksSeen)
     → (history unanswered : List Move) → (older newer : List ℕ) → Type 0
 StandForHistory config opening history unanswered older newer =

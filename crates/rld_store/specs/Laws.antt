@@ -7,8 +7,8 @@ use Rattle.rsl_shard.specs.declared.moved.Move.{Move}
 use Rattle.rld_books.specs.Server.{replay}
 use Rattle.rld_store.specs.Generations.{HasHistory}
 
--- a file stands for one state: whatever histories it has, they make the same of the books that their
--- eras opened with
+-- a file stands for one state: whatever histories it has, they make the same of the books with
+-- which their eras opened
 abbrev pub FilesHaveOneState : Type 0
 FilesHaveOneState =
     (config : Configuration) (opening also : List BooksSeen) (some other : List Move)

@@ -1,4 +1,4 @@
--- What the opening of a log finds, and why it may be refused.
+-- What the opening of a log finds, and why a log is refused.
 use Rattle.std.specs.Prelude.{◌≡◌, ℕ, ◌-◌, ◌<◌, ◌≤◌, List, [], ◌∷◌, ◌++◌, length, map, Err}
 use Rattle.std.specs.Borrow.{Bor}
 use Rattle.rsl_accounts.specs.Configuration.{Configuration}
@@ -23,7 +23,7 @@ use Rattle.rld_store.specs.declared.fault.StoreFault.{StoreFault}
 use Rattle.rld_store.specs.declared.fault.StoreFault.TheVariants as faults
 use Rattle.rld_store.specs.declared.parts.Parts.{Parts}
 
--- what was found in a generation: its header, the books after its moves, and how many moves those are
+-- what was found in a generation: its header, the books after its moves, and their number
 pub record IsFound (begun : List BooksSeen) (moves : List Move) (header found_header : Header)
     (books : List BooksSeen) (count : ℕ) : Type 0 where
   pub header_is : found_header ≡ header
@@ -94,7 +94,7 @@ pub record BeginsAt (payloads before : List (List ℕ)) (offset : ℕ) : Type 0 
   pub at : IsAt payloads before payload end
   pub offset_is : offset ≡ end - length payload
 
--- a payload after these spells nothing that can stand there: the first has a header, the second a
+-- a payload after these spells nothing that can be there: the first has a header, the second a
 -- snapshot, each other a batch
 abbrev pub SpellsNothing : Counts → (before : List (List ℕ)) → (end : ℕ) → (payload : List ℕ)
     → Malformed → Type 0
@@ -128,8 +128,8 @@ IsWhyUnread counts payloads faults.NoMemory = Unit {0}
 IsWhyUnread counts payloads faults.TooLong = Unit {0}
 IsWhyUnread counts payloads _ = ⊥
 
--- why a log that was read is refused: the snapshot is not whole, or a payload is malformed or of other
--- accounts
+-- why a log that was read is refused: the snapshot is not whole, or a payload is malformed or of
+-- other accounts
 abbrev pub IsWhy : Counts → (file : List ℕ) → StoreFault → Type 0
 IsWhy counts file faults.Unbegun = IsUnbegun file
 IsWhy counts file (faults.Malformed malformed) =
@@ -142,12 +142,12 @@ IsWhy counts file (faults.Foreign offset) =
 IsWhy counts file (faults.Damaged damage) = ⊥
 IsWhy counts file _ = Unit {0}
 
--- a fault of no call of the log
+-- a fault that is not of a call of the log
 abbrev pub IsOfNoLog : StoreFault → Type 0
 IsOfNoLog (faults.Log fault) = ⊥
 IsOfNoLog _ = Unit {0}
 
--- a fault of no call of the log leaves the log as it was
+-- a fault that is not of a call of the log leaves the log as it was
 abbrev pub LeavesAsItWas : StoreFault → (old new : List ℕ)
     → (old_outcomes new_outcomes : Ending → List ℕ → Type 0) → Type 0
 LeavesAsItWas (faults.Log fault) old new old_outcomes new_outcomes = Unit {0}

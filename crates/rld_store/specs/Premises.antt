@@ -1,16 +1,17 @@
--- What is taken on trust, in one place. Each clause that needs one of these names it.
+-- What is trusted, in one place. Each clause that needs one of these names it.
 --
 -- A file behaves as a log that tells. A clause on what a log holds, or on what a crash may leave of
--- it, begins with `IsTrue (L.tells ..) →`; a log in memory tells, and of a file of the system it is
--- the premise (`rld_log`'s `Log`).
+-- it, begins with `IsTrue (L.tells ..) →`; a log in memory tells, and for a file of the system it
+-- is the premise (`rld_log`'s `Log`).
 --
--- No torn write passes the checksum by chance: `Premise tears ending`. Of a kill it asks nothing,
--- since that is proved; of a loss of power it is `Detects tears`.
+-- No torn write passes the checksum by chance: `Premise tears ending`. For a kill it asks nothing,
+-- since that is proved; for a loss of power it is `Detects tears`.
 --
--- A log that a call begins with holds what a crash has left and nothing else: `Only seen may_leave`.
+-- A log that a call begins with holds what a crash has left and nothing else: `Only seen
+-- may_leave`.
 --
--- Memory was found: where it was not a call says so, and nothing has changed.
+-- Memory is not refused: if it is, a call says so, and nothing has changed.
 --
--- Within an era the accounts, clients and rules are fixed: one `config` stands in all clauses of a
+-- Within an era the accounts, clients and rules are fixed: one `config` is in all clauses of a
 -- history.
 pub use Rattle.rld_log.specs.Log.{Detects, Only, Premise}

@@ -5,7 +5,7 @@ use Rattle.rsl_shard.specs.Restep.{BooksSeen}
 use Rattle.rsl_shard.specs.declared.moved.Move.{Move}
 use Rattle.rld_books.specs.Server.{AreTakenIn, decisions_of}
 
--- its moves, the books that there were before it, and a decision on each of the moves
+-- its moves, the books before it, and a decision on each of the moves
 pub record RecordedSeen : Type 0 where
   pub batch : List Move
   pub before : List BooksSeen

@@ -1,5 +1,5 @@
--- What a store stands for: a history, which its log has, and which makes its books of those that its
--- era opened with.
+-- What a store stands for: a history, which its log has, and whose moves make its books of those
+-- with which its era opened.
 use Rattle.std.specs.Prelude.{◌≡◌, ◌⊎◌, ℕ, List, ◌++◌, length}
 use Rattle.std.specs.List.{AllByRecursion}
 use Rattle.rsl_accounts.specs.Configuration.{Configuration}
@@ -17,8 +17,8 @@ use Rattle.rld_store.specs.Generations.{AreOfHistory, HasHistory, HasHistoryOr, 
 use Rattle.rld_store.specs.declared.store.End.{End}
 use Rattle.rld_store.specs.declared.store.End.TheVariants.{Settled, Unsettled}
 
--- a log at whose end an append may have left something: a crash leaves the payloads, or those and the
--- one of that append
+-- a log at whose end an append may have left something: a crash leaves the payloads, or the
+-- payloads and that of the append
 pub record IsUnsettled (tears : List ℕ → List ℕ → Type 0) (seen : List ℕ)
     (may_leave : Ending → List ℕ → Type 0) (payloads : List (List ℕ)) (unanswered : List ℕ)
     : Type 0 where
@@ -35,8 +35,8 @@ EndsSo Settled tears seen may_leave payloads unanswered = IsSettled seen may_lea
 EndsSo Unsettled tears seen may_leave payloads unanswered =
     IsUnsettled tears seen may_leave payloads unanswered
 
--- The log has a history, and at its end perhaps a batch that was not answered; the books are what
--- the history makes of those that the era opened with.
+-- The log has a history, and at its end perhaps an unanswered batch; the books are what the history
+-- makes of those with which the era opened.
 pub record StandsFor (config : Configuration) (opening : List BooksSeen) (counts : Counts)
     (tears : List ℕ → List ℕ → Type 0) (end : End) (seen : List ℕ)
     (may_leave : Ending → List ℕ → Type 0) (whole : ℕ) (books : List BooksSeen)
@@ -49,7 +49,7 @@ pub record StandsFor (config : Configuration) (opening : List BooksSeen) (counts
   pub ends : EndsSo end tears seen may_leave payloads ((moves_field counts).spell unanswered)
   pub replayed : books ≡ replay opening history
 
--- a crash leaves the history, or that and the batch that was not answered, whole
+-- a crash leaves the history, or the history and the unanswered batch, whole
 abbrev pub LosesNothing : (config : Configuration) → (opening : List BooksSeen)
     → (tears : List ℕ → List ℕ → Type 0) → (may_leave : Ending → List ℕ → Type 0)
     → (history unanswered : List Move) → Type 0

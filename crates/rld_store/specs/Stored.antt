@@ -14,8 +14,8 @@ use Rattle.rld_store.specs.declared.fault.RecordFault.{RecordFault}
 use Rattle.rld_store.specs.declared.fault.RecordFault.TheVariants.{Failed, Ended}
 
 -- A store has recorded a history, in an era that opened with these books: it stands for it, and
--- perhaps for a batch after it that was not answered. Where a batch is not recorded the history
--- stays, and which batch that is may change.
+-- perhaps for an unanswered batch after it. If a batch is not recorded, the history stays, and
+-- which batch that is may change.
 pub record HasRecorded (config : Configuration) (opening : List BooksSeen) (counts : Counts)
     (tears : List ℕ → List ℕ → Type 0) (end : End) (seen : List ℕ)
     (may_leave : Ending → List ℕ → Type 0) (whole : ℕ) (books : List BooksSeen)
@@ -23,7 +23,7 @@ pub record HasRecorded (config : Configuration) (opening : List BooksSeen) (coun
   pub unanswered : List Move
   pub stands : StandsFor config opening counts tears end seen may_leave whole books history unanswered
 
--- after a sync that failed nothing more can be recorded, after any other fault another batch may be
+-- after a failed sync nothing more can be recorded, after any other fault another batch may be
 abbrev pub record_fault : StoreFault → RecordFault
 record_fault (store_faults.Log log_faults.Unsynced) = Ended
 record_fault _ = Failed

@@ -6,7 +6,7 @@ use rld_books::ServerBooks;
 use rsl_shard::Move;
 use std::marker::Model;
 
-/// What the decisions on a batch were made of: the batch, and the books that there were before it.
+/// The basis of the decisions on a batch: the batch, and the books before it.
 ///
 /// Contracts alone read it: it has no octets, and making one does nothing.
 #[derive(Drop)]
@@ -22,7 +22,7 @@ impl Model for Basis {
 }
 
 impl Basis {
-    /// This batch, and these books.
+    /// The basis of this batch and these books.
     pub(crate) fn of(_batch: &Vec<Move>, _before: &ServerBooks) -> Basis
         ensures { (result.batch ≡ _batch.now.items) × (result.before ≡ _before.now) }
     {

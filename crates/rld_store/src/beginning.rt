@@ -1,4 +1,4 @@
-//! How a generation begins.
+//! The beginning of a generation.
 
 ghost use Rattle.std.specs.Prelude.{◌≡◌, ◌⊎◌, ◌+◌, ◌<◌, ◌^◌, ℕ, List, [], ◌∷◌, ◌++◌, length, IsTrue, IfOk, IfSome, OnErr, OnOk};
 ghost use Rattle.rld_log.specs.Frames.{Fits, HasPayloads, frames};
@@ -23,7 +23,7 @@ use std::alloc::Global;
 /// The longest payload of a frame.
 const MAX_PAYLOAD: usize = 4_294_967_295;
 
-/// How many accounts and clients there are.
+/// The numbers of accounts and clients.
 pub fn counts_in(config: &Config) -> Counts
     ensures { result ≡ counts_of config.now }
 {
@@ -33,7 +33,7 @@ pub fn counts_in(config: &Config) -> Counts
     }
 }
 
-/// The length of whole frames with one more, whose payload has this length.
+/// The length of whole frames with another one, whose payload has this length.
 pub(crate) fn whole_with(whole: usize, payload: usize) -> Option<usize>
     ensures whole { IfSome result (λ len. len ≡ whole + (20 + payload)) }
     ensures fits { IfSome result (λ _. payload < 2 ^ 32) }
@@ -58,7 +58,7 @@ fn snapshot_of(alloc: Global, books: &[SavedBook], clients: u32) -> Result<Vec<u
     Ok(octets)
 }
 
-/// What a generation begins with.
+/// The front of a generation.
 #[derive(Drop)]
 struct Front {
     /// The payload of the header.
@@ -69,7 +69,7 @@ struct Front {
     whole: usize,
 }
 
-/// The header and the snapshot of a generation that begins with these books.
+/// The front of a generation that begins with these books.
 fn front_of(
     alloc: Global,
     header: Header,
@@ -97,7 +97,7 @@ fn front_of(
     })
 }
 
-/// Makes sure that a log is empty, which it leaves as it was.
+/// Checks that a log is empty, and leaves it as it was.
 fn check_empty<L: Log>(alloc: Global, log: &mut L) -> Result<(), StoreFault>
     ensures told { IsTrue (L.tells log.new) → IsTrue (L.tells log.old) }
     ensures same { IsTrue (L.tells log.new) → L.seen log.new ≡ L.seen log.old }
@@ -112,7 +112,7 @@ fn check_empty<L: Log>(alloc: Global, log: &mut L) -> Result<(), StoreFault>
     }
 }
 
-/// Records two payloads in an empty log, each before the next.
+/// Records two payloads in an empty log, one after the other.
 fn record_both<L: Log>(
     alloc: Global,
     log: &mut L,
@@ -133,8 +133,8 @@ fn record_both<L: Log>(
     Ok(())
 }
 
-/// Begins a generation with these books, in an empty log: writes its header and a snapshot, each of
-/// which is synced. The length of their frames is given.
+/// Begins a generation with these books in an empty log: writes its header and a snapshot, and
+/// syncs each. Gives the length of their frames.
 pub(crate) fn begin_log<L: Log>(
     alloc: Global,
     log: &mut L,

@@ -9,11 +9,11 @@ use rsl_wire::NoMemory;
 use std::alloc::AllocError;
 use thiserror::Error;
 
-/// The payload of a whole frame spells nothing that can stand there.
+/// The payload of a whole frame is not what has to be there.
 #[derive(Clone, Copy, Debug, PartialEq, Eq, Error)]
 #[error("{offset}: {cause}")]
 pub struct Malformed {
-    /// Where the fault stands, in octets from the front of the log.
+    /// The offset of the fault in the log, in octets.
     pub offset: usize,
     /// What is wrong.
     pub cause: Cause,
@@ -31,17 +31,17 @@ pub enum StoreFault {
     /// The log is damaged.
     #[error("{0}")]
     Damaged(Damage),
-    /// The log has no whole snapshot: it is no generation yet.
+    /// The log has no whole snapshot: its generation was not begun.
     #[error("no whole snapshot")]
     Unbegun,
-    /// A payload is malformed. That the log is of another version of the format or of the session
-    /// rule is such a fault of its header.
+    /// A payload is malformed. A log of another version of the format or of the session rule has
+    /// such a fault in its header.
     #[error("{0}")]
     Malformed(Malformed),
     /// The snapshot is not of the configuration's accounts.
     #[error("{offset}: {fault}")]
     Misfit {
-        /// Where the snapshot begins, in octets from the front of the log.
+        /// The offset of the snapshot in the log, in octets.
         offset: usize,
         /// What does not fit.
         fault: ServerFault,
@@ -49,13 +49,14 @@ pub enum StoreFault {
     /// A move is of no account of the configuration.
     #[error("{offset}: a move of no account")]
     Foreign {
-        /// Where its batch begins, in octets from the front of the log.
+        /// The offset of the batch in the log, in octets.
         offset: usize,
     },
-    /// The log that a generation was to begin in is not empty.
+    /// The log for a new generation is not empty.
     #[error("not empty")]
     Occupied,
-    /// A batch or a snapshot has something that cannot be written, as a name of over 253 octets.
+    /// A batch or a snapshot has something that cannot be written, such as a name of over 253
+    /// octets.
     #[error("nothing that can be written")]
     Unfit,
     /// A payload is longer than a frame can be, or the log than memory.
@@ -74,12 +75,12 @@ pub enum RecordFault {
     Ended,
 }
 
-/// A log that was not taken over is handed back.
+/// A log that was not taken over, handed back.
 #[derive(Drop)]
 pub struct Refused<L: Log> {
     /// The log.
     pub log: L,
-    /// Why.
+    /// The fault.
     pub fault: StoreFault,
 }
 

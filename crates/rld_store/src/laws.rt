@@ -10,9 +10,9 @@ ghost use Rattle.rsl_shard.specs.declared.moved.Move.{Move as OneMove};
 use crate::store::Store;
 use rld_log::Log;
 
-/// A crash loses nothing that was answered: what it leaves of a store's log has the history, or that
-/// and the batch that was not answered, whole. Of a loss of power it is the premise that no torn
-/// write passes for a frame by chance; of a kill that is proved.
+/// A crash loses nothing that was answered: what it leaves of a store's log has the history, or the
+/// history and the unanswered batch, whole. For a loss of power the premise is that no torn write
+/// passes for a frame by chance; for a kill that is proved.
 pub fn crashes_lose_nothing<L: Log>(store: &Store<L>)
     ensures { (config : Configuration) (opening : List BooksSeen) (history unanswered : List OneMove) →
         StandsFor config opening store.now.counts L.tears store.now.end (L.seen store.now.log) (L.may_leave store.now.log)
@@ -23,7 +23,7 @@ pub fn crashes_lose_nothing<L: Log>(store: &Store<L>)
 }
 
 /// A file stands for one state: whatever histories are found in it, and whatever books their eras
-/// opened with, the books that they make are the same.
+/// opened with, the resulting books are the same.
 pub fn files_have_one_state()
     ensures { FilesHaveOneState }
 {

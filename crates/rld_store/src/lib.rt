@@ -1,14 +1,14 @@
 //! The store: nothing is answered that is not recorded.
 //!
 //! A batch of moves is written and synced before it is made, so the books are the replay of what is
-//! on the disk, before and after each call. A crash at any call leaves the moves that were answered,
-//! in their order, and of a batch that was not yet answered all moves or none. A log is one
+//! on the disk, before and after each call. A crash at any call leaves the moves that were
+//! answered, in order, and of a batch that was not yet answered all moves or none. A log is one
 //! generation: a header, a snapshot of the books that it begins with, and the moves that followed.
-//! What turns and a running server ask of a store is a `Recorder`, and a store is one
+//! What turns and a running server need of a store is a `Recorder`, and a store is one
 //! (`specs/Stored.antt`).
 //!
 //! Read `specs/Generations.antt` first (what a log has), then `specs/Standing.antt` (what a store
-//! stands for). What is taken on trust of a file and of MD5 is in `specs/Premises.antt`.
+//! stands for). What is trusted of a file and of MD5 is in `specs/Premises.antt`.
 #![tactic(auto)]
 
 mod basis;

@@ -1,4 +1,4 @@
-//! How a log is read and opened.
+//! Reading and opening a log.
 
 ghost use Rattle.std.specs.Prelude.{◌≡◌, ◌+◌, ℕ, List, length, IfErr, IfOk, IsTrue, OnOk};
 ghost use Rattle.rld_books.specs.Saved.{IsServerOf};
@@ -23,12 +23,12 @@ pub(crate) struct Restored {
     pub(crate) reading: Reading,
     /// The octets of its whole frames.
     pub(crate) whole: usize,
-    /// How many octets of a torn end were cut off.
+    /// Octets of the torn end that was cut off.
     pub(crate) torn: usize,
 }
 
-/// The octets of a log, and how long its whole frames are. The log stays as it is. `Damaged` comes
-/// where a frame was spoilt before a whole one.
+/// The octets of a log, and the length of its whole frames. The log stays as it is. `Damaged` comes
+/// if a frame was spoilt before a whole one.
 pub fn read_frames<L: Log>(alloc: Global, log: &mut L) -> Result<Frames, StoreFault>
     ensures told { IsTrue (L.tells log.new) → IsTrue (L.tells log.old) }
     ensures octets { IsTrue (L.tells log.new) → IfOk result (λ frames. frames.octets.items ≡ L.seen log.old) }
@@ -40,7 +40,7 @@ pub fn read_frames<L: Log>(alloc: Global, log: &mut L) -> Result<Frames, StoreFa
     Ok(Frames::of(octets)?)
 }
 
-/// The generation that a log has, and the length of its whole frames.
+/// The generation of a log, and the length of its whole frames.
 fn generation_in(alloc: Global, config: &Config, frames: &Frames) -> Result<Restored, StoreFault>
     ensures server { IfOk result (λ restored. IsServerOf config.now restored.reading.books) }
     ensures found { IfOk result (λ restored. (before : List (List ℕ)) → HasPayloads frames.now.octets.items before →
@@ -58,8 +58,8 @@ fn generation_in(alloc: Global, config: &Config, frames: &Frames) -> Result<Rest
     })
 }
 
-/// Opens a log that a crash may have left, and that has these frames: makes its moves in the books of
-/// its snapshot, cuts its torn end off, and syncs it. A log that is refused is left as it was.
+/// Opens a log with these frames that a crash may have left: makes its moves in the books of its
+/// snapshot, cuts its torn end off, and syncs it. A log that is refused stays as it was.
 pub(crate) fn restore<L: Log>(
     alloc: Global,
     config: &Config,
@@ -86,7 +86,7 @@ pub(crate) fn restore<L: Log>(
         (before : List (List ℕ)) → HasPayloads (L.seen log.old) before →
         (ending : OneEnding) (left : List ℕ) → L.may_leave log.new ending left → HasPayloads left before }
 
-    // Why it is refused, and that it is left as it was.
+    // Why the log is refused, and that it stays as it was.
     ensures why { IsTrue (L.tells log.new) → IfErr result (IsWhy (counts_of config.now) (L.seen log.old)) }
     ensures untouched { IsTrue (L.tells log.new) → IfErr result (λ fault.
         LeavesAsItWas fault (L.seen log.old) (L.seen log.new) (L.may_leave log.old) (L.may_leave log.new)) }

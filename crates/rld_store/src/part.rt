@@ -21,18 +21,18 @@ use rsl_accounts::Config;
 use rsl_shard::Move;
 use std::alloc::Global;
 
-/// A payload of a log, and where it stands.
+/// A payload of a log, and its position.
 #[derive(Clone, Copy)]
 pub struct Part<'a> {
     /// The payload.
     pub payload: &'a [u8],
-    /// Where it ends, in octets from the front of the log.
+    /// The offset of its end in the log, in octets.
     pub end: usize,
 }
 
 impl<'a> Part<'a> {
-    /// The payload of the frame that follows frames of this length. `TooLong` where a frame cannot be as
-    /// long, or where its end is no number.
+    /// The payload of the frame after frames of this length. `TooLong` comes if a frame cannot be
+    /// that long, or if its end exceeds `usize`.
     pub fn after(whole: usize, payload: &'a [u8]) -> Result<Part<'a>, StoreFault>
         ensures payload { IfOk result (λ part. part.payload.now ≡ payload.now) }
         ensures end { IfOk result (λ part. part.end ≡ whole + (20 + length part.payload.now)) }
@@ -45,14 +45,14 @@ impl<'a> Part<'a> {
         }
     }
 
-    /// Where it begins, in octets from the front of the log.
+    /// The offset of its frame in the log, in octets.
     pub fn begin(self) -> usize
         ensures { result ≡ self.entry.end - length self.entry.payload.now }
     {
         self.end.saturating_sub(self.payload.len())
     }
 
-    /// The fault of a payload that spells nothing which can stand there.
+    /// The fault of a payload that is not what has to be there.
     fn malformed(self, fault: Fault) -> Malformed
         ensures offset { result.offset ≡ self.entry.end - fault.left }
         ensures cause { result.cause ≡ fault.cause }
@@ -63,7 +63,7 @@ impl<'a> Part<'a> {
         }
     }
 
-    /// The header that it spells.
+    /// The header in the payload.
     pub fn header(self) -> Result<Header, Malformed>
         ensures spelled { IfOk result (λ header.
             (self.entry.payload.now ≡ header_octets header) × header_field.Fits header) }
@@ -77,7 +77,7 @@ impl<'a> Part<'a> {
         }
     }
 
-    /// The books of the snapshot that it spells.
+    /// The books of the snapshot in the payload.
     pub fn books(self, alloc: Global, config: &Config) -> Result<ServerBooks, StoreFault>
         ensures server { IfOk result (λ books. IsServerOf config.now books) }
         ensures only { IfOk result (λ books. (begun : List BooksSeen) → IsServerOf config.now begun →
@@ -102,7 +102,7 @@ impl<'a> Part<'a> {
         }
     }
 
-    /// The moves of the batch that it spells.
+    /// The moves of the batch in the payload.
     pub fn moves(self, alloc: Global, counts: Counts) -> Result<Vec<Move>, StoreFault>
         ensures spelled { IfOk result (λ moves. (self.entry.payload.now ≡ (moves_field counts).spell moves.items)
             × (moves_field counts).Fits moves.items) }

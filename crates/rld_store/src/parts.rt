@@ -41,7 +41,7 @@ fn front_and_rest<'a>(payloads: &'a [&'a [u8]]) -> Option<(&'a [u8], &'a [u8], &
 }
 
 impl<'a> Parts<'a> {
-    /// The parts of the generation that has these payloads. `Unbegun` where it has no whole snapshot.
+    /// The parts of the generation of these payloads. `Unbegun` comes if it has no whole snapshot.
     pub fn of(payloads: &'a [&'a [u8]]) -> Result<Parts<'a>, StoreFault>
         ensures are { IfOk result (AreParts (map (λ payload. payload.now) payloads.now)) }
         ensures why { IfErr result (IsWhyNoParts (map (λ payload. payload.now) payloads.now)) }

@@ -1,4 +1,4 @@
-//! How a generation is read.
+//! Reading a generation.
 
 ghost use Rattle.std.specs.Prelude.{◌≡◌, ℕ, List, [], ◌∷◌, length, map, IfErr, IfOk, OnOk};
 ghost use Rattle.rld_books.specs.Saved.{IsServerOf};
@@ -23,11 +23,11 @@ use std::alloc::Global;
 /// What a generation has.
 #[derive(Drop)]
 pub(crate) struct Reading {
-    /// Its header.
+    /// The header.
     pub(crate) header: Header,
     /// The books after its moves.
     pub(crate) books: ServerBooks,
-    /// How many moves it has.
+    /// The number of its moves.
     pub(crate) moves: usize,
 }
 
@@ -84,7 +84,7 @@ fn replay_each(
     Ok(count)
 }
 
-/// Reads the payloads of a generation. That it has no whole snapshot comes before any other fault.
+/// Reads the payloads of a generation. `Unbegun` comes before any other fault.
 pub(crate) fn read_generation(
     alloc: Global,
     config: &Config,

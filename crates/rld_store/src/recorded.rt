@@ -2,10 +2,10 @@ use crate::basis::Basis;
 use rsl_event::Decision;
 use std::marker::Model;
 
-/// The decisions on a batch that is recorded, in the order of its moves. `Store::commit` alone makes
-/// one, so what is answered from it is on the disk.
+/// The decisions on a recorded batch, in the order of its moves. Only `Store::commit` makes one, so
+/// what is answered from it is on the disk.
 ///
-/// A contract sees the batch and the books that there were before it too. The decisions are theirs.
+/// A contract also sees the batch and the books before it, from which the decisions follow.
 #[derive(Drop)]
 pub struct Recorded {
     basis: Basis,
@@ -35,7 +35,7 @@ impl Recorded {
     ghost use Rattle.rld_books.specs.Server.{AreTakenIn, decisions_of};
     ghost use Rattle.rld_store.specs.Recorded.{AreDecided};
 
-    /// The decisions on a batch that was recorded.
+    /// The decisions on a recorded batch.
     pub(crate) fn new(basis: Basis, decisions: Vec<Decision>) -> Recorded
         requires taken { AreTakenIn basis.before basis.batch }
         requires decided { decisions.items ≡ decisions_of basis.before basis.batch }

@@ -3,11 +3,11 @@ use crate::recorded::Recorded;
 use rsl_shard::Move;
 use std::alloc::Global;
 
-/// What records a batch of moves, and decides on them.
+/// Records batches of moves, and decides on them.
 ///
-/// What it gives of a batch is a `Recorded` of this very batch. A contract sees the books and the
-/// histories that it stands for too, as long as `tells` is true. A store that is owned tells them; one
-/// that others use too, in a lock, does not.
+/// The `Recorded` of a batch is that of this very batch. A contract also sees the books and the
+/// histories that the recorder stands for, as long as `tells` is true. A store that is owned tells
+/// them; one in a lock, which others share, does not.
 pub trait Recorder {
     ghost use Rattle.std.specs.Prelude.{◌≡◌, Bool, true, false, List, [], ◌++◌, length, IfOk, OnOk, OnErr};
     ghost use Rattle.rld_books.specs.Server.{decisions_of, replay};
@@ -22,12 +22,12 @@ pub trait Recorder {
     /// The books after all that was recorded.
     ghost books: { Self → List BooksSeen } = { λ _. [] };
 
-    /// Whether these are the moves of this configuration that it has recorded, in their order, in an
+    /// Whether these are the moves that it has recorded with this configuration, in order, in an
     /// era that opened with these books.
     ghost stands: { Self → Configuration → List BooksSeen → List OneMove → Type 0 } = { λ _ _ _ _. Unit {0} };
 
     /// Records a batch whole, and decides on each of its moves by the books at that point of the
-    /// batch. Where it fails nothing may be answered, and the books are as they were.
+    /// batch. After a fault nothing may be answered, and the books are as they were.
     fn record(&mut self, alloc: Global, batch: Vec<Move>) -> Result<Recorded, RecordFault>
         ensures count { IfOk result (λ recorded. length recorded.decisions ≡ length batch.items) }
         ensures batch { IfOk result (λ recorded. recorded.batch ≡ batch.items) }

@@ -34,16 +34,16 @@ use rsl_wire::NoMemory;
 use std::alloc::Global;
 use std::mem;
 
-/// What stands after the whole frames of a log.
+/// What follows the whole frames of a log.
 #[derive(Clone, Copy)]
 pub enum End {
     /// Nothing: what a read gives is on the disk.
     Settled,
-    /// Perhaps what an append that failed has left.
+    /// Perhaps what a failed append has left.
     Unsettled,
 }
 
-/// The books of a server and the log that has their moves.
+/// The books of a server, and the log of their moves.
 #[derive(Drop)]
 pub struct Store<L: Log> {
     pub(crate) log: L,
@@ -53,24 +53,24 @@ pub struct Store<L: Log> {
     pub(crate) end: End,
 }
 
-/// A store whose log was opened, and what was found there.
+/// A store whose log was opened, and what was found in it.
 #[derive(Drop)]
 pub struct Opened<L: Log> {
     /// The store.
     pub store: Store<L>,
     /// The header of the generation.
     pub header: Header,
-    /// How many moves the generation had.
+    /// The number of moves of the generation.
     pub moves: usize,
-    /// How many octets of a torn end were cut off.
+    /// Octets of the torn end that was cut off.
     pub torn: usize,
 }
 
 impl<L: Log> Store<L> {
-    // ---- how a store comes to be
+    // ---- making a store
 
-    /// Begins the first generation of a configuration, in an empty log: writes its header and a
-    /// snapshot of new books, and syncs each. A log that has anything is refused as `Occupied`.
+    /// Begins the first generation of a configuration in an empty log: writes its header and a
+    /// snapshot of new books, and syncs each. A log that is not empty is refused as `Occupied`.
     pub fn begin(
         alloc: Global,
         config: &Config,
@@ -86,7 +86,7 @@ impl<L: Log> Store<L> {
             StandsFor config.now (new_server config.now) store.counts L.tears store.end
             (L.seen store.log) (L.may_leave store.log) store.whole store.books [] []) }
 
-        // Where it fails, a crash leaves no generation, or one that stands for no moves.
+        // After a fault a crash leaves no generation, or one that stands for no moves.
         ensures crash { IfErr result (λ refused. IsTrue (L.tells refused.log) →
             Only (L.seen log) (L.may_leave log) → L.seen log ≡ [] →
             (ending : OneEnding) → Premise L.tears ending →
@@ -102,12 +102,12 @@ impl<L: Log> Store<L> {
         }
     }
 
-    /// Begins the first generation of an era that opens with these books, in an empty log: writes its
-    /// header and a snapshot of them, and syncs each. A log that has anything is refused as
+    /// Begins the first generation of an era that opens with these books, in an empty log: writes
+    /// its header and a snapshot of them, and syncs each. A log that is not empty is refused as
     /// `Occupied`.
     ///
-    /// The books are to be of the configuration, as `ServerBooks::restore` and `ServerBooks::cut` give
-    /// them: else a later `open` refuses the log as `Misfit`.
+    /// The books have to be of the configuration, as `ServerBooks::restore` and `ServerBooks::cut`
+    /// give them: else a later `open` refuses the log as `Misfit`.
     pub fn begin_with(
         alloc: Global,
         config: &Config,
@@ -125,7 +125,7 @@ impl<L: Log> Store<L> {
             StandsFor config.now books store.counts L.tears store.end (L.seen store.log) (L.may_leave store.log)
             store.whole store.books [] []) }
 
-        // Where it fails, a crash leaves no generation, or one that stands for no moves after them.
+        // After a fault a crash leaves no generation, or one that stands for no moves after them.
         ensures crash { IfErr result (λ refused. IsTrue (L.tells refused.log) →
             Only (L.seen log) (L.may_leave log) → L.seen log ≡ [] → IsServerOf config.now books →
             (ending : OneEnding) → Premise L.tears ending →
@@ -146,11 +146,11 @@ impl<L: Log> Store<L> {
         }
     }
 
-    /// Opens a log that a crash may have left, by the frames that were read of it: the books are those
-    /// of its snapshot after the moves that it has. Its torn end is cut off and the log is synced.
+    /// Opens a log that a crash may have left, by the frames read from it: the books are those of
+    /// its snapshot after its moves. Its torn end is cut off and the log is synced.
     ///
-    /// A log that has no whole snapshot, is of another version, or whose snapshot or moves do not fit
-    /// the configuration, is refused by name and left as it was.
+    /// A log that has no whole snapshot, is of another version, or whose snapshot or moves do not
+    /// fit the configuration, is refused by name and stays as it was.
     pub fn open(
         alloc: Global,
         config: &Config,
@@ -162,7 +162,7 @@ impl<L: Log> Store<L> {
         ensures server { IfOk result (λ opened. IsServerOf config.now opened.store.books) }
         ensures refused { IfErr result (λ refused. IsTrue (L.tells refused.log) → IsTrue (L.tells log)) }
 
-        // The store stands for the history that the log has.
+        // The store stands for the history of the log.
         ensures stands { IfOk result (λ opened. IsTrue (L.tells opened.store.log) →
             (opening : List BooksSeen) (history : List OneMove) →
             HasHistory config.now opening history (L.seen log) →
@@ -170,7 +170,7 @@ impl<L: Log> Store<L> {
             (L.seen opened.store.log) (L.may_leave opened.store.log)
             opened.store.whole opened.store.books history []) }
 
-        // What was found: the generation's own header and moves, and how long the torn end was.
+        // What was found: the generation's own header and moves, and the length of the torn end.
         ensures found { IfOk result (λ opened. IsTrue (L.tells opened.store.log) →
             (opening : List BooksSeen) (history : List OneMove) →
             (has : HasHistory config.now opening history (L.seen log)) →
@@ -178,7 +178,7 @@ impl<L: Log> Store<L> {
         ensures torn { IfOk result (λ opened. IsTrue (L.tells opened.store.log) →
             length (L.seen log) ≡ opened.store.whole + opened.torn) }
 
-        // Where it fails, a crash leaves the same history; and it says why.
+        // After a fault a crash leaves the same history; and the fault is the reason.
         ensures crash { IfErr result (λ refused. IsTrue (L.tells refused.log) →
             Only (L.seen log) (L.may_leave log) →
             (opening : List BooksSeen) (history : List OneMove) →
@@ -223,10 +223,10 @@ impl<L: Log> Store<L> {
         }
     }
 
-    // ---- how a batch is recorded
+    // ---- recording a batch
 
-    /// Cuts off what a failed append may have left. Where it fails it may be tried again, but not
-    /// after a sync that failed.
+    /// Cuts off what a failed append may have left. After a fault it may be tried again, unless a
+    /// sync failed.
     fn settle(&mut self) -> Result<(), StoreFault>
         ensures told { IsTrue (L.tells self.new.log) → IsTrue (L.tells self.old.log) }
         ensures books { self.new.books ≡ self.old.books }
@@ -301,18 +301,18 @@ impl<L: Log> Store<L> {
         Ok((payload, whole))
     }
 
-    /// Records a batch of moves, and then makes them. All memory is taken first; the batch is one
-    /// frame, which is synced before a move is made.
+    /// Records a batch of moves, and then makes them. All memory is allocated first; the batch is
+    /// one frame, which is synced before a move is made.
     ///
-    /// A batch with a move of no account, or that cannot be written, is `Unfit`. Where it fails the
-    /// books are as they were, and nothing may be answered: what a crash leaves has the batch whole
-    /// or not at all. What a failed append left is cut off by the next call. After a sync that
-    /// failed, which is `LogFault::Unsynced`, the store is to be given up.
+    /// A batch with a move of no account, or that cannot be written, is `Unfit`. After a fault the
+    /// books are as they were, and nothing may be answered: a crash leaves the batch whole or not
+    /// at all. The next call cuts off what a failed append left. After a failed sync,
+    /// `LogFault::Unsynced`, give the store up.
     pub fn commit(&mut self, alloc: Global, batch: Vec<Move>) -> Result<Recorded, StoreFault>
         ensures told { IsTrue (L.tells self.new.log) → IsTrue (L.tells self.old.log) }
         ensures counts { self.new.counts ≡ self.old.counts }
 
-        // The decisions are those of the books at that point, and the books make the moves.
+        // The decisions are those of the books at that point, and the books have made the moves.
         ensures batch { IfOk result (λ recorded. recorded.batch ≡ batch.items) }
         ensures before { IfOk result (λ recorded. recorded.before ≡ self.old.books) }
         ensures decided { IfOk result AreDecided }
@@ -333,8 +333,8 @@ impl<L: Log> Store<L> {
             self.new.whole self.new.books (history ++ batch.items) batch.items) }
         ensures settled { OnOk result (self.new.end ≡ settled) }
 
-        // Where it fails the log has the history, and at its end perhaps a batch that was not
-        // answered: this one, or one from before it.
+        // After a fault the log has the history, and at its end perhaps an unanswered batch: this
+        // one, or an earlier one.
         ensures left { IsTrue (L.tells self.new.log) →
             (config : Configuration) (opening : List BooksSeen) (history unanswered : List OneMove) →
             StandsFor config opening self.old.counts L.tears self.old.end (L.seen self.old.log) (L.may_leave self.old.log)
@@ -352,13 +352,13 @@ impl<L: Log> Store<L> {
         Ok(Recorded::new(basis, self.books.make_all(batch, decisions)))
     }
 
-    // ---- how a generation follows another
+    // ---- the next generation
 
-    /// Begins the next generation with the books as they are, in an empty log, and goes on with it;
-    /// the log of the old one is handed out. Where it fails the store is as it was, and the next log
-    /// is handed back.
+    /// Begins the next generation with the present books, in an empty log, and goes on with it; the
+    /// old log is handed out. After a fault the store is as it was, and the next log is handed
+    /// back.
     ///
-    /// After a crash the newer log counts where its snapshot is whole, and else the older.
+    /// After a crash the newer log counts if its snapshot is whole, and else the older one.
     pub fn roll(&mut self, alloc: Global, header: Header, next: L) -> Result<L, Refused<L>>
         ensures told { IsTrue (L.tells self.new.log) → OnOk result (IsTrue (L.tells next)) }
         ensures refused { IfErr result (λ refused. IsTrue (L.tells refused.log) → IsTrue (L.tells next)) }
@@ -375,7 +375,7 @@ impl<L: Log> Store<L> {
             (StandsFor config opening self.new.counts L.tears self.new.end (L.seen self.new.log) (L.may_leave self.new.log)
             self.new.whole self.new.books history []) }
 
-        // And at a crash at any call the two logs do.
+        // After a crash at any call the two logs together stand for it.
         ensures crash { IfErr result (λ refused. IsTrue (L.tells refused.log) → IsTrue (L.tells self.new.log) →
             Only (L.seen next) (L.may_leave next) → L.seen next ≡ [] →
             (config : Configuration) (opening : List BooksSeen) (history unanswered : List OneMove) →
@@ -396,17 +396,17 @@ impl<L: Log> Store<L> {
         }
     }
 
-    // ---- what is asked of a store
+    // ---- look-ups
 
-    /// What each account holds, shard after shard. It fails only where memory is refused.
+    /// What each account holds, shard after shard. It fails only if memory is refused.
     pub fn rows(&self, alloc: Global) -> Result<Vec<Row>, NoMemory>
         ensures { IfOk result (λ rows. rows.items ≡ rows_in self.now.books) }
     {
         self.books.rows(alloc)
     }
 
-    /// The links of an account, in the order in which they opened; none where there is no such
-    /// account. It fails only where memory is refused.
+    /// The links of an account, in the order in which they opened; `None` if there is no such
+    /// account. It fails only if memory is refused.
     pub fn links(&self, alloc: Global, account: u32) -> Result<Option<Vec<SavedLink>>, NoMemory>
         ensures { IfOk result (λ links.
             option_map (λ some. saved_links some.items) links ≡ links_in self.now.books account) }
@@ -421,7 +421,7 @@ impl<L: Log> Store<L> {
         &self.books
     }
 
-    /// The log, to look at.
+    /// The log, borrowed.
     pub fn log(&self) -> &L
         ensures { result.now ≡ self.now.log }
     {

@@ -1,5 +1,5 @@
--- What each account holds: `NAME places=N held=N reserved=N live=N stale=N over=N`, a line an account; or an object of
--- JSON with the same members, a line an account.
+-- What each account holds: `NAME places=N held=N reserved=N live=N stale=N over=N`, a line an
+-- account; or a JSON object with the same members, a line an account.
 use Rattle.std.specs.Prelude.{ℕ, List, [], ◌∷◌, ◌++◌, codes, Bool, true, nat_le, nat_lt, if◌then◌else◌}
 use Rattle.std.specs.List.{flat_map}
 use Rattle.rld_control.specs.declared.form.Form.{Form}
@@ -36,7 +36,7 @@ row_members row =
 abbrev pub account_object : AccountLook → List ℕ
 account_object account = codes "{\"name\":" ++ json_string account.name ++ row_members account.row ++ codes "}\n"
 
--- ---- those that are shown
+-- ---- the accounts that are shown
 
 abbrev pub is_selected : Selection → AccountLook → Bool
 is_selected All account = true
@@ -51,6 +51,6 @@ abbrev pub text_if_selected : Form → Selection → AccountLook → List ℕ
 text_if_selected form selection account =
     if is_selected selection account then account_text form account else []
 
--- in file order, and that it is all
+-- the accounts in file order, and the line `ok`
 abbrev pub accounts_text : Form → Selection → List AccountLook → List ℕ
 accounts_text form selection accounts = flat_map (text_if_selected form selection) accounts ++ codes "ok\n"

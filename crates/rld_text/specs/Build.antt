@@ -1,17 +1,17 @@
--- What a server says of the build that runs.
+-- The build of a running server.
 use Rattle.std.specs.Prelude.{ℕ, List, ◌++◌, codes}
 use Rattle.rld_look.specs.declared.build.Build.{Build}
 use Rattle.rld_look.specs.declared.build.Proof.{Proof}
 use Rattle.rld_look.specs.declared.build.Proof.TheVariants.{Commit, Uncommitted, Unproved}
 use Rattle.rld_values.specs.Values.{hex}
 
--- for people
+-- the proof for people
 abbrev pub proof_text : Proof → List ℕ
 proof_text (Commit name) = codes "proved at " ++ hex name
 proof_text Uncommitted = codes "proved, from sources that are in no commit"
 proof_text Unproved = codes "not proved"
 
--- for scripts: the name of the commit, or a word that is none
+-- the proof for scripts: the name of the commit, or another word
 abbrev pub proof_word : Proof → List ℕ
 proof_word (Commit name) = hex name
 proof_word Uncommitted = codes "uncommitted"

@@ -1,11 +1,13 @@
--- Values in JSON (RFC 8259). Each character of a string is one octet, since names and ids may be any octets.
+-- Values in JSON (RFC 8259). Each character of a string is one octet, since names and ids may be
+-- any octets.
 use Rattle.std.specs.Prelude.{ℕ, ◌==◌, List, [], ◌∷◌, ◌++◌, codes, if◌then◌else◌}
 use Rattle.std.specs.Fmt.{decimal}
 use Rattle.std.specs.List.{flat_map}
 use Rattle.rld_values.specs.Values.{hex, is_between}
 
--- an octet of a string (section 7): a quote and a backslash have a backslash before them, another character of ASCII
--- that is printed stands for itself, and what is none is `\u00` and two hexadecimal digits
+-- an octet of a string (section 7): a quote and a backslash have a backslash before them, any other
+-- printable ASCII character stands for itself, and any other octet is `\u00` and two hexadecimal
+-- digits
 abbrev pub json_octet : ℕ → List ℕ
 json_octet octet =
     if octet == 34 then codes "\\\""
@@ -16,7 +18,7 @@ json_octet octet =
 unfoldable pub json_string : List ℕ → List ℕ
 json_string octets = codes "\"" ++ (flat_map json_octet octets ++ codes "\"")
 
--- how a member behind another one begins
+-- the start of a member after another one
 unfoldable pub member_front : (name : List ℕ) → List ℕ
 member_front name = codes ",\"" ++ (name ++ codes "\":")
 

@@ -31,14 +31,14 @@ clients_head =
     head_of (codes "radlimitd_client_datagrams_total") (codes "counter")
     (codes "Datagrams taken of a client, by their port and by how they ended.")
 
--- how a line begins: of all datagrams, and of those of a client
+-- the start of a line: of all datagrams, and of those of a client
 abbrev pub all_front : List ℕ
 all_front = codes "radlimitd_datagrams_total{"
 
 unfoldable pub client_front : (address : List ℕ) → List ℕ
 client_front address = codes "radlimitd_client_datagrams_total{client=\"" ++ (dotted address ++ codes "\",")
 
--- `number` datagrams of the port `port` ended as `end` says
+-- `number` datagrams of the port `port` ended as `end`
 unfoldable pub datagrams_line : (front port end : List ℕ) → (number : ℕ) → List ℕ
 datagrams_line front port end number =
     front ++ (label (codes "port") port
@@ -73,7 +73,7 @@ bucket_line port bound number =
     codes "radlimitd_answer_seconds_bucket{" ++ (label (codes "port") port
     ++ (codes ",le=\"" ++ (bound ++ (codes "\"} " ++ (decimal number ++ codes "\n")))))
 
--- the answers of a port in all: the sum of what they took, and their number
+-- the answers of a port in total: the sum of their times, and their number
 unfoldable pub times_end : (port : List ℕ) → (micros number : ℕ) → List ℕ
 times_end port micros number =
     codes "radlimitd_answer_seconds_sum{" ++ (label (codes "port") port
@@ -81,7 +81,7 @@ times_end port micros number =
     ++ (codes "\nradlimitd_answer_seconds_count{" ++ (label (codes "port") port
     ++ (codes "} " ++ (decimal number ++ codes "\n")))))))
 
--- how many times are in a bucket or in one before it
+-- the number of times in a bucket or in one before it
 abbrev pub up_to : Times → (bucket : ℕ) → ℕ
 up_to times bucket = kept (sum (take (bucket + 1) times.buckets))
 
@@ -103,7 +103,7 @@ times_text look =
 
 -- ---- numbers of the whole server
 
--- a number by itself: a gauge may go up and down, a counter goes up
+-- a metric of one number: a gauge may go up and down, a counter goes up
 unfoldable pub sample : (kind name help : List ℕ) → (number : ℕ) → List ℕ
 sample kind name help number =
     head_of name kind help ++ (name ++ (codes " " ++ (decimal number ++ codes "\n")))
@@ -111,7 +111,7 @@ sample kind name help number =
 abbrev pub gauge : (name help : List ℕ) → (number : ℕ) → List ℕ
 gauge = sample (codes "gauge")
 
--- what all accounts hold, and how many have no free place
+-- what all accounts hold, and the number of those with no free place
 unfoldable pub holdings : Totals → List ℕ
 holdings totals =
     gauge (codes "radlimitd_places") (codes "Places of all accounts.") totals.places
@@ -119,12 +119,12 @@ holdings totals =
     ++ (gauge (codes "radlimitd_accounts") (codes "Accounts that there are.") totals.accounts
     ++ gauge (codes "radlimitd_accounts_full") (codes "Accounts that have no free place.") totals.full))
 
--- 1 where batches are being recorded, else 0
+-- 1 if batches are being recorded, else 0
 abbrev pub recording_of : Recording → ℕ
 recording_of Recorded = 1
 recording_of Failing = 0
 
--- what the server writes, and since when
+-- the era and the generation, the second of the start, and whether batches are recorded
 unfoldable pub writing : (era generation start recording : ℕ) → List ℕ
 writing era generation start recording =
     gauge (codes "radlimitd_era") (codes "Number of the era.") era
@@ -142,7 +142,7 @@ abbrev pub dropped_after : ℕ → List SocketLook → ℕ
 dropped_after number [] = number
 dropped_after number (socket ∷ sockets) = dropped_after (plus number socket.dropped) sockets
 
--- what waits at the sockets, and what was dropped there
+-- the octets that wait at the sockets, and the datagrams dropped there
 unfoldable pub at_sockets : (waiting dropped : ℕ) → List ℕ
 at_sockets waiting dropped =
     gauge (codes "radlimitd_sockets_waiting_octets") (codes "Octets that wait in the room of the UDP sockets.") waiting
@@ -155,7 +155,7 @@ numbers_text look =
     ++ (writing look.era look.generation look.start (recording_of look.recording)
     ++ at_sockets (waiting_after 0 look.sockets.items) (dropped_after 0 look.sockets.items))
 
--- ---- which program it is
+-- ---- the build of the program
 
 unfoldable pub build_head : List ℕ
 build_head =
@@ -170,6 +170,6 @@ build_sample build =
 unfoldable pub build_text : Build → List ℕ
 build_text build = build_head ++ build_sample build
 
--- all of them
+-- all metrics
 unfoldable pub metrics_text : Look → List ℕ
 metrics_text look = build_text look.build ++ (ends_text look ++ (times_text look ++ numbers_text look))

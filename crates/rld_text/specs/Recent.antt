@@ -1,5 +1,5 @@
--- What is for people alone in a status: since when the server runs, and what has happened lately, in lines of at most 80
--- columns, but for long names.
+-- The part of a status that is for people alone: the start of the server, and what has happened
+-- recently, in lines of at most 80 columns, except for long names.
 use Rattle.std.specs.Prelude.{ℕ, ◌-◌, ◌/◌, ◌%◌, ◌==◌, nat_lt, Bool, ◌&&◌, List, [], ◌∷◌, ◌++◌, codes, drop, length, take, Option, Some, None, if◌then◌else◌}
 use Rattle.std.specs.Fmt.{decimal}
 use Rattle.rld_counts.specs.Counts.{count_in}
@@ -20,7 +20,7 @@ start_line dates start now =
     codes "started " ++ (date_or_number (http_date dates start) start
     ++ (codes " UTC, " ++ (age (now - start) ++ codes " ago\n")))
 
--- ---- the last whole minute, a second
+-- ---- the rates of the last whole minute, by the second
 
 unfoldable pub rate : (count : ℕ) → List ℕ
 rate count = decimal (count / 60) ++ (codes "." ++ decimal (count % 60 / 6))
@@ -36,9 +36,9 @@ abbrev pub minute_if_any : Option Minute → List ℕ
 minute_if_any None = []
 minute_if_any (Some minute) = minute_line minute
 
--- ---- how the datagrams ended that did
+-- ---- the ends that occurred
 
--- how many columns a word and how often it came take
+-- the columns of a word and its count
 abbrev pub len_of : End → (count : ℕ) → ℕ
 len_of end count = plus (plus (length (name_of end)) (length (decimal count))) 3
 
@@ -52,7 +52,7 @@ break_before last = if nat_lt 80 last then codes "\n    " else []
 abbrev pub column_after : (column len : ℕ) → ℕ
 column_after column len = if nat_lt 80 (plus column len) then plus 4 len else plus column len
 
--- what stands there of an end, and the column after it: nothing of one in which no datagram ended
+-- the text of an end, and the column after it: nothing for an end that did not occur
 abbrev pub count_at : (column : ℕ) → End → (count : ℕ) → List ℕ
 count_at column end count =
     if count == 0 then [] else break_before (plus column (len_of end count)) ++ count_words end count
@@ -79,7 +79,7 @@ full_line account =
     codes "full: " ++ (decimal account.row.held
     ++ (codes "/" ++ (decimal account.row.places ++ (codes " " ++ (word account.name ++ codes "\n")))))
 
--- the first ones that hold a place and have one, `most` at most
+-- the first accounts that have a place and hold one, `most` at most
 abbrev pub full_lines : (most : ℕ) → List AccountLook → List ℕ
 full_lines most [] = []
 full_lines most (account ∷ accounts) =

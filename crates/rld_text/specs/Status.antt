@@ -1,5 +1,6 @@
--- What a running server says of itself: who it is and whether it records, numbers, a line each, what has happened
--- lately, and that it is all; or all of that but the times for people as one object of JSON.
+-- The status of a running server: who it is and whether it records, numbers, a line each, what has
+-- happened recently, and the line `ok`; or all of that except the times for people as one JSON
+-- object.
 use Rattle.std.specs.Prelude.{◌≡◌, ℕ, List, ◌++◌, codes}
 use Rattle.std.specs.Fmt.{decimal}
 use Rattle.std.specs.List.{flat_map}
@@ -32,8 +33,8 @@ totals_lines totals =
     ++ number_line (codes "stale") totals.stale
     ++ number_line (codes "over") totals.over
 
--- since when, the era, the generation, what all accounts hold, the moves of the generation, and the octets
--- that the books take
+-- the start, the era, the generation, what all accounts hold, the moves of the generation, and the
+-- memory of the books
 abbrev pub number_lines : Look → List ℕ
 number_lines look =
     number_line (codes "since") look.start
@@ -43,23 +44,24 @@ number_lines look =
     ++ number_line (codes "moves") look.moves
     ++ number_line (codes "memory") look.memory
 
--- who it is, since when, whether it records, the numbers, what has happened lately, and that it is all
+-- the build, the start, whether it records, the numbers, what has happened recently, and the line
+-- `ok`
 unfoldable pub status_of : (dates : ℕ → List ℕ) → Look → List ℕ
 status_of dates look =
     build_line look.build ++ (start_line dates look.start look.now
     ++ (recording_line look.recording ++ (number_lines look ++ (recent_lines look ++ codes "ok\n"))))
 
--- `dates` are those of all seconds
+-- the status, with the dates of all seconds
 abbrev pub IsStatus : Look → (text : List ℕ) → Type 0
 IsStatus look text = (dates : ℕ → List ℕ) → AreDates dates → text ≡ status_of dates look
 
--- ---- as an object
+-- ---- the status as an object
 
 abbrev pub recording_word : Recording → List ℕ
 recording_word Recorded = codes "true"
 recording_word Failing = codes "false"
 
--- who it is, since when and at which second, and whether it records
+-- the build, the start and the second of the look, and whether it records
 unfoldable pub who_members : Build → (start now : ℕ) → Recording → List ℕ
 who_members build start now recording =
     codes "{\"version\":" ++ (json_string build.version.now
@@ -77,7 +79,7 @@ totals_members totals =
     ++ (number_member (codes "live") totals.live
     ++ (number_member (codes "stale") totals.stale ++ number_member (codes "over") totals.over)))))
 
--- the numbers of the lines, and how many accounts have no free place
+-- the numbers of the lines, and the number of accounts with no free place
 unfoldable pub numbers_members : Look → List ℕ
 numbers_members look =
     number_member (codes "era") look.era
@@ -86,14 +88,14 @@ numbers_members look =
     ++ (number_member (codes "full") look.totals.full
     ++ (number_member (codes "moves") look.moves ++ number_member (codes "memory") look.memory))))
 
--- how many datagrams of a port ended so
+-- the number of datagrams of a port that ended in this way
 unfoldable pub end_member : (port end : List ℕ) → (number : ℕ) → List ℕ
 end_member port end number = codes ",\"" ++ (port ++ (codes "_" ++ (end ++ (codes "\":" ++ decimal number))))
 
 abbrev pub ends_members : (counts : List ℕ) → List End → List ℕ
 ends_members counts ends = flat_map (λ end. end_member (port_of end) (name_of end) (count_in counts end)) ends
 
--- what waits at the sockets, and what was dropped there
+-- the octets that wait at the sockets, and the datagrams dropped there
 unfoldable pub socket_members : (waiting dropped : ℕ) → List ℕ
 socket_members waiting dropped =
     number_member (codes "sockets_waiting_octets") waiting ++ number_member (codes "sockets_dropped") dropped

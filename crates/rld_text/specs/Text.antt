@@ -3,8 +3,8 @@ use Rattle.std.specs.Prelude.{ℕ, ◌+◌, ◌/◌, ◌%◌, ◌==◌, List, []
 use Rattle.std.specs.Fmt.{decimal}
 use Rattle.std.specs.List.{flat_map}
 
--- an octet of a label's value: a backslash, a quote and a line feed have a backslash before them, and
--- the line feed is an `n`
+-- an octet of a label's value: a backslash, a quote and a line feed have a backslash before them,
+-- and the line feed is an `n`
 abbrev pub escaped_octet : ℕ → List ℕ
 escaped_octet octet =
     if octet == 92 then 92 ∷ 92 ∷ []
@@ -16,7 +16,7 @@ escaped_octet octet =
 unfoldable pub label : (name value : List ℕ) → List ℕ
 label name value = name ++ (codes "=\"" ++ (flat_map escaped_octet value ++ codes "\""))
 
--- what stands before the samples of a metric: what it is for, and its type
+-- the head of a metric, before its samples: its help text, and its type
 unfoldable pub head_of : (name kind help : List ℕ) → List ℕ
 head_of name kind help =
     codes "# HELP " ++ (name ++ (codes " " ++ (help

@@ -12,15 +12,15 @@ abbrev pub octets_word_if : (key : List ℕ) → Option (List ℕ) → List ℕ
 octets_word_if key None = []
 octets_word_if key (Some octets) = 32 ∷ (key ++ (61 ∷ escaped octets))
 
--- as many spaces as a text is short of a width of at most 12
+-- the spaces that pad a text to a width of at most 12
 abbrev pub spaces_to : (width : ℕ) → (text : List ℕ) → List ℕ
 spaces_to width text = take (width - length text) (codes "            ")
 
--- a word left in 10 characters
+-- a word, left-aligned in 10 characters
 abbrev pub left : (word : List ℕ) → List ℕ
 left word = word ++ spaces_to 10 word
 
--- a number right in 11 characters
+-- a number, right-aligned in 11 characters
 abbrev pub right : (digits : List ℕ) → List ℕ
 right digits = spaces_to 11 digits ++ digits
 

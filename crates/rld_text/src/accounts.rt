@@ -9,8 +9,8 @@ use rld_values::{push_text, push_word};
 use rsl_shard::Row;
 use std::alloc::{AllocError, Global};
 
-/// What each account of a selection holds, a line each, and the line `ok`, which says that it is all.
-/// It fails only where memory is refused.
+/// What each account of a selection holds, a line each, and at the end the line `ok`. It fails only
+/// if memory is refused.
 pub fn accounts_text(
     alloc: Global,
     form: Form,
@@ -87,7 +87,7 @@ fn push_row(out: &mut Vec<u8>, row: &Row) -> Result<(), AllocError>
     push_number_word(out, "over", row.over)
 }
 
-/// Writes the object of an account.
+/// Writes the JSON object of an account.
 fn push_object(out: &mut Vec<u8>, account: &AccountLook) -> Result<(), AllocError>
     ensures { OnOk result (out.new.items ≡ out.old.items ++ account_object account.now) }
 {

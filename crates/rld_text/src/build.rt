@@ -32,7 +32,7 @@ fn push_proof_text(out: &mut Vec<u8>, proof: &Proof) -> Result<(), AllocError>
     }
 }
 
-/// Writes the same for scripts: the name of the commit, or a word that is none.
+/// Writes whether a build is proved, for scripts: the name of the commit, or another word.
 pub(crate) fn push_proof_word(out: &mut Vec<u8>, proof: &Proof) -> Result<(), AllocError>
     ensures { OnOk result (out.new.items ≡ out.old.items ++ proof_word proof.now) }
 {
@@ -43,7 +43,7 @@ pub(crate) fn push_proof_word(out: &mut Vec<u8>, proof: &Proof) -> Result<(), Al
     }
 }
 
-/// Writes the metric that says which program it is.
+/// Writes the metric of the program's build.
 #[tactic(auto, unfolding(crate::specs::Metrics::build_text))]
 pub(crate) fn push_build_text(out: &mut Vec<u8>, build: &Build) -> Result<(), AllocError>
     ensures { OnOk result (out.new.items ≡ out.old.items ++ build_text build.now) }
@@ -52,7 +52,7 @@ pub(crate) fn push_build_text(out: &mut Vec<u8>, build: &Build) -> Result<(), Al
     push_build_sample(out, build)
 }
 
-/// Writes what stands before its sample.
+/// Writes the head of the metric.
 #[tactic(auto, unfolding(crate::specs::Metrics::build_head))]
 fn push_build_head(out: &mut Vec<u8>) -> Result<(), AllocError>
     ensures { OnOk result (out.new.items ≡ out.old.items ++ build_head) }
@@ -67,7 +67,7 @@ fn push_build_head(out: &mut Vec<u8>) -> Result<(), AllocError>
     )
 }
 
-/// Writes its sample.
+/// Writes the sample of the metric.
 #[tactic(auto, unfolding(crate::specs::Metrics::build_sample))]
 fn push_build_sample(out: &mut Vec<u8>, build: &Build) -> Result<(), AllocError>
     ensures { OnOk result (out.new.items ≡ out.old.items ++ build_sample build.now) }

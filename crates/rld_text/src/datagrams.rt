@@ -23,7 +23,7 @@ pub(crate) fn push_ends_text(
     push_clients(alloc, out, look.clients.as_slice())
 }
 
-/// Writes what stands before the counts of all datagrams.
+/// Writes the head of the counts of all datagrams.
 #[tactic(auto, unfolding(crate::specs::Metrics::datagrams_head))]
 fn push_datagrams_head(out: &mut Vec<u8>) -> Result<(), AllocError>
     ensures { OnOk result (out.new.items ≡ out.old.items ++ datagrams_head) }
@@ -38,7 +38,7 @@ fn push_datagrams_head(out: &mut Vec<u8>) -> Result<(), AllocError>
     )
 }
 
-/// Writes what stands before the counts of clients.
+/// Writes the head of the counts of clients.
 #[tactic(auto, unfolding(crate::specs::Metrics::clients_head))]
 fn push_clients_head(out: &mut Vec<u8>) -> Result<(), AllocError>
     ensures { OnOk result (out.new.items ≡ out.old.items ++ clients_head) }
@@ -53,7 +53,7 @@ fn push_clients_head(out: &mut Vec<u8>) -> Result<(), AllocError>
     )
 }
 
-/// Writes how the datagrams of all clients ended, and those of none.
+/// Writes how all datagrams ended, those of no client included.
 fn push_all(out: &mut Vec<u8>, counts: &Counts) -> Result<(), AllocError>
     ensures { OnOk result (out.new.items ≡ out.old.items ++ ends_lines all_front counts.now) }
 {
@@ -79,7 +79,7 @@ fn push_client(alloc: Global, out: &mut Vec<u8>, client: &ClientLook) -> Result<
     push_ends(out, front.as_slice(), &client.counts)
 }
 
-/// Writes how the lines of a client begin.
+/// Writes the start of a client's lines.
 #[tactic(auto, unfolding(crate::specs::Metrics::client_front))]
 fn push_client_front(out: &mut Vec<u8>, address: [u8; 4]) -> Result<(), AllocError>
     ensures { OnOk result (out.new.items ≡ out.old.items ++ client_front address) }
@@ -98,7 +98,7 @@ fn push_ends(out: &mut Vec<u8>, front: &[u8], counts: &Counts) -> Result<(), All
     push_lines(out, front, counts, &End::all())
 }
 
-/// Writes how many datagrams ended in each of these ways.
+/// Writes the number of datagrams that ended in each of these ways.
 fn push_lines(
     out: &mut Vec<u8>,
     front: &[u8],
@@ -113,7 +113,7 @@ fn push_lines(
     Ok(())
 }
 
-/// Writes how many datagrams of a port ended so.
+/// Writes the number of datagrams of a port that ended in this way.
 #[tactic(auto, unfolding(crate::specs::Metrics::datagrams_line))]
 fn push_line(
     out: &mut Vec<u8>,

@@ -7,7 +7,7 @@ use rld_look::{Look, Recording, Totals};
 use rld_values::{push_decimal, push_text};
 use std::alloc::AllocError;
 
-/// Writes a number by itself: its name, its kind and what it is for stand in the head.
+/// Writes a metric of one number, with its head.
 #[tactic(auto, unfolding(crate::specs::Metrics::sample))]
 fn push_sample(out: &mut Vec<u8>, head: &Head<'_>, number: u64) -> Result<(), AllocError>
     ensures { OnOk result (out.new.items
@@ -20,7 +20,7 @@ fn push_sample(out: &mut Vec<u8>, head: &Head<'_>, number: u64) -> Result<(), Al
     push_text(out, "\n")
 }
 
-/// Writes a number that may go up and down.
+/// Writes a gauge: a number that may go up and down.
 fn push_gauge(out: &mut Vec<u8>, name: &str, help: &str, number: u64) -> Result<(), AllocError>
     ensures { OnOk result (out.new.items ≡ out.old.items ++ gauge name.now help.now number) }
 {
@@ -28,7 +28,7 @@ fn push_gauge(out: &mut Vec<u8>, name: &str, help: &str, number: u64) -> Result<
     push_sample(out, &Head { name, kind, help }, number)
 }
 
-/// Writes what all accounts hold, and how many of them have no free place.
+/// Writes what all accounts hold, and the number of those with no free place.
 #[tactic(auto, unfolding(crate::specs::Metrics::holdings))]
 fn push_holdings(out: &mut Vec<u8>, totals: &Totals) -> Result<(), AllocError>
     ensures { OnOk result (out.new.items ≡ out.old.items ++ holdings totals.now) }
@@ -60,7 +60,7 @@ fn push_holdings(out: &mut Vec<u8>, totals: &Totals) -> Result<(), AllocError>
     Ok(())
 }
 
-/// 1 where batches are being recorded, else 0.
+/// 1 if batches are being recorded, else 0.
 fn recording_of(recording: Recording) -> u64
     ensures { result ≡ recording_of recording }
 {
@@ -70,7 +70,7 @@ fn recording_of(recording: Recording) -> u64
     }
 }
 
-/// Writes what the server writes, and since when.
+/// Writes the era and the generation, the second of the start, and whether batches are recorded.
 #[tactic(auto, unfolding(crate::specs::Metrics::writing))]
 fn push_writing(
     out: &mut Vec<u8>,
@@ -104,7 +104,7 @@ fn push_writing(
     Ok(())
 }
 
-/// Writes what waits at the sockets, and what the system dropped there.
+/// Writes the octets that wait at the sockets, and the datagrams that the system dropped there.
 #[tactic(auto, unfolding(crate::specs::Metrics::at_sockets))]
 fn push_at_sockets(out: &mut Vec<u8>, waiting: u64, dropped: u64) -> Result<(), AllocError>
     ensures { OnOk result (out.new.items ≡ out.old.items ++ at_sockets waiting dropped) }
@@ -119,7 +119,7 @@ fn push_at_sockets(out: &mut Vec<u8>, waiting: u64, dropped: u64) -> Result<(), 
     Ok(())
 }
 
-/// Writes how many datagrams the system dropped.
+/// Writes the number of datagrams that the system dropped.
 fn push_dropped(out: &mut Vec<u8>, dropped: u64) -> Result<(), AllocError>
     ensures { OnOk result (out.new.items ≡ out.old.items ++ sample (codes "counter")
         (codes "radlimitd_sockets_dropped_total")

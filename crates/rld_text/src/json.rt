@@ -25,7 +25,7 @@ fn push_octet(out: &mut Vec<u8>, octet: u8) -> Result<(), AllocError>
     }
 }
 
-/// Writes what stands between the quotes of a string.
+/// Writes the contents of a string, between its quotes.
 fn push_octets(out: &mut Vec<u8>, octets: &[u8]) -> Result<(), AllocError>
     ensures { OnOk result (out.new.items ≡ out.old.items ++ flat_map json_octet octets.now) }
 {
@@ -52,7 +52,7 @@ pub(crate) fn push_text_string(out: &mut Vec<u8>, text: &str) -> Result<(), Allo
     push_string(out, text.as_bytes())
 }
 
-/// Writes how a member behind another one begins.
+/// Writes the start of a member after another one.
 #[tactic(auto, unfolding(crate::specs::Json::member_front))]
 pub(crate) fn push_member_front(out: &mut Vec<u8>, name: &str) -> Result<(), AllocError>
     ensures { OnOk result (out.new.items ≡ out.old.items ++ member_front name.now) }

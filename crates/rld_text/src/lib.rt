@@ -1,13 +1,13 @@
-//! What a running server shows of itself as text: what it answers at its control, and its metrics as
-//! Prometheus reads them, in its text format, version 0.0.4.
+//! What a running server shows of itself as text: its answers on the control socket, and its
+//! metrics in Prometheus' text format, version 0.0.4.
 //!
-//! The promise: what each account holds, and the links of one, are the lines of `specs/Accounts.antt` and
-//! `specs/Links.antt`, in which no name or id can forge a word or a line; the words that name a link's
-//! session are those by which it is freed. A status has the octets of `specs/Status.antt` and
-//! `specs/Recent.antt`. What is written of metrics has the
-//! octets of `specs/Metrics.antt`, and nothing else: a value of a label may have any text, and the buckets
-//! of a histogram are cumulative. As JSON each has the octets of the same definitions, over the strings and
-//! members of `specs/Json.antt`.
+//! The promise: what each account holds, and the links of one, are the lines of
+//! `specs/Accounts.antt` and `specs/Links.antt`, in which no name or id can forge a word or a line;
+//! the words that name a link's session are those that free it. A status has the octets of
+//! `specs/Status.antt` and `specs/Recent.antt`. The metrics have the octets of
+//! `specs/Metrics.antt`, and nothing else: a value of a label may have any text, and the buckets of
+//! a histogram are cumulative. As JSON each has the octets of the same definitions, over the
+//! strings and members of `specs/Json.antt`.
 #![tactic(auto)]
 
 mod accounts;

@@ -1,4 +1,4 @@
-//! A link as an object of JSON.
+//! A link as a JSON object.
 
 ghost use Rattle.std.specs.Prelude.{◌≡◌, ◌<◌, ◌++◌, length, OnOk};
 ghost use Rattle.rld_text.specs.Links.{bound_member, bundle_member, free_member, holder_members, link_object, nas_address_member, nas_member, server_members};
@@ -12,7 +12,7 @@ use rsl_session::{SavedHolder, SavedLink};
 use rsl_wire::Octets;
 use std::alloc::{AllocError, Global};
 
-/// Writes the object of a link.
+/// Writes the JSON object of a link.
 #[tactic(auto, unfolding(crate::specs::Links::link_object))]
 pub(crate) fn push_link_object(
     alloc: Global,
@@ -37,7 +37,7 @@ pub(crate) fn push_link_object(
     push_text(out, "}\n")
 }
 
-/// Writes whose link it is.
+/// Writes the account and the access server of a link.
 #[tactic(auto, unfolding(crate::specs::Links::server_members))]
 fn push_server_members(
     out: &mut Vec<u8>,
@@ -56,7 +56,7 @@ fn push_server_members(
     Ok(())
 }
 
-/// Writes what an access server calls itself.
+/// Writes the name of an access server.
 fn push_nas(out: &mut Vec<u8>, nas: &NasName) -> Result<(), AllocError>
     ensures { OnOk result (out.new.items ≡ out.old.items ++ nas_member nas.now) }
 {
@@ -67,7 +67,7 @@ fn push_nas(out: &mut Vec<u8>, nas: &NasName) -> Result<(), AllocError>
     }
 }
 
-/// Writes the address by which an access server calls itself.
+/// Writes the NAS-IP-Address of an access server.
 #[tactic(auto, unfolding(crate::specs::Links::nas_address_member))]
 fn push_nas_address(out: &mut Vec<u8>, address: &[u8]) -> Result<(), AllocError>
     ensures { OnOk result (out.new.items ≡ out.old.items ++ nas_address_member address.now) }
@@ -78,7 +78,7 @@ fn push_nas_address(out: &mut Vec<u8>, address: &[u8]) -> Result<(), AllocError>
     Ok(())
 }
 
-/// Writes what has a link: its session and state, or that it is reserved.
+/// Writes what holds a link: its session and state, or that it is reserved.
 fn push_holder(
     out: &mut Vec<u8>,
     live: u64,
@@ -117,7 +117,7 @@ fn push_bundle(out: &mut Vec<u8>, bundle: &Option<Octets>) -> Result<(), AllocEr
     }
 }
 
-/// Writes the words that `free` takes, by those before the session's, if there is a session.
+/// Writes the words for `free`, given those before the session's, if there is a session.
 fn push_free(
     alloc: Global,
     out: &mut Vec<u8>,

@@ -9,21 +9,21 @@ use rsl_accounts::Config;
 use rsl_session::{SavedHolder, SavedLink};
 use std::alloc::{AllocError, Global};
 
-/// Whose links are printed, and when.
+/// The account whose links are printed, and the moment.
 #[derive(Clone, Copy)]
 pub struct Holder<'a> {
-    /// The configuration that its clients are of.
+    /// The configuration of its clients.
     pub config: &'a Config,
     /// The account's name.
     pub name: &'a str,
-    /// For how long a session counts as live, in seconds.
+    /// The live time of its sessions in seconds.
     pub live: u64,
     /// The moment, in seconds since 1970.
     pub moment: u64,
 }
 
-/// The links of an account, a line each, and the line `ok`, which says that it is all. It fails
-/// only where memory is refused.
+/// The links of an account, a line each, and at the end the line `ok`. It fails only if memory is
+/// refused.
 pub fn links_text(
     alloc: Global,
     form: Form,
@@ -41,7 +41,7 @@ pub fn links_text(
     Ok(text)
 }
 
-/// Writes a link, if its client is there.
+/// Writes a link, if its client is known.
 fn push_if_known(
     alloc: Global,
     out: &mut Vec<u8>,
@@ -92,7 +92,7 @@ fn push_line(out: &mut Vec<u8>, holder: &Holder<'_>, link: &SavedLink) -> Result
     push_text(out, "\n")
 }
 
-/// Writes what has a link: its session and state, or that it is reserved.
+/// Writes what holds a link: its session and state, or that it is reserved.
 fn push_holder(
     out: &mut Vec<u8>,
     live: u64,

@@ -8,9 +8,8 @@ use crate::times::push_times_text;
 use rld_look::Look;
 use std::alloc::{AllocError, Global};
 
-/// Writes the metrics of a server that was looked at, after what `out` has, as text of Prometheus'
-/// format, version 0.0.4. It fails only where memory is refused; a part of the text may then have
-/// been written.
+/// Appends the metrics of a look at a server, in Prometheus' text format, version 0.0.4. It fails
+/// only if memory is refused; a part of the text may then have been written.
 #[tactic(auto, unfolding(crate::specs::Metrics::metrics_text))]
 pub fn push_metrics(alloc: Global, out: &mut Vec<u8>, look: &Look) -> Result<(), AllocError>
     ensures { OnOk result (out.new.items ≡ out.old.items ++ metrics_text look.entry.now) }

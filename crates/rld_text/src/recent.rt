@@ -1,4 +1,5 @@
-//! What is for people alone: since when a server runs, and what has happened lately; lines of at most 80 columns, but for long names.
+//! The part of a status that is for people alone: the start of the server, and what has happened
+//! recently, in lines of at most 80 columns, except for long names.
 
 ghost use Rattle.std.specs.Prelude.{◌≡◌, ◌++◌, List, IfOk, OnOk, codes, drop, take, ℕ};
 ghost use Rattle.rld_counts.specs.Ends.{all_ends};
@@ -12,15 +13,15 @@ use rld_look::{AccountLook, Look, Minute, SocketLook};
 use rld_values::{push_age, push_date, push_decimal, push_text, push_word};
 use std::alloc::{AllocError, Global};
 
-/// How many of the fullest accounts are shown.
+/// The number of the fullest accounts that are shown.
 const FULLEST: usize = 5;
 
-/// How many columns a line has.
+/// The columns of a line.
 const WIDTH: usize = 80;
 
 const _: () = prove!(FULLEST == 5 && WIDTH == 80);
 
-/// Writes the line that says since when it runs.
+/// Writes the line of the server's start.
 #[tactic(auto, unfolding(crate::specs::Recent::start_line))]
 pub(crate) fn push_start(out: &mut Vec<u8>, start: u64, now: u64) -> Result<(), AllocError>
     ensures { OnOk result ((dates : ℕ → List ℕ) → AreDates dates →
@@ -33,7 +34,7 @@ pub(crate) fn push_start(out: &mut Vec<u8>, start: u64, now: u64) -> Result<(), 
     push_text(out, " ago\n")
 }
 
-/// Writes the lines of what has happened lately.
+/// Writes the lines of what has happened recently.
 #[tactic(auto, unfolding(crate::specs::Recent::recent_lines))]
 pub(crate) fn push_recent(alloc: Global, out: &mut Vec<u8>, look: &Look) -> Result<(), AllocError>
     ensures { OnOk result (out.new.items ≡ out.old.items ++ recent_lines look.entry.now) }
@@ -62,7 +63,7 @@ fn push_full(out: &mut Vec<u8>, look: &Look) -> Result<(), AllocError>
     push_fullest(out, look.fullest.as_slice())
 }
 
-/// Writes what waits at the sockets of a look.
+/// Writes the queues of the sockets of a look.
 fn push_waiting(out: &mut Vec<u8>, look: &Look) -> Result<(), AllocError>
     ensures { OnOk result (out.new.items
         ≡ out.old.items ++ sockets_if_any look.entry.now.sockets.items) }
@@ -80,7 +81,7 @@ fn push_minute_if_any(out: &mut Vec<u8>, minute: Option<Minute>) -> Result<(), A
     }
 }
 
-/// Writes what came in a minute, a second.
+/// Writes the rates of a minute, by the second.
 #[tactic(auto, unfolding(crate::specs::Recent::minute_line))]
 fn push_minute(out: &mut Vec<u8>, minute: &Minute) -> Result<(), AllocError>
     ensures { OnOk result (out.new.items ≡ out.old.items ++ minute_line minute.now) }
@@ -97,7 +98,7 @@ fn push_minute(out: &mut Vec<u8>, minute: &Minute) -> Result<(), AllocError>
     Ok(())
 }
 
-/// Writes a number of a minute as a number of a second, with one decimal.
+/// Writes the count of a minute as a rate by the second, with one decimal.
 #[tactic(auto, unfolding(crate::specs::Recent::rate))]
 fn push_rate(out: &mut Vec<u8>, count: u64) -> Result<(), AllocError>
     ensures { OnOk result (out.new.items ≡ out.old.items ++ rate count) }
@@ -125,7 +126,7 @@ fn push_acct(alloc: Global, out: &mut Vec<u8>, counts: &Counts) -> Result<(), Al
     push_port(alloc, out, "acct:", counts, End::of_acct(&ends))
 }
 
-/// Writes how many datagrams of a port ended in each of these ways in which any did.
+/// Writes the number of datagrams of a port that ended in each of these ways, if any did.
 #[tactic(auto, unfolding(crate::specs::Recent::port_line))]
 fn push_port(
     alloc: Global,
@@ -141,7 +142,7 @@ fn push_port(
     push_text(out, "\n")
 }
 
-/// Writes how many ended in each of these ways in which any did, from a column on.
+/// Writes the number that ended in each of these ways, if any did, from a column on.
 fn push_counts(
     alloc: Global,
     out: &mut Vec<u8>,
@@ -158,7 +159,7 @@ fn push_counts(
     Ok(())
 }
 
-/// Writes how many ended so, if any did, and gives the column after that.
+/// Writes the number that ended in this way, if any did, and gives the next column.
 fn push_count(
     alloc: Global,
     out: &mut Vec<u8>,
@@ -178,7 +179,7 @@ fn push_count(
     Ok(column_after(column, len))
 }
 
-/// How many columns a word and how often it came take.
+/// The columns of a word and its count.
 fn len_of(alloc: Global, end: End, count: u64) -> Result<usize, AllocError>
     ensures { IfOk result (λ len. len ≡ len_of end count) }
 {
@@ -202,7 +203,7 @@ fn push_break(out: &mut Vec<u8>, last: usize) -> Result<(), AllocError>
     Ok(())
 }
 
-/// The column after what takes `len` columns, on this line or on a new one.
+/// The column after a piece of `len` columns, on this line or on a new one.
 fn column_after(column: usize, len: usize) -> usize
     ensures { result ≡ column_after column len }
 {
@@ -214,7 +215,7 @@ fn column_after(column: usize, len: usize) -> usize
     }
 }
 
-/// Writes a word and how often it came.
+/// Writes a word and its count.
 #[tactic(auto, unfolding(crate::specs::Recent::count_words))]
 fn push_count_words(out: &mut Vec<u8>, end: End, count: u64) -> Result<(), AllocError>
     ensures { OnOk result (out.new.items ≡ out.old.items ++ count_words end count) }
@@ -225,7 +226,7 @@ fn push_count_words(out: &mut Vec<u8>, end: End, count: u64) -> Result<(), Alloc
     push_decimal(out, count)
 }
 
-/// Writes the fullest of the accounts that hold a place and have one, a line each.
+/// Writes the fullest accounts, a line each, without those that have or hold no place.
 fn push_fullest(out: &mut Vec<u8>, fullest: &[AccountLook]) -> Result<(), AllocError>
     ensures { OnOk result (out.new.items ≡ out.old.items ++ full_lines 5 fullest.now) }
 {
@@ -239,7 +240,7 @@ fn push_fullest(out: &mut Vec<u8>, fullest: &[AccountLook]) -> Result<(), AllocE
     Ok(())
 }
 
-/// Whether an account holds a place and has one.
+/// Whether an account has a place and holds one.
 fn is_shown(account: &AccountLook) -> bool
     ensures { result ≡ is_shown account.now }
 {
@@ -260,7 +261,8 @@ fn push_account(out: &mut Vec<u8>, account: &AccountLook) -> Result<(), AllocErr
     push_text(out, "\n")
 }
 
-/// Writes what waits in the room of all sockets, and how many datagrams found none, if the system says it of any.
+/// Writes the octets that wait at all sockets, and the number of dropped datagrams, if the system
+/// reports any socket.
 fn push_sockets(out: &mut Vec<u8>, sockets: &[SocketLook]) -> Result<(), AllocError>
     ensures { OnOk result (out.new.items ≡ out.old.items ++ sockets_if_any sockets.now) }
 {

@@ -10,8 +10,8 @@ use rld_look::{Look, Recording, Totals};
 use rld_values::push_text;
 use std::alloc::{AllocError, Global};
 
-/// What a server says of itself: who it is and whether it records, numbers, a line each, then what has
-/// happened lately, and the line `ok`, which says that it is all. It fails only where memory is refused.
+/// The status of a server: who it is and whether it records, and numbers, a line each, then what
+/// has happened recently, and at the end the line `ok`. It fails only if memory is refused.
 pub fn status_text(alloc: Global, look: &Look) -> Result<Vec<u8>, AllocError>
     ensures { IfOk result (λ text. IsStatus look.entry.now text.items) }
 {
@@ -20,7 +20,7 @@ pub fn status_text(alloc: Global, look: &Look) -> Result<Vec<u8>, AllocError>
     Ok(text)
 }
 
-/// Writes what a server says of itself.
+/// Writes the status of a server.
 #[tactic(auto, unfolding(crate::specs::Status::status_of))]
 fn push_status(alloc: Global, out: &mut Vec<u8>, look: &Look) -> Result<(), AllocError>
     ensures { OnOk result ((dates : ℕ → List ℕ) → AreDates dates →
@@ -35,7 +35,7 @@ fn push_status(alloc: Global, out: &mut Vec<u8>, look: &Look) -> Result<(), Allo
     Ok(())
 }
 
-/// Writes that it is all.
+/// Writes the line `ok`.
 fn push_end(out: &mut Vec<u8>) -> Result<(), AllocError>
     ensures { OnOk result (out.new.items ≡ out.old.items ++ codes "ok\n") }
 {

@@ -1,4 +1,4 @@
-//! What a server says of itself as an object of JSON.
+//! The status of a server as a JSON object.
 
 ghost use Rattle.std.specs.Prelude.{◌≡◌, ◌++◌, IfOk, OnOk};
 ghost use Rattle.rld_text.specs.Status.{end_member, ends_members, numbers_members, recording_word, socket_members, status_object, totals_members, who_members};
@@ -12,7 +12,7 @@ use rld_look::{Build, Look, Recording, Totals};
 use rld_values::{push_decimal, push_text};
 use std::alloc::{AllocError, Global};
 
-/// The object, and that it is all. It fails only where memory is refused.
+/// The object, and the line `ok`. It fails only if memory is refused.
 #[tactic(auto, unfolding(crate::specs::Status::status_object))]
 pub fn status_json(alloc: Global, look: &Look) -> Result<Vec<u8>, AllocError>
     ensures { IfOk result (λ text. text.items ≡ status_object look.entry.now) }
@@ -28,7 +28,7 @@ pub fn status_json(alloc: Global, look: &Look) -> Result<Vec<u8>, AllocError>
     Ok(text)
 }
 
-/// Writes who it is, since when, the second in which it was looked at, and whether batches are recorded.
+/// Writes the build, the start, the second of the look, and whether batches are recorded.
 #[tactic(auto, unfolding(crate::specs::Status::who_members))]
 fn push_who(
     out: &mut Vec<u8>,
@@ -90,7 +90,7 @@ fn push_totals(out: &mut Vec<u8>, totals: &Totals) -> Result<(), AllocError>
     Ok(())
 }
 
-/// Writes how many datagrams ended in each of these ways.
+/// Writes the number of datagrams that ended in each of these ways.
 fn push_ends(out: &mut Vec<u8>, counts: &Counts, ends: &[End]) -> Result<(), AllocError>
     ensures { OnOk result (out.new.items ≡ out.old.items ++ ends_members counts.now ends.now) }
 {
@@ -100,7 +100,7 @@ fn push_ends(out: &mut Vec<u8>, counts: &Counts, ends: &[End]) -> Result<(), All
     Ok(())
 }
 
-/// Writes how many datagrams of a port ended so.
+/// Writes the number of datagrams of a port that ended in this way.
 #[tactic(auto, unfolding(crate::specs::Status::end_member))]
 fn push_end(out: &mut Vec<u8>, port: &str, end: &str, number: u64) -> Result<(), AllocError>
     ensures { OnOk result (out.new.items ≡ out.old.items ++ end_member port.now end.now number) }
@@ -113,7 +113,7 @@ fn push_end(out: &mut Vec<u8>, port: &str, end: &str, number: u64) -> Result<(),
     push_decimal(out, number)
 }
 
-/// Writes what waits at the sockets, and what the system dropped there.
+/// Writes the octets that wait at the sockets, and the datagrams that the system dropped there.
 #[tactic(auto, unfolding(crate::specs::Status::socket_members))]
 fn push_sockets(out: &mut Vec<u8>, waiting: u64, dropped: u64) -> Result<(), AllocError>
     ensures { OnOk result (out.new.items ≡ out.old.items ++ socket_members waiting dropped) }

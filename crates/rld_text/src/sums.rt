@@ -5,7 +5,7 @@ ghost use Rattle.rld_text.specs.Metrics.{dropped_after, waiting_after};
 
 use rld_look::SocketLook;
 
-/// How many octets wait in the room of all sockets.
+/// The octets that wait at all sockets.
 pub(crate) fn waiting(sockets: &[SocketLook]) -> u64
     ensures { result ≡ waiting_after 0 sockets.now }
 {
@@ -16,7 +16,7 @@ pub(crate) fn waiting(sockets: &[SocketLook]) -> u64
     number
 }
 
-/// How many datagrams were dropped at all sockets.
+/// The datagrams dropped at all sockets.
 pub(crate) fn dropped(sockets: &[SocketLook]) -> u64
     ensures { result ≡ dropped_after 0 sockets.now }
 {

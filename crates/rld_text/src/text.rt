@@ -1,4 +1,4 @@
-//! The parts of the text format.
+//! The parts of Prometheus' text format.
 
 ghost use Rattle.std.specs.Prelude.{◌≡◌, ◌+◌, ◌%◌, ◌∷◌, ◌++◌, [], OnOk};
 ghost use Rattle.std.specs.List.{flat_map};
@@ -7,14 +7,14 @@ ghost use Rattle.rld_text.specs.Text.{escaped_octet, head_of, label, seconds, si
 use rld_values::{push_decimal, push_text};
 use std::alloc::AllocError;
 
-/// What a metric is.
+/// The head of a metric.
 #[derive(Clone, Copy)]
 pub(crate) struct Head<'a> {
     /// Its name.
     pub(crate) name: &'a str,
     /// Its type.
     pub(crate) kind: &'a str,
-    /// What it is for.
+    /// Its help text.
     pub(crate) help: &'a str,
 }
 
@@ -54,7 +54,7 @@ pub(crate) fn push_label(out: &mut Vec<u8>, name: &str, value: &str) -> Result<(
     push_text(out, "\"")
 }
 
-/// Writes what stands before the samples of a metric.
+/// Writes the head of a metric, before its samples.
 #[tactic(auto, unfolding(crate::specs::Text::head_of))]
 pub(crate) fn push_head(out: &mut Vec<u8>, head: &Head<'_>) -> Result<(), AllocError>
     ensures { OnOk result (out.new.items

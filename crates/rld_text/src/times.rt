@@ -18,7 +18,7 @@ pub(crate) fn push_times_text(out: &mut Vec<u8>, look: &Look) -> Result<(), Allo
     push_times(out, "acct", &look.acct_times)
 }
 
-/// Writes what stands before the histograms.
+/// Writes the head of the histograms.
 #[tactic(auto, unfolding(crate::specs::Metrics::times_head))]
 fn push_times_head(out: &mut Vec<u8>) -> Result<(), AllocError>
     ensures { OnOk result (out.new.items ≡ out.old.items ++ times_head) }
@@ -33,7 +33,7 @@ fn push_times_head(out: &mut Vec<u8>) -> Result<(), AllocError>
     )
 }
 
-/// Writes how many answers of a port took at most `micros` microseconds.
+/// Writes the number of answers of a port within `micros` microseconds.
 #[tactic(auto, unfolding(crate::specs::Metrics::bucket_line))]
 fn push_bucket(out: &mut Vec<u8>, port: &str, micros: u64, number: u64) -> Result<(), AllocError>
     ensures { OnOk result (out.new.items
@@ -49,7 +49,7 @@ fn push_bucket(out: &mut Vec<u8>, port: &str, micros: u64, number: u64) -> Resul
     Ok(())
 }
 
-/// Writes how many answers of a port there are.
+/// Writes the number of all answers of a port.
 #[tactic(auto, unfolding(crate::specs::Metrics::bucket_line))]
 fn push_last_bucket(out: &mut Vec<u8>, port: &str, number: u64) -> Result<(), AllocError>
     ensures { OnOk result (out.new.items
@@ -64,7 +64,7 @@ fn push_last_bucket(out: &mut Vec<u8>, port: &str, number: u64) -> Result<(), Al
     push_text(out, "\n")
 }
 
-/// Writes the buckets that have a bound.
+/// Writes the buckets with a bound.
 #[tactic(auto, using(crate::proofs::Buckets::bucket_lines_more, crate::proofs::Buckets::bucket_lines_none))]
 fn push_buckets(out: &mut Vec<u8>, port: &str, times: &Histogram) -> Result<(), AllocError>
     ensures { OnOk result (out.new.items

@@ -35,7 +35,7 @@ pub(crate) fn push_octets_word_if(
     }
 }
 
-/// Writes as many spaces as a text is short of a width.
+/// Writes the spaces that pad a text to a width.
 fn push_spaces(out: &mut Vec<u8>, width: usize, text: &[u8]) -> Result<(), AllocError>
     requires { width ≤ 12 }
     ensures { OnOk result (out.new.items ≡ out.old.items ++ spaces_to width text.now) }
@@ -44,7 +44,7 @@ fn push_spaces(out: &mut Vec<u8>, width: usize, text: &[u8]) -> Result<(), Alloc
     out.extend_from_slice(&b"            "[..len])
 }
 
-/// Writes a word, left in its column.
+/// Writes a word, left-aligned in its column.
 fn push_left(out: &mut Vec<u8>, word: &str) -> Result<(), AllocError>
     ensures { OnOk result (out.new.items ≡ out.old.items ++ left word.now) }
 {
@@ -52,7 +52,7 @@ fn push_left(out: &mut Vec<u8>, word: &str) -> Result<(), AllocError>
     push_spaces(out, 10, word.as_bytes())
 }
 
-/// Writes a number, right in its column.
+/// Writes a number, right-aligned in its column.
 fn push_right(alloc: Global, out: &mut Vec<u8>, number: u64) -> Result<(), AllocError>
     ensures { OnOk result (out.new.items ≡ out.old.items ++ right (decimal number)) }
 {

@@ -1,4 +1,4 @@
--- A batch once it was answered.
+-- A batch after it was answered.
 use Rattle.std.specs.Prelude.{◌≡◌, ℕ, List, [], ◌++◌, Option}
 use Rattle.rsl_event.specs.declared.event.Decision.{Decision}
 use Rattle.rsl_event.specs.declared.meaning.Port.{Port}

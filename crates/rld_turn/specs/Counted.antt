@@ -1,4 +1,4 @@
--- How many datagrams ended in which way.
+-- Numbers of datagrams, by how they ended.
 use Rattle.std.specs.Prelude.{ℕ, ◌+◌}
 use Rattle.rld_turn.specs.declared.ends.End.{End}
 use Rattle.rld_turn.specs.declared.ends.End.TheVariants.{Dropped, Refused, Unrecorded, Answered, Unsent}
@@ -13,11 +13,11 @@ no_ends = record {
   unsent = 0;
 }
 
--- of how many datagrams
+-- the number of datagrams that ended in any way
 abbrev pub ends_of : Ends → ℕ
 ends_of ends = ends.dropped + ends.refused + ends.unrecorded + ends.answered + ends.unsent
 
--- with one datagram more
+-- the ends with another datagram
 abbrev pub counted_end : End → Ends → Ends
 counted_end (Dropped cause) ends = record ends { dropped = ends.dropped + 1 }
 counted_end Refused ends = record ends { refused = ends.refused + 1 }

@@ -1,4 +1,4 @@
--- How the datagrams of a batch end, once it is recorded or is not.
+-- How the datagrams of a batch end, recorded or not.
 use Rattle.std.specs.Prelude.{◌≡◌, ℕ, ◌<◌, List, [], ◌∷◌, length, slice_get, Option, Some, None, Result, Ok, Err}
 use Rattle.std.specs.Option.{option_map_or}
 use Rattle.rsl_accounts.specs.Configuration.{Configuration}
@@ -25,7 +25,7 @@ answer_if service (Ok fields) client kind decision =
     answer_to service.config service.boot client fields kind decision
 answer_if service (Err fault) client kind decision = []
 
--- the answer to a request, to where it came from
+-- the answer to a request, to its peer
 abbrev pub reply_of : ServiceSeen → Request → Decision → PeerDatagram
 reply_of service request decision =
     peer_datagram request.origin.peer
@@ -35,7 +35,7 @@ reply_of service request decision =
 abbrev pub decision_at : List Decision → (place : ℕ) → Decision
 decision_at decisions place = option_map_or (λ (d : Decision). d) (slice_get decisions place) Done
 
--- What is sent for an entry. One with a move has an answer only if the batch is recorded.
+-- What is sent for an entry. One with a move is answered only if the batch is recorded.
 abbrev pub sent_by : ServiceSeen → Option (List Decision) → Entry → List PeerDatagram
 sent_by service decisions (Dropped origin cause) = []
 sent_by service decisions (Refused origin) = []
@@ -53,12 +53,12 @@ IsEndOf None (Moved request place) end = end ≡ ends.Unrecorded
 IsEndOf (Some decisions) (Moved request place) end =
     IsSentAs (said_to request.kind (decision_at decisions place)) end
 
--- what a watcher learns of a request that ended so
+-- what a watcher learns of a request with this end
 abbrev pub told_by_request : Configuration → Request → End → Told
 told_by_request config request end =
     told_of config request.origin request.octets.items (Some request.detail) end
 
--- and of an entry
+-- what a watcher learns of an entry with this end
 abbrev pub told_by : Configuration → Entry → End → Told
 told_by config (Dropped origin cause) end = told_of config origin [] None end
 told_by config (Refused origin) end = told_of config origin [] None end

@@ -1,4 +1,4 @@
--- What a batch holds of the datagrams that were taken.
+-- The entries of the datagrams of a batch.
 use Rattle.std.specs.Prelude.{◌≡◌, ℕ, List, [], ◌∷◌, ◌++◌, length, Option, Some, None, Ok, Err}
 use Rattle.rsl_accounts.specs.Configuration.{Configuration, client_number}
 use Rattle.rsl_event.specs.Detail.{detail_of}
@@ -54,7 +54,7 @@ pub record IsLast (place : ℕ) (moved : Move) (old new : List Move) : Type 0 wh
   pub at : place ≡ length old
   pub last : new ≡ old ++ moved ∷ []
 
--- a datagram was taken into a batch as this
+-- a datagram became this entry of a batch
 abbrev pub IsEntered : ServiceSeen → Port → (moment : ℕ) → (taken : PeerDatagram) → Entry
     → (old new : List Move) → Type 0
 IsEntered service port moment taken (Dropped origin cause) old new =
@@ -68,7 +68,7 @@ IsEntered service port moment taken (Moved request place) old new =
     (moved : Move) × IsRequest service port moment taken (Some moved) request
     × IsLast place moved old new
 
--- a move was put at the end of a batch, at its place, or refused memory
+-- a move was appended to a batch, at its place, or refused memory
 abbrev pub HasPushed : Move → Request → Entry → (old new : List Move) → Type 0
 HasPushed moved request (Dropped origin cause) old new = ⊥
 HasPushed moved request (Refused origin) old new = (origin ≡ request.origin) × (new ≡ old)
@@ -76,7 +76,7 @@ HasPushed moved request (Bare held) old new = ⊥
 HasPushed moved request (Moved held place) old new =
     (held ≡ request) × IsLast place moved old new
 
--- the move of a meaning was, if it has one
+-- the move of a meaning was appended, if it has one
 abbrev pub HasAdded : Configuration → (moment : ℕ) → Meaning → Request → Entry
     → (old new : List Move) → Type 0
 HasAdded config moment meant request (Dropped origin cause) old new = ⊥
@@ -88,7 +88,7 @@ HasAdded config moment meant request (Moved held place) old new =
     (moved : Move) × (held ≡ request) × (move_of config moment meant ≡ Some moved)
     × IsLast place moved old new
 
--- datagrams were taken into a batch as these, one after the other
+-- datagrams became these entries of a batch, one after the other
 abbrev pub AreEntered : ServiceSeen → Port → (moment : ℕ) → (taken : List PeerDatagram) → List Entry
     → (old new : List Move) → Type 0
 AreEntered service port moment taken [] old new = (taken ≡ []) × (new ≡ old)

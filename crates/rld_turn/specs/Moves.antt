@@ -1,4 +1,4 @@
--- The move that a datagram adds to a batch, and what is decided on it.
+-- The move that a datagram adds to a batch, and its decision.
 use Rattle.std.specs.Prelude.{ℕ, List, Option, Some, None}
 use Rattle.rsl_accounts.specs.Configuration.{Configuration}
 use Rattle.rsl_event.specs.declared.event.Decision.{Decision}
@@ -11,17 +11,17 @@ use Rattle.rsl_shard.specs.declared.moves.Moves.{Moves}
 use Rattle.rsl_shard.specs.declared.moves.Moves.TheVariants.{Nothing, One, Each}
 use Rattle.rld_books.specs.Server.{decision_in}
 
--- the one move that stands for these in the log of all shards: a restart is one sweep there
+-- the one move that these make in the log of all shards: a restart is one sweep there
 abbrev pub in_log : Moves → Option Move
 in_log Nothing = None
 in_log (One shard moved) = Some moved
 in_log (Each moved) = Some moved
 
--- the move of what came at a moment: its own, a restart's sweep or a stray; a reject has none
+-- the move of a meaning at a moment: its own, a restart's sweep or a stray; a reject has none
 abbrev pub move_of : Configuration → (moment : ℕ) → Meaning → Option Move
 move_of config moment meant = in_log (moves_of config moment meant)
 
--- the decision of the books on what came with this move
+-- the decision of the books on a meaning with this move
 abbrev pub decided : List BooksSeen → Option Move → Decision
 decided books None = Done
 decided books (Some moved) = decision_in books moved

@@ -1,5 +1,4 @@
--- What a server fixes from one change of its accounts to the next, and what it makes of the places that
--- datagrams come from.
+-- What is fixed for a server from one change of its accounts to the next, and the sources of peers.
 use Rattle.std.specs.Prelude.{ℕ, List, Result, unwrap_or}
 use Rattle.std.specs.Net.Socket.{socket_ip, socket_port}
 use Rattle.std.specs.declared.net.socket_addr.SocketAddr.{SocketAddr}
@@ -31,8 +30,8 @@ service_of present = record {
   nobody = present.nobody;
 }
 
--- the source as which a peer is seen: the address of the client that it stands for, or nobody's, and its
--- port
+-- the source of a peer: the address of the client that it stands for, or the unassigned one, and
+-- its port
 abbrev pub source_of : ServiceSeen → SocketAddr → Source
 source_of service peer = record {
   address = unwrap_or (client_of service.networks (socket_ip peer)) service.nobody;
@@ -46,7 +45,7 @@ origin_of service peer = record { peer = peer; source = source_of service peer }
 abbrev pub peer_datagram : SocketAddr → (octets : List ℕ) → PeerDatagram
 peer_datagram peer octets = record { peer = peer; octets = octets }
 
--- what a datagram means that came to a port
+-- the meaning of a datagram on a port
 abbrev pub meaning_of : ServiceSeen → Port → PeerDatagram → Result Meaning Dropped
 meaning_of service port one =
     meaning service.config service.boot port (source_of service one.peer) one.octets

@@ -1,4 +1,4 @@
--- What a call gave that takes a datagram, and what it took.
+-- The result of a call that takes a datagram, and the datagram.
 use Rattle.std.specs.Prelude.{ℕ, List, [], ◌∷◌, take, Option, Some, None, Result, Ok, Err}
 use Rattle.std.specs.declared.net.socket_addr.SocketAddr.{SocketAddr}
 use Rattle.rsl_port.specs.declared.datagram_port.PortFault.{PortFault}
@@ -9,7 +9,7 @@ use Rattle.rld_turn.specs.declared.peer_port.PeerDatagram.{PeerDatagram}
 abbrev pub Received : Type 0
 Received = Result (Option (ℕ × SocketAddr)) PortFault
 
--- the datagram that was taken, from what then stands in the buffer
+-- the datagram that was taken, from what is then in the buffer
 abbrev pub taken_by : Received → (buffer : List ℕ) → List PeerDatagram
 taken_by (Ok (Some received)) buffer = peer_datagram received.1 (take received.0 buffer) ∷ []
 taken_by (Ok None) buffer = []

@@ -1,4 +1,4 @@
--- What became of a batch, and what that makes of the books.
+-- What became of a batch, and what it made of the books.
 use Rattle.std.specs.Prelude.{◌≡◌, List, [], length, Bool, true, false, Option, Some, None}
 use Rattle.rsl_event.specs.declared.event.Decision.{Decision}
 use Rattle.rsl_shard.specs.Restep.{BooksSeen}
@@ -10,36 +10,36 @@ use Rattle.rld_turn.specs.declared.ends.Ending.TheVariants as endings
 use Rattle.rld_turn.specs.declared.outcome.Outcome.{Outcome}
 use Rattle.rld_turn.specs.declared.outcome.Outcome.TheVariants as outcomes
 
--- what was recorded, if it was
+-- what was recorded, if anything
 abbrev pub recorded_in : Outcome → Option RecordedSeen
 recorded_in outcomes.Nothing = None
 recorded_in (outcomes.Recorded recorded) = Some recorded
 recorded_in outcomes.Failed = None
 recorded_in outcomes.Ended = None
 
--- the decisions on it, if it is recorded
+-- the decisions on the batch, if it is recorded
 abbrev pub decisions_in : Outcome → Option (List Decision)
 decisions_in outcomes.Nothing = None
 decisions_in (outcomes.Recorded recorded) = Some recorded.decisions
 decisions_in outcomes.Failed = None
 decisions_in outcomes.Ended = None
 
--- whether it is recorded
+-- whether the batch is recorded
 abbrev pub is_recorded : {A : Type 0} → Option A → Bool
 is_recorded None = false
 is_recorded (Some recorded) = true
 
--- what was recorded is this very batch, decided by the books that there were before it
+-- what was recorded is this very batch, decided by the books before it
 abbrev pub IsOf : (batch : List Move) → Option RecordedSeen → Type 0
 IsOf batch None = Unit {0}
 IsOf batch (Some recorded) = (recorded.batch ≡ batch) × AreDecided recorded
 
--- those books, if it is recorded
+-- the books before the batch, if it is recorded
 abbrev pub books_before : Option RecordedSeen → List BooksSeen
 books_before None = []
 books_before (Some recorded) = recorded.before
 
--- the moves that were recorded of it: all or none
+-- the moves of the batch that were recorded: all or none
 abbrev pub made : (recorded : Bool) → (batch : List Move) → List Move
 made true batch = batch
 made false batch = []
@@ -49,17 +49,17 @@ abbrev pub HasCount : Option (List Decision) → (batch : List Move) → Type 0
 HasCount None batch = Unit {0}
 HasCount (Some decisions) batch = length decisions ≡ length batch
 
--- which are those of the books
+-- these decisions are those of the books
 abbrev pub HasDecided : (begun : List BooksSeen) → (batch : List Move) → Option (List Decision) → Type 0
 HasDecided begun batch None = Unit {0}
 HasDecided begun batch (Some decisions) = decisions ≡ decisions_of begun batch
 
--- a batch that became this: the books decided on its moves and made them, or are as they were
+-- the outcome of a batch: the books decided on its moves and made them, or are as they were
 pub record IsRecordedAs (outcome : Outcome) (batch : List Move) (old new : List BooksSeen) : Type 0 where
   pub decided : HasDecided old batch (decisions_in outcome)
   pub books : new ≡ replay old (made (is_recorded (decisions_in outcome)) batch)
 
--- what comes after a turn with this outcome whose taking ended so
+-- the ending of a turn with this outcome, whose taking ended so
 abbrev pub ending_by : Outcome → Ending → Ending
 ending_by outcome endings.Down = endings.Down
 ending_by outcome endings.Ended = endings.Ended

@@ -1,4 +1,4 @@
--- What is made of the datagrams of turns, one turn after the other.
+-- What is done with the datagrams of turns, one turn after the other.
 use Rattle.std.specs.Prelude.{◌≡◌, ℕ, Bool, List, [], ◌∷◌, ◌++◌}
 use Rattle.rsl_accounts.specs.Configuration.{Configuration}
 use Rattle.rsl_event.specs.declared.meaning.Port.{Port}
@@ -12,9 +12,9 @@ use Rattle.rld_turn.specs.Told.{HasTold, Told}
 use Rattle.rld_turn.specs.Turned.{State, Turned}
 use Rattle.rld_turn.specs.declared.peer_port.PeerDatagram.{PeerDatagram}
 
--- The datagrams of turns ended so, in the order in which they were taken; these moves were recorded,
--- these are the sends, and the clock showed these moments. The books of each turn are those that were
--- there at the beginning, and the moves recorded since.
+-- The datagrams of turns ended so, in the order in which they were taken; these moves were
+-- recorded, these are the sends, and the clock showed these moments. The books of each turn are
+-- those at the beginning, after the moves recorded since.
 pub data Served (service : ServiceSeen) (port : Port) (begun : List BooksSeen)
     : (told : List Told) → (taken : List PeerDatagram) → (moves : List Move) → (sent : List PeerDatagram)
     → (shown : List ℕ) → Type 0 where
@@ -27,8 +27,7 @@ pub data Served (service : ServiceSeen) (port : Port) (begun : List BooksSeen)
       → Served service port begun (told ++ told') (taken ++ taken') (moves ++ made recorded batch) (sent ++ sent') (shown ++ moment ∷ [])
 
 -- What was served since: the datagrams taken, with the sends, the moments, and what the watcher has
--- learned. The moves are recorded after those that were recorded before, and the books are what
--- they make of them.
+-- learned. The moves are recorded after the earlier ones, and the books are what they make of them.
 pub record HasServed (service : ServiceSeen) (port : Port) (old new : State)
     (stood stands : Configuration → List BooksSeen → List Move → Type 0) : Type 0 where
   pub taken : List PeerDatagram

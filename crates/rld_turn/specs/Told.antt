@@ -1,4 +1,4 @@
--- What a watcher learns of datagrams, where it reports that.
+-- What a watcher learns of datagrams, if it reports that.
 use Rattle.std.specs.Prelude.{◌≡◌, ℕ, ⊤, Bool, true, false, List, ◌++◌, count_by, Option, Some, None}
 use Rattle.rsl_accounts.specs.Configuration.{Configuration, client_number}
 use Rattle.rsl_event.specs.declared.detail.Detail.{Detail}
@@ -8,8 +8,8 @@ use Rattle.rld_turn.specs.declared.ends.End.TheVariants.{Dropped, Refused, Unrec
 use Rattle.rld_turn.specs.declared.origin.Origin.{Origin}
 use Rattle.rld_turn.specs.declared.watch.Ended.{Ended}
 
--- where a datagram came from, the client that has this address, its octets and its detail, or none of
--- either, and its end
+-- the origin of a datagram, the client that has its source's address, its octets and its detail, or
+-- none of either, and its end
 pub record Told : Type 0 where
   pub origin : Origin
   pub client : Option ℕ
@@ -17,7 +17,7 @@ pub record Told : Type 0 where
   pub detail : Option Detail
   pub end : End
 
--- without where the octets lie in memory
+-- what a watcher learns, without the address of the octets
 abbrev pub told_as : Ended → Told
 told_as ended = record {
   origin = ended.origin;
@@ -37,7 +37,7 @@ told_of config origin octets detail end = record {
   end = end;
 }
 
--- a watcher has learned this more, if it reports what it learns
+-- a watcher has learned this too, if it reports what it learns
 abbrev pub HasTold : (told : List Told) → (old new : Option (List Told)) → Type 0
 HasTold told old None = ⊤
 HasTold told None (Some after) = ⊥
@@ -49,7 +49,7 @@ IsSentAs said (Answered word) = word ≡ said
 IsSentAs said (Unsent word) = word ≡ said
 IsSentAs said _ = ⊥
 
--- how a datagram ended, without why
+-- how a datagram ended, without the cause
 abbrev pub is_dropped : End → Bool
 is_dropped (Dropped cause) = true
 is_dropped _ = false
@@ -70,7 +70,7 @@ abbrev pub is_unsent : End → Bool
 is_unsent (Unsent said) = true
 is_unsent _ = false
 
--- how many of these datagrams have such an end
+-- the number of these datagrams with such an end
 abbrev pub number_of : (End → Bool) → List Told → ℕ
 number_of test told = count_by (λ (one : Told). test one.end) told
 

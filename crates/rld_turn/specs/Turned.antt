@@ -1,5 +1,5 @@
--- What is made of the datagrams of a turn: in the order in which they were taken, each is dropped,
--- refused, unrecorded or answered, and nothing else is recorded or sent.
+-- What is done with the datagrams of a turn: in the order in which they were taken, each is
+-- dropped, refused, unrecorded or answered, and nothing else is recorded or sent.
 use Rattle.std.specs.Prelude.{◌≡◌, ℕ, Bool, true, false, List, [], ◌∷◌, ◌++◌, Ok, Err, Option, Some, None}
 use Rattle.rsl_accounts.specs.Configuration.{Configuration, client_number}
 use Rattle.rsl_event.specs.Answer.{answer, said}
@@ -32,7 +32,7 @@ request_told service port one end =
     told_of service.config (origin_of service one.peer) one.octets
     (detail_of service.config port (source_of service one.peer) one.octets) end
 
--- a datagram has a meaning, and was refused memory: nothing is recorded of it, and nothing sent
+-- a datagram has a meaning, but was refused memory: nothing of it is recorded or sent
 pub record IsRefused (service : ServiceSeen) (port : Port) (taken : PeerDatagram) : Type 0 where
   pub meant : Meaning
   pub understood : meaning_of service port taken ≡ Ok meant
@@ -45,7 +45,7 @@ pub record IsUnrecorded (service : ServiceSeen) (port : Port) (moment : ℕ) (ta
   pub move : move_of service.config moment meant ≡ Some moved
 
 -- a datagram has a meaning with this move, or with none, and this is the answer to it, with the
--- decision of these books, to where it came from; so it ended
+-- decision of these books, to its peer; so it ended
 pub record IsAnsweredBy (service : ServiceSeen) (port : Port) (moment : ℕ) (books : List BooksSeen)
     (taken : PeerDatagram) (moved : Option Move) (sent : PeerDatagram) (end : End) : Type 0 where
   pub fields : Fields
@@ -60,11 +60,11 @@ pub record IsAnsweredBy (service : ServiceSeen) (port : Port) (moment : ℕ) (bo
       ≡ answer service.config service.boot client fields meant (decided books moved)
   pub ended : IsSentAs (said meant (decided books moved)) end
 
--- The datagrams of a turn ended so, in the order in which they were taken: each was dropped by the
+-- The datagrams of a turn ended so, in the order in which they were taken: each was dropped for the
 -- cause why it has no meaning, refused, unrecorded or answered, and the watcher learns its end.
 -- These are the moves of the batch, all at one moment, and these are the sends. The batch is
--- recorded or it is not: one with a move is answered only if it is, by the books that were there
--- when the batch began and the moves before its own.
+-- recorded or it is not: a datagram with a move is answered only if it is, by the books when the
+-- batch began and the moves before its own.
 pub data Turned (service : ServiceSeen) (port : Port) (moment : ℕ) (recorded : Bool)
     (begun : List BooksSeen)
     : (told : List Told) → (taken : List PeerDatagram) → (batch : List Move) → (sent : List PeerDatagram)
@@ -95,7 +95,7 @@ pub data Turned (service : ServiceSeen) (port : Port) (moment : ℕ) (recorded :
       → IsAnsweredBy service port moment (replay begun batch) one (Some moved) reply end
       → Turned service port moment recorded begun (told ++ request_told service port one end ∷ []) (taken ++ one ∷ []) (batch ++ moved ∷ []) (sent ++ reply ∷ [])
 
--- what stands at a time: the datagrams taken, the sends tried, the moments that the clock has shown
+-- the state at a time: the datagrams taken, the sends tried, the moments that the clock has shown
 -- and what the watcher has learned, if they report that, and the books
 pub record State : Type 0 where
   pub taken : List PeerDatagram
@@ -110,7 +110,7 @@ state_of taken sent shown told books =
     record { taken = taken; sent = sent; shown = shown; told = told; books = books }
 
 -- A turn: the clock is read once, and what was taken since ended so, as the watcher has learned.
--- The moves of the batch are recorded, all or none, after those that were recorded before.
+-- The moves of the batch are recorded, all or none, after the earlier ones.
 pub record HasTurned (service : ServiceSeen) (port : Port) (ends : Ends) (old new : State)
     (stood stands : Configuration → List BooksSeen → List Move → Type 0) : Type 0 where
   pub taken : List PeerDatagram
@@ -130,10 +130,10 @@ pub record HasTurned (service : ServiceSeen) (port : Port) (ends : Ends) (old ne
   pub numbers : AreNumbersOf told
       ends.dropped ends.refused ends.unrecorded ends.answered ends.unsent
 
--- A turn by what it gives as recorded, whatever its recorder is: the clock is read once, and what was
--- taken since ended so, as the watcher has learned. What was recorded is the batch with the moves of
--- these datagrams, in their order. One with a move is answered only if it is, by the books that there
--- were before the batch and the moves before its own.
+-- A turn by what it gives as recorded, whatever its recorder is: the clock is read once, and what
+-- was taken since ended so, as the watcher has learned. What was recorded is the batch with the
+-- moves of these datagrams, in order. A datagram with a move is answered only if it is recorded, by
+-- the books before the batch and the moves before its own.
 pub record IsDecidedBy (service : ServiceSeen) (port : Port) (ends : Ends)
     (recorded : Option RecordedSeen) (old new : State) : Type 0 where
   pub taken : List PeerDatagram

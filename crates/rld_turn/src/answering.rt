@@ -37,8 +37,8 @@ use std::collections::VecDeque;
 use std::net::SocketAddr;
 
 impl Turner<'_> {
-    /// Answers the datagrams of a batch with this outcome, in the order in which they were taken, and
-    /// tells how each ended.
+    /// Answers the datagrams of a batch with this outcome, in the order in which they were taken,
+    /// and notes how each ended.
     pub(crate) fn answer_each<P: PeerPort, W: Watch>(
         &self,
         datagrams: &mut P,
@@ -75,7 +75,7 @@ impl Turner<'_> {
         ends
     }
 
-    /// Ends an entry of a batch with this outcome, and tells how.
+    /// Ends an entry of a batch with this outcome, and notes how.
     fn end<P: PeerPort, W: Watch>(
         &self,
         entry: Entry,
@@ -124,7 +124,7 @@ impl Turner<'_> {
         }
     }
 
-    /// Tells that a datagram ended so of which nothing but its origin was kept.
+    /// Notes the end of a datagram of which nothing but its origin was kept.
     fn tell_bare<W: Watch>(&self, origin: Origin, end: End, watch: &mut W)
         ensures { HasTold (told_of self.now.present.config.now origin [] None end ∷ [])
             (W.told watch.old) (W.told watch.new) }
@@ -139,7 +139,7 @@ impl Turner<'_> {
         self.tell(ended, watch);
     }
 
-    /// Tells that a request ended so that is not answered.
+    /// Notes the end of a request that is not answered.
     fn tell_request<W: Watch>(&self, request: &Request, end: End, watch: &mut W)
         requires { CanAnswer self.now.present.config.now request.now }
         ensures { HasTold (told_by_request self.now.present.config.now request.now end ∷ [])
@@ -155,7 +155,7 @@ impl Turner<'_> {
         self.tell(ended, watch);
     }
 
-    /// Tells how a datagram ended, of a client that has the address of its source.
+    /// Notes how a datagram ended, with the client that has the address of its source.
     fn tell<W: Watch>(&self, ended: Ended<'_>, watch: &mut W)
         requires { client_number self.now.present.config.now ended.origin.source.address
             ≡ ended.client }
@@ -166,8 +166,7 @@ impl Turner<'_> {
         watch.note(ended);
     }
 
-    /// Sends the answer to a request, with this decision, to where it came from, and tells how that
-    /// ended.
+    /// Sends the answer to a request, with this decision, to its peer, and notes how that ended.
     fn send<P: PeerPort, W: Watch>(
         &self,
         request: Request,
@@ -229,7 +228,7 @@ impl Turner<'_> {
     }
 }
 
-/// Hands an answer to the port, which says this, and gives how that ended.
+/// Sends an answer with this word by the port, and gives how that ended.
 fn hand_over<P: PeerPort>(datagrams: &mut P, reply: &[u8], to: SocketAddr, said: Said) -> End
     ensures end { IsSentAs said result }
     ensures telling { P.tells datagrams.new ≡ true → P.tells datagrams.old ≡ true }

@@ -7,30 +7,30 @@ use rsl_event::{Dropped, Said};
 /// How a datagram ended.
 #[derive(Clone, Copy, Debug)]
 pub enum End {
-    /// It was dropped, by this cause. `NoMemory` is none of these: then it is `Refused`.
+    /// It was dropped for this cause. It is never `NoMemory`, which becomes `Refused`.
     Dropped(Dropped),
-    /// It has a meaning, and memory for it was refused.
+    /// It has a meaning, but memory for it was refused.
     Refused,
-    /// It has a move, and its batch was not recorded.
+    /// It has a move, but its batch was not recorded.
     Unrecorded,
-    /// This answer was made, and sent.
+    /// This answer was sent.
     Answered(Said),
     /// This answer could not be sent. What was recorded of the datagram stands.
     Unsent(Said),
 }
 
-/// How many datagrams of a turn ended so.
+/// The numbers of a turn's datagrams by how they ended.
 #[derive(Clone, Copy)]
 pub struct Ends {
-    /// How many were dropped, by a cause of their own.
+    /// The datagrams that were dropped for a cause of their own.
     pub dropped: u64,
-    /// How many have a meaning, and were refused memory.
+    /// The datagrams with a meaning that were refused memory.
     pub refused: u64,
-    /// How many have a move, in a batch that was not recorded.
+    /// The datagrams with a move, in a batch that was not recorded.
     pub unrecorded: u64,
-    /// How many have an answer that was sent.
+    /// The datagrams whose answer was sent.
     pub answered: u64,
-    /// How many have an answer that could not be sent. What was recorded of them stands.
+    /// The datagrams whose answer could not be sent. What was recorded of them stands.
     pub unsent: u64,
 }
 
@@ -39,16 +39,16 @@ pub struct Ends {
 pub enum Ending {
     /// Another turn.
     Open,
-    /// None, since a call that takes a datagram failed.
+    /// None, because a call that takes a datagram failed.
     Down,
-    /// None, since nothing more can be recorded.
+    /// None, because nothing more can be recorded.
     Ended,
 }
 
-/// What a turn did.
+/// The result of a turn.
 #[derive(Drop)]
 pub struct Turn {
-    /// How its datagrams ended.
+    /// The ends of its datagrams.
     pub ends: Ends,
     /// What comes after it.
     pub ending: Ending,
@@ -57,7 +57,7 @@ pub struct Turn {
 }
 
 impl Ends {
-    /// The ends of no datagram: each number is 0.
+    /// The ends of no datagram.
     pub(crate) fn new() -> Ends
         ensures { result ≡ no_ends }
     {
@@ -70,7 +70,7 @@ impl Ends {
         }
     }
 
-    /// How many datagrams ended in any of these ways.
+    /// The number of datagrams that ended in any way.
     pub fn sum(self) -> u64
         requires { ends_of self < 2 ^ 64 }
         ensures { result ≡ ends_of self }
@@ -78,7 +78,7 @@ impl Ends {
         self.dropped + self.refused + self.unrecorded + self.answered + self.unsent
     }
 
-    /// Counts a datagram that ended so.
+    /// Counts a datagram that ended in this way.
     pub(crate) fn count(&mut self, end: End)
         requires room { ends_of self.old + 1 < 2 ^ 64 }
         ensures { self.new ≡ counted_end end self.old }

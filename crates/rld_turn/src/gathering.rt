@@ -57,7 +57,7 @@ impl Turner<'_> {
         Ending::Open
     }
 
-    /// What a batch holds of the datagram at the start of a buffer.
+    /// The entry of the datagram at the start of a buffer.
     fn enter(
         &self,
         moment: u64,
@@ -74,8 +74,8 @@ impl Turner<'_> {
         self.entry(moment, peer, &buffer[..len], rooms, batch)
     }
 
-    /// What a batch holds of a datagram, whose move, if it has one, is then the last of the batch.
-    /// Room for its answer is taken here.
+    /// The entry of a datagram, whose move, if it has one, becomes the last of the batch. Room for
+    /// its answer is allocated here.
     fn entry(
         &self,
         moment: u64,
@@ -126,7 +126,7 @@ fn add(
     }
 }
 
-/// The one move that stands for these in the log of all shards.
+/// The one move that these make in the log of all shards.
 fn logged(moves: Moves) -> Option<Move>
     ensures { result ≡ in_log moves }
 {
@@ -137,7 +137,7 @@ fn logged(moves: Moves) -> Option<Move>
     }
 }
 
-/// Puts a move at the end of a batch, unless memory for it is refused.
+/// Appends a move to a batch, unless memory is refused.
 fn push(batch: &mut Vec<Move>, moved: Move, request: Request) -> Entry
     ensures { HasPushed moved request result batch.old.items batch.new.items }
 {

@@ -15,9 +15,8 @@ ghost use Rattle.rld_turn.specs.declared.ends.Ends.{Ends};
 use rld_log::Log;
 use rld_store::{Recorder, Store};
 
-/// What turns serve one after the other, by what a recorder was before the first, between and after the
-/// last: before the first turn nothing is served, and with each turn what was served goes on by what it
-/// did.
+/// Turns one after the other serve, given the recorder before the first, between them and after the
+/// last: before the first turn nothing is served, and each turn adds what it served.
 pub fn turns_serve<R: Recorder>(begun: &R, between: &R, ended: &R)
     ensures none { (service : ServiceSeen) (port : OnePort) (state : State) →
         HasServed service port state state (R.stands begun.now) (R.stands begun.now) }
@@ -28,8 +27,8 @@ pub fn turns_serve<R: Recorder>(begun: &R, between: &R, ended: &R)
 {}
 
 /// A crash loses nothing that turns have recorded in a store: what it leaves of the log has the
-/// history, or that and a batch that was not answered, whole. Of a loss of power it is the premise
-/// that no torn write passes for a frame by chance; of a kill that is proved.
+/// history, or the history and an unanswered batch, whole. For a loss of power the premise is that
+/// no torn write passes for a frame by chance; for a kill that is proved.
 pub fn crashes_lose_nothing_recorded<L: Log>(store: &Store<L>)
     ensures { (config : Configuration) (opening : List BooksSeen) (history : List OneMove) →
         HasRecorded config opening store.now.counts L.tears store.now.end (L.seen store.now.log)

@@ -8,21 +8,21 @@ use rsl_wire::Octets;
 use std::alloc::Global;
 use std::net::SocketAddr;
 
-/// What a call that takes a datagram meets at a port over memory.
+/// The result of a call that takes a datagram from a port in memory.
 #[derive(Drop)]
 pub enum Arrival {
     /// This datagram.
     Datagram(PeerDatagram),
-    /// No datagram is there.
+    /// No datagram came.
     Nothing,
     /// The call fails.
     Fault,
 }
 
-/// A port over memory, for tests: it gives what it was made with, one after the other, and then
-/// nothing more, and keeps what it gave and what it was handed to send.
+/// A port in memory, for tests: it gives what it was made with, one after the other, and then
+/// nothing, and keeps what it gave and what it was asked to send.
 ///
-/// It reports its datagrams to contracts, unless it was refused the memory to keep one.
+/// It reports its datagrams to contracts, unless the memory to keep one was refused.
 #[derive(Drop)]
 pub struct MemoryPeers {
     alloc: Global,
@@ -69,21 +69,21 @@ impl MemoryPeers {
         self.taken.as_slice()
     }
 
-    /// The datagrams that it was handed to send, those that it failed to send among them.
+    /// The datagrams that it was asked to send, including those that it failed to send.
     pub fn sent(&self) -> &[PeerDatagram]
         ensures { result.now ≡ self.now.sent.items }
     {
         self.sent.as_slice()
     }
 
-    /// Whether it kept all that it gave and was handed.
+    /// Whether it kept all that it gave and was asked to send.
     pub fn is_telling(&self) -> bool
         ensures { result ≡ self.now.telling }
     {
         self.telling
     }
 
-    /// The least room that a call was given that takes a datagram, in octets.
+    /// The least room, in octets, of any call that takes a datagram.
     pub fn room(&self) -> usize
         ensures { result ≡ self.now.room }
     {
@@ -91,7 +91,7 @@ impl MemoryPeers {
     }
 }
 
-/// Keeps a datagram, if those before it were kept and there is memory.
+/// Keeps a datagram, if those before it were kept and memory is not refused.
 fn keep(
     alloc: Global,
     kept: &mut Vec<PeerDatagram>,

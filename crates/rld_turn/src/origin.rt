@@ -6,18 +6,18 @@ use rld_networks::client_of;
 use rsl_event::Source;
 use std::net::SocketAddr;
 
-/// Where a datagram came from.
+/// The origin of a datagram.
 #[derive(Clone, Copy)]
 pub struct Origin {
-    /// The address and port that the system gives. An answer goes there.
+    /// The address and port that the system reports. An answer goes there.
     pub peer: SocketAddr,
-    /// What the session rule sees of it: the address of the client that the peer stands for, and the
+    /// The source for the session rule: the address of the client that the peer stands for, and the
     /// port.
     pub source: Source,
 }
 
 impl Present<'_> {
-    /// Where a datagram of this peer comes from.
+    /// The origin of a datagram of this peer.
     pub(crate) fn origin(&self, peer: SocketAddr) -> Origin
         ensures { result ≡ origin_of (service_of self.now) peer }
     {

@@ -9,7 +9,7 @@ use rld_store::{RecordFault, Recorded, Recorder};
 use rsl_shard::Move;
 use std::alloc::Global;
 
-/// What became of a batch.
+/// The result of recording a batch.
 #[derive(Drop)]
 pub(crate) enum Outcome {
     /// It has no move, and was not recorded.
@@ -23,7 +23,7 @@ pub(crate) enum Outcome {
 }
 
 impl Outcome {
-    /// How a turn ends with this outcome whose taking ended so.
+    /// The ending of a turn with this outcome, whose taking ended so.
     pub(crate) fn ending(&self, taking: Ending) -> Ending
         ensures { result ≡ ending_by self.now taking }
     {
@@ -33,7 +33,7 @@ impl Outcome {
         }
     }
 
-    /// What was recorded.
+    /// The decisions, if the batch was recorded.
     pub(crate) fn into_recorded(self) -> Option<Recorded>
         ensures { result ≡ recorded_in self }
     {

@@ -2,20 +2,20 @@ use rsl_port::PortFault;
 use rsl_wire::Octets;
 use std::net::SocketAddr;
 
-/// A datagram, with the address and port that it came from or that it goes to.
+/// A datagram, with the peer that it came from or goes to.
 #[derive(Drop)]
 pub struct PeerDatagram {
     /// The other side's address and port.
     pub peer: SocketAddr,
-    /// What it holds.
+    /// The octets of the datagram.
     pub octets: Octets,
 }
 
-/// Where datagrams come from and answers go to, as a UDP socket whose calls do not wait.
+/// A port that datagrams come from and answers go to, such as a UDP socket that does not block.
 ///
-/// A port over memory also reports to contracts which datagrams it gave, which sends were tried, the least
-/// room that a `receive` was given, in octets, and whether the last `receive` failed, as long as `tells` is
-/// true.
+/// A port in memory also reports to contracts which datagrams it gave, which sends were tried, the
+/// least room, in octets, of any `receive`, and whether the last `receive` failed, as long as
+/// `tells` is true.
 pub trait PeerPort {
     ghost use Rattle.std.specs.Prelude.{◌≡◌, ◌≤◌, ℕ, min, Bool, true, false, List, [], ◌∷◌, ◌++◌, length, IfOk, IfSome, is_err};
     ghost use Rattle.rld_turn.specs.Present.{peer_datagram};
@@ -32,9 +32,9 @@ pub trait PeerPort {
 
     ghost is_down: { Self → Bool } = { λ _. false };
 
-    /// Takes a datagram, without waiting for one, and puts its octets at the start of the buffer. Gives
-    /// how many they are, with the peer, or `None` where none is there. A datagram longer than the buffer
-    /// is cut. It fails where the port can give no more, as a socket that the system closed.
+    /// Takes a datagram, without waiting for one, and puts its octets at the start of the buffer.
+    /// Gives their number and the peer, or `None` if there is none. A datagram longer than the
+    /// buffer is cut. It fails if the port can give no more, like a socket that the system closed.
     fn receive(&mut self, buffer: &mut [u8]) -> Result<Option<(usize, SocketAddr)>, PortFault>
         ensures within { IfOk result (λ received. IfSome received (λ found.
             found.0 ≤ length buffer.new)) }
@@ -45,7 +45,7 @@ pub trait PeerPort {
         ensures room { tells self.new ≡ true → room self.new ≡ min (room self.old) (length buffer.old) }
         ensures down { tells self.new ≡ true → is_down self.new ≡ is_err result };
 
-    /// Sends these octets to a peer. Where it fails, nothing is known to have been sent.
+    /// Sends these octets to a peer. On a fault nothing is known of what was sent.
     fn send(&mut self, octets: &[u8], to: SocketAddr) -> Result<(), PortFault>
         ensures telling { tells self.new ≡ true → tells self.old ≡ true }
         ensures taken { tells self.new ≡ true → taken self.new ≡ taken self.old }

@@ -5,22 +5,22 @@ use crate::unassigned::unassigned_address;
 use rld_networks::Network;
 use rsl_accounts::Config;
 
-/// What a server fixes from one change of its accounts to the next.
+/// What is fixed for a server from one change of its accounts to the next.
 #[derive(Clone, Copy)]
 pub struct Present<'a> {
     /// The accounts, the clients and the rules.
     pub config: &'a Config,
-    /// Which addresses stand for which clients.
+    /// The networks that stand for clients.
     pub networks: &'a [Network],
     /// The boot number of its Classes.
     pub boot: u64,
-    /// An address that no client has, as which peers are seen that stand for no client.
+    /// An address that no client has, for peers that stand for no client.
     pub(crate) nobody: [u8; 4],
     ghost unassigned: { client_number config.now nobody ≡ None },
 }
 
 impl<'a> Present<'a> {
-    /// What these accounts, networks and boot number fix.
+    /// The present accounts, networks and boot number.
     pub fn new(config: &'a Config, networks: &'a [Network], boot: u64) -> Present<'a>
         ensures config { result.config.now ≡ config.entry.now }
         ensures networks { result.networks.now ≡ networks.entry.now }

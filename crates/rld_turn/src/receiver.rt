@@ -26,7 +26,7 @@ pub const MAX_BATCH: usize = 64;
 
 const _: () = prove!(MAX_BATCH == 64);
 
-/// What takes datagrams from a port, turn after turn, and the memory that it takes them in.
+/// Takes datagrams from a port, turn after turn, and keeps the memory for them.
 #[derive(Drop)]
 pub struct Receiver {
     alloc: Global,
@@ -40,7 +40,7 @@ pub struct Receiver {
 }
 
 impl Receiver {
-    /// A receiver for the authentication port or the accounting port. It fails only where memory is
+    /// A receiver for the authentication port or the accounting port. It fails only if memory is
     /// refused, for a datagram of 4,096 octets or for the entries of a batch.
     pub fn new(alloc: Global, port: Port) -> Result<Receiver, NoMemory>
         ensures { IfOk result (λ receiver. receiver.port ≡ port) }
@@ -56,18 +56,18 @@ impl Receiver {
         })
     }
 
-    /// Takes a turn: takes what waits at a port of datagrams, at most 64 of them, with room for 4,096
-    /// octets each, records their moves, and sends the answers to where they came from (RFC 2865 section
-    /// 3, RFC 2866 section 3).
+    /// Takes a turn: takes what waits at a port, at most 64 datagrams of up to 4,096 octets,
+    /// records their moves, and sends the answers to their peers (RFC 2865 section 3, RFC 2866
+    /// section 3).
     ///
     /// The moves of those that are neither dropped nor refused memory are recorded as one batch, at
     /// the moment that the clock shows when the turn begins. Each datagram is then answered, in the
-    /// order in which they were taken; one that has a move only if the batch was recorded. Where an
-    /// answer cannot be sent what was recorded stands. `watch` notes first that the turn begins,
-    /// and then, in that order, how each datagram ended.
+    /// order in which they were taken; one with a move only if the batch was recorded. If an answer
+    /// cannot be sent, what was recorded stands. `watch` notes first that the turn begins, and
+    /// then, in that order, how each datagram ended.
     ///
-    /// The turn's ending is `Down` where a call that takes a datagram failed, and `Ended` where nothing more
-    /// can be recorded; what was taken before is answered all the same.
+    /// The turn's ending is `Down` if a call that takes a datagram failed, and `Ended` if nothing
+    /// more can be recorded; what was taken before is answered all the same.
     pub fn turn<P: PeerPort, R: Recorder, C: Clock, W: Watch>(
         &mut self,
         present: &Present<'_>,
@@ -86,8 +86,8 @@ impl Receiver {
             (state_of (P.taken datagrams.new) (P.sent datagrams.new) (C.shown clock.new) (W.told watch.new) (R.books recorder.new))
             (R.stands recorder.old) (R.stands recorder.new) }
 
-        // Whatever the recorder is: what is answered with a decision has its move in the batch that
-        // the turn gives as recorded, and the decision is the one on that move.
+        // Whatever the recorder is: a datagram that is answered with a decision has its move in the
+        // batch that the turn gives as recorded, and the decision is the one on that move.
         ensures decided { P.tells datagrams.new ≡ true →
             IsDecidedBy (service_of present.now) self.old.port result.ends result.recorded
             (state_of (P.taken datagrams.old) (P.sent datagrams.old) (C.shown clock.old) (W.told watch.old) (R.books recorder.old))

@@ -9,7 +9,7 @@ use rsl_wire::{Draft, NoMemory};
 /// A datagram that was understood, and whose answer waits until its batch is recorded.
 #[derive(Drop)]
 pub(crate) struct Request {
-    /// Where it came from.
+    /// Its origin.
     pub(crate) origin: Origin,
     /// Its octets.
     pub(crate) octets: Vec<u8>,
@@ -17,29 +17,29 @@ pub(crate) struct Request {
     pub(crate) client: u32,
     /// The kind of its meaning.
     pub(crate) kind: MeaningKind,
-    /// What else counters and lines say of it.
+    /// What counters and log lines say of it besides.
     pub(crate) detail: Detail,
-    /// The room for the answer.
+    /// The draft of the answer.
     pub(crate) draft: Draft,
 }
 
-/// What a batch holds of a datagram.
+/// The entry of a datagram in a batch.
 #[derive(Drop)]
 pub(crate) enum Entry {
     /// It is dropped.
     Dropped {
-        /// Where it came from.
+        /// Its origin.
         origin: Origin,
-        /// Why.
+        /// The cause.
         cause: Dropped,
     },
-    /// Memory for it was refused. It came from there.
+    /// Memory for it was refused. It has this origin.
     Refused(Origin),
-    /// It moves nothing, and is answered all the same.
+    /// It makes no move, and is answered all the same.
     Bare(Request),
-    /// Its move stands at this place of the batch.
+    /// Its move is in the batch.
     Moved {
-        /// What waits for the decision on the move.
+        /// The request that waits for the decision on the move.
         request: Request,
         /// The place of the move in the batch.
         place: usize,
@@ -47,8 +47,8 @@ pub(crate) enum Entry {
 }
 
 impl Request {
-    /// The request in a datagram that was understood, in this room. It fails only where memory is refused,
-    /// for the octets or for the answer.
+    /// The request of a datagram that was understood, in this room. It fails only if memory is
+    /// refused, for the octets or for the answer.
     pub(crate) fn of(
         room: Room,
         origin: Origin,

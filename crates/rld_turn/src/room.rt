@@ -1,14 +1,14 @@
 use std::alloc::Global;
 
-/// The memory of a request: for its octets, and for its answer. A receiver keeps it from one request to
-/// the next.
+/// The buffers of a request, for its octets and for its answer. A receiver keeps them from one
+/// request to the next.
 #[derive(Drop)]
 pub(crate) struct Room {
     pub(crate) octets: Vec<u8>,
     pub(crate) reply: Vec<u8>,
 }
 
-/// The rooms that no request has.
+/// The rooms that no request uses.
 #[derive(Drop)]
 pub(crate) struct Rooms {
     alloc: Global,
@@ -24,7 +24,7 @@ impl Rooms {
         }
     }
 
-    /// A room of an earlier request, or one that has no memory yet.
+    /// A room of an earlier request, or one whose buffers are not allocated yet.
     pub(crate) fn take(&mut self) -> Room {
         match self.free.pop() {
             Some(room) => room,
@@ -35,7 +35,7 @@ impl Rooms {
         }
     }
 
-    /// Keeps a room for another request. Where there is no memory to note it, it is let go.
+    /// Keeps a room for another request. It is freed if memory to keep it is refused.
     pub(crate) fn keep(&mut self, room: Room) {
         let _ = self.free.push(room);
     }

@@ -1,4 +1,4 @@
-//! The answer.
+//! The answer to a Status-Server packet.
 ghost use Rattle.std.specs.Prelude.{◌≡◌, ◌+◌, ◌<◌, ◌≤◌, [], IfOk, IfSome, length, option_map};
 ghost use Rattle.std.specs.List.{AllByRecursion};
 ghost use Rattle.rsl_accounts.specs.Configuration.{client_number};
@@ -16,13 +16,13 @@ use rsl_event::{Port, Signing};
 use rsl_wire::{Attrs, Draft, NoMemory, Packet, read};
 use std::alloc::Global;
 
-/// What is answered to a datagram that came to this port from the client with this address, if it is a
+/// The answer to a datagram that came to this port from the client with this address, if it is a
 /// Status-Server packet: an Access-Accept on the authentication port, an Accounting-Response on the
-/// other (RFC 5997 section 3), with the Proxy-States as they came; the Access-Accept is signed.
+/// other (RFC 5997 section 3), with the Proxy-States in order; the Access-Accept is signed.
 ///
-/// There is no answer where the datagram is anything else, no client has the address, the attributes
-/// are malformed, there is not one right Message-Authenticator (RFC 5997 section 3 demands it), or the
-/// Proxy-States have over 3,900 octets. It fails only where memory for an answer is refused.
+/// There is no answer if the datagram is anything else, no client has the address, the attributes
+/// are malformed, there is not one right Message-Authenticator (RFC 5997 section 3 demands it), or
+/// the Proxy-States have over 3,900 octets. It fails only if memory for an answer is refused.
 #[tactic(auto, unfolding(crate::specs::StatusAnswer::status_answer))]
 pub fn status_answer(
     alloc: Global,

@@ -1,4 +1,4 @@
-//! Which packets are answered.
+//! Which Status-Server packets are answered.
 ghost use Rattle.std.specs.Prelude.{◌≡◌, ◌<◌, ◌≤◌, List, ℕ, length};
 ghost use Rattle.rsl_auth.specs.Hmac.{IsKeyOf};
 ghost use Rattle.rsl_event.specs.Request.{proxy_len, text_of};
@@ -34,8 +34,8 @@ pub(crate) fn is_answered(
         && proxy_len(attributes) <= MAX_PROXY_STATE_LEN
 }
 
-/// Whether there is exactly one Message-Authenticator, of 16 octets, and it is that of the packet, by
-/// the key of the secret.
+/// Whether there is exactly one Message-Authenticator, of 16 octets, and it is right by the key of
+/// the secret.
 #[tactic(auto, unfolding(rsl_event::specs::Signature::has_right_signature))]
 fn has_right_signature(packet: &Packet<'_>, attributes: &Attrs<'_>, key: &HmacKey) -> bool
     requires { AreAttributes packet.now.attrs.now attributes.now }
@@ -59,7 +59,7 @@ fn signature<'a>(attributes: &Attrs<'a>) -> &'a [u8]
     attributes.first(MESSAGE_AUTHENTICATOR).unwrap_or(&[])
 }
 
-/// How many octets the Proxy-States have, with their headers.
+/// Octets of the Proxy-States, with their headers.
 fn proxy_len(attributes: &Attrs<'_>) -> usize
     requires { length (list_octets attributes.now) ≤ 4096 }
     ensures { result ≡ proxy_len attributes.now }

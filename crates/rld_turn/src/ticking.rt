@@ -6,11 +6,10 @@ use rsl_port::Clock;
 use rsl_shard::Move;
 use std::alloc::Global;
 
-/// Records a tick of the clock's present moment, as a batch of its own, so that what its deadlines end
-/// is ended.
+/// Records a tick of the clock's present moment, as a batch of its own, which ends what has lapsed.
 ///
-/// `Failed` comes where it was not recorded or memory is refused, and `Ended` where nothing more can
-/// be recorded. Then the books are as they were.
+/// `Failed` comes if it was not recorded or memory is refused, and `Ended` if nothing more can be
+/// recorded. Then the books are as they were.
 pub fn tick<R: Recorder, C: Clock>(
     alloc: Global,
     recorder: &mut R,

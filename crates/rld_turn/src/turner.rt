@@ -2,7 +2,7 @@ use crate::present::Present;
 use rsl_event::Port;
 use std::alloc::Global;
 
-/// What takes a turn: for a port, by what is present.
+/// A turn at a port, with the present accounts.
 #[derive(Drop)]
 pub(crate) struct Turner<'a> {
     pub(crate) alloc: Global,

@@ -4,8 +4,8 @@ ghost use Rattle.rsl_accounts.specs.Configuration.{client_number};
 
 use rsl_accounts::Config;
 
-/// An address that no client of the configuration has, as which peers are seen that stand for no client:
-/// the first from 0.0.0.0 on.
+/// An address that no client of the configuration has, for peers that stand for no client: the
+/// first from 0.0.0.0 on.
 pub(crate) fn unassigned_address(config: &Config) -> [u8; 4]
     ensures { client_number config.now result ≡ None }
 {

@@ -1,4 +1,5 @@
--- Seconds as dates and as ages, by the dates of HTTP (RFC 9110 section 5.6.7): `Thu, 26 Nov 2026 18:20:00 GMT`.
+-- Seconds as dates and as ages, by the dates of HTTP (RFC 9110 section 5.6.7): `Thu, 26 Nov 2026
+-- 18:20:00 GMT`.
 use Rattle.std.specs.Prelude.{◌≡◌, ℕ, ◌+◌, ◌/◌, ◌%◌, List, [], ◌∷◌, ◌++◌, bytes_eq, codes, drop, nat_lt, take, Option, Some, None, if◌then◌else◌}
 use Rattle.std.specs.Fmt.{decimal}
 use Rattle.httpdate.specs.Date.{date_text, unix_secs}
@@ -20,17 +21,17 @@ month_of name =
     else if bytes_eq name (codes "Nov") then codes "11"
     else codes "12"
 
--- the hours, minutes and seconds of a date of HTTP
+-- the hours, minutes and seconds of an HTTP date
 abbrev pub time_of : (date : List ℕ) → List ℕ
 time_of date = take 8 (drop 17 date)
 
--- a date of HTTP with its year first, and then its month as a number: `2026-11-26 18:20:00`
+-- an HTTP date with its year first, and then its month as a number: `2026-11-26 18:20:00`
 abbrev pub year_first : (date : List ℕ) → List ℕ
 year_first date =
     take 4 (drop 12 date) ++ (45 ∷ (month_of (take 3 (drop 8 date)) ++ (45 ∷ (take 2 (drop 5 date) ++ (32 ∷ time_of date)))))
 
--- the dates of all seconds since 1970, until the year 10000, as HTTP writes them. No function of the kit gives them, but a
--- second has one date, so there is one such list.
+-- the dates of all seconds since 1970, until the year 10000, as HTTP writes them. No function of
+-- the kit gives them, but a second has one date, so there is one such list.
 abbrev pub AreDates : (dates : ℕ → List ℕ) → Type 0
 AreDates dates = (date : HttpDate) → dates (unix_secs date) ≡ date_text date
 
@@ -38,7 +39,7 @@ AreDates dates = (date : HttpDate) → dates (unix_secs date) ≡ date_text date
 abbrev pub http_date : (dates : ℕ → List ℕ) → (second : ℕ) → Option (List ℕ)
 http_date dates second = if nat_lt second 253402300800 then Some (dates second) else None
 
--- a second by its date, or where it has none as a number
+-- a second by its date, or as a number if it has none
 abbrev pub date_or_number : (date : Option (List ℕ)) → (second : ℕ) → List ℕ
 date_or_number (Some date) second = year_first date
 date_or_number None second = decimal second
@@ -47,7 +48,7 @@ date_or_number None second = decimal second
 abbrev pub two_digits : ℕ → List ℕ
 two_digits number = (48 + number / 10) ∷ (48 + number % 10) ∷ []
 
--- the hour and the minute of the day of a second: `18:20`
+-- the hour and the minute of a second: `18:20`
 abbrev pub clock : (second : ℕ) → List ℕ
 clock second = two_digits (second / 3600 % 24) ++ (codes ":" ++ two_digits (second / 60 % 60))
 

@@ -1,4 +1,4 @@
--- What is written is read as it was.
+-- What is written is read back unchanged.
 use Rattle.std.specs.Prelude.{◌≡◌, ◌≢◌, ℕ, ◌<◌, List, All, Some}
 use Rattle.rld_values.specs.Read.{octets_of_hex, octets_of_word, unescaped}
 use Rattle.rld_values.specs.Values.{escaped, hex, word}

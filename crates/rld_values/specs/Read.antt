@@ -1,9 +1,9 @@
--- The octets that stand in a line. More is read than is written: each visible character but the backslash
--- may stand for itself, and each octet may be escaped.
+-- Reading octets from a line. More is read than is written: each visible character except the
+-- backslash may stand for itself, and each octet may be escaped.
 use Rattle.std.specs.Prelude.{◌≡◌, ◌<◌, length, ℕ, ◌+◌, ◌-◌, ◌*◌, ◌==◌, List, [], ◌∷◌, ◌&&◌, not, bytes_eq, if◌then◌else◌, Option, Some, None}
 use Rattle.rld_values.specs.Values.{is_between}
 
--- the number of a hexadecimal digit, of which the letters are small
+-- the value of a hexadecimal digit, whose letters are in lower case
 abbrev pub digit_of : ℕ → Option ℕ
 digit_of octet =
     if is_between 48 57 octet then Some (octet - 48)
@@ -49,7 +49,7 @@ if_some (octet ∷ rest) = unescaped (octet ∷ rest)
 abbrev pub octets_of_word : List ℕ → Option (List ℕ)
 octets_of_word word = if bytes_eq word (92 ∷ 101 ∷ []) then Some [] else if_some word
 
--- an octet is read at the front of a text, and these stand after it
+-- an octet is read at the front of a text, followed by these
 pub record HasFront (read : List ℕ → Option (List ℕ)) (text : List ℕ) (octet : ℕ) (behind : List ℕ)
     : Type 0 where
   pub reads : read text ≡ before (Some octet) (read behind)

@@ -1,5 +1,5 @@
--- How values stand in a line: no value has a space, a line feed or a quotation mark in it, nor anything
--- else that a shell takes for more than itself within single quotation marks.
+-- Values in a line: no value has a space, a line feed or a quotation mark in it, or anything else
+-- that is special to a shell within single quotation marks.
 use Rattle.std.specs.Prelude.{ℕ, ◌+◌, ◌/◌, ◌%◌, ◌==◌, List, [], ◌∷◌, ◌++◌, Bool, ◌&&◌, ◌||◌, nat_le, nat_lt, codes, if◌then◌else◌, slice_index_or}
 use Rattle.std.specs.Fmt.{decimal}
 use Rattle.std.specs.List.{flat_map}
@@ -28,7 +28,7 @@ abbrev pub is_mark : ℕ → Bool
 is_mark octet =
     is_between 43 47 octet || octet == 37 || octet == 58 || octet == 61 || octet == 64 || octet == 95
 
--- what stands for itself: a letter, a digit or one of those marks
+-- an octet that stands for itself: a letter, a digit or one of those marks
 abbrev pub is_plain : ℕ → Bool
 is_plain octet = is_letter_or_digit octet || is_mark octet
 
@@ -36,11 +36,11 @@ is_plain octet = is_letter_or_digit octet || is_mark octet
 abbrev pub escaped_octet : ℕ → List ℕ
 escaped_octet octet = if is_plain octet then octet ∷ [] else 92 ∷ 120 ∷ hex_octet octet
 
--- octets after a key and `=`, where none may stand
+-- octets after a key and `=`, which may be none
 abbrev pub escaped : List ℕ → List ℕ
 escaped octets = flat_map escaped_octet octets
 
--- octets as a word of their own: none are `\e`, which no other octets are
+-- octets as a word: none are `\e`, which no other octets are
 abbrev pub word : List ℕ → List ℕ
 word [] = 92 ∷ 101 ∷ []
 word (octet ∷ octets) = escaped (octet ∷ octets)

@@ -1,4 +1,4 @@
-//! How seconds stand in a line, as dates and as ages.
+//! Seconds in a line, as dates and as ages.
 
 ghost use Rattle.std.specs.Prelude.{◌≡◌, ◌<◌, ◌++◌, List, OnOk, ℕ};
 ghost use Rattle.rld_values.specs.Dates.{AreDates, age, clock, date_or_number, days_before, http_date, month_of, time_of, two_digits, year_first};
@@ -7,12 +7,12 @@ use crate::spelling::{push_decimal, push_text};
 use httpdate::HttpDate;
 use std::alloc::AllocError;
 
-/// How many seconds a day has.
+/// Seconds of a day.
 const DAY_SECS: u64 = 86_400;
 
 const _: () = prove!(DAY_SECS == 86_400);
 
-/// The two digits of a month, by the name that HTTP has for it.
+/// The two digits of a month, by its HTTP name.
 fn month_of(name: &[u8]) -> &'static str
     ensures { result.now ≡ month_of name.now }
 {
@@ -43,14 +43,14 @@ fn month_of(name: &[u8]) -> &'static str
     }
 }
 
-/// Writes the hours, minutes and seconds of a date of HTTP.
+/// Writes the hours, minutes and seconds of an HTTP date.
 fn push_time(out: &mut Vec<u8>, date: &[u8; 29]) -> Result<(), AllocError>
     ensures { OnOk result (out.new.items ≡ out.old.items ++ time_of date.now) }
 {
     out.extend_from_slice(&date[17..25])
 }
 
-/// Writes a date of HTTP with its year first, and its month as a number.
+/// Writes an HTTP date with its year first, and its month as a number.
 fn push_year_first(out: &mut Vec<u8>, date: &[u8; 29]) -> Result<(), AllocError>
     ensures { OnOk result (out.new.items ≡ out.old.items ++ year_first date.now) }
 {
@@ -63,7 +63,7 @@ fn push_year_first(out: &mut Vec<u8>, date: &[u8; 29]) -> Result<(), AllocError>
     push_time(out, date)
 }
 
-/// The date that HTTP has for a second since 1970; none from the year 10000 on.
+/// The HTTP date of a second since 1970, or `None` from the year 10000 on.
 pub fn http_date(second: u64) -> Option<[u8; 29]>
     ensures { (dates : ℕ → List ℕ) → AreDates dates → result ≡ http_date dates second }
 {
@@ -73,8 +73,8 @@ pub fn http_date(second: u64) -> Option<[u8; 29]>
     }
 }
 
-/// Writes a second since 1970 as a date and a time of UTC, `2026-11-26 18:20:00`, and from the year 10000
-/// on as a number. It fails only where memory is refused.
+/// Writes a second since 1970 as a date and a time of UTC, such as `2026-11-26 18:20:00`, or from
+/// the year 10000 on as a number. It fails only if memory is refused.
 pub fn push_date(out: &mut Vec<u8>, second: u64) -> Result<(), AllocError>
     ensures { OnOk result ((dates : ℕ → List ℕ) → AreDates dates → out.new.items
         ≡ out.old.items ++ date_or_number (http_date dates second) second) }
@@ -82,7 +82,7 @@ pub fn push_date(out: &mut Vec<u8>, second: u64) -> Result<(), AllocError>
     push_date_or_number(out, &http_date(second), second)
 }
 
-/// Writes a second by its date, or where it has none as a number.
+/// Writes a second by its date, or as a number if it has none.
 fn push_date_or_number(
     out: &mut Vec<u8>,
     date: &Option<[u8; 29]>,
@@ -106,8 +106,8 @@ fn push_two_digits(out: &mut Vec<u8>, number: u64) -> Result<(), AllocError>
     Ok(())
 }
 
-/// Writes the hour and the minute of the day of a second since 1970, `18:20`. It fails only where
-/// memory is refused.
+/// Writes the hour and the minute of a second since 1970, such as `18:20`. It fails only if memory
+/// is refused.
 pub fn push_clock(out: &mut Vec<u8>, second: u64) -> Result<(), AllocError>
     ensures { OnOk result (out.new.items ≡ out.old.items ++ clock second) }
 {
@@ -116,7 +116,7 @@ pub fn push_clock(out: &mut Vec<u8>, second: u64) -> Result<(), AllocError>
     push_two_digits(out, second / 60 % 60)
 }
 
-/// Writes how many whole days a number of seconds has, if it has any.
+/// Writes the whole days of a number of seconds, if there are any.
 fn push_days(out: &mut Vec<u8>, seconds: u64) -> Result<(), AllocError>
     ensures { OnOk result (out.new.items ≡ out.old.items ++ days_before seconds) }
 {
@@ -127,7 +127,8 @@ fn push_days(out: &mut Vec<u8>, seconds: u64) -> Result<(), AllocError>
     push_text(out, " d ")
 }
 
-/// Writes a number of seconds as days and a time, `3 d 02:11:09`. It fails only where memory is refused.
+/// Writes a number of seconds as days and a time, such as `3 d 02:11:09`. It fails only if memory
+/// is refused.
 #[tactic(auto, unfolding(crate::specs::Dates::age))]
 pub fn push_age(out: &mut Vec<u8>, seconds: u64) -> Result<(), AllocError>
     ensures { OnOk result (out.new.items ≡ out.old.items ++ age seconds) }

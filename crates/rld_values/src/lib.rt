@@ -1,10 +1,10 @@
-//! How values stand in a line of text: octets of any kind as a word, or after a key; texts; numbers;
-//! addresses; dates and ages. It knows no line.
+//! Values in a line of text: arbitrary octets as a word, or after a key; texts; numbers; addresses;
+//! dates and ages. It knows no line.
 //!
-//! The promise: no value can forge a word or a line, since each octet but letters, digits and a few marks
-//! is escaped (`specs/Values.antt`), and what was written is read as it was (`specs/Read.antt`,
-//! `specs/Laws.antt`). What is written stands for itself in a shell too, within single quotation marks.
-//! A date is the one that HTTP has for its second (`specs/Dates.antt`).
+//! The promise: no value can forge a word or a line, since each octet except letters, digits and a
+//! few marks is escaped (`specs/Values.antt`), and what was written is read back unchanged
+//! (`specs/Read.antt`, `specs/Laws.antt`). What is written stands for itself in a shell too, within
+//! single quotation marks. A date is the HTTP date of its second (`specs/Dates.antt`).
 #![tactic(auto)]
 
 mod date;

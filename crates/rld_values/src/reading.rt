@@ -1,4 +1,4 @@
-//! How values are read from a line.
+//! Reading values from a line.
 
 ghost use Rattle.std.specs.Prelude.{◌≡◌, ◌+◌, ◌<◌, ◌∷◌, None, Some, IfOk, IfSome, MatchOption, length};
 ghost use Rattle.rld_values.specs.Read.{HasFront, digit_of, octet_of, octets_of_hex, octets_of_word, unescaped};
@@ -7,7 +7,7 @@ use crate::spelling::is_between;
 use rsl_wire::{NoMemory, Octets};
 use std::alloc::Global;
 
-/// The number of a hexadecimal digit.
+/// The value of a hexadecimal digit.
 fn digit_of(octet: u8) -> Option<u8>
     ensures digit { result ≡ digit_of octet }
     ensures below { IfSome result (λ digit. digit < 16) }
@@ -21,7 +21,7 @@ fn digit_of(octet: u8) -> Option<u8>
     }
 }
 
-/// The octet of two digits.
+/// The octet of two hexadecimal digits.
 fn octet_of(high: u8, low: u8) -> Option<u8>
     ensures { result ≡ octet_of (digit_of high) (digit_of low) }
 {
@@ -31,7 +31,7 @@ fn octet_of(high: u8, low: u8) -> Option<u8>
     }
 }
 
-/// The octet whose escape follows a backslash, and what stands after the escape.
+/// The octet whose escape follows a backslash, and the rest after the escape.
 fn escaped_front(behind: &[u8]) -> Option<(u8, &[u8])>
     ensures { MatchOption result (unescaped (92 ∷ behind.now) ≡ None)
         (λ found. HasFront unescaped (92 ∷ behind.now) found.0 found.1.now) }
@@ -48,7 +48,7 @@ fn escaped_front(behind: &[u8]) -> Option<(u8, &[u8])>
     }
 }
 
-/// The octet at the front of a value, and what stands after it.
+/// The octet at the front of a value, and the rest after it.
 fn front(value: &[u8]) -> Option<(u8, &[u8])>
     requires { 0 < length value.now }
     ensures { MatchOption result (unescaped value.now ≡ None)
@@ -67,7 +67,7 @@ fn front(value: &[u8]) -> Option<(u8, &[u8])>
     }
 }
 
-/// The octet of two hexadecimal digits at the front, and what stands after it.
+/// The octet of two hexadecimal digits at the front, and the rest after it.
 fn hex_front(digits: &[u8]) -> Option<(u8, &[u8])>
     requires { 0 < length digits.now }
     ensures { MatchOption result (octets_of_hex digits.now ≡ None)
@@ -82,9 +82,9 @@ fn hex_front(digits: &[u8]) -> Option<(u8, &[u8])>
     }
 }
 
-/// The octets that stand after a key and `=`, as `push_escaped` writes them; other visible
+/// The octets of a value after a key and `=`, as `push_escaped` writes them; other visible
 /// characters may stand for themselves too, and each octet may be escaped. `None` for any other
-/// text. It fails only where memory is refused.
+/// text. It fails only if memory is refused.
 pub fn read_escaped(alloc: Global, value: &[u8]) -> Result<Option<Octets>, NoMemory>
     ensures { IfOk result (λ found. found ≡ unescaped value.now) }
 {
@@ -100,8 +100,8 @@ pub fn read_escaped(alloc: Global, value: &[u8]) -> Result<Option<Octets>, NoMem
     Ok(Some(Octets::from_slice(alloc, octets.as_slice())?))
 }
 
-/// The octets of hexadecimal digits, as `push_hex` writes them. `None` for any other text. It fails only
-/// where memory is refused.
+/// The octets of hexadecimal digits, as `push_hex` writes them. `None` for any other text. It fails
+/// only if memory is refused.
 pub fn read_hex(alloc: Global, digits: &[u8]) -> Result<Option<Octets>, NoMemory>
     ensures { IfOk result (λ found. found ≡ octets_of_hex digits.now) }
 {
@@ -117,8 +117,8 @@ pub fn read_hex(alloc: Global, digits: &[u8]) -> Result<Option<Octets>, NoMemory
     Ok(Some(Octets::from_slice(alloc, octets.as_slice())?))
 }
 
-/// The octets of a word of their own, as `push_word` writes them, or with other characters as after
-/// a key. `None` for any other text. It fails only where memory is refused.
+/// The octets of a word, as `push_word` writes them, or with other characters as after a key.
+/// `None` for any other text. It fails only if memory is refused.
 pub fn read_word(alloc: Global, word: &[u8]) -> Result<Option<Octets>, NoMemory>
     ensures { IfOk result (λ found. found ≡ octets_of_word word.now) }
 {

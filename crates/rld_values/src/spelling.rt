@@ -1,4 +1,4 @@
-//! How values are written in a line.
+//! Writing values into a line.
 
 ghost use Rattle.std.specs.Prelude.{◌≡◌, ◌++◌, ◌∷◌, ◌<◌, [], OnOk};
 ghost use Rattle.std.specs.Fmt.{decimal};
@@ -28,7 +28,7 @@ fn push_hex_octet(out: &mut Vec<u8>, octet: u8) -> Result<(), AllocError>
     Ok(())
 }
 
-/// Writes octets as hexadecimal digits. It fails only where memory is refused.
+/// Writes octets as hexadecimal digits. It fails only if memory is refused.
 pub fn push_hex(out: &mut Vec<u8>, octets: &[u8]) -> Result<(), AllocError>
     ensures { OnOk result (out.new.items ≡ out.old.items ++ hex octets.now) }
 {
@@ -38,7 +38,7 @@ pub fn push_hex(out: &mut Vec<u8>, octets: &[u8]) -> Result<(), AllocError>
     Ok(())
 }
 
-/// Whether an octet is one of these and those between them.
+/// Whether an octet is `first`, `last` or between them.
 pub(crate) fn is_between(first: u8, last: u8, octet: u8) -> bool
     ensures { result ≡ is_between first last octet }
 {
@@ -68,7 +68,7 @@ fn push_escaped_octet(out: &mut Vec<u8>, octet: u8) -> Result<(), AllocError>
 }
 
 /// Writes octets after a key and `=`: letters, digits and `%+,-./:=@_` as they are, and any other
-/// as a backslash, an `x` and two hexadecimal digits. It fails only where memory is refused.
+/// octet as a backslash, an `x` and two hexadecimal digits. It fails only if memory is refused.
 pub fn push_escaped(out: &mut Vec<u8>, octets: &[u8]) -> Result<(), AllocError>
     ensures { OnOk result (out.new.items ≡ out.old.items ++ escaped octets.now) }
 {
@@ -78,8 +78,8 @@ pub fn push_escaped(out: &mut Vec<u8>, octets: &[u8]) -> Result<(), AllocError>
     Ok(())
 }
 
-/// Writes octets as a word of their own: as after a key, but no octets as `\e`. It fails only where
-/// memory is refused.
+/// Writes octets as a word: as after a key, but no octets as `\e`. It fails only if memory is
+/// refused.
 pub fn push_word(out: &mut Vec<u8>, octets: &[u8]) -> Result<(), AllocError>
     ensures { OnOk result (out.new.items ≡ out.old.items ++ word octets.now) }
 {
@@ -89,14 +89,14 @@ pub fn push_word(out: &mut Vec<u8>, octets: &[u8]) -> Result<(), AllocError>
     }
 }
 
-/// Writes a text. It fails only where memory is refused.
+/// Writes a text. It fails only if memory is refused.
 pub fn push_text(out: &mut Vec<u8>, text: &str) -> Result<(), AllocError>
     ensures { OnOk result (out.new.items ≡ out.old.items ++ text.now) }
 {
     out.extend_from_slice(text.as_bytes())
 }
 
-/// Writes a number. It fails only where memory is refused.
+/// Writes a number. It fails only if memory is refused.
 pub fn push_decimal(out: &mut Vec<u8>, number: u64) -> Result<(), AllocError>
     ensures { OnOk result (out.new.items ≡ out.old.items ++ decimal number) }
 {
@@ -113,7 +113,8 @@ fn push_pair(out: &mut Vec<u8>, some: u8, other: u8) -> Result<(), AllocError>
     push_decimal(out, u64::from(other))
 }
 
-/// Writes an IPv4 address as four numbers with dots between them. It fails only where memory is refused.
+/// Writes an IPv4 address as four numbers with dots between them. It fails only if memory is
+/// refused.
 #[tactic(auto, unfolding(crate::specs::Values::dotted))]
 pub fn push_dotted(out: &mut Vec<u8>, address: [u8; 4]) -> Result<(), AllocError>
     ensures { OnOk result (out.new.items ≡ out.old.items ++ dotted address) }

@@ -1,4 +1,4 @@
--- What is counted of a datagram, and what a look finds of many.
+-- What is counted of a datagram, and what a look finds.
 use Rattle.std.specs.Prelude.{ℕ, ◌==◌, Bool, true, false, List, length, option_map, Option, None, if◌then◌else◌}
 use Rattle.rsl_event.specs.declared.meaning.Port.{Port}
 use Rattle.rld_counts.specs.Cell.{CellSeen, HasCounted, without_clients}
@@ -6,13 +6,13 @@ use Rattle.rld_counts.specs.declared.ended.Ended.{Ended}
 use Rattle.rld_turn.specs.Told.{Told, is_answered}
 use Rattle.rld_watch.specs.Ending.{end_at}
 
--- an answer's time counts, if the answer was sent
+-- an answer's time counts if the answer was sent
 abbrev pub time_if : (is_answered : Bool) → (micros : Option ℕ) → Option ℕ
 time_if true micros = micros
 time_if false micros = None
 
--- what is counted of a datagram that came to a port, by what a watcher learns of it: its end there,
--- its client, and how long its answer took
+-- what is counted of a datagram on a port, from what a watcher learns of it: its end there, its
+-- client, and the time of its answer
 abbrev pub count_of : Port → Told → (micros : Option ℕ) → Option Ended
 count_of port told micros =
     option_map (λ end. record {
@@ -26,7 +26,7 @@ pub record IsCount (cell : CellSeen) : Type 0 where
   pub all : List Ended
   pub counted : HasCounted all cell
 
--- The datagrams that a cell has counted, as they are added to those of a cell for a number of clients:
--- where it is for another number, its client numbers mean other clients.
+-- The datagrams of a cell, added to those of a cell for a number of clients: if it is for another
+-- number, its client numbers mean other clients.
 abbrev pub for_clients : (clients : ℕ) → CellSeen → (had : List Ended) → List Ended
 for_clients clients cell had = if length cell.clients == clients then had else without_clients had

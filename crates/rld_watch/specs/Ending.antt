@@ -1,4 +1,4 @@
--- How a datagram is counted, by what a watcher learns of it.
+-- How a datagram is counted, from what a watcher learns of it.
 use Rattle.std.specs.Prelude.{option_map, Option, Some, None}
 use Rattle.rsl_event.specs.Laws.{cause_in}
 use Rattle.rsl_event.specs.declared.detail.Detail.{Detail}
@@ -25,7 +25,7 @@ use Rattle.rld_turn.specs.declared.ends.End.TheVariants as ends
 
 -- ---- the authentication port
 
--- a drop; the other causes are of the accounting port, or of memory
+-- a drop; the other causes belong to the accounting port, or are refused memory
 abbrev pub auth_drop : Dropped → Option AuthEnd
 auth_drop drops.Short = Some auth.Short
 auth_drop drops.BadLength = Some auth.BadLength
@@ -41,7 +41,7 @@ auth_drop drops.NoStatus = None
 auth_drop drops.NoSession = None
 auth_drop drops.NoMemory = None
 
--- a reject that is no matter of places
+-- a reject that does not concern places
 abbrev pub reject_end : RejectCause → AuthEnd
 reject_end causes.Malformed = auth.Malformed
 reject_end causes.NotOneName = auth.NotOneName
@@ -51,7 +51,7 @@ reject_end causes.UnknownAccount = auth.UnknownAccount
 reject_end causes.WrongPassword = auth.WrongPassword
 reject_end causes.DisabledAccount = auth.DisabledAccount
 
--- an answer that was sent, of a request with this cause to reject it, if there is one
+-- an answer that was sent to a request with this cause to reject it, if there is one
 abbrev pub auth_answer : (cause : Option RejectCause) → Said → Option AuthEnd
 auth_answer cause (words.Accept number) = Some auth.Accept
 auth_answer cause words.LimitReject = Some auth.LimitReject
@@ -82,7 +82,7 @@ acct_drop drops.Unsigned = None
 acct_drop drops.UnsignedProxy = None
 acct_drop drops.NoMemory = None
 
--- an answer to a request of a status, or of none that is known
+-- an answer to a request of a status, or of an unknown one
 abbrev pub status_end : Option Status → AcctEnd
 status_end (Some statuses.Start) = acct.Start
 status_end (Some statuses.Stop) = acct.Stop
@@ -91,7 +91,7 @@ status_end (Some statuses.AccountingOn) = acct.AccountingOn
 status_end (Some statuses.AccountingOff) = acct.AccountingOff
 status_end None = acct.OtherStatus
 
--- the status that a detail gives
+-- the status in a detail
 abbrev pub status_in : Option Detail → Option Status
 status_in (Some (Accounting status)) = status
 status_in (Some Asks) = None
@@ -112,8 +112,7 @@ acct_end status (ends.Unsent said) = Some acct.Unsent
 
 -- ---- both
 
--- the end of a datagram that came to a port, by what a watcher learns of it, if a datagram can end
--- there so
+-- the end of a datagram on a port, from what a watcher learns of it, if a datagram can end there so
 abbrev pub end_at : Port → Told → Option End
 end_at ports.Auth told = option_map Auth (auth_end (cause_in told.detail) told.end)
 end_at ports.Acct told = option_map Acct (acct_end (status_in told.detail) told.end)

@@ -1,4 +1,4 @@
--- What a count says of the datagrams that are counted there, by what they mean.
+-- What a count says of the datagrams counted there, by their meaning.
 use Rattle.std.specs.Prelude.{◌≡◌, ℕ, ⊤, Bool, List, [], ◌∷◌, Option, Some, None, IsSomeAnd, Ok, Err}
 use Rattle.rsl_event.specs.Detail.{detail_of}
 use Rattle.rsl_event.specs.Laws.{cause_in}
@@ -34,33 +34,33 @@ use Rattle.rld_watch.specs.Ending.{end_at, status_in}
 abbrev pub IsDroppedBy : ServiceSeen → Port → PeerDatagram → Dropped → Type 0
 IsDroppedBy service port one cause = meaning_of service port one ≡ Err cause
 
--- it means this there
+-- a datagram means this at a port
 abbrev pub Means : ServiceSeen → Port → PeerDatagram → Meaning → Type 0
 Means service port one meant = meaning_of service port one ≡ Ok meant
 
--- its detail there
+-- the detail of a datagram at a port
 abbrev pub detail_at : ServiceSeen → Port → PeerDatagram → Option Detail
 detail_at service port one =
     detail_of service.config port (source_of service one.peer) one.octets
 
--- it means something there
+-- a datagram has a meaning at a port
 pub record HasMeaning (service : ServiceSeen) (port : Port) (one : PeerDatagram) : Type 0 where
   pub meant : Meaning
   pub means : Means service port one meant
 
--- it asks for an account with the right password
+-- a datagram asks for an account with the right password
 pub record Asks (service : ServiceSeen) (one : PeerDatagram) : Type 0 where
   pub account : ℕ
   pub key : Key
   pub nas : Nas
   pub means : Means service ports.Auth one (Own account (Ask key nas))
 
--- it is well formed, and rejected for this cause
+-- a datagram is well formed, and rejected for this cause
 pub record IsRejectedFor (service : ServiceSeen) (one : PeerDatagram) (cause : RejectCause) : Type 0 where
   pub means : Means service ports.Auth one Reject
   pub is_cause : cause_in (detail_at service ports.Auth one) ≡ Some cause
 
--- it is an accounting request of this status
+-- a datagram is an accounting request of this status
 pub record HasStatus (service : ServiceSeen) (one : PeerDatagram) (status : Option Status) : Type 0 where
   pub meaning : HasMeaning service ports.Acct one
   pub is_status : status_in (detail_at service ports.Acct one) ≡ status
@@ -109,13 +109,13 @@ AcctSays service one acct.AccountingOn = HasStatus service one (Some statuses.Ac
 AcctSays service one acct.AccountingOff = HasStatus service one (Some statuses.AccountingOff)
 AcctSays service one acct.OtherStatus = HasStatus service one None
 
--- what an end says of a datagram that came to a port: it is an end of that port
+-- what an end says of a datagram on a port: it is an end of that port
 abbrev pub Says : ServiceSeen → Port → PeerDatagram → End → Type 0
 Says service ports.Auth one (Auth end) = AuthSays service one end
 Says service ports.Acct one (Acct end) = AcctSays service one end
 Says service _ one _ = ⊥
 
--- each of these datagrams has an end, by what a watcher learns of it, and that says the truth of it
+-- each of these datagrams has an end, from what a watcher learns of it, which is true of it
 abbrev pub HaveEnds : ServiceSeen → Port → (told : List Told) → (taken : List PeerDatagram) → Type 0
 HaveEnds service port [] [] = ⊤
 HaveEnds service port (told ∷ more) (one ∷ taken) =
@@ -123,7 +123,7 @@ HaveEnds service port (told ∷ more) (one ∷ taken) =
     × HaveEnds service port more taken
 HaveEnds service port _ _ = ⊥
 
--- so it is of the datagrams of each turn
+-- that holds for the datagrams of each turn
 abbrev pub EndsAreTrue : Type 0
 EndsAreTrue =
     (service : ServiceSeen) (port : Port) (moment : ℕ) (recorded : Bool) (begun : List BooksSeen)

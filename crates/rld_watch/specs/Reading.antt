@@ -1,7 +1,7 @@
--- What was read of receivers comes to.
+-- The sums of receivers' counts.
 --
--- A receiver counts behind a lock, so no clause can name what it has counted. But a clause can name what
--- was read of it: `had` says of each reading which datagrams its receiver had counted.
+-- A receiver counts under a lock, so no clause can name what it has counted. But a clause can name
+-- what was read: `had` says of each reading which datagrams its receiver had counted.
 use Rattle.std.specs.Prelude.{ℕ, Bool, true, false, List, [], map, if◌then◌else◌}
 use Rattle.std.specs.List.{AllByRecursion, flat_map}
 use Rattle.rsl_event.specs.declared.meaning.Port.{Port}
@@ -22,7 +22,7 @@ is_same_port Acct Auth = false
 abbrev pub HaveCounted : (had : Reading → List Ended) → List Reading → Type 0
 HaveCounted had readings = AllByRecursion (λ reading. HasCounted (had reading) reading.counted.cell) readings
 
--- what is shown of a receiver where those of a port are asked for, by a number of clients
+-- the datagrams shown for a receiver if those of a port are asked for, by a number of clients
 abbrev pub shown : Port → (clients : ℕ) → Reading → (had : List Ended) → List Ended
 shown port clients reading had =
     if is_same_port reading.port port then for_clients clients reading.counted.cell had else []

@@ -7,7 +7,7 @@ use rsl_event::Port;
 use std::alloc::{AllocError, Global};
 use std::sync::{Mutex, Wait};
 
-/// What a receiver has counted, behind a lock of its own.
+/// The counts of a receiver, under a lock.
 #[derive(Drop)]
 pub(crate) struct Place {
     pub(crate) port: Port,
@@ -21,7 +21,7 @@ impl Place {
     }
 }
 
-/// What all receivers of a server have counted, each behind a lock of its own. A look waits for one
+/// The counts of all receivers of a server, each under a lock of its own. A look waits for one
 /// receiver at a time, and no longer than it takes to count a datagram.
 #[derive(Drop)]
 pub struct Board {
@@ -29,8 +29,8 @@ pub struct Board {
 }
 
 impl Board {
-    /// A place for each receiver, one for each of these ports, with counts of 0 for each of `clients`
-    /// clients. It fails only where memory is refused.
+    /// A place for each receiver, one for each of these ports, with counts of 0 for each of
+    /// `clients` clients. It fails only if memory is refused.
     pub fn new(alloc: Global, clients: u32, ports: &[Port]) -> Result<Board, AllocError>
         ensures { IfOk result (λ board. map (λ place. place.port) board.places.items ≡ ports.now) }
     {
@@ -45,7 +45,7 @@ impl Board {
         Ok(Board { places })
     }
 
-    /// For each receiver counts of 0 for each of `clients` clients: what `renew` takes. It fails only where
+    /// For each receiver counts of 0 for each of `clients` clients, for `renew`. It fails only if
     /// memory is refused.
     pub fn counts_for(&self, alloc: Global, clients: u32) -> Result<Vec<ClientCounts>, AllocError>
         ensures len { IfOk result (λ each. length each.items ≡ length self.now.places.items) }
@@ -54,11 +54,11 @@ impl Board {
         new_counts(alloc, clients, self.places.len())
     }
 
-    /// Each receiver begins to count by client anew, in the counts that `each` has for it, as
-    /// client numbers mean other clients from now on. The counts in all and the times go on.
+    /// Makes each receiver begin to count by client again, in its counts of `each`, since client
+    /// numbers mean other clients from now on. The total counts and the times go on.
     ///
-    /// The receivers begin one after the other. Let no look come between: where there are as many clients
-    /// as before, it would add what former ones and new ones have by their numbers.
+    /// The receivers begin one after the other. There must be no look in between: if there are as
+    /// many clients as before, it would add the counts of former and new clients by their numbers.
     pub fn renew<R: Wait>(&self, rt: &R, each: Vec<ClientCounts>)
         requires { length each.items ≡ length self.now.places.items }
     {
@@ -67,8 +67,8 @@ impl Board {
         }
     }
 
-    /// Looks at each receiver: what it has counted until now, in all, of each of `clients` clients, and in
-    /// times. It fails only where memory is refused.
+    /// Looks at each receiver: its counts so far, in total, for each of `clients` clients, and of
+    /// times. It fails only if memory is refused.
     pub fn read<R: Wait>(
         &self,
         rt: &R,
@@ -87,12 +87,12 @@ impl Board {
 }
 
 impl Place {
-    /// Begins to count by client anew.
+    /// Begins to count by client again.
     fn renew<R: Wait>(&self, rt: &R, clients: ClientCounts) {
         self.counted.lock(rt).renew(clients);
     }
 
-    /// What its receiver has counted until now. Where that is for another number of clients, the counts of
+    /// The counts of the receiver so far. If they are for another number of clients, the counts of
     /// each client are 0.
     fn read<R: Wait>(&self, rt: &R, alloc: Global, clients: u32) -> Result<Reading, AllocError>
         ensures { IfOk result (λ reading. reading.port ≡ self.now.port) }

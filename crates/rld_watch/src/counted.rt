@@ -6,8 +6,8 @@ ghost use Rattle.rld_watch.specs.Counted.{IsCount, for_clients};
 use rld_counts::{Cell, ClientCounts, Counts, Ended};
 use std::alloc::{AllocError, Global};
 
-/// What stands behind the lock of a receiver: whenever it is looked at, it has counted some datagrams,
-/// and nothing else.
+/// The counts of a receiver, as its lock protects them: at any look they are those of some
+/// datagrams, and of nothing else.
 #[derive(Drop)]
 pub(crate) struct Counted {
     cell: Cell,
@@ -15,7 +15,7 @@ pub(crate) struct Counted {
 }
 
 impl Counted {
-    /// Counts of 0, with some for each of `clients` clients. It fails only where memory is refused.
+    /// Counts of 0, with some for each of `clients` clients. It fails only if memory is refused.
     #[tactic(auto, using(crate::proofs::Counting::counting))]
     pub(crate) fn new(alloc: Global, clients: u32) -> Result<Counted, AllocError>
         ensures none { IfOk result (λ counted. HasCounted [] counted.cell) }
@@ -41,8 +41,8 @@ impl Counted {
         self.cell.counts()
     }
 
-    /// Begins to count by client anew. The counts in all and the times go on; what was counted of a
-    /// client is from now on of none.
+    /// Begins to count by client again. The total counts and the times go on; earlier datagrams
+    /// then belong to no client.
     #[tactic(auto, using(crate::proofs::Counting::counting))]
     pub(crate) fn renew(&mut self, clients: ClientCounts)
         ensures anew { (all : List OneEnded) → HasCounted all self.old.cell →
@@ -52,8 +52,8 @@ impl Counted {
         self.cell.renew(clients);
     }
 
-    /// Adds what `other` has counted. Where that is for another number of clients, its client numbers
-    /// mean other clients, so it is added to the counts in all and the times alone.
+    /// Adds the counts of `other`. If they are for another number of clients, its client numbers
+    /// mean other clients, so they are added to the total counts and the times alone.
     #[tactic(auto, using(crate::proofs::Counting::adding))]
     pub(crate) fn add(&mut self, other: &Counted)
         ensures added { (all others : List OneEnded) →
@@ -68,7 +68,7 @@ impl Counted {
         }
     }
 
-    /// The cell alone.
+    /// The cell.
     pub(crate) fn into_cell(self) -> Cell
         ensures { result ≡ self.cell }
     {

@@ -7,8 +7,8 @@ use rld_counts::{AcctEnd, AuthEnd, End};
 use rld_turn::{End as TurnEnd, Ended};
 use rsl_event::{Detail, Dropped, Port, RejectCause, Said, Status};
 
-/// How a datagram that came to this port is counted, by what a watcher learns of it. It is `None`
-/// where no datagram ends so at the port; a receiver of the port never gives that (`laws`).
+/// How a datagram on this port is counted, from what a watcher learns of it. `None` if no datagram
+/// ends so at the port, which a receiver of the port never reports (`laws`).
 pub fn end_at(port: Port, ended: &Ended<'_>) -> Option<End>
     ensures { result ≡ ending.end_at port (told_as ended.now) }
 {
@@ -18,7 +18,7 @@ pub fn end_at(port: Port, ended: &Ended<'_>) -> Option<End>
     }
 }
 
-/// The cause that a detail gives why an Access-Request is rejected.
+/// The cause for which an Access-Request is rejected, from its detail.
 fn cause_in(detail: Option<Detail>) -> Option<RejectCause>
     ensures { result ≡ cause_in detail }
 {
@@ -28,7 +28,7 @@ fn cause_in(detail: Option<Detail>) -> Option<RejectCause>
     }
 }
 
-/// The status of an Accounting-Request that a detail gives, if it is one that is known.
+/// The status of an Accounting-Request, from its detail, if it is known.
 fn status_in(detail: Option<Detail>) -> Option<Status>
     ensures { result ≡ ending.status_in detail }
 {
@@ -38,7 +38,7 @@ fn status_in(detail: Option<Detail>) -> Option<Status>
     }
 }
 
-/// How a datagram is counted that ended so at the authentication port. `cause` is why the request
+/// How a datagram that ended so at the authentication port is counted. `cause` is why the request
 /// is rejected, if it is.
 fn auth_end(cause: Option<RejectCause>, end: TurnEnd) -> Option<AuthEnd>
     ensures { result ≡ ending.auth_end cause end }
@@ -73,7 +73,7 @@ fn auth_drop(cause: Dropped) -> Option<AuthEnd>
     }
 }
 
-/// How an answer of the authentication port is counted that was sent.
+/// How an answer that was sent from the authentication port is counted.
 fn auth_answer(cause: Option<RejectCause>, said: Said) -> Option<AuthEnd>
     ensures { result ≡ ending.auth_answer cause said }
 {
@@ -85,7 +85,7 @@ fn auth_answer(cause: Option<RejectCause>, said: Said) -> Option<AuthEnd>
     }
 }
 
-/// How a reject is counted that is no matter of places.
+/// How a reject that does not concern places is counted.
 fn reject_end(cause: RejectCause) -> AuthEnd
     ensures { result ≡ ending.reject_end cause }
 {
@@ -100,8 +100,8 @@ fn reject_end(cause: RejectCause) -> AuthEnd
     }
 }
 
-/// How a datagram is counted that ended so at the accounting port. `status` is that of the request,
-/// if it is one that is known.
+/// How a datagram that ended so at the accounting port is counted. `status` is that of the request,
+/// if it is known.
 fn acct_end(status: Option<Status>, end: TurnEnd) -> Option<AcctEnd>
     ensures { result ≡ ending.acct_end status end }
 {
@@ -134,7 +134,7 @@ fn acct_drop(cause: Dropped) -> Option<AcctEnd>
     }
 }
 
-/// How an answer is counted to a request of this status, or of none that is known.
+/// How an answer to a request of this status is counted, or of an unknown one.
 fn status_end(status: Option<Status>) -> AcctEnd
     ensures { result ≡ ending.status_end status }
 {

@@ -4,7 +4,7 @@ ghost use Rattle.rld_watch.specs.Laws.{EndsAreTrue};
 
 use rsl_event::laws::causes_are_of_rejects;
 
-/// Each datagram of a turn has an end, by what a watcher learns of it. One that is dropped is
+/// Each datagram of a turn has an end, from what a watcher learns of it. One that is dropped is
 /// counted under the cause why it has no meaning; one that is rejected under the cause of its
 /// reject; an accepted one, and one that found no place, asks for an account with the right
 /// password; an accounting request is counted under its Acct-Status-Type.

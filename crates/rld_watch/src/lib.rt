@@ -1,9 +1,9 @@
-//! What the receivers of a server count of the datagrams that they took, and what a look finds of it.
+//! The counts that a server's receivers keep of their datagrams, and a look at them.
 //!
-//! The promise: a datagram is counted by how it ended, as `specs/Ending.antt` defines it, and that says
-//! the truth of what the datagram means (`specs/Laws.antt`, `laws`); whatever a look finds of a
-//! receiver is the count of some datagrams, each by its end, its client and its time, and of nothing
-//! else (`specs/Counted.antt`); and the counts of a port are those of all its receivers
+//! The promise: a datagram is counted by how it ended, as `specs/Ending.antt` defines it, which
+//! agrees with what the datagram means (`specs/Laws.antt`, `laws`); whatever a look finds of a
+//! receiver is the count of some datagrams, each by its end, its client and its time, and of
+//! nothing else (`specs/Counted.antt`); and the counts of a port are those of all its receivers
 //! (`specs/Reading.antt`).
 #![tactic(auto)]
 

@@ -1,4 +1,4 @@
-//! What receivers had counted when they were looked at, and what that comes to.
+//! Readings of receivers' counts, and their sums.
 
 ghost use Rattle.std.specs.Prelude.{◌≡◌, ◌++◌, IfOk, List, length};
 ghost use Rattle.rld_counts.specs.Cell.{HasCounted};
@@ -11,7 +11,7 @@ use rld_counts::{Cell, Counts};
 use rsl_event::Port;
 use std::alloc::{AllocError, Global};
 
-/// What a receiver had counted when it was looked at, and its port.
+/// The counts of a receiver at a look, and its port.
 #[derive(Drop)]
 pub struct Reading {
     pub(crate) port: Port,
@@ -19,7 +19,7 @@ pub struct Reading {
 }
 
 impl Reading {
-    /// Adds what it has counted, if the receiver is of this port.
+    /// Adds its counts, if the receiver is of this port.
     fn add_to(&self, port: Port, all: &mut Counted)
         ensures added { (before had : List OneEnded) →
             HasCounted before all.old.cell → HasCounted had self.now.counted.cell →
@@ -32,7 +32,7 @@ impl Reading {
     }
 }
 
-/// The counts of all these receivers, added up.
+/// The sum of the counts of these receivers.
 #[tactic(auto, using(crate::proofs::Readings::counts_steps))]
 pub fn counts_of(readings: &[Reading]) -> Counts
     ensures { (had : OneReading → List OneEnded) → HaveCounted had readings.now →
@@ -45,9 +45,9 @@ pub fn counts_of(readings: &[Reading]) -> Counts
     all
 }
 
-/// What the receivers of a port have counted, added up: in all, of each of `clients` clients, and in
-/// times. A receiver that counts for another number of clients is in the counts in all and the times
-/// alone. It fails only where memory is refused.
+/// The sum of the counts of a port's receivers: in total, for each of `clients` clients, and of
+/// times. A receiver that counts for another number of clients is only in the total counts and the
+/// times. It fails only if memory is refused.
 #[tactic(auto, using(crate::proofs::Readings::cell_steps))]
 pub fn cell_of(
     alloc: Global,

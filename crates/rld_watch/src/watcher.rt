@@ -15,17 +15,17 @@ use std::time::{Clock, Duration, Instant};
 /// What all watchers of a server share.
 #[derive(Clone, Copy)]
 pub struct WatchContext<'a> {
-    /// Where its receivers count.
+    /// The counts of its receivers.
     pub board: &'a Board,
-    /// Where its refusals wait for their lines.
+    /// The refusals that wait for their lines.
     pub refusals: &'a Refusals,
 }
 
 /// A watcher of one receiver: it counts each datagram at the receiver's place of the board, and
-/// notes the datagram among the refusals, if it is one.
+/// notes it among the refusals, if it is one.
 ///
-/// The time of an answer is that from its turn's beginning until the answer was sent. How long a
-/// datagram waited in its socket's room before is not in it.
+/// The time of an answer runs from the beginning of its turn until it was sent. The datagram's time
+/// in the socket's queue is not in it.
 #[derive(Drop)]
 pub struct Watcher<'a, R: Wait + Clock> {
     rt: &'a R,
@@ -37,7 +37,7 @@ pub struct Watcher<'a, R: Wait + Clock> {
 }
 
 impl<'a, R: Wait + Clock> Watcher<'a, R> {
-    /// The watcher of the receiver with the number `receiver`, if the board has a place for it.
+    /// The watcher of the receiver with this number, if the board has a place for it.
     pub fn new(
         rt: &'a R,
         alloc: Global,
@@ -55,7 +55,7 @@ impl<'a, R: Wait + Clock> Watcher<'a, R> {
         })
     }
 
-    /// How long the turn has taken until now, in microseconds, if the clock can be read.
+    /// The time of the turn so far in microseconds, if the clock can be read.
     fn micros(&self) -> Option<u64> {
         let begun = self.begun?;
         match begun.elapsed(self.rt) {
@@ -64,8 +64,8 @@ impl<'a, R: Wait + Clock> Watcher<'a, R> {
         }
     }
 
-    /// Notes a datagram among the refusals, if it is one. In a flood it is left out before anything of it
-    /// is read.
+    /// Notes a datagram among the refusals, if it is one. In a flood it is left out before anything
+    /// of it is read.
     fn note_refusal(&self, ended: &Ended<'_>, end: CountedEnd) {
         let refusals = self.context.refusals;
         if !is_refusal(end) || refusals.leave_out(self.rt, self.receiver, end) {
@@ -103,8 +103,8 @@ impl<R: Wait + Clock> Watch for Watcher<'_, R> {
     }
 }
 
-/// What is counted of a datagram that came to this port, by what a watcher learns of it, if its
-/// answer took `micros` microseconds. There is always something, as `laws` says.
+/// What is counted of a datagram on this port, from what a watcher learns of it, if its answer took
+/// `micros` microseconds. It is never `None`, as `laws` says.
 fn count_of(port: Port, ended: &Ended<'_>, micros: Option<u64>) -> Option<CountedEnded>
     ensures { result ≡ count_of port (told_as ended.now) micros }
 {
@@ -116,7 +116,7 @@ fn count_of(port: Port, ended: &Ended<'_>, micros: Option<u64>) -> Option<Counte
     })
 }
 
-/// How long the answer took, if one was sent.
+/// The time of the answer, if one was sent.
 fn time_if(end: End, micros: Option<u64>) -> Option<u64>
     ensures { result ≡ time_if (is_answered end) micros }
 {

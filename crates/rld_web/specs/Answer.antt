@@ -20,8 +20,8 @@ use Rattle.rld_web.specs.Place.{host_of, is_asked_for}
 use Rattle.rld_web.specs.declared.path.Path.{Path}
 use Rattle.rld_web.specs.declared.path.Path.TheVariants as Of
 
--- the fields of each response, of this media type: it is not kept, it is of that type, a page loads and
--- runs nothing, and the connection ends
+-- the fields of each response: it is not cached, it has this media type, a page loads and runs
+-- nothing, and the connection ends
 abbrev pub fields_with : (media_type : List ℕ) → List Header
 fields_with media_type =
     (codes "content-type", media_type)
@@ -42,7 +42,7 @@ IsTextOf look accounts Of.Metrics text = text ≡ metrics_text look
 IsTextOf look accounts Of.Accounts text = AreAccounts accounts text
 IsTextOf look accounts Of.Health text = text ≡ health_text (health_of look.recording)
 
--- 200, and of a server that is not well 503 for its health
+-- 200, or 503 for the health of a server that is not well
 abbrev pub health_status : Health → ℕ
 health_status Is.Well = 200
 health_status Is.Failing = 503
@@ -53,7 +53,7 @@ status_of look Of.Metrics = 200
 status_of look Of.Accounts = 200
 status_of look Of.Health = health_status (health_of look.recording)
 
--- what a path that there is has, and what any other one has
+-- the response to a known path, and to any other one
 abbrev pub IsShown : Look → Option AccountsLook → Option Path → Response → Type 0
 IsShown look accounts None response = IsResponse 404 (fields_with plain) (codes "there is no such page\n") response
 IsShown look accounts (Some path) response =
@@ -64,17 +64,17 @@ IsShown look accounts (Some path) response =
 abbrev pub is_reading : (method : List ℕ) → Bool
 is_reading method = bytes_eq method (codes "GET") || bytes_eq method (codes "HEAD")
 
--- what a method that does not only read has
+-- the response to a method that does more than read
 abbrev pub IsRefusedMethod : Response → Type 0
 IsRefusedMethod =
     IsResponse 405 (fields_with plain ++ (codes "allow", codes "GET, HEAD") ∷ []) (codes "only GET and HEAD are answered\n")
 
--- what a method that reads has, and what any other one has
+-- the response to a method that reads, and to any other one
 abbrev pub IsRead : Look → Option AccountsLook → (reading : Bool) → (path : List ℕ) → Response → Type 0
 IsRead look accounts true path response = IsShown look accounts (path_of path) response
 IsRead look accounts false path response = IsRefusedMethod response
 
--- what is answered under the server's own name, and what under any other one
+-- the response under the server's own name, and under any other one
 abbrev pub IsAnswered : Look → Option AccountsLook → (asked : Bool) → (reading : Bool) → (path : List ℕ) → Response → Type 0
 IsAnswered look accounts true reading path response = IsRead look accounts reading path response
 IsAnswered look accounts false reading path response =
@@ -85,7 +85,8 @@ Answers look accounts place request response =
     IsAnswered look accounts (is_asked_for place (host_of (head_of request))) (is_reading (head_of request).method)
     (uri_path (head_of request).uri) response
 
--- by the last look, without which nothing is answered, and by that at the accounts
+-- the response from the last look, without which nothing is answered, and from the look at the
+-- accounts
 abbrev pub HasAnswered : Option Look → Option AccountsLook → SocketAddrV4 → Request (List ℕ) → Response → Type 0
 HasAnswered None accounts place request response = ⊥
 HasAnswered (Some look) accounts place request response = Answers look accounts place request response

@@ -1,4 +1,4 @@
--- What a path asks for, and of which media type it is.
+-- The paths of a server, and their media types.
 use Rattle.std.specs.Prelude.{ℕ, List, codes, Option, Some, None, bytes_eq, if◌then◌else◌}
 use Rattle.rld_web.specs.declared.path.Path.{Path}
 use Rattle.rld_web.specs.declared.path.Path.TheVariants.{Page, Metrics, Accounts, Health}

@@ -1,4 +1,4 @@
--- How a request may call the server.
+-- The names of the server in a request.
 use Rattle.std.specs.Prelude.{ℕ, Bool, true, false, ◌||◌, List, ◌++◌, codes, decimal, Option, Some, None, bytes_eq}
 use Rattle.std.specs.Net.Addr.{ipv4_octets}
 use Rattle.std.specs.Net.Socket.{v4_ip, v4_port}
@@ -19,7 +19,7 @@ abbrev pub first_of : (authority field : Option (List ℕ)) → Option (List ℕ
 first_of (Some authority) field = Some authority
 first_of None field = field
 
--- the host that a request asks for: its target's, else its first Host (RFC 9112 section 3.2.2)
+-- the host of a request: its target's, else its first Host (RFC 9112 section 3.2.2)
 abbrev pub host_of : Parts → Option (List ℕ)
 host_of head = first_of (uri_authority head.uri) (field_octets (get head.headers (codes "host")))
 

@@ -1,4 +1,4 @@
-//! How a response is filled.
+//! Filling a response.
 
 ghost use Rattle.std.specs.Prelude.{◌≡◌, ◌++◌, ◌∷◌, [], OnOk, IsTrue, codes};
 ghost use Rattle.http_header.specs.FieldValue.{is_visible_text};
@@ -17,8 +17,8 @@ use std::alloc::AllocError;
 /// What a page may load and do: nothing but its own style.
 const POLICY: &str = "default-src 'none'; style-src 'unsafe-inline'; frame-ancestors 'none'";
 
-/// Fills a response that is blank. It is not kept, it is of the media type that it says, and the
-/// connection ends with it.
+/// Fills a blank response. It is not cached, it has the media type that it says, and the connection
+/// ends with it.
 #[tactic(auto, using(crate::proofs::Fields::five_fields))]
 pub(crate) fn fill(
     response: &mut Response,

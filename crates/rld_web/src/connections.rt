@@ -13,13 +13,13 @@ use std::net::{Net, TcpListener, TcpStream};
 use std::os::fd::AsRawFd;
 use std::time::Duration;
 
-/// How many connections are served at once.
+/// The most connections served at once.
 const MOST_OPEN: usize = 16;
 
-/// How long a wait takes at most, in milliseconds.
+/// The longest wait, in milliseconds.
 const WAIT_MILLIS: u64 = 1_000;
 
-/// The name of each socket that is waited for: which one is ready is not asked, since each has its turn.
+/// The token of every socket: which one is ready does not matter, since each has its turn.
 const SOCKET: Token = Token(0);
 
 /// All connections, in the order in which they came.
@@ -34,8 +34,8 @@ pub(crate) struct Connections {
 }
 
 impl Connections {
-    /// No connection yet, at a listener whose calls do not wait. The error is the system's: it
-    /// has no room to wait for the listener; or memory is refused.
+    /// No connection, at a listener that does not block. The error is the system's, if it has no
+    /// resources to wait for the listener, or comes if memory is refused.
     pub(crate) fn new<N: Net>(
         net: &N,
         alloc: Global,
@@ -69,8 +69,8 @@ impl Connections {
             .poll(&mut self.events, Some(Duration::from_millis(wait)))
     }
 
-    /// Takes in the connections that wait at the listener. Where there is no room for one more, the oldest is
-    /// closed: so one that does not finish keeps no other out.
+    /// Accepts the connections that wait at the listener. If there is no room for another, the
+    /// oldest is closed: so one that does not finish keeps no other out.
     pub(crate) fn let_in(&mut self, listener: &TcpListener, now: u64) {
         self.has_more = false;
         for _ in 0..MOST_OPEN {
@@ -82,7 +82,7 @@ impl Connections {
         self.has_more = true;
     }
 
-    /// Takes in a connection, in place of the oldest one where all room is taken. Where the system refuses
+    /// Accepts a connection, in place of the oldest one if there is no room. If the system refuses
     /// it, it is closed.
     fn take_in(&mut self, stream: TcpStream, now: u64) {
         let Ok(connection) = HttpConnection::new(self.alloc, self.keys, stream, now) else {
@@ -100,7 +100,7 @@ impl Connections {
         let _oldest = self.open.push_back(connection);
     }
 
-    /// Gives each connection a turn, and closes those that are done with or have had their time.
+    /// Gives each connection a turn, and closes those that are finished or whose time is over.
     pub(crate) fn serve<S: Shown>(&mut self, service: &mut PageService<'_, S>, now: u64) {
         for _ in 0..self.open.len() {
             let Some(mut connection) = self.open.pop_front() else {

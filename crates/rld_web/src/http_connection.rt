@@ -1,4 +1,4 @@
-//! A connection by HTTP.
+//! An HTTP connection.
 
 use crate::page_service::PageService;
 use http_server::{Config, Connection};
@@ -9,30 +9,30 @@ use std::hash::RandomState;
 use std::io::{self, ErrorKind, Read};
 use std::net::{Shutdown, SocketAddr, SocketAddrV4, TcpStream};
 
-/// How long a connection lasts at most, in milliseconds.
+/// The longest time of a connection, in milliseconds.
 const PATIENCE_MILLIS: u64 = 5_000;
 
-/// How often octets are moved before others have their turn.
+/// How many times octets are moved before others have their turn.
 const MOVES: usize = 64;
 
 /// The most octets of a request's head. A longer one is answered with 414 or 431.
 const MAX_HEAD_LEN: usize = 8 * 1024;
 
-/// The most octets of a request's body, which nothing here reads. A longer one is answered with 413.
+/// The most octets of a request's body, which is never read. A longer one is answered with 413.
 const MAX_BODY_LEN: usize = 1024;
 
 /// How a turn of a connection ends.
 #[derive(Clone, Copy)]
 pub(crate) enum Turn {
-    /// Nothing can be done until octets come or have gone.
+    /// Nothing can be done until octets come or go.
     Waits,
     /// More can be done at once.
     GoesOn,
-    /// The connection is done with.
+    /// The connection is finished.
     Leaves,
 }
 
-/// A connection over which something is asked for.
+/// A connection with a request.
 #[derive(Drop)]
 pub(crate) struct HttpConnection {
     stream: TcpStream,
@@ -43,7 +43,7 @@ pub(crate) struct HttpConnection {
 }
 
 impl HttpConnection {
-    /// A connection that was made at this moment in milliseconds. No call on the stream waits from now on.
+    /// A connection accepted at this moment in milliseconds. Its stream does not block from now on.
     pub(crate) fn new(
         alloc: Global,
         keys: RandomState,
@@ -63,22 +63,22 @@ impl HttpConnection {
         })
     }
 
-    /// The stream, to be waited for.
+    /// The stream, to wait for.
     pub(crate) fn stream(&self) -> &TcpStream {
         &self.stream
     }
 
-    /// Where the connection came to.
+    /// The local address of the connection.
     pub(crate) fn place(&self) -> SocketAddrV4 {
         self.place
     }
 
-    /// How long it lasts still at this moment, in milliseconds.
+    /// The milliseconds that it still has at this moment.
     pub(crate) fn left(&self, now: u64) -> u64 {
         self.until.saturating_sub(now)
     }
 
-    /// Does what can be done without waiting, for some moves at most.
+    /// Does what can be done without blocking, for a limited number of moves.
     pub(crate) fn take_turn<S: Shown>(&mut self, service: &mut PageService<'_, S>) -> Turn {
         for _ in 0..MOVES {
             match self.take_step(service) {
@@ -92,7 +92,7 @@ impl HttpConnection {
     }
 
     /// Answers what has come, and moves octets once. After the answer what still comes is read and
-    /// let go, until the other side is done too.
+    /// discarded, until the peer has closed too.
     fn take_step<S: Shown>(&mut self, service: &mut PageService<'_, S>) -> io::Result<Turn> {
         if self.is_answered {
             return self.discard();
@@ -107,7 +107,7 @@ impl HttpConnection {
         Ok(Turn::GoesOn)
     }
 
-    /// Writes what is pending, or else reads. Gives how many octets that were.
+    /// Writes what is pending, or else reads. Gives the number of octets.
     fn move_octets(&mut self) -> io::Result<usize> {
         let mut stream = &self.stream;
         if self.connection.wants_write() {
@@ -116,8 +116,8 @@ impl HttpConnection {
         self.connection.read_from(&mut stream)
     }
 
-    /// Reads what comes after the request, and lets it go: where a socket is closed before that,
-    /// the answer may be lost.
+    /// Reads and discards what comes after the request: if the socket were closed before that, the
+    /// answer might be lost.
     fn discard(&mut self) -> io::Result<Turn> {
         let mut connections = [0u8; 1024];
         let mut stream = &self.stream;

@@ -1,9 +1,8 @@
-//! A running server over HTTP/1.1: who asks for a path is shown its text, from one thread.
+//! A running server over HTTP/1.1: each path has a text, served from one thread.
 //!
-//! The promise: a GET or a HEAD of a path that there is, asked for under the server's own name, has
-//! exactly the text that the path is for, and every other request has none of them
-//! (`specs/Answer.antt`). A connection has one request and five seconds in all; there are at most 16 of
-//! them, and none waits for another.
+//! The promise: a GET or a HEAD of a known path, under the server's own name, gets exactly the text
+//! of the path, and every other request gets none of them (`specs/Answer.antt`). A connection has
+//! one request and five seconds in all; there are at most 16 of them, and none waits for another.
 #![tactic(auto)]
 
 mod answer;

@@ -16,11 +16,11 @@ use rld_text::push_metrics;
 use std::alloc::{AllocError, Global};
 use std::net::SocketAddrV4;
 
-/// For how many milliseconds a look is shown to all who ask.
+/// How long a look is shown to all clients, in milliseconds.
 const LOOK_MILLIS: u64 = 1_000;
 
-/// Answers requests by a look at the server, which is at most a second old when a request is read; and by
-/// one at its accounts, which is taken once they are asked for, and is no older.
+/// Answers requests from a look at the server, which is at most a second old when a request is
+/// read; and from one at its accounts, which is taken once they are asked for, and is no older.
 #[derive(Drop)]
 pub(crate) struct PageService<'a, S: Shown> {
     alloc: Global,
@@ -32,7 +32,7 @@ pub(crate) struct PageService<'a, S: Shown> {
 }
 
 impl<'a, S: Shown> PageService<'a, S> {
-    /// A service at this place that has not looked yet.
+    /// A service at this place, without a look.
     pub(crate) fn new(alloc: Global, server: &'a S, place: SocketAddrV4) -> PageService<'a, S> {
         PageService {
             alloc,
@@ -44,8 +44,8 @@ impl<'a, S: Shown> PageService<'a, S> {
         }
     }
 
-    /// Looks at the server where the last look is a second old, at this moment in milliseconds. Where
-    /// memory for it is refused there is none, and no request is answered.
+    /// Looks at the server if the last look is a second old, at this moment in milliseconds. If
+    /// memory for it is refused, there is none, and no request is answered.
     pub(crate) fn look_at(&mut self, now: u64) {
         if self.look.is_some() && now.saturating_sub(self.taken) < LOOK_MILLIS {
             return;
@@ -55,7 +55,7 @@ impl<'a, S: Shown> PageService<'a, S> {
         self.taken = now;
     }
 
-    /// Answers what came to this place from now on.
+    /// Answers requests to this place from now on.
     pub(crate) fn turn_to(&mut self, place: SocketAddrV4) {
         self.place = place;
     }
@@ -97,7 +97,7 @@ fn asks_for_accounts(path: &str) -> bool {
     matches!(Path::of(path), Some(Path::Accounts))
 }
 
-/// Answers a request to the server at this place by a look at it, and at its accounts.
+/// Answers a request to the server at this place from a look at it, and at its accounts.
 fn answer(
     alloc: Global,
     place: SocketAddrV4,
@@ -125,7 +125,7 @@ fn answer(
     }
 }
 
-/// Answers a method that came to the server's own name.
+/// Answers a method under the server's own name.
 fn read(
     alloc: Global,
     look: &Look,
@@ -151,7 +151,7 @@ fn is_reading(method: &str) -> bool
     method == "GET" || method == "HEAD"
 }
 
-/// Answers a method that does not only read.
+/// Answers a method that does more than read.
 fn refuse_method(response: &mut Response) -> Result<(), AllocError>
     requires { IsBlank response.old }
     ensures { OnOk result (IsRefusedMethod response.new) }
@@ -161,7 +161,7 @@ fn refuse_method(response: &mut Response) -> Result<(), AllocError>
     response.add_header(ALLOW, HeaderValue::from_static("GET, HEAD"))
 }
 
-/// Shows what a path asks for.
+/// Answers with the text of a path.
 fn show(
     alloc: Global,
     look: &Look,
@@ -180,8 +180,8 @@ fn show(
     fill(response, status_of(look, path), path.media_type(), body)
 }
 
-/// The text of a path. It fails where memory is refused: for the text, or before for the look at the
-/// accounts.
+/// The text of a path. It fails if memory is refused, for the text, or for the look at the accounts
+/// before it.
 fn text_of(
     alloc: Global,
     look: &Look,
@@ -205,7 +205,7 @@ fn text_of(
     }
 }
 
-/// The status of a path: 200, and 503 for the health of a server that is not well.
+/// The status of a path: 200, or 503 for the health of a server that is not well.
 fn status_of(look: &Look, path: Path) -> StatusCode
     ensures { result ≡ status_of look.entry.now path }
 {

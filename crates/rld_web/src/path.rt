@@ -2,7 +2,7 @@ ghost use Rattle.std.specs.Prelude.{◌≡◌, IsTrue};
 ghost use Rattle.http_header.specs.FieldValue.{is_visible_text};
 ghost use Rattle.rld_web.specs.Path.{media_type_of, path_of};
 
-/// What is shown of a server.
+/// The paths of a server.
 #[derive(Clone, Copy)]
 pub(crate) enum Path {
     /// The page for a browser.
@@ -16,7 +16,7 @@ pub(crate) enum Path {
 }
 
 impl Path {
-    /// What a request's path asks for: `None` for any path that there is not.
+    /// The path of a request, or `None` if it is unknown.
     pub(crate) fn of(path: &str) -> Option<Path>
         ensures { result ≡ path_of path.now }
     {

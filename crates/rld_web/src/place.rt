@@ -1,4 +1,4 @@
-//! Where a connection came to, and how a request may call it.
+//! The local address of a connection, and its names in a request.
 
 ghost use Rattle.std.specs.Prelude.{◌≡◌, IfOk, option_copied};
 ghost use Rattle.http.specs.Request.{head_of};
@@ -10,8 +10,8 @@ use http_header::HOST;
 use std::alloc::{AllocError, Global};
 use std::net::SocketAddrV4;
 
-/// Whether a request asks for the server at this place by one of its names. A page of another site that
-/// has its own name point here is refused so (DNS rebinding). It fails only where memory is refused.
+/// Whether a request uses one of the names of the server at this place. So a page of another site
+/// that points its own name here is refused (DNS rebinding). It fails only if memory is refused.
 pub(crate) fn is_asked_for(
     alloc: Global,
     place: SocketAddrV4,
@@ -25,7 +25,7 @@ pub(crate) fn is_asked_for(
     }
 }
 
-/// The host that a request asks for: its target's, else its first Host (RFC 9112 section 3.2.2).
+/// The host of a request: its target's, else its first Host (RFC 9112 section 3.2.2).
 fn host_of<'a>(request: &'a Request<Bytes>) -> Option<&'a [u8]>
     ensures { option_copied result ≡ host_of (head_of request.now) }
 {
@@ -38,7 +38,8 @@ fn host_of<'a>(request: &'a Request<Bytes>) -> Option<&'a [u8]>
     }
 }
 
-/// Whether this names the server at this place: its address or `localhost`, with its port or without.
+/// Whether this is a name of the server at this place: its address or `localhost`, with its port or
+/// without.
 fn is_name_of(alloc: Global, place: SocketAddrV4, host: &[u8]) -> Result<bool, AllocError>
     ensures { IfOk result (λ names. names ≡ is_name_of place host.now) }
 {

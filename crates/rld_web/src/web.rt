@@ -8,12 +8,12 @@ use std::net::{Ipv4Addr, Net, SocketAddr, SocketAddrV4, TcpListener, TcpStream};
 use std::sync::Wait;
 use std::time::Clock;
 
-/// Where a running server is shown over HTTP/1.1.
+/// Shows a running server over HTTP/1.1.
 ///
 /// It answers `GET` and `HEAD` of `/` (a page for a browser), `/metrics` (Prometheus' text format,
-/// version 0.0.4), `/accounts.json`, and `/health` (200, or 503 where batches are not recorded). What it
-/// refuses has the status 404 (there is no such path), 405 (another method), 421 (the request asks for
-/// a server of another name), or one of HTTP's own for what is no request: 400, 413, 414, 431, 501.
+/// version 0.0.4), `/accounts.json`, and `/health` (200, or 503 if batches are not recorded). It
+/// refuses with the status 404 (an unknown path), 405 (another method), 421 (another server's
+/// name), or one of HTTP's own for what is no request: 400, 413, 414, 431, 501.
 #[derive(Drop)]
 pub struct Web {
     alloc: Global,
@@ -23,9 +23,9 @@ pub struct Web {
 }
 
 impl Web {
-    /// Binds the address and TCP port. The keys are secret, since strangers choose the names of header
-    /// fields. The error is the system's: the address is not this machine's, or the port is taken or not
-    /// allowed.
+    /// Binds the address and TCP port. The keys are secret, since strangers choose the names of
+    /// header fields. The error is the system's: the address is not this machine's, or the port is
+    /// taken or not allowed.
     pub fn bind<N: Net<Listener = TcpListener, Stream = TcpStream>>(
         net: &N,
         alloc: Global,
@@ -62,8 +62,8 @@ impl Pages for Web {
     }
 }
 
-/// This moment, in milliseconds since some start. A clock that cannot be read shows the last moment of
-/// all, at which no connection lasts longer.
+/// This moment, in milliseconds since a fixed start. A clock that cannot be read shows the greatest
+/// moment, at which no connection has time left.
 fn millis<C: Clock>(clock: &C) -> u64 {
     match clock.monotonic() {
         Ok(time) => time

@@ -81,7 +81,6 @@ impl Config {
     /// times of the settings, or from version 2 on its own live and grace times if it has them.
     /// From version 2 on its Acct-Interim-Interval is its own, else that of the settings; in
     /// version 1 it has none.
-    /// in version 1.
     ///
     /// The faults come in this order: `BadValue` of the first field of the walk with a wrong value,
     /// `TwiceClient`, `TwiceAccount`, `KeepTooLong`. `NoMemory` comes if memory is refused, and

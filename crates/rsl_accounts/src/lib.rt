@@ -9,7 +9,6 @@
 //! (`specs/Read.antt`). Every `Config` is within the limits of `specs/Limits.antt`. The order of
 //! the checks is in `specs/Walk.antt` and, for a file, in `specs/File.antt`; the values that a
 //! field may have are in `specs/Field.antt`.
-//! have in `specs/Field.antt`.
 #![tactic(auto)]
 
 mod address;

@@ -1,4 +1,4 @@
--- The exit status of the program, and what its faults say.
+-- The exit status of the program, and the messages of its faults.
 use Rattle.std.specs.Prelude.{ℕ, ⊤, List, Result, Ok, Err}
 use Rattle.rsl_record.specs.declared.exit_status.ExitStatus.{ExitStatus}
 use Rattle.rsl_record.specs.declared.exit_status.ExitStatus.TheVariants.{Done, WrongInput}
@@ -21,13 +21,13 @@ fault_status Usage = WrongInput
 fault_status (Replay fault) = status_of fault
 fault_status (Serve fault) = status_of_server fault
 
--- the status of a process whose work came to this
+-- the exit status of a process with this result
 abbrev pub status_after : {T : Type 0} → Result T Fault → ExitStatus
 status_after (Ok value) = Done
 status_after (Err fault) = fault_status fault
 
--- a fault of the script that was read is there; wrong arguments are no fault of a script, nor is
--- one of a server
+-- a fault of the script that was read is there; wrong arguments are no fault of a script, nor is a
+-- fault of a server
 abbrev pub IsFaultOfText : (text : List ℕ) → Fault → Type 0
 IsFaultOfText text Usage = ⊤
 IsFaultOfText text (Replay fault) = IsFaultOf text fault

@@ -3,10 +3,10 @@ ghost use Rattle.rsl_app.specs.Arguments.{is_replay, is_serve};
 
 use std::env::{Env, FillError};
 
-/// Octets of an argument that are read: a longer one is no word that is known.
+/// Octets of an argument that are read; a longer one is no known word.
 const WORD_LEN: usize = 16;
 
-/// Whether the arguments, after the name of the program, are the word `replay` alone.
+/// Whether the arguments, after the program's name, are the word `replay` alone.
 pub(crate) fn ask_for_a_replay<E: Env>(arguments: &E) -> bool {
     let mut word = [0u8; WORD_LEN];
     let second = arguments.arg(2, &mut word);
@@ -16,7 +16,7 @@ pub(crate) fn ask_for_a_replay<E: Env>(arguments: &E) -> bool {
     }
 }
 
-/// Whether the first argument, after the name of the program, is the word `serve`.
+/// Whether the first argument, after the program's name, is the word `serve`.
 pub(crate) fn ask_to_serve<E: Env>(arguments: &E) -> bool {
     let mut word = [0u8; WORD_LEN];
     match arguments.arg(1, &mut word) {

@@ -11,7 +11,7 @@ use std::alloc::Global;
 use std::env::Env;
 use std::io::{Read, Write};
 
-/// Does what the arguments ask for: it replays the script that it reads. `Usage` comes where the
+/// Does what the arguments ask for: replays the script that it reads. `Usage` comes if the
 /// arguments are wrong, before anything is read; every other fault is that of the replay.
 #[tactic(auto, using(crate::proofs::Untouched::untouched))]
 pub(crate) fn command<E: Env, R: Read, W: Write>(
@@ -24,13 +24,13 @@ pub(crate) fn command<E: Env, R: Read, W: Write>(
     ensures replayed { OnOk result (IfSome (R.remaining stdin.old) (λ text.
         (written : List ℕ) × IsReplayed text written ×
         Appends (W.contents stdout.old) (W.contents stdout.new) written)) }
-    // A fault of the script is there, and is the first.
+    // A fault of the script is its first.
     ensures fault { IfErr result (λ fault. IfSome (R.remaining stdin.old) (λ text.
         IsFaultOfText text fault)) }
-    // After every other fault than `InputOutput` nothing was written.
+    // Nothing was written after any fault but `InputOutput`.
     ensures silent { IfErr result (λ fault.
         fault ≢ Fault.Replay InputOutput → Keeps (W.contents stdout.old) (W.contents stdout.new)) }
-    // Where the arguments are wrong nothing is read.
+    // If the arguments are wrong, nothing is read.
     ensures unread { IsErrOf result Fault.Usage →
         Keeps (R.remaining stdin.old) (R.remaining stdin.new) }
 {

@@ -7,8 +7,8 @@ use crate::fault::Fault;
 use std::io::Write;
 use std::process::ExitCode;
 
-/// The status of the process: 0 where all was done, else that of the fault, which is said in one
-/// line on standard error. Where standard error takes nothing, the status still tells.
+/// The exit status of the process: 0 if all was done, else that of the fault, which is written as
+/// one line to standard error. If standard error takes nothing, the exit status remains.
 pub(crate) fn exit_code<S: Write>(stderr: &mut S, outcome: Result<(), Fault>) -> ExitCode
     ensures { exit_status result ≡ number_of (status_after outcome) }
 {

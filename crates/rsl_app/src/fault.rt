@@ -12,8 +12,8 @@ pub(crate) enum Fault {
     /// The script was not replayed.
     #[error("{0}")]
     Replay(ReplayFault),
-    /// The server has not started, or has not ended well. It is never `ServeFault::Usage`, which is
-    /// given as `Usage`.
+    /// The server has not started, or has not ended well. It is never `ServeFault::Usage`, which
+    /// becomes `Usage`.
     #[error("{0}")]
     Serve(ServeFault),
 }
@@ -22,7 +22,7 @@ impl Fault {
     ghost use Rattle.std.specs.Prelude.{◌≡◌};
     ghost use Rattle.rsl_app.specs.Status.{fault_status};
 
-    /// The status with which the process ends.
+    /// The exit status of the process.
     pub(crate) fn status(self) -> ExitStatus
         ensures { result ≡ fault_status self }
     {

@@ -1,11 +1,10 @@
 //! The program `radlimit`: `radlimit replay` reads a script of datagrams from standard input, gives
-//! them to the server one after the other, and prints what it answered to each; `radlimit serve`
-//! takes datagrams from two sockets and answers them.
+//! them to the server one after the other, and prints the answer to each; `radlimit serve` receives
+//! datagrams on two sockets and answers them.
 //!
 //! This crate has the edges of the process: its first argument, the three streams and the exit
-//! status, which is that of the fault (`exit_code`). What a script says, what the server answers to
-//! it and what is printed is the business of `rsl_replay`, and the running server that of
-//! `rsl_serve`.
+//! status, which is that of the fault (`exit_code`). `rsl_replay` has what a script says, what the
+//! server answers and what is printed, and `rsl_serve` the running server.
 #![tactic(auto)]
 
 mod arguments;

@@ -5,7 +5,7 @@ use Rattle.rsl_wire.specs.Attributes.{Attribute, first_of}
 use Rattle.rsl_event.specs.Request.{attribute_count}
 use Rattle.rsl_event.specs.declared.occurrences.Occurrences.{Occurrences}
 
--- a value without where it lies in memory
+-- a value without its address in memory
 abbrev pub value_of : Option (Bor (List ℕ)) → Option (List ℕ)
 value_of value = option_map (λ octets. octets.now) value
 

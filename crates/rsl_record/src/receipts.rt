@@ -48,7 +48,7 @@ pub(crate) fn check_receipts<P: HasReceipts>(
     Ok(())
 }
 
-/// Checks that each receipt is of a shard that there is.
+/// Checks that each receipt is of an existing shard.
 fn check_numbers<P: HasReceipts>(shards: u32, passes: &[P]) -> Result<(), CloseFault>
     ensures numbers { OnOk result
         (All (All (λ receipt. receipt.shard < shards)) (map P.receipts passes.now)) }
@@ -60,7 +60,7 @@ fn check_numbers<P: HasReceipts>(shards: u32, passes: &[P]) -> Result<(), CloseF
     Ok(())
 }
 
-/// Checks that each receipt of a pass is of a shard that there is.
+/// Checks that each receipt of a pass is of an existing shard.
 fn check_numbers_of(shards: u32, receipts: &[Receipt]) -> Result<(), CloseFault>
     ensures numbers { OnOk result (All (λ receipt. receipt.shard < shards) receipts.now) }
     ensures err { IfErr result (IsNumberFaultOfPass shards receipts.now) }

@@ -13,7 +13,7 @@ use rsl_accounts::Config;
 use rsl_shard::{Line, Segment};
 use std::alloc::Global;
 
-/// Checks that the segments of each shard join, and that each segment is of a shard that there is.
+/// Checks that the segments of each shard join, and that each segment is of an existing shard.
 #[tactic(auto, using(crate::proofs::Chains::segments_steps))]
 pub(crate) fn check_segments(
     alloc: Global,

@@ -157,7 +157,7 @@ pub(crate) struct Ledgers<L0: Tally, L1: Tally, L2: Tally, L3: Tally> {
 }
 
 impl<L0: Tally, L1: Tally, L2: Tally, L3: Tally> Ledgers<L0, L1, L2, L3> {
-    /// The total of each ledger is its amount in the shares, which have all parts.
+    /// Shows that each ledger's total is its amount in the shares, which have all parts.
     pub(crate) fn audit(self, all: Shares<L0, L1, L2, L3>)
         requires { all.parts ≡ 1025 }
         ensures ledger0 { self.ledger0.total ≡ all.amount0 }
@@ -184,7 +184,7 @@ impl<L0: Tally, L1: Tally, L2: Tally, L3: Tally> Ledgers<L0, L1, L2, L3> {
     }
 }
 
-/// The total of a ledger is the amount of a share that has all of its parts.
+/// Shows that a ledger's total is the amount of a share with all of its parts.
 fn audit_if_there<L: Tally>(ledger: Option<LineLedger<L>>, all: Share<L>)
     requires { all.parts ≡ L.parts }
     ensures { IfSome ledger (λ ledger. ledger.total ≡ all.amount) }

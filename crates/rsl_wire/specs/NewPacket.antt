@@ -4,7 +4,7 @@ use Rattle.std.specs.List.{AllByRecursion}
 use Rattle.rsl_wire.specs.Attributes.{Attribute, attribute_of, list_octets}
 use Rattle.rsl_wire.specs.declared.attr.Attr.{Attr}
 
--- an attribute without where its value lies in memory
+-- an attribute without its value's address in memory
 abbrev pub seen : Attr → Attribute
 seen attribute = attribute_of attribute.kind attribute.value.now
 

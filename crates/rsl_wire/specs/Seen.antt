@@ -2,7 +2,7 @@
 use Rattle.rsl_wire.specs.Packet.{Fields}
 use Rattle.rsl_wire.specs.declared.packet.Packet.{Packet}
 
--- the fields of a packet, without where they lie in memory
+-- the fields of a packet, without their addresses in memory
 abbrev pub fields_of : Packet → Fields
 fields_of packet =
     record {

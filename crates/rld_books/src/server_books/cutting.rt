@@ -1,4 +1,4 @@
-//! Books that are cut to a moment.
+//! Cutting books to a moment.
 
 ghost use Rattle.std.specs.Prelude.{◌≡◌, ◌+◌, ◌<◌, ◌^◌, IfOk, map, sum_by};
 ghost use Rattle.rld_books.specs.Cut.{cut_ask, cut_book, cut_link, cut_server, cut_stop, earlier, late, late_in, late_in_server};
@@ -19,7 +19,7 @@ use std::alloc::Global;
 pub struct CutBooks {
     /// The books.
     pub books: ServerBooks,
-    /// How many moments were later, and were cut: at most 2^64 - 1.
+    /// The number of moments that were later and were cut, at most 2^64 - 1.
     pub moments: u64,
 }
 
@@ -33,7 +33,7 @@ fn earlier(now: u64, moment: u64) -> u64
     if now < moment { now } else { moment }
 }
 
-/// 1 for a moment that is later, and else 0.
+/// 1 for a later moment, else 0.
 fn late(now: u64, moment: u64) -> u64
     ensures { result ≡ late now moment }
 {
@@ -42,7 +42,7 @@ fn late(now: u64, moment: u64) -> u64
 
 // ---- how many moments are cut
 
-/// How many of these links were touched later; at most 2^64 - 1.
+/// The number of these links touched later, at most 2^64 - 1.
 fn late_links(now: u64, links: &[SavedLink]) -> u64
     ensures { sum_by (λ link. late now link.touched) links.now < 2 ^ 64 →
         result ≡ sum_by (λ link. late now link.touched) links.now }
@@ -54,7 +54,7 @@ fn late_links(now: u64, links: &[SavedLink]) -> u64
     count
 }
 
-/// How many of these asks came later; at most 2^64 - 1.
+/// The number of these asks that came later, at most 2^64 - 1.
 fn late_asks(now: u64, asks: &[KeptAsk]) -> u64
     ensures { sum_by (λ ask. late now ask.at) asks.now < 2 ^ 64 →
         result ≡ sum_by (λ ask. late now ask.at) asks.now }
@@ -66,7 +66,7 @@ fn late_asks(now: u64, asks: &[KeptAsk]) -> u64
     count
 }
 
-/// How many of these stops came later; at most 2^64 - 1.
+/// The number of these stops that came later, at most 2^64 - 1.
 fn late_stops(now: u64, stops: &[KeptStop]) -> u64
     ensures { sum_by (λ stop. late now stop.at) stops.now < 2 ^ 64 →
         result ≡ sum_by (λ stop. late now stop.at) stops.now }
@@ -78,7 +78,7 @@ fn late_stops(now: u64, stops: &[KeptStop]) -> u64
     count
 }
 
-/// How many moments of a book are later; at most 2^64 - 1.
+/// The number of later moments of a book, at most 2^64 - 1.
 fn late_in_book(now: u64, kept: &SavedBook) -> u64
     ensures { late_in now (saved_book kept.now) < 2 ^ 64 → result ≡ late_in now (saved_book kept.now) }
 {
@@ -88,7 +88,7 @@ fn late_in_book(now: u64, kept: &SavedBook) -> u64
         .saturating_add(late_stops(now, kept.stops.as_slice()))
 }
 
-/// How many moments of these books are later; at most 2^64 - 1.
+/// The number of later moments of these books, at most 2^64 - 1.
 fn late_in_all(now: u64, kept: &[SavedBook]) -> u64
     ensures { sum_by (late_in now) (map saved_book kept.now) < 2 ^ 64 →
         result ≡ sum_by (late_in now) (map saved_book kept.now) }
@@ -149,11 +149,11 @@ fn cut_each(now: u64, kept: &mut [SavedBook])
 }
 
 impl ServerBooks {
-    /// These books, cut to a moment, as those of the configuration that they are of: each clock, each
-    /// last touch of a link, and each moment of a kept ask or stop that is later becomes `now`, and
-    /// nothing else changes. So what was to end at a later moment ends as if its last packet came now.
+    /// These books, cut to a moment, as those of their configuration: each clock, each last touch
+    /// of a link, and each moment of a kept ask or stop that is later becomes `now`, and nothing
+    /// else changes. So what was to end at a later moment ends as if its last packet came now.
     ///
-    /// `WrongCount` and `Misfit` come where they are of another configuration, and `NoMemory` where
+    /// `WrongCount` and `Misfit` come if they are of another configuration, and `NoMemory` if
     /// memory is refused. These books stay as they are.
     pub fn cut(&self, alloc: Global, config: &Config, now: u64) -> Result<CutBooks, ServerFault>
         ensures server { IfOk result (λ cut. IsServerOf config.now cut.books) }

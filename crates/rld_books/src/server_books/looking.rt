@@ -1,4 +1,4 @@
-//! What is looked up in the books.
+//! Look-ups in the books.
 
 ghost use Rattle.std.specs.Prelude.{◌≡◌, IfNone, IfOk, IfSome, None, Some, ◌≤◌, ◌⊎◌, length};
 ghost use Rattle.std.specs.Option.{option_map};
@@ -45,7 +45,7 @@ impl ServerBooks {
         self.shards[self.index_of(account)].book(account)
     }
 
-    /// The clock of the book of an account; 0 where there is no such account.
+    /// The clock of the book of an account, or 0 if there is no such account.
     fn clock_of(&self, account: u32) -> u64
         ensures { result ≡ clock_in self.now account }
     {
@@ -55,8 +55,8 @@ impl ServerBooks {
         }
     }
 
-    /// The greatest clock of the books of a configuration's accounts: the greatest moment that any of
-    /// them has seen, in seconds since 1970; 0 where none has had an event.
+    /// The greatest clock of the books of a configuration's accounts, in seconds since 1970; 0 if
+    /// none has had an event.
     pub fn clock(&self, config: &Config) -> u64
         ensures { IsGreatestClock self.now (length config.now.accounts) result }
     {
@@ -68,15 +68,15 @@ impl ServerBooks {
     }
 
     /// What each account holds, shard after shard, and in each in the order of the accounts'
-    /// numbers. It fails only where memory is refused.
+    /// numbers. It fails only if memory is refused.
     pub fn rows(&self, alloc: Global) -> Result<Vec<Row>, NoMemory>
         ensures { IfOk result (λ rows. rows.items ≡ rows_in self.now) }
     {
         rows_of(alloc, &self.shards)
     }
 
-    /// What is saved of the book of an account; none where there is no such account. It fails only
-    /// where memory is refused.
+    /// The saved form of the book of an account; `None` if there is no such account. It fails only
+    /// if memory is refused.
     pub fn save_book(&self, alloc: Global, account: u32) -> Result<Option<SavedBook>, NoMemory>
         ensures { IfOk result (λ kept.
             option_map saved_book kept ≡ option_map saved (book_in self.now account)) }
@@ -87,8 +87,8 @@ impl ServerBooks {
         Ok(Some(book.save(alloc)?))
     }
 
-    /// The links of an account, in the order in which they opened; none where there is no such
-    /// account. It fails only where memory is refused.
+    /// The links of an account, in the order in which they opened; `None` if there is no such
+    /// account. It fails only if memory is refused.
     pub fn links(&self, alloc: Global, account: u32) -> Result<Option<Vec<SavedLink>>, NoMemory>
         ensures { IfOk result (λ links.
             option_map (λ some. saved_links some.items) links ≡ links_in self.now account) }

@@ -1,4 +1,4 @@
-//! The books as they are saved, and put back.
+//! Saving and restoring the books.
 
 ghost use Rattle.std.specs.Prelude.{◌≡◌, ◌++◌, ◌<◌, IfOk, map};
 ghost use Rattle.rld_books.specs.Saved.{IsServerOf, saved_server, seen_as_new};
@@ -21,7 +21,7 @@ use rsl_shard::Books;
 use rsl_wire::NoMemory;
 use std::alloc::Global;
 
-/// What is saved of the books of shards, one shard after another.
+/// The saved form of the books of shards, one shard after another.
 fn saved_of(alloc: Global, shards: &[Books]) -> Result<Vec<SavedBook>, NoMemory>
     ensures { IfOk result (λ kept. map saved_book kept.items ≡ saved_server shards.now) }
 {
@@ -33,7 +33,7 @@ fn saved_of(alloc: Global, shards: &[Books]) -> Result<Vec<SavedBook>, NoMemory>
     Ok(kept)
 }
 
-/// The book of an account with these rules, put back in the blank one if there is one.
+/// The book of an account with these rules, restored in the blank one if there is one.
 fn restored_book(
     alloc: Global,
     blanks: &mut BlankBooks,
@@ -49,7 +49,7 @@ fn restored_book(
     Ok(Book::restore_in(alloc, blank, kept)?)
 }
 
-/// The books of a shard's accounts, put back from the first of these, and those that are left.
+/// The books of a shard's accounts, restored from the first of these, and those that are left.
 fn restored_list<'a>(
     alloc: Global,
     config: &Config,
@@ -75,7 +75,7 @@ fn restored_list<'a>(
     Ok((books, left))
 }
 
-/// The books of each shard, put back from all of these.
+/// The books of each shard, restored from all of these.
 fn restored_shards(
     alloc: Global,
     config: &Config,
@@ -102,17 +102,17 @@ fn restored_shards(
 }
 
 impl ServerBooks {
-    /// What is saved of each book, shard after shard, and in each in the order of the accounts'
-    /// numbers. It fails only where memory is refused.
+    /// The saved form of each book, shard after shard, and in each in the order of the accounts'
+    /// numbers. It fails only if memory is refused.
     pub fn save(&self, alloc: Global) -> Result<Vec<SavedBook>, NoMemory>
         ensures { IfOk result (λ kept. map saved_book kept.items ≡ saved_server self.now) }
     {
         saved_of(alloc, &self.shards)
     }
 
-    /// The books of a configuration that were saved, with all the room that they will ever use.
-    /// Where there is not one book of each account, or one that its account cannot have, none is
-    /// put back.
+    /// The saved books of a configuration, with all the memory that they will ever use.
+    /// `WrongCount` comes if there is not one book of each account, `Misfit` if one cannot be that
+    /// of its account, and `NoMemory` if memory is refused.
     pub fn restore(
         alloc: Global,
         config: &Config,
@@ -124,8 +124,8 @@ impl ServerBooks {
         ServerBooks::restore_in(alloc, config, BlankBooks::none(alloc), kept)
     }
 
-    /// `restore` in blank books. Those that were made for this configuration are used up, and then it
-    /// takes memory only for what the saved ones hold.
+    /// `restore` in blank books, which are used up if they were made for this configuration; then
+    /// it allocates only for what the saved ones hold.
     pub fn restore_in(
         alloc: Global,
         config: &Config,
@@ -135,7 +135,7 @@ impl ServerBooks {
         ensures server { IfOk result (λ server. IsServerOf config.now server) }
         ensures saved { IfOk result (λ server. saved_server server ≡ map saved_book kept.now) }
     {
-        // A configuration has 1 to 4 shards: this call tells it.
+        // Shows the prover that a configuration has 1 to 4 shards.
         let _shards = config.shards();
         let mut blanks = blanks;
         let shards = restored_shards(alloc, config, &mut blanks, kept)?;
