@@ -7,14 +7,17 @@ pub enum RejectCause {
     Malformed,
     /// It has no User-Name, or more than one.
     NotOneName,
-    /// It has no password, or more than one, User-Password and CHAP-Password together. A request
-    /// that authenticates otherwise, such as by EAP, has none.
+    /// It has no password, or more than one, of both kinds together: User-Password and CHAP-Password.
+    /// A request that authenticates otherwise, as by EAP, has none. One of a trusted client may have none,
+    /// unless it has an EAP-Message.
     NotOnePassword,
     /// It has more than one CHAP-Challenge.
     SeveralChallenges,
     /// No account has its User-Name.
     UnknownAccount,
-    /// The password is not the account's.
+    /// The account has no password, and its client does not vouch for the request.
+    NoPassword,
+    /// Its password is not the account's.
     WrongPassword,
     /// The account is disabled.
     DisabledAccount,
@@ -23,7 +26,8 @@ pub enum RejectCause {
 /// What counters and log lines say of a request beyond its meaning.
 #[derive(Clone, Copy)]
 pub enum Detail {
-    /// An Access-Request with the right password of an account; the books decide.
+    /// An Access-Request that asks for an account with the right password, or by a client that vouches for it,
+    /// so that the books decide.
     Asks,
     /// An Access-Request that is rejected for this cause, whatever the books hold.
     Rejected(RejectCause),

@@ -40,7 +40,7 @@ impl Key {
 /// What happens to an account.
 #[derive(PartialEq, Eq, Drop)]
 pub enum Act {
-    /// An Access-Request whose password is right.
+    /// An Access-Request whose password is right, or for which a trusted client vouches.
     Ask {
         /// The key of the request.
         key: Key,

@@ -50,8 +50,8 @@ pub enum Meaning {
     /// A request on the authentication port whose attributes are malformed: it is rejected, and the
     /// reply repeats none of them.
     Bare,
-    /// An Access-Request without the right password of an account, or for a disabled account: it is
-    /// rejected.
+    /// An Access-Request that asks for no account with the right password, nor by a client that vouches for
+    /// it, or for a disabled account: it is rejected.
     Reject,
     /// An act of one account: an ask, an alive or a stop.
     Own {
