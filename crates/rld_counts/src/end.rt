@@ -6,11 +6,11 @@ use crate::acct_end::AcctEnd;
 use crate::auth_end::AuthEnd;
 use crate::kind::Kind;
 
-/// The number of ends of both ports.
-pub const ENDS: usize = 38;
+/// How many ends there are, of both ports.
+pub const ENDS: usize = 39;
 
-/// The number of ends of the authentication port, which come first.
-const AUTH_ENDS: usize = 20;
+/// How many of them are of the authentication port: the first ones.
+const AUTH_ENDS: usize = 21;
 
 /// How a datagram ended, with the port that it came to.
 #[derive(Clone, Copy)]
@@ -25,7 +25,7 @@ impl End {
     /// Its number: those of the accounting port follow those of the authentication port.
     pub(crate) fn number(self) -> usize
         ensures number { result ≡ number_of self }
-        ensures below { result < 38 }
+        ensures below { result < 39 }
     {
         match self {
             End::Auth(end) => end.number(),
@@ -60,6 +60,7 @@ impl End {
             End::Auth(AuthEnd::UnknownAccount),
             End::Auth(AuthEnd::WrongPassword),
             End::Auth(AuthEnd::DisabledAccount),
+            End::Auth(AuthEnd::NoPassword),
             End::Acct(AcctEnd::Short),
             End::Acct(AcctEnd::BadLength),
             End::Acct(AcctEnd::UnknownClient),
@@ -83,14 +84,14 @@ impl End {
 
     /// The ends of the authentication port among all ends.
     pub fn of_auth(all: &[End; ENDS]) -> &[End]
-        ensures { result.now ≡ take 20 all.now }
+        ensures { result.now ≡ take 21 all.now }
     {
         &all[..AUTH_ENDS]
     }
 
     /// The ends of the accounting port among all ends.
     pub fn of_acct(all: &[End; ENDS]) -> &[End]
-        ensures { result.now ≡ drop 20 all.now }
+        ensures { result.now ≡ drop 21 all.now }
     {
         &all[AUTH_ENDS..]
     }
@@ -109,7 +110,8 @@ impl End {
                 | AuthEnd::SeveralChallenges
                 | AuthEnd::UnknownAccount
                 | AuthEnd::WrongPassword
-                | AuthEnd::DisabledAccount,
+                | AuthEnd::DisabledAccount
+                | AuthEnd::NoPassword,
             ) => Kind::Rejected,
             End::Acct(
                 AcctEnd::Start
