@@ -34,7 +34,7 @@ fn number_of(word: &str) -> Option<u64>
 }
 
 /// The number after the beginning of a name.
-fn number_behind(name: &str, beginning: &str) -> Option<u64>
+fn number_after(name: &str, beginning: &str) -> Option<u64>
     ensures only { (number : ℕ) → number < 2 ^ 64 → name.now ≡ beginning.now ++ decimal number →
         result ≡ Some number }
     ensures begins { IfSome result (λ _. (rest : List ℕ) × (name.now ≡ beginning.now ++ rest)) }
@@ -43,7 +43,7 @@ fn number_behind(name: &str, beginning: &str) -> Option<u64>
 }
 
 /// The words of the two numbers after `log-`.
-fn words_behind(name: &str) -> Option<(&str, &str)>
+fn words_after(name: &str) -> Option<(&str, &str)>
     ensures { (era number : ℕ) → era < 2 ^ 64 →
         name.now ≡ codes "log-" ++ (decimal era ++ (codes "-" ++ decimal number)) →
         MatchOption result ⊥ (λ words. (words.0.now ≡ decimal era) × (words.1.now ≡ decimal number)) }
@@ -52,12 +52,12 @@ fn words_behind(name: &str) -> Option<(&str, &str)>
 }
 
 /// The generation of a name of `log-` and two numbers.
-fn generation_behind(name: &str) -> Option<Generation>
+fn generation_after(name: &str) -> Option<Generation>
     ensures { (era number : ℕ) → era < 2 ^ 64 → number < 2 ^ 64 →
         name.now ≡ codes "log-" ++ (decimal era ++ (codes "-" ++ decimal number)) →
         result ≡ Some (record { era = era; number = number }) }
 {
-    let (era, number) = words_behind(name)?;
+    let (era, number) = words_after(name)?;
     Some(Generation {
         era: number_of(era)?,
         number: number_of(number)?,
@@ -83,10 +83,10 @@ impl FileName {
         if name == "lock" {
             return Some(FileName::Lock);
         }
-        if let Some(era) = number_behind(name, "era-") {
+        if let Some(era) = number_after(name, "era-") {
             return Some(FileName::Era(era));
         }
-        Some(FileName::Log(generation_behind(name)?))
+        Some(FileName::Log(generation_after(name)?))
     }
 
     /// The file with this name, or `None` if no file of a server has it.

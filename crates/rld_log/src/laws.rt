@@ -39,7 +39,7 @@ pub fn premise_is_that_of_the_log<L: Log>()
 
 /// Appends to any log. What is on its disk stays there, even if the append fails, or a loss of
 /// power tears it: so what a sync brought to the disk is safe until a cut.
-pub fn append_behind<L: Log>(log: &mut L, octets: &[u8]) -> Result<(), LogFault>
+pub fn append_keeps_the_disk<L: Log>(log: &mut L, octets: &[u8]) -> Result<(), LogFault>
     ensures { IsTrue (L.tells log.new) → (front : List ℕ) →
         IsOnDisk front (L.seen log.old) (L.may_leave log.old) → IsOnDisk front (L.seen log.new) (L.may_leave log.new) }
 {

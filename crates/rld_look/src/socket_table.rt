@@ -32,7 +32,7 @@ fn socket_on(line: &str, address: IpAddr, port: u16) -> Option<SocketLook>
     }
     let _remote = words.next()?;
     let _state = words.next()?;
-    let waiting = hex_behind_colon(words.next()?)?;
+    let waiting = hex_after_colon(words.next()?)?;
     let dropped = number(words.last()?)?;
     Some(SocketLook {
         port,
@@ -74,7 +74,7 @@ fn number_of_ipv6(address: Ipv6Addr) -> u128 {
 }
 
 /// The hexadecimal number after the colon of a word.
-fn hex_behind_colon(word: &str) -> Option<u64> {
+fn hex_after_colon(word: &str) -> Option<u64> {
     let (_, digits) = word.split_once(':')?;
     u64::from_str_radix(digits, 16).ok()
 }

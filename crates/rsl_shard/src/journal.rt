@@ -52,7 +52,7 @@ impl Model for Journal {
 }
 
 /// Appends a chunk's lines to a list that has room for them.
-fn move_behind(all: &mut Vec<Line>, chunk: &mut Vec<Line>)
+fn append_chunk(all: &mut Vec<Line>, chunk: &mut Vec<Line>)
     requires { vec_len all.old + vec_len chunk.old ≤ vec_capacity all.old }
     ensures items { all.new.items ≡ all.old.items ++ chunk.old.items }
     ensures emptied { chunk.new.items ≡ [] }
@@ -72,7 +72,7 @@ fn join(all: &mut Vec<Line>, chunks: &mut [Vec<Line>])
     ensures capacity { vec_capacity all.old ≤ vec_capacity all.new }
 {
     for at in 0..chunks.len() {
-        move_behind(all, &mut chunks[at]);
+        append_chunk(all, &mut chunks[at]);
     }
 }
 
@@ -143,7 +143,7 @@ impl Journal {
     {
         let mut all = room;
         join(&mut all, &mut self.full);
-        move_behind(&mut all, &mut self.last);
+        append_chunk(&mut all, &mut self.last);
         self.full.clear();
         self.earlier = 0;
         all

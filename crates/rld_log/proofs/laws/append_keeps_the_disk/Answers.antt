@@ -1,5 +1,5 @@
 use Rattle.rld_log.proofs.Steps.{append_on_disk}
-use Rattle.rld_log.proofs.laws.append_behind.Goals as goal
+use Rattle.rld_log.proofs.laws.append_keeps_the_disk.Goals as goal
 
 pub returns : goal.returns
 returns g c = λ told front there.

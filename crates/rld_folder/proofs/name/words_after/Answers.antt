@@ -1,7 +1,7 @@
 use Rattle.std.proofs.Common.{Some, [], ◌∷◌, ◌++◌}
 use Rattle.std.specs.Fmt.{decimal}
 use Rattle.rld_folder.proofs.Texts.{numbers_split, stripped}
-use Rattle.rld_folder.proofs.name.words_behind.Goals as goal
+use Rattle.rld_folder.proofs.name.words_after.Goals as goal
 
 pub returns : goal.returns
 returns c = λ era number fits e.
