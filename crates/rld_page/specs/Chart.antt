@@ -88,13 +88,6 @@ abbrev pub bars_of : (most : ℕ) → List Minute → List ℕ
 bars_of most [] = []
 bars_of most (minute ∷ minutes) = bar_of (left_of (length (minute ∷ minutes))) most minute ++ bars_of most minutes
 
-unfoldable pub logins_key : List ℕ
-logins_key =
-    codes "<section class=\"half\"><div class=\"top\"><h2>Logins and rejects a minute</h2><p class=\"key\">"
-    ++ (codes "<span style=\"--c:var(--login)\">accepted</span>"
-    ++ (codes "<span style=\"--c:var(--limit)\">no free place</span>"
-    ++ codes "<span style=\"--c:var(--reject)\">rejected otherwise</span></p></div>\n"))
-
 unfoldable pub logins_drawing : (most : ℕ) → List Minute → List ℕ
 logins_drawing most minutes =
     codes "<svg viewBox=\"0 0 600 1000\" preserveAspectRatio=\"none\" role=\"img\" aria-labelledby=\"lt ld\">"
@@ -103,7 +96,12 @@ logins_drawing most minutes =
     ++ (codes "</desc>\n" ++ (chart_rules ++ (bars_of most minutes ++ codes "</svg>"))))))
 
 unfoldable pub logins_with : (most : ℕ) → List Minute → List ℕ
-logins_with most minutes = logins_key ++ (logins_drawing most minutes ++ axis_of most minutes)
+logins_with most minutes =
+    codes "<section class=\"half\"><div class=\"top\"><h2>Logins and rejects a minute</h2><p class=\"key\">"
+    ++ (codes "<span style=\"--c:var(--login)\">accepted</span>"
+    ++ (codes "<span style=\"--c:var(--limit)\">no free place</span>"
+    ++ (codes "<span style=\"--c:var(--reject)\">rejected otherwise</span></p></div>\n"
+    ++ (logins_drawing most minutes ++ axis_of most minutes))))
 
 abbrev pub logins_chart : List Minute → List ℕ
 logins_chart minutes = logins_with (greatest (map answered_in minutes)) minutes
@@ -142,11 +140,6 @@ abbrev pub all_held_at : List Minute → List ℕ
 all_held_at [] = []
 all_held_at (minute ∷ minutes) = held_at (left_of (length (minute ∷ minutes))) minute ++ all_held_at minutes
 
-unfoldable pub held_key : List ℕ
-held_key =
-    codes "<section class=\"half\"><div class=\"top\"><h2>Places held</h2>"
-    ++ codes "<p class=\"key\"><span style=\"--c:var(--held)\">at the end of each minute</span></p></div>\n"
-
 unfoldable pub held_drawing : (most : ℕ) → List Minute → List ℕ
 held_drawing most minutes =
     codes "<svg viewBox=\"0 0 600 1000\" preserveAspectRatio=\"none\" role=\"img\" aria-labelledby=\"ht hd\">"
@@ -156,7 +149,10 @@ held_drawing most minutes =
     ++ (curve_if_any most minutes ++ (all_held_at minutes ++ codes "</svg>")))))))
 
 unfoldable pub held_with : (most : ℕ) → List Minute → List ℕ
-held_with most minutes = held_key ++ (held_drawing most minutes ++ axis_of most minutes)
+held_with most minutes =
+    codes "<section class=\"half\"><div class=\"top\"><h2>Places held</h2>"
+    ++ (codes "<p class=\"key\"><span style=\"--c:var(--held)\">at the end of each minute</span></p></div>\n"
+    ++ (held_drawing most minutes ++ axis_of most minutes))
 
 abbrev pub held_chart : List Minute → List ℕ
 held_chart minutes = held_with (greatest (map held_at_end minutes)) minutes

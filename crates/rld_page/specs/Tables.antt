@@ -26,15 +26,12 @@ table_end = codes "</tbody></table></div></section>\n"
 unfoldable pub accounts_front : (number : ℕ) → List ℕ
 accounts_front number =
     codes "<section class=\"most\"><div class=\"top\"><h2>Fullest accounts</h2><p class=\"soft\">"
-    ++ (grouped number ++ codes " in all</p></div>\n<div class=\"wide\">")
-
-unfoldable pub accounts_columns : List ℕ
-accounts_columns =
-    codes "<table><thead><tr><th scope=\"col\">Account</th><th scope=\"col\"><span class=\"more\">Share</span></th>"
+    ++ (grouped number ++ (codes " in all</p></div>\n<div class=\"wide\">"
+    ++ (codes "<table><thead><tr><th scope=\"col\">Account</th><th scope=\"col\"><span class=\"more\">Share</span></th>"
     ++ (codes "<th scope=\"col\" class=\"n\">Held</th><th scope=\"col\" class=\"n\">Places</th>"
     ++ (codes "<th scope=\"col\" class=\"n more\">Live</th><th scope=\"col\" class=\"n more\">Stale</th>"
     ++ (codes "<th scope=\"col\" class=\"n more\">Reserved</th><th scope=\"col\" class=\"n more\">Over</th>"
-    ++ codes "</tr></thead><tbody>\n")))
+    ++ codes "</tr></thead><tbody>\n"))))))
 
 abbrev pub account_front : Row → List ℕ
 account_front row =
@@ -65,7 +62,7 @@ account_row account =
 -- of so many accounts in all the fullest ones, in their order
 unfoldable pub accounts_of : (number : ℕ) → List AccountLook → List ℕ
 accounts_of number fullest =
-    accounts_front number ++ (accounts_columns ++ (flat_map account_row fullest ++ table_end))
+    accounts_front number ++ (flat_map account_row fullest ++ table_end)
 
 -- ---- how datagrams ended
 
@@ -87,20 +84,14 @@ other_row counts end = if is_answer (kind_of end) then [] else row_if_any end (c
 abbrev pub total_of : (counts : List ℕ) → List End → ℕ
 total_of counts ends = kept (sum (map (count_in counts) ends))
 
-unfoldable pub port_front : (port : List ℕ) → List ℕ
-port_front port =
-    codes "<table><thead><tr><th scope=\"col\">" ++ (port
-    ++ codes "</th><th scope=\"col\" class=\"n\">Datagrams</th></tr></thead><tbody>\n")
-
-unfoldable pub port_end : (total : ℕ) → List ℕ
-port_end total =
-    codes "</tbody><tfoot><tr><td>All</td><td class=\"n\">" ++ (grouped total ++ codes "</td></tr></tfoot></table>\n")
-
 -- the ends of a port: the answers, then all others, and their sum
 unfoldable pub port_table : (port counts : List ℕ) → List End → List ℕ
 port_table port counts ends =
-    port_front port ++ (flat_map (answer_row counts) ends
-    ++ (flat_map (other_row counts) ends ++ port_end (total_of counts ends)))
+    codes "<table><thead><tr><th scope=\"col\">" ++ (port
+    ++ (codes "</th><th scope=\"col\" class=\"n\">Datagrams</th></tr></thead><tbody>\n"
+    ++ (flat_map (answer_row counts) ends ++ (flat_map (other_row counts) ends
+    ++ (codes "</tbody><tfoot><tr><td>All</td><td class=\"n\">"
+    ++ (grouped (total_of counts ends) ++ codes "</td></tr></tfoot></table>\n"))))))
 
 -- the first 20 ends are those of the authentication port
 unfoldable pub causes_of : (counts : List ℕ) → List ℕ
@@ -144,14 +135,11 @@ abbrev pub refusal_rows : (dates : ℕ → List ℕ) → List Refusal → List �
 refusal_rows dates [] = []
 refusal_rows dates (refusal ∷ refusals) = refusal_rows dates refusals ++ refusal_row dates refusal
 
-unfoldable pub refused_columns : List ℕ
-refused_columns =
+unfoldable pub refused_table : (dates : ℕ → List ℕ) → List Refusal → List ℕ
+refused_table dates refusals =
     codes "<div class=\"wide\"><table class=\"lately\"><thead><tr><th scope=\"col\">Time</th><th scope=\"col\">Account</th>"
     ++ (codes "<th scope=\"col\">Cause</th><th scope=\"col\">Client</th><th scope=\"col\">Access server</th>"
-    ++ codes "</tr></thead><tbody>\n")
-
-unfoldable pub refused_table : (dates : ℕ → List ℕ) → List Refusal → List ℕ
-refused_table dates refusals = refused_columns ++ (refusal_rows dates refusals ++ table_end)
+    ++ (codes "</tr></thead><tbody>\n" ++ (refusal_rows dates refusals ++ table_end)))
 
 abbrev pub refused_if_any : (dates : ℕ → List ℕ) → List Refusal → List ℕ
 refused_if_any dates refusals =
@@ -171,14 +159,12 @@ socket_row socket =
     ++ (codes "</td><td class=\"n\">" ++ (grouped socket.waiting
     ++ (codes "</td><td class=\"n\">" ++ (grouped socket.dropped ++ codes "</td></tr>\n")))))
 
-unfoldable pub sockets_columns : List ℕ
-sockets_columns =
+unfoldable pub sockets_table : List SocketLook → List ℕ
+sockets_table sockets =
     codes "<section class=\"rest\"><div class=\"top\"><h2>Sockets</h2></div>\n<div class=\"wide\"><table><thead><tr>"
     ++ (codes "<th scope=\"col\">UDP port</th><th scope=\"col\" class=\"n\">Octets waiting</th>"
-    ++ codes "<th scope=\"col\" class=\"n\">Dropped, no room</th></tr></thead><tbody>\n")
-
-unfoldable pub sockets_table : List SocketLook → List ℕ
-sockets_table sockets = sockets_columns ++ (flat_map socket_row sockets ++ table_end)
+    ++ (codes "<th scope=\"col\" class=\"n\">Dropped, no room</th></tr></thead><tbody>\n"
+    ++ (flat_map socket_row sockets ++ table_end)))
 
 -- no table where the system says nothing of any
 abbrev pub sockets_of : List SocketLook → List ℕ

@@ -3,7 +3,7 @@
 ghost use Rattle.std.specs.Prelude.{◌≡◌, ◌++◌, OnOk};
 ghost use Rattle.std.specs.List.{flat_map};
 ghost use Rattle.rld_page.specs.Html.{html_text};
-ghost use Rattle.rld_page.specs.Tables.{account_front, account_row, accounts_columns, accounts_front, accounts_of, more_cell, number_cell, row_cells, share_cell, table_end};
+ghost use Rattle.rld_page.specs.Tables.{account_front, account_row, accounts_front, accounts_of, more_cell, number_cell, row_cells, share_cell, table_end};
 
 use crate::figures::{share, write_width};
 use crate::html::Html;
@@ -26,13 +26,12 @@ fn write_fullest(html: &mut Html, number: u64, fullest: &[AccountLook]) -> Resul
     ensures { OnOk result (html.new ≡ html.old ++ accounts_of number fullest.now) }
 {
     write_front(html, number)?;
-    write_columns(html)?;
     write_rows(html, fullest)?;
     html.markup("</tbody></table></div></section>\n")?;
     Ok(())
 }
 
-/// Writes what stands before the table.
+/// Writes what stands before the rows.
 #[tactic(auto, unfolding(crate::specs::Tables::accounts_front))]
 fn write_front(html: &mut Html, number: u64) -> Result<(), AllocError>
     ensures { OnOk result (html.new ≡ html.old ++ accounts_front number) }
@@ -42,14 +41,6 @@ fn write_front(html: &mut Html, number: u64) -> Result<(), AllocError>
     )?;
     html.grouped(number)?;
     html.markup(" in all</p></div>\n<div class=\"wide\">")?;
-    Ok(())
-}
-
-/// Writes the names of the columns.
-#[tactic(auto, unfolding(crate::specs::Tables::accounts_columns))]
-fn write_columns(html: &mut Html) -> Result<(), AllocError>
-    ensures { OnOk result (html.new ≡ html.old ++ accounts_columns) }
-{
     html.markup(
         "<table><thead><tr><th scope=\"col\">Account</th><th scope=\"col\"><span class=\"more\">Share</span></th>",
     )?;

@@ -3,7 +3,7 @@
 ghost use Rattle.std.specs.Prelude.{◌≡◌, ◌++◌, OnOk, codes, drop, take};
 ghost use Rattle.std.specs.List.{flat_map};
 ghost use Rattle.rld_counts.specs.Ends.{all_ends};
-ghost use Rattle.rld_page.specs.Tables.{answer_row, causes_of, count_row, other_row, port_end, port_front, port_table, row_if_any, total_of};
+ghost use Rattle.rld_page.specs.Tables.{answer_row, causes_of, count_row, other_row, port_table, row_if_any, total_of};
 
 use crate::ends::words;
 use crate::html::Html;
@@ -52,31 +52,13 @@ fn write_port(
 ) -> Result<(), AllocError>
     ensures { OnOk result (html.new ≡ html.old ++ port_table port.now counts.now ends.now) }
 {
-    write_port_front(html, port)?;
-    write_answers(html, counts, ends)?;
-    write_others(html, counts, ends)?;
-    write_port_end(html, total(counts, ends))?;
-    Ok(())
-}
-
-/// Writes the front of a port's table.
-#[tactic(auto, unfolding(crate::specs::Tables::port_front))]
-fn write_port_front(html: &mut Html, port: &'static str) -> Result<(), AllocError>
-    ensures { OnOk result (html.new ≡ html.old ++ port_front port.now) }
-{
     html.markup("<table><thead><tr><th scope=\"col\">")?;
     html.markup(port)?;
     html.markup("</th><th scope=\"col\" class=\"n\">Datagrams</th></tr></thead><tbody>\n")?;
-    Ok(())
-}
-
-/// Writes the end of a port's table: how many datagrams came.
-#[tactic(auto, unfolding(crate::specs::Tables::port_end))]
-fn write_port_end(html: &mut Html, total: u64) -> Result<(), AllocError>
-    ensures { OnOk result (html.new ≡ html.old ++ port_end total) }
-{
+    write_answers(html, counts, ends)?;
+    write_others(html, counts, ends)?;
     html.markup("</tbody><tfoot><tr><td>All</td><td class=\"n\">")?;
-    html.grouped(total)?;
+    html.grouped(total(counts, ends))?;
     html.markup("</td></tr></tfoot></table>\n")?;
     Ok(())
 }

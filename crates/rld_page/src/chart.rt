@@ -3,7 +3,7 @@
 
 ghost use Rattle.std.specs.Prelude.{◌≡◌, ◌-◌, ◌*◌, ◌≤◌, ◌++◌, OnOk, length, map};
 ghost use Rattle.rld_look.specs.History.{last_minutes};
-ghost use Rattle.rld_page.specs.Chart.{all_held_at, answered_in, area_of, axis_if_any, axis_of, axis_words, bar_of, bars_of, chart_rules, charts_of, curve_if_any, curve_of, greatest, held_at, held_at_end, held_chart, held_drawing, held_key, held_with, left_of, logins_chart, logins_drawing, logins_key, logins_with, minute_words, piece_if_any, piece_text, pieces_text, point_of, points_of, stack_of, touch_at};
+ghost use Rattle.rld_page.specs.Chart.{all_held_at, answered_in, area_of, axis_if_any, axis_of, axis_words, bar_of, bars_of, chart_rules, charts_of, curve_if_any, curve_of, greatest, held_at, held_at_end, held_chart, held_drawing, held_with, left_of, logins_chart, logins_drawing, logins_with, minute_words, piece_if_any, piece_text, pieces_text, point_of, points_of, stack_of, touch_at};
 
 use crate::figures::{THOUSANDTHS, share};
 use crate::html::Html;
@@ -97,23 +97,14 @@ fn left_of(number: usize) -> u64
 fn write_logins(html: &mut Html, minutes: &[Minute], most: u64) -> Result<(), AllocError>
     ensures { OnOk result (html.new ≡ html.old ++ logins_with most minutes.now) }
 {
-    write_logins_key(html)?;
-    write_logins_drawing(html, minutes, most)?;
-    write_axis(html, minutes, most)?;
-    Ok(())
-}
-
-/// Writes what the colours of a bar mean.
-#[tactic(auto, unfolding(crate::specs::Chart::logins_key))]
-fn write_logins_key(html: &mut Html) -> Result<(), AllocError>
-    ensures { OnOk result (html.new ≡ html.old ++ logins_key) }
-{
     html.markup(
         "<section class=\"half\"><div class=\"top\"><h2>Logins and rejects a minute</h2><p class=\"key\">",
     )?;
     html.markup("<span style=\"--c:var(--login)\">accepted</span>")?;
     html.markup("<span style=\"--c:var(--limit)\">no free place</span>")?;
     html.markup("<span style=\"--c:var(--reject)\">rejected otherwise</span></p></div>\n")?;
+    write_logins_drawing(html, minutes, most)?;
+    write_axis(html, minutes, most)?;
     Ok(())
 }
 
@@ -152,21 +143,12 @@ fn write_bars(html: &mut Html, minutes: &[Minute], most: u64) -> Result<(), Allo
 fn write_held(html: &mut Html, minutes: &[Minute], most: u64) -> Result<(), AllocError>
     ensures { OnOk result (html.new ≡ html.old ++ held_with most minutes.now) }
 {
-    write_held_key(html)?;
-    write_held_drawing(html, minutes, most)?;
-    write_axis(html, minutes, most)?;
-    Ok(())
-}
-
-/// Writes what the curve means.
-#[tactic(auto, unfolding(crate::specs::Chart::held_key))]
-fn write_held_key(html: &mut Html) -> Result<(), AllocError>
-    ensures { OnOk result (html.new ≡ html.old ++ held_key) }
-{
     html.markup("<section class=\"half\"><div class=\"top\"><h2>Places held</h2>")?;
     html.markup(
         "<p class=\"key\"><span style=\"--c:var(--held)\">at the end of each minute</span></p></div>\n",
     )?;
+    write_held_drawing(html, minutes, most)?;
+    write_axis(html, minutes, most)?;
     Ok(())
 }
 

@@ -2,7 +2,7 @@
 
 ghost use Rattle.std.specs.Prelude.{◌≡◌, ◌++◌, List, OnOk, ℕ};
 ghost use Rattle.rld_page.specs.Html.{soft_dash};
-ghost use Rattle.rld_page.specs.Tables.{address_text, name_or_dash, nas_text, refusal_end, refusal_front, refusal_row, refusal_rows, refused_columns, refused_if_any, refused_of, refused_table, table_end};
+ghost use Rattle.rld_page.specs.Tables.{address_text, name_or_dash, nas_text, refusal_end, refusal_front, refusal_row, refusal_rows, refused_if_any, refused_of, refused_table, table_end};
 ghost use Rattle.rld_values.specs.Dates.{AreDates};
 
 use crate::ends::words;
@@ -50,17 +50,6 @@ fn write_table(html: &mut Html, refusals: &[Refusal]) -> Result<(), AllocError>
     ensures { OnOk result ((dates : ℕ → List ℕ) → AreDates dates →
         html.new ≡ html.old ++ refused_table dates refusals.now) }
 {
-    write_columns(html)?;
-    write_rows(html, refusals)?;
-    html.markup("</tbody></table></div></section>\n")?;
-    Ok(())
-}
-
-/// Writes the names of the columns.
-#[tactic(auto, unfolding(crate::specs::Tables::refused_columns))]
-fn write_columns(html: &mut Html) -> Result<(), AllocError>
-    ensures { OnOk result (html.new ≡ html.old ++ refused_columns) }
-{
     html.markup(
         "<div class=\"wide\"><table class=\"lately\"><thead><tr><th scope=\"col\">Time</th><th scope=\"col\">Account</th>",
     )?;
@@ -68,6 +57,8 @@ fn write_columns(html: &mut Html) -> Result<(), AllocError>
         "<th scope=\"col\">Cause</th><th scope=\"col\">Client</th><th scope=\"col\">Access server</th>",
     )?;
     html.markup("</tr></thead><tbody>\n")?;
+    write_rows(html, refusals)?;
+    html.markup("</tbody></table></div></section>\n")?;
     Ok(())
 }
 

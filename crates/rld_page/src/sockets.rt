@@ -2,7 +2,7 @@
 
 ghost use Rattle.std.specs.Prelude.{◌≡◌, ◌++◌, OnOk};
 ghost use Rattle.std.specs.List.{flat_map};
-ghost use Rattle.rld_page.specs.Tables.{socket_row, sockets_columns, sockets_of, sockets_table, table_end};
+ghost use Rattle.rld_page.specs.Tables.{socket_row, sockets_of, sockets_table, table_end};
 
 use crate::html::Html;
 use rld_look::{Look, SocketLook};
@@ -30,17 +30,6 @@ fn write_sockets_if_any(html: &mut Html, sockets: &[SocketLook]) -> Result<(), A
 fn write_table(html: &mut Html, sockets: &[SocketLook]) -> Result<(), AllocError>
     ensures { OnOk result (html.new ≡ html.old ++ sockets_table sockets.now) }
 {
-    write_columns(html)?;
-    write_rows(html, sockets)?;
-    html.markup("</tbody></table></div></section>\n")?;
-    Ok(())
-}
-
-/// Writes the names of the columns.
-#[tactic(auto, unfolding(crate::specs::Tables::sockets_columns))]
-fn write_columns(html: &mut Html) -> Result<(), AllocError>
-    ensures { OnOk result (html.new ≡ html.old ++ sockets_columns) }
-{
     html.markup(
         "<section class=\"rest\"><div class=\"top\"><h2>Sockets</h2></div>\n<div class=\"wide\"><table><thead><tr>",
     )?;
@@ -48,6 +37,8 @@ fn write_columns(html: &mut Html) -> Result<(), AllocError>
         "<th scope=\"col\">UDP port</th><th scope=\"col\" class=\"n\">Octets waiting</th>",
     )?;
     html.markup("<th scope=\"col\" class=\"n\">Dropped, no room</th></tr></thead><tbody>\n")?;
+    write_rows(html, sockets)?;
+    html.markup("</tbody></table></div></section>\n")?;
     Ok(())
 }
 
