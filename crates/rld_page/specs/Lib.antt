@@ -1,5 +1,9 @@
+pub mod Chart
 pub mod Figures
 pub mod Health
 pub mod Html
 pub mod Json
 pub mod Page
+pub mod Summary
+pub mod Tables
+pub mod Words

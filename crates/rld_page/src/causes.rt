@@ -1,57 +1,114 @@
 //! How the datagrams of each port ended, by cause.
 
+ghost use Rattle.std.specs.Prelude.{◌≡◌, ◌++◌, OnOk, codes, drop, take};
+ghost use Rattle.std.specs.List.{flat_map};
+ghost use Rattle.rld_counts.specs.Ends.{all_ends};
+ghost use Rattle.rld_page.specs.Tables.{answer_row, causes_of, count_row, other_row, port_table, row_if_any, total_of};
+
 use crate::ends::words;
-use crate::figures::write_grouped;
 use crate::html::Html;
 use rld_counts::{Counts, End};
 use std::alloc::AllocError;
 
 /// Writes how the datagrams ended since the start.
-pub(crate) fn write_causes(html: &mut Html, counts: &Counts) -> Result<(), AllocError> {
+#[tactic(auto, unfolding(crate::specs::Tables::causes_of))]
+pub(crate) fn write_causes(html: &mut Html, counts: &Counts) -> Result<(), AllocError>
+    ensures { OnOk result (html.new ≡ html.old ++ causes_of counts.now) }
+{
     html.markup(
         "<section class=\"rest\"><div class=\"top\"><h2>Datagrams since the start</h2></div>\n<div class=\"wide\">",
     )?;
-    let ends = End::all();
-    write_port(html, "Authentication", counts, End::of_auth(&ends))?;
-    write_port(html, "Accounting", counts, End::of_acct(&ends))?;
-    html.markup("</div></section>\n")
+    write_auth(html, counts)?;
+    write_acct(html, counts)?;
+    html.markup("</div></section>\n")?;
+    Ok(())
 }
 
-/// Writes the table of a port from all its ends: the answers that occurred, then the other ends
-/// that did.
+/// Writes the table of the authentication port.
+fn write_auth(html: &mut Html, counts: &Counts) -> Result<(), AllocError>
+    ensures { OnOk result (html.new
+        ≡ html.old ++ port_table (codes "Authentication") counts.now (take 20 all_ends)) }
+{
+    let ends = End::all();
+    write_port(html, "Authentication", counts, End::of_auth(&ends))
+}
+
+/// Writes the table of the accounting port.
+fn write_acct(html: &mut Html, counts: &Counts) -> Result<(), AllocError>
+    ensures { OnOk result (html.new
+        ≡ html.old ++ port_table (codes "Accounting") counts.now (drop 20 all_ends)) }
+{
+    let ends = End::all();
+    write_port(html, "Accounting", counts, End::of_acct(&ends))
+}
+
+/// Writes the table of a port by all its ends: the answers that came, then all else that did.
+#[tactic(auto, unfolding(crate::specs::Tables::port_table))]
 fn write_port(
     html: &mut Html,
     port: &'static str,
     counts: &Counts,
     ends: &[End],
-) -> Result<(), AllocError> {
+) -> Result<(), AllocError>
+    ensures { OnOk result (html.new ≡ html.old ++ port_table port.now counts.now ends.now) }
+{
     html.markup("<table><thead><tr><th scope=\"col\">")?;
     html.markup(port)?;
     html.markup("</th><th scope=\"col\" class=\"n\">Datagrams</th></tr></thead><tbody>\n")?;
-    write_ends(html, counts, ends, true)?;
-    write_ends(html, counts, ends, false)?;
+    write_answers(html, counts, ends)?;
+    write_others(html, counts, ends)?;
     html.markup("</tbody><tfoot><tr><td>All</td><td class=\"n\">")?;
-    write_grouped(html, total(counts, ends))?;
-    html.markup("</td></tr></tfoot></table>\n")
+    html.grouped(total(counts, ends))?;
+    html.markup("</td></tr></tfoot></table>\n")?;
+    Ok(())
 }
 
-/// Writes the ends that occurred and are answers, or the others that occurred.
-fn write_ends(
-    html: &mut Html,
-    counts: &Counts,
-    ends: &[End],
-    are_answers: bool,
-) -> Result<(), AllocError> {
+/// Writes those of the ends that came and are answers.
+fn write_answers(html: &mut Html, counts: &Counts, ends: &[End]) -> Result<(), AllocError>
+    ensures { OnOk result (html.new ≡ html.old ++ flat_map (answer_row counts.now) ends.now) }
+{
     for end in ends {
-        if end.kind().is_answer() == are_answers {
-            write_end(html, *end, counts.count(*end))?;
-        }
+        write_if_answer(html, counts, *end)?;
     }
     Ok(())
 }
 
-/// The number of datagrams that ended in one of these ways, at most 2^64 - 1.
-fn total(counts: &Counts, ends: &[End]) -> u64 {
+/// Writes those of the ends that came and are none.
+fn write_others(html: &mut Html, counts: &Counts, ends: &[End]) -> Result<(), AllocError>
+    ensures { OnOk result (html.new ≡ html.old ++ flat_map (other_row counts.now) ends.now) }
+{
+    for end in ends {
+        write_unless_answer(html, counts, *end)?;
+    }
+    Ok(())
+}
+
+/// Writes an end that came, if it is an answer.
+fn write_if_answer(html: &mut Html, counts: &Counts, end: End) -> Result<(), AllocError>
+    ensures { OnOk result (html.new ≡ html.old ++ answer_row counts.now end) }
+{
+    if end.kind().is_answer() {
+        write_if_any(html, end, counts.count(end))
+    } else {
+        Ok(())
+    }
+}
+
+/// Writes an end that came, if it is no answer.
+fn write_unless_answer(html: &mut Html, counts: &Counts, end: End) -> Result<(), AllocError>
+    ensures { OnOk result (html.new ≡ html.old ++ other_row counts.now end) }
+{
+    if end.kind().is_answer() {
+        Ok(())
+    } else {
+        write_if_any(html, end, counts.count(end))
+    }
+}
+
+/// How many datagrams ended in one of these ways, at most 2^64 - 1.
+fn total(counts: &Counts, ends: &[End]) -> u64
+    ensures { result ≡ total_of counts.now ends.now }
+{
     let mut sum = 0u64;
     for end in ends {
         sum = sum.saturating_add(counts.count(*end));
@@ -59,14 +116,25 @@ fn total(counts: &Counts, ends: &[End]) -> u64 {
     sum
 }
 
-/// Writes the number of datagrams that ended in this way, if any did.
-fn write_end(html: &mut Html, end: End, number: u64) -> Result<(), AllocError> {
+/// Writes how many datagrams ended so, if any did.
+fn write_if_any(html: &mut Html, end: End, number: u64) -> Result<(), AllocError>
+    ensures { OnOk result (html.new ≡ html.old ++ row_if_any end number) }
+{
     if number == 0 {
         return Ok(());
     }
+    write_end(html, end, number)
+}
+
+/// Writes how many datagrams ended so.
+#[tactic(auto, unfolding(crate::specs::Tables::count_row))]
+fn write_end(html: &mut Html, end: End, number: u64) -> Result<(), AllocError>
+    ensures { OnOk result (html.new ≡ html.old ++ count_row end number) }
+{
     html.markup("<tr><td>")?;
     html.markup(words(end))?;
     html.markup("</td><td class=\"n\">")?;
-    write_grouped(html, number)?;
-    html.markup("</td></tr>\n")
+    html.grouped(number)?;
+    html.markup("</td></tr>\n")?;
+    Ok(())
 }

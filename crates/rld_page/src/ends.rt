@@ -1,17 +1,24 @@
 //! The ends of datagrams in words.
 
+ghost use Rattle.std.specs.Prelude.{◌≡◌};
+ghost use Rattle.rld_page.specs.Words.{acct_words, auth_words, words_of};
+
 use rld_counts::{AcctEnd, AuthEnd, End};
 
-/// The words of the page for an end.
-pub(crate) fn words(end: End) -> &'static str {
+/// What the page says of an end.
+pub(crate) fn words(end: End) -> &'static str
+    ensures { result.now ≡ words_of end }
+{
     match end {
         End::Auth(end) => auth_words(end),
         End::Acct(end) => acct_words(end),
     }
 }
 
-/// The words of the page for an end on the authentication port.
-fn auth_words(end: AuthEnd) -> &'static str {
+/// What the page says of how a datagram ended that came to the authentication port.
+fn auth_words(end: AuthEnd) -> &'static str
+    ensures { result.now ≡ auth_words end }
+{
     match end {
         AuthEnd::Short => "Dropped: too short",
         AuthEnd::BadLength => "Dropped: wrong length",
@@ -37,8 +44,10 @@ fn auth_words(end: AuthEnd) -> &'static str {
     }
 }
 
-/// The words of the page for an end on the accounting port.
-fn acct_words(end: AcctEnd) -> &'static str {
+/// What the page says of how a datagram ended that came to the accounting port.
+fn acct_words(end: AcctEnd) -> &'static str
+    ensures { result.now ≡ acct_words end }
+{
     match end {
         AcctEnd::Short => "Dropped: too short",
         AcctEnd::BadLength => "Dropped: wrong length",

@@ -1,9 +1,10 @@
 //! What a running server shows to a browser and to a monitor, as texts of a `Look`: a page of HTML,
 //! the accounts as JSON, and a line on its health.
 //!
-//! The promise: no name can forge a piece of the page, since whatever is not a literal of this
-//! program is a number or is escaped (`specs/Html.antt`); and the accounts' JSON has each account,
-//! in file order, with what it holds (`specs/Json.antt`).
+//! The promise: the page is that of `specs/Page.antt`, whole, with its sections in `specs/Summary.antt`,
+//! `specs/Chart.antt` and `specs/Tables.antt`. No name can forge a piece of it, since whatever is no literal of
+//! this program is a number, a date or escaped (`specs/Html.antt`). The accounts' JSON has each account, in the
+//! order of the file, with what it holds (`specs/Json.antt`).
 #![tactic(auto)]
 
 mod accounts;

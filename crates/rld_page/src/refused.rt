@@ -1,58 +1,158 @@
 //! The last refusals.
 
+ghost use Rattle.std.specs.Prelude.{◌≡◌, ◌++◌, List, OnOk, ℕ};
+ghost use Rattle.rld_page.specs.Html.{soft_dash};
+ghost use Rattle.rld_page.specs.Tables.{address_text, name_or_dash, nas_text, refusal_end, refusal_front, refusal_row, refusal_rows, refused_if_any, refused_of, refused_table, table_end};
+ghost use Rattle.rld_values.specs.Dates.{AreDates};
+
 use crate::ends::words;
-use crate::figures::write_moment;
 use crate::html::Html;
-use rld_look::Refusal;
+use rld_look::{Look, Refusal};
 use rsl_event::NasName;
+use rsl_wire::Octets;
 use std::alloc::AllocError;
 
-/// Writes the last refusals, newest first.
-pub(crate) fn write_refused(html: &mut Html, refusals: &[Refusal]) -> Result<(), AllocError> {
+/// Writes what was refused lately, the last first.
+pub(crate) fn write_refused(html: &mut Html, look: &Look) -> Result<(), AllocError>
+    ensures { OnOk result ((dates : ℕ → List ℕ) → AreDates dates →
+        html.new ≡ html.old ++ refused_of dates look.entry.now.refusals.items) }
+{
+    write_section(html, look.refusals.as_slice())
+}
+
+/// Writes the section of these refusals.
+#[tactic(auto, unfolding(crate::specs::Tables::refused_of))]
+fn write_section(html: &mut Html, refusals: &[Refusal]) -> Result<(), AllocError>
+    ensures { OnOk result ((dates : ℕ → List ℕ) → AreDates dates →
+        html.new ≡ html.old ++ refused_of dates refusals.now) }
+{
     html.markup(
         "<section class=\"most\"><div class=\"top\"><h2>Refused lately</h2><p class=\"soft\">times are UTC</p></div>\n",
     )?;
+    write_table_if_any(html, refusals)?;
+    Ok(())
+}
+
+/// Writes the table of refusals, if there are any.
+fn write_table_if_any(html: &mut Html, refusals: &[Refusal]) -> Result<(), AllocError>
+    ensures { OnOk result ((dates : ℕ → List ℕ) → AreDates dates →
+        html.new ≡ html.old ++ refused_if_any dates refusals.now) }
+{
     if refusals.is_empty() {
         return html.markup("<p class=\"soft\">Nothing was refused.</p></section>\n");
     }
+    write_table(html, refusals)
+}
+
+/// Writes the table of refusals.
+#[tactic(auto, unfolding(crate::specs::Tables::refused_table))]
+fn write_table(html: &mut Html, refusals: &[Refusal]) -> Result<(), AllocError>
+    ensures { OnOk result ((dates : ℕ → List ℕ) → AreDates dates →
+        html.new ≡ html.old ++ refused_table dates refusals.now) }
+{
     html.markup(
         "<div class=\"wide\"><table class=\"lately\"><thead><tr><th scope=\"col\">Time</th><th scope=\"col\">Account</th>",
     )?;
     html.markup(
-        "<th scope=\"col\">Cause</th><th scope=\"col\">Client</th><th scope=\"col\">Access server</th></tr></thead><tbody>\n",
+        "<th scope=\"col\">Cause</th><th scope=\"col\">Client</th><th scope=\"col\">Access server</th>",
     )?;
-    for refusal in refusals.iter().rev() {
-        write_refusal(html, refusal)?;
+    html.markup("</tr></thead><tbody>\n")?;
+    write_rows(html, refusals)?;
+    html.markup("</tbody></table></div></section>\n")?;
+    Ok(())
+}
+
+/// Writes the rows of refusals, the last first.
+fn write_rows(html: &mut Html, refusals: &[Refusal]) -> Result<(), AllocError>
+    ensures { OnOk result ((dates : ℕ → List ℕ) → AreDates dates →
+        html.new ≡ html.old ++ refusal_rows dates refusals.now) }
+{
+    let mut at = refusals.len();
+    while at > 0 {
+        at -= 1;
+        write_refusal(html, &refusals[at])?;
     }
-    html.markup("</tbody></table></div></section>\n")
+    Ok(())
 }
 
 /// Writes the row of a refusal.
-fn write_refusal(html: &mut Html, refusal: &Refusal) -> Result<(), AllocError> {
+fn write_refusal(html: &mut Html, refusal: &Refusal) -> Result<(), AllocError>
+    ensures { OnOk result ((dates : ℕ → List ℕ) → AreDates dates →
+        html.new ≡ html.old ++ refusal_row dates refusal.now) }
+{
+    write_front(html, refusal)?;
+    write_end(html, refusal)?;
+    Ok(())
+}
+
+/// Writes when it was refused, and which account it asked for.
+#[tactic(auto, unfolding(crate::specs::Tables::refusal_front))]
+fn write_front(html: &mut Html, refusal: &Refusal) -> Result<(), AllocError>
+    ensures { OnOk result ((dates : ℕ → List ℕ) → AreDates dates →
+        html.new ≡ html.old ++ refusal_front dates refusal.now) }
+{
     html.markup("<tr><td><time>")?;
-    write_moment(html, refusal.moment)?;
+    html.moment(refusal.moment)?;
     html.markup("</time></td><td class=\"name\">")?;
-    match &refusal.name {
-        Some(name) => html.word(name.as_slice())?,
-        None => html.markup("<span class=\"soft\">–</span>")?,
-    }
+    write_name(html, &refusal.name)?;
+    Ok(())
+}
+
+/// Writes why it was refused, and where it came from.
+#[tactic(auto, unfolding(crate::specs::Tables::refusal_end))]
+fn write_end(html: &mut Html, refusal: &Refusal) -> Result<(), AllocError>
+    ensures { OnOk result (html.new ≡ html.old ++ refusal_end refusal.now) }
+{
     html.markup("</td><td>")?;
     html.markup(words(refusal.end))?;
     html.markup("</td><td>")?;
     html.address(refusal.source.address)?;
     html.markup("</td><td class=\"name\">")?;
     write_nas(html, &refusal.nas)?;
-    html.markup("</td></tr>\n")
+    html.markup("</td></tr>\n")?;
+    Ok(())
 }
 
-/// Writes the name of an access server.
-fn write_nas(html: &mut Html, nas: &NasName) -> Result<(), AllocError> {
+/// Writes the name of an account, if there is one.
+fn write_name(html: &mut Html, name: &Option<Octets>) -> Result<(), AllocError>
+    ensures { OnOk result (html.new ≡ html.old ++ name_or_dash name.now) }
+{
+    match name {
+        Some(name) => html.word(name.as_slice()),
+        None => write_dash(html),
+    }
+}
+
+/// Writes what an access server calls itself.
+fn write_nas(html: &mut Html, nas: &NasName) -> Result<(), AllocError>
+    ensures { OnOk result (html.new ≡ html.old ++ nas_text nas.now) }
+{
     match nas {
         NasName::Identifier(name) => html.word(name.as_slice()),
-        NasName::Address(octets) => match octets.as_slice() {
-            [a, b, c, d] => html.address([*a, *b, *c, *d]),
-            octets => html.word(octets),
-        },
-        NasName::Unnamed => html.markup("<span class=\"soft\">–</span>"),
+        NasName::Address(octets) => write_address(html, octets.as_slice()),
+        NasName::Unnamed => write_dash(html),
     }
+}
+
+/// Writes an address of an access server.
+#[tactic(auto, unfolding(rld_values::specs::Values::dotted))]
+fn write_address(html: &mut Html, octets: &[u8]) -> Result<(), AllocError>
+    ensures { OnOk result (html.new ≡ html.old ++ address_text octets.now) }
+{
+    if octets.len() == 4 {
+        html.address([octets[0], octets[1], octets[2], octets[3]])
+    } else {
+        html.word(octets)
+    }
+}
+
+/// Writes that there is nothing to say.
+#[tactic(auto, unfolding(crate::specs::Html::soft_dash))]
+fn write_dash(html: &mut Html) -> Result<(), AllocError>
+    ensures { OnOk result (html.new ≡ html.old ++ soft_dash) }
+{
+    html.markup("<span class=\"soft\">")?;
+    html.markup("–")?;
+    html.markup("</span>")?;
+    Ok(())
 }

@@ -1,70 +1,164 @@
 //! The head of the page: the state of the server, and its main numbers.
 
-use crate::figures::{share, tenths, write_date, write_grouped, write_tenths, write_width};
+ghost use Rattle.std.specs.Prelude.{◌≡◌, ◌++◌, List, OnOk, option_map, ℕ};
+ghost use Rattle.rld_look.specs.History.{last_of};
+ghost use Rattle.rld_page.specs.Summary.{a_second, accepts_in, accounting_in, health_mark, numbers_of, places_text, rate_text, rates_text, rejects_in, since_text, state_of, written_text};
+ghost use Rattle.rld_values.specs.Dates.{AreDates};
+
+use crate::figures::{share, tenths, write_tenths, write_width};
 use crate::health::Health;
 use crate::html::Html;
-use rld_look::{Look, Minute, Totals};
+use rld_look::{Look, Minute};
 use std::alloc::AllocError;
 
 /// Writes the state of the server: whether it records, since when it runs, and what it writes.
-pub(crate) fn write_state(html: &mut Html, look: &Look) -> Result<(), AllocError> {
+#[tactic(auto, unfolding(crate::specs::Summary::state_of))]
+pub(crate) fn write_state(html: &mut Html, look: &Look) -> Result<(), AllocError>
+    ensures { OnOk result ((dates : ℕ → List ℕ) → AreDates dates →
+        html.new ≡ html.old ++ state_of dates look.entry.now) }
+{
     html.markup("<header><h1>radlimitd</h1>")?;
-    match Health::of(look.recording) {
-        Health::Well => html.markup("<p class=\"state good\">recording</p>")?,
+    write_health(html, Health::of(look.recording))?;
+    write_since(html, look.start)?;
+    write_written(html, look.era, look.generation, look.moves)?;
+    Ok(())
+}
+
+/// Writes whether the server records.
+fn write_health(html: &mut Html, health: Health) -> Result<(), AllocError>
+    ensures { OnOk result (html.new ≡ html.old ++ health_mark health) }
+{
+    match health {
+        Health::Well => html.markup("<p class=\"state good\">recording</p>"),
         Health::Failing => html.markup(
             "<p class=\"state bad\" role=\"alert\">not recording, and so not answering: the disk is full or fails, or memory is refused</p>",
-        )?,
+        ),
     }
+}
+
+/// Writes since when the server runs.
+#[tactic(auto, unfolding(crate::specs::Summary::since_text))]
+fn write_since(html: &mut Html, start: u64) -> Result<(), AllocError>
+    ensures { OnOk result ((dates : ℕ → List ℕ) → AreDates dates →
+        html.new ≡ html.old ++ since_text dates start) }
+{
     html.markup("<p class=\"since\">since <time>")?;
-    write_date(html, look.start)?;
-    html.markup("</time> · era ")?;
-    html.number(look.era)?;
+    html.date(start)?;
+    html.markup("</time> ")?;
+    Ok(())
+}
+
+/// Writes what the server writes.
+#[tactic(auto, unfolding(crate::specs::Summary::written_text))]
+fn write_written(html: &mut Html, era: u64, generation: u64, moves: u64) -> Result<(), AllocError>
+    ensures { OnOk result (html.new ≡ html.old ++ written_text era generation moves) }
+{
+    html.markup("·")?;
+    html.markup(" era ")?;
+    html.number(era)?;
     html.markup(", generation ")?;
-    html.number(look.generation)?;
+    html.number(generation)?;
     html.markup(", ")?;
-    write_grouped(html, look.moves)?;
-    html.markup(" moves</p></header>\n")
+    html.grouped(moves)?;
+    html.markup(" moves</p></header>\n")?;
+    Ok(())
 }
 
-/// Writes the main numbers.
-pub(crate) fn write_numbers(html: &mut Html, look: &Look) -> Result<(), AllocError> {
+/// Writes the numbers that are looked at first.
+#[tactic(auto, unfolding(crate::specs::Summary::numbers_of))]
+pub(crate) fn write_numbers(html: &mut Html, look: &Look) -> Result<(), AllocError>
+    ensures { OnOk result (html.new ≡ html.old ++ numbers_of look.entry.now) }
+{
     html.markup("<section class=\"numbers\" aria-label=\"Summary\"><dl>\n")?;
-    write_places(html, &look.totals)?;
-    let minute = look.minutes.last();
-    write_rate(html, "Logins", minute.map(|minute| minute.accepts))?;
-    write_rate(html, "Rejects", minute.map(rejects))?;
-    write_rate(html, "Accounting", minute.map(|minute| minute.accounting))?;
-    html.markup("</dl></section>\n")
+    write_places(html, look.totals.held, look.totals.places)?;
+    write_last_minute(html, look)?;
+    html.markup("</dl></section>\n")?;
+    Ok(())
 }
 
-/// The Access-Rejects sent in a minute.
-fn rejects(minute: &Minute) -> u64 {
-    minute.limit_rejects.saturating_add(minute.rejects)
+/// Writes the rates of the last whole minute of a look.
+fn write_last_minute(html: &mut Html, look: &Look) -> Result<(), AllocError>
+    ensures { OnOk result (html.new
+        ≡ html.old ++ rates_text (last_of look.entry.now.minutes.items)) }
+{
+    write_rates(html, Minute::last_of(look.minutes.as_slice()))
 }
 
-/// Writes the held places of all.
-fn write_places(html: &mut Html, totals: &Totals) -> Result<(), AllocError> {
+/// Writes the rates of the last whole minute, if one is over.
+#[tactic(auto, unfolding(crate::specs::Summary::rates_text))]
+fn write_rates(html: &mut Html, minute: Option<Minute>) -> Result<(), AllocError>
+    ensures { OnOk result (html.new ≡ html.old ++ rates_text minute) }
+{
+    write_rate(html, "Logins", accepts(minute))?;
+    write_rate(html, "Rejects", rejects(minute))?;
+    write_rate(html, "Accounting", accounting(minute))?;
+    Ok(())
+}
+
+/// How many Access-Accepts were sent in a minute.
+fn accepts(minute: Option<Minute>) -> Option<u64>
+    ensures { result ≡ option_map accepts_in minute }
+{
+    match minute {
+        Some(minute) => Some(minute.accepts),
+        None => None,
+    }
+}
+
+/// How many Access-Rejects were sent in a minute.
+fn rejects(minute: Option<Minute>) -> Option<u64>
+    ensures { result ≡ option_map rejects_in minute }
+{
+    match minute {
+        Some(minute) => Some(minute.limit_rejects.saturating_add(minute.rejects)),
+        None => None,
+    }
+}
+
+/// How many Accounting-Responses were sent in a minute.
+fn accounting(minute: Option<Minute>) -> Option<u64>
+    ensures { result ≡ option_map accounting_in minute }
+{
+    match minute {
+        Some(minute) => Some(minute.accounting),
+        None => None,
+    }
+}
+
+/// Writes the places that are held of all.
+#[tactic(auto, unfolding(crate::specs::Summary::places_text))]
+fn write_places(html: &mut Html, held: u64, places: u64) -> Result<(), AllocError>
+    ensures { OnOk result (html.new ≡ html.old ++ places_text held places) }
+{
     html.markup("<div><dt>Places held</dt><dd>")?;
-    write_grouped(html, totals.held)?;
+    html.grouped(held)?;
     html.markup(" <small>of ")?;
-    write_grouped(html, totals.places)?;
+    html.grouped(places)?;
     html.markup("</small></dd><span class=\"bar\"><i style=\"width:")?;
-    write_width(html, share(totals.held, totals.places))?;
-    html.markup("\"></i></span></div>\n")
+    write_width(html, share(held, places))?;
+    html.markup("\"></i></span></div>\n")?;
+    Ok(())
 }
 
-/// Writes the rate of the last whole minute, by the second.
-fn write_rate(
-    html: &mut Html,
-    name: &'static str,
-    a_minute: Option<u64>,
-) -> Result<(), AllocError> {
+/// Writes how many came a second in the last whole minute.
+#[tactic(auto, unfolding(crate::specs::Summary::rate_text))]
+fn write_rate(html: &mut Html, name: &'static str, a_minute: Option<u64>) -> Result<(), AllocError>
+    ensures { OnOk result (html.new ≡ html.old ++ rate_text name.now a_minute) }
+{
     html.markup("<div><dt>")?;
     html.markup(name)?;
     html.markup("</dt><dd>")?;
+    write_a_second(html, a_minute)?;
+    html.markup(" <small>a second, last minute</small></dd></div>\n")?;
+    Ok(())
+}
+
+/// Writes how many came a second, of those that came in a minute.
+fn write_a_second(html: &mut Html, a_minute: Option<u64>) -> Result<(), AllocError>
+    ensures { OnOk result (html.new ≡ html.old ++ a_second a_minute) }
+{
     match a_minute {
-        Some(number) => write_tenths(html, tenths(number))?,
-        None => html.markup("–")?,
+        Some(number) => write_tenths(html, tenths(number)),
+        None => html.markup("–"),
     }
-    html.markup(" <small>a second, last minute</small></dd></div>\n")
 }

@@ -12,7 +12,7 @@ use Rattle.rld_look.specs.declared.look.Look.{Look}
 use Rattle.rld_text.specs.Metrics.{metrics_text}
 use Rattle.rld_page.specs.Health.{health_of, health_text}
 use Rattle.rld_page.specs.Json.{accounts_json}
-use Rattle.rld_page.specs.Page.{IsHtml}
+use Rattle.rld_page.specs.Page.{IsPage}
 use Rattle.rld_page.specs.declared.health.Health.{Health}
 use Rattle.rld_page.specs.declared.health.Health.TheVariants as Is
 use Rattle.rld_web.specs.Path.{media_type_of, path_of, plain}
@@ -37,7 +37,7 @@ AreAccounts (Some accounts) text = text ≡ accounts_json accounts
 
 -- the octets are the text of this path, for what the server shows
 abbrev pub IsTextOf : Look → Option AccountsLook → Path → List ℕ → Type 0
-IsTextOf look accounts Of.Page text = IsHtml text
+IsTextOf look accounts Of.Page text = IsPage look text
 IsTextOf look accounts Of.Metrics text = text ≡ metrics_text look
 IsTextOf look accounts Of.Accounts text = AreAccounts accounts text
 IsTextOf look accounts Of.Health text = text ≡ health_text (health_of look.recording)

@@ -5,4 +5,4 @@ use Rattle.rld_page.proofs.html.Html.text.Given as goal
 
 -- the octets that were looked at are written
 abbrev pub invariant-loop-octet : goal.invariant-loop-octet
-invariant-loop-octet l = l.self.out.items ≡ l.fn.self.out.items ++ flat_map html_octet (take l.octet-index l.text)
+invariant-loop-octet l = l.self ≡ l.fn.self ++ flat_map html_octet (take l.octet-index l.text)

@@ -1,0 +1,78 @@
+-- The state of the server, and the numbers that are looked at first.
+use Rattle.std.specs.Prelude.{ℕ, List, ◌++◌, codes, option_map, Option, None, Some}
+use Rattle.std.specs.Fmt.{decimal}
+use Rattle.rld_look.specs.History.{last_of}
+use Rattle.rld_look.specs.Totals.{plus}
+use Rattle.rld_look.specs.declared.look.Look.{Look}
+use Rattle.rld_look.specs.declared.look.Minute.{Minute}
+use Rattle.rld_page.specs.Figures.{date_text, grouped, share_of, tenths_of, tenths_text, width_text}
+use Rattle.rld_page.specs.Health.{health_of}
+use Rattle.rld_page.specs.Html.{dash, middle_dot}
+use Rattle.rld_page.specs.declared.health.Health.{Health}
+use Rattle.rld_page.specs.declared.health.Health.TheVariants.{Well, Failing}
+
+-- ---- the state
+
+abbrev pub health_mark : Health → List ℕ
+health_mark Well = codes "<p class=\"state good\">recording</p>"
+health_mark Failing =
+    codes "<p class=\"state bad\" role=\"alert\">not recording, and so not answering: "
+    ++ codes "the disk is full or fails, or memory is refused</p>"
+
+unfoldable pub since_text : (dates : ℕ → List ℕ) → (start : ℕ) → List ℕ
+since_text dates start = codes "<p class=\"since\">since <time>" ++ (date_text dates start ++ codes "</time> ")
+
+-- what the server writes
+unfoldable pub written_text : (era generation moves : ℕ) → List ℕ
+written_text era generation moves =
+    middle_dot
+    ++ (codes " era " ++ (decimal era
+    ++ (codes ", generation " ++ (decimal generation
+    ++ (codes ", " ++ (grouped moves ++ codes " moves</p></header>\n"))))))
+
+unfoldable pub state_of : (dates : ℕ → List ℕ) → Look → List ℕ
+state_of dates look =
+    codes "<header><h1>radlimitd</h1>"
+    ++ (health_mark (health_of look.recording)
+    ++ (since_text dates look.start ++ written_text look.era look.generation look.moves))
+
+-- ---- the numbers
+
+unfoldable pub places_text : (held places : ℕ) → List ℕ
+places_text held places =
+    codes "<div><dt>Places held</dt><dd>" ++ (grouped held
+    ++ (codes " <small>of " ++ (grouped places
+    ++ (codes "</small></dd><span class=\"bar\"><i style=\"width:"
+    ++ (width_text (share_of held places) ++ codes "\"></i></span></div>\n")))))
+
+-- how many came a second, of those that came in a minute: nothing before the first minute is over
+abbrev pub a_second : Option ℕ → List ℕ
+a_second None = dash
+a_second (Some number) = tenths_text (tenths_of number)
+
+unfoldable pub rate_text : (name : List ℕ) → Option ℕ → List ℕ
+rate_text name number =
+    codes "<div><dt>" ++ (name
+    ++ (codes "</dt><dd>" ++ (a_second number ++ codes " <small>a second, last minute</small></dd></div>\n")))
+
+abbrev pub accepts_in : Minute → ℕ
+accepts_in minute = minute.accepts
+
+abbrev pub rejects_in : Minute → ℕ
+rejects_in minute = plus minute.limit_rejects minute.rejects
+
+abbrev pub accounting_in : Minute → ℕ
+accounting_in minute = minute.accounting
+
+-- of the last whole minute
+unfoldable pub rates_text : Option Minute → List ℕ
+rates_text minute =
+    rate_text (codes "Logins") (option_map accepts_in minute)
+    ++ (rate_text (codes "Rejects") (option_map rejects_in minute)
+    ++ rate_text (codes "Accounting") (option_map accounting_in minute))
+
+unfoldable pub numbers_of : Look → List ℕ
+numbers_of look =
+    codes "<section class=\"numbers\" aria-label=\"Summary\"><dl>\n"
+    ++ (places_text look.totals.held look.totals.places
+    ++ (rates_text (last_of look.minutes.items) ++ codes "</dl></section>\n"))

@@ -1,0 +1,171 @@
+-- The tables of the page: the fullest accounts, how datagrams ended, what was refused lately, and the sockets.
+use Rattle.std.specs.Prelude.{ℕ, ◌==◌, nat_lt, List, [], ◌∷◌, ◌++◌, codes, drop, length, map, sum, take, Option, None, Some, if◌then◌else◌}
+use Rattle.std.specs.Fmt.{decimal}
+use Rattle.std.specs.List.{flat_map}
+use Rattle.rld_counts.specs.Counts.{count_in}
+use Rattle.rld_counts.specs.Ends.{all_ends, is_answer, kind_of}
+use Rattle.rld_counts.specs.Tally.{kept}
+use Rattle.rld_counts.specs.declared.end.End.{End}
+use Rattle.rld_look.specs.declared.look.AccountLook.{AccountLook}
+use Rattle.rld_look.specs.declared.look.SocketLook.{SocketLook}
+use Rattle.rld_look.specs.declared.refusal.Refusal.{Refusal}
+use Rattle.rld_values.specs.Values.{dotted, word}
+use Rattle.rsl_event.specs.declared.nas.NasName.{NasName}
+use Rattle.rsl_event.specs.declared.nas.NasName.TheVariants.{Identifier, Address, Unnamed}
+use Rattle.rsl_shard.specs.declared.row.Row.{Row}
+use Rattle.rld_page.specs.Figures.{grouped, moment_text, share_of, width_text}
+use Rattle.rld_page.specs.Html.{html_text, soft_dash}
+use Rattle.rld_page.specs.Words.{words_of}
+
+-- how each table ends that fills its section
+abbrev pub table_end : List ℕ
+table_end = codes "</tbody></table></div></section>\n"
+
+-- ---- accounts
+
+unfoldable pub accounts_front : (number : ℕ) → List ℕ
+accounts_front number =
+    codes "<section class=\"most\"><div class=\"top\"><h2>Fullest accounts</h2><p class=\"soft\">"
+    ++ (grouped number ++ (codes " in all</p></div>\n<div class=\"wide\">"
+    ++ (codes "<table><thead><tr><th scope=\"col\">Account</th><th scope=\"col\"><span class=\"more\">Share</span></th>"
+    ++ (codes "<th scope=\"col\" class=\"n\">Held</th><th scope=\"col\" class=\"n\">Places</th>"
+    ++ (codes "<th scope=\"col\" class=\"n more\">Live</th><th scope=\"col\" class=\"n more\">Stale</th>"
+    ++ (codes "<th scope=\"col\" class=\"n more\">Reserved</th><th scope=\"col\" class=\"n more\">Over</th>"
+    ++ codes "</tr></thead><tbody>\n"))))))
+
+abbrev pub account_front : Row → List ℕ
+account_front row =
+    if nat_lt row.held row.places then codes "<tr><td class=\"name\">" else codes "<tr class=\"full\"><td class=\"name\">"
+
+unfoldable pub share_cell : (held places : ℕ) → List ℕ
+share_cell held places =
+    codes "</td><td class=\"share\"><span class=\"bar\"><i style=\"width:"
+    ++ (width_text (share_of held places) ++ codes "\"></i></span></td>")
+
+unfoldable pub number_cell : ℕ → List ℕ
+number_cell number = codes "<td class=\"n\">" ++ (grouped number ++ codes "</td>")
+
+-- one that a narrow window has no room for
+unfoldable pub more_cell : ℕ → List ℕ
+more_cell number = codes "<td class=\"n more\">" ++ (grouped number ++ codes "</td>")
+
+unfoldable pub row_cells : Row → List ℕ
+row_cells row =
+    share_cell row.held row.places
+    ++ (number_cell row.held ++ (number_cell row.places
+    ++ (more_cell row.live ++ (more_cell row.stale ++ (more_cell row.reserved ++ more_cell row.over)))))
+
+unfoldable pub account_row : AccountLook → List ℕ
+account_row account =
+    account_front account.row ++ (html_text account.name ++ (row_cells account.row ++ codes "</tr>\n"))
+
+-- of so many accounts in all the fullest ones, in their order
+unfoldable pub accounts_of : (number : ℕ) → List AccountLook → List ℕ
+accounts_of number fullest =
+    accounts_front number ++ (flat_map account_row fullest ++ table_end)
+
+-- ---- how datagrams ended
+
+unfoldable pub count_row : End → (count : ℕ) → List ℕ
+count_row end count =
+    codes "<tr><td>" ++ (words_of end ++ (codes "</td><td class=\"n\">" ++ (grouped count ++ codes "</td></tr>\n")))
+
+-- none of an end in which no datagram ended
+abbrev pub row_if_any : End → (count : ℕ) → List ℕ
+row_if_any end count = if count == 0 then [] else count_row end count
+
+abbrev pub answer_row : (counts : List ℕ) → End → List ℕ
+answer_row counts end = if is_answer (kind_of end) then row_if_any end (count_in counts end) else []
+
+abbrev pub other_row : (counts : List ℕ) → End → List ℕ
+other_row counts end = if is_answer (kind_of end) then [] else row_if_any end (count_in counts end)
+
+-- how many datagrams ended in one of these ways
+abbrev pub total_of : (counts : List ℕ) → List End → ℕ
+total_of counts ends = kept (sum (map (count_in counts) ends))
+
+-- the ends of a port: the answers, then all others, and their sum
+unfoldable pub port_table : (port counts : List ℕ) → List End → List ℕ
+port_table port counts ends =
+    codes "<table><thead><tr><th scope=\"col\">" ++ (port
+    ++ (codes "</th><th scope=\"col\" class=\"n\">Datagrams</th></tr></thead><tbody>\n"
+    ++ (flat_map (answer_row counts) ends ++ (flat_map (other_row counts) ends
+    ++ (codes "</tbody><tfoot><tr><td>All</td><td class=\"n\">"
+    ++ (grouped (total_of counts ends) ++ codes "</td></tr></tfoot></table>\n"))))))
+
+-- the first 20 ends are those of the authentication port
+unfoldable pub causes_of : (counts : List ℕ) → List ℕ
+causes_of counts =
+    codes "<section class=\"rest\"><div class=\"top\"><h2>Datagrams since the start</h2></div>\n<div class=\"wide\">"
+    ++ (port_table (codes "Authentication") counts (take 20 all_ends)
+    ++ (port_table (codes "Accounting") counts (drop 20 all_ends) ++ codes "</div></section>\n"))
+
+-- ---- what was refused lately
+
+abbrev pub name_or_dash : Option (List ℕ) → List ℕ
+name_or_dash None = soft_dash
+name_or_dash (Some name) = word name
+
+-- four octets as an address
+abbrev pub address_text : List ℕ → List ℕ
+address_text address = if length address == 4 then dotted address else word address
+
+-- what an access server calls itself
+abbrev pub nas_text : NasName → List ℕ
+nas_text (Identifier name) = word name
+nas_text (Address address) = address_text address
+nas_text Unnamed = soft_dash
+
+unfoldable pub refusal_front : (dates : ℕ → List ℕ) → Refusal → List ℕ
+refusal_front dates refusal =
+    codes "<tr><td><time>" ++ (moment_text dates refusal.moment
+    ++ (codes "</time></td><td class=\"name\">" ++ name_or_dash refusal.name))
+
+unfoldable pub refusal_end : Refusal → List ℕ
+refusal_end refusal =
+    codes "</td><td>" ++ (words_of refusal.end
+    ++ (codes "</td><td>" ++ (dotted refusal.source.address
+    ++ (codes "</td><td class=\"name\">" ++ (nas_text refusal.nas ++ codes "</td></tr>\n")))))
+
+abbrev pub refusal_row : (dates : ℕ → List ℕ) → Refusal → List ℕ
+refusal_row dates refusal = refusal_front dates refusal ++ refusal_end refusal
+
+-- the last one first
+abbrev pub refusal_rows : (dates : ℕ → List ℕ) → List Refusal → List ℕ
+refusal_rows dates [] = []
+refusal_rows dates (refusal ∷ refusals) = refusal_rows dates refusals ++ refusal_row dates refusal
+
+unfoldable pub refused_table : (dates : ℕ → List ℕ) → List Refusal → List ℕ
+refused_table dates refusals =
+    codes "<div class=\"wide\"><table class=\"lately\"><thead><tr><th scope=\"col\">Time</th><th scope=\"col\">Account</th>"
+    ++ (codes "<th scope=\"col\">Cause</th><th scope=\"col\">Client</th><th scope=\"col\">Access server</th>"
+    ++ (codes "</tr></thead><tbody>\n" ++ (refusal_rows dates refusals ++ table_end)))
+
+abbrev pub refused_if_any : (dates : ℕ → List ℕ) → List Refusal → List ℕ
+refused_if_any dates refusals =
+    if length refusals == 0 then codes "<p class=\"soft\">Nothing was refused.</p></section>\n"
+    else refused_table dates refusals
+
+unfoldable pub refused_of : (dates : ℕ → List ℕ) → List Refusal → List ℕ
+refused_of dates refusals =
+    codes "<section class=\"most\"><div class=\"top\"><h2>Refused lately</h2><p class=\"soft\">times are UTC</p></div>\n"
+    ++ refused_if_any dates refusals
+
+-- ---- the sockets
+
+unfoldable pub socket_row : SocketLook → List ℕ
+socket_row socket =
+    codes "<tr><td>" ++ (decimal socket.port
+    ++ (codes "</td><td class=\"n\">" ++ (grouped socket.waiting
+    ++ (codes "</td><td class=\"n\">" ++ (grouped socket.dropped ++ codes "</td></tr>\n")))))
+
+unfoldable pub sockets_table : List SocketLook → List ℕ
+sockets_table sockets =
+    codes "<section class=\"rest\"><div class=\"top\"><h2>Sockets</h2></div>\n<div class=\"wide\"><table><thead><tr>"
+    ++ (codes "<th scope=\"col\">UDP port</th><th scope=\"col\" class=\"n\">Octets waiting</th>"
+    ++ (codes "<th scope=\"col\" class=\"n\">Dropped, no room</th></tr></thead><tbody>\n"
+    ++ (flat_map socket_row sockets ++ table_end)))
+
+-- no table where the system says nothing of any
+abbrev pub sockets_of : List SocketLook → List ℕ
+sockets_of sockets = if length sockets == 0 then [] else sockets_table sockets
