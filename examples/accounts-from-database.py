@@ -12,7 +12,7 @@ These are the tables, of which a value that is NULL leaves its key out:
 
 CREATE TABLE client (address TEXT PRIMARY KEY, secret TEXT NOT NULL, signed INTEGER);
 CREATE TABLE account (name TEXT PRIMARY KEY, password TEXT NOT NULL, places INTEGER NOT NULL, ports INTEGER NOT NULL,
-    session_timeout INTEGER, idle_timeout INTEGER);
+    session_timeout INTEGER, idle_timeout INTEGER, disabled INTEGER);
 """
 
 import contextlib
@@ -26,7 +26,7 @@ import sys
 import tempfile
 
 # the head of the account file: see the manual page radlimit-accounts(5)
-HEAD = """version = 2
+HEAD = """version = 3
 shards = 2
 reserve_secs = 60
 live_secs = 900
@@ -41,7 +41,7 @@ ACCOUNTS = re.compile(r'^accounts\s*=\s*"([^"\\\n]*)"', re.M)
 
 def value_of(column, value):
     """A value of the database as TOML writes it."""
-    if column == "signed":
+    if column in ("signed", "disabled"):
         return "true" if value else "false"
     if isinstance(value, int):
         return str(value)

@@ -55,8 +55,7 @@ write_files() {
 write_homes() {
     local at name
     sed '/^\[\[client\]\]/,$d' "$top/examples/with-radclient.toml" > "$folder/accounts.toml"
-    printf '[[client]]\naddress = "127.0.0.1"\nsecret = "secret-of-freeradius-here"\nsigned = true\n' \
-        >> "$folder/accounts.toml"
+    printf '[[client]]\naddress = "127.0.0.1"\nsecret = "secret-of-freeradius-here"\n' >> "$folder/accounts.toml"
     for name in "${names[@]}"; do
         printf '[[account]]\nname = "%s"\npassword = "arctangent"\nplaces = 1\nports = 1\n' "$name" >> "$folder/accounts.toml"
     done

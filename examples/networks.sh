@@ -69,7 +69,7 @@ import time
 from served import access_request, attribute, is_answer
 
 server, port = ("127.0.0.1", int(sys.argv[1])), int(sys.argv[2])
-secret, own, astray = b"testing789", 0, 0
+secret, own, astray = b"of two access servers", 0, 0
 sockets = [socket.socket(socket.AF_INET, socket.SOCK_DGRAM) for _ in range(2)]
 for one, host in zip(sockets, ("127.0.0.9", "127.0.0.10")):
     one.bind((host, port))
@@ -77,7 +77,7 @@ for turn in range(100):
     requests = []
     for at, one in enumerate(sockets):
         name = attribute(1, b"nobody") + attribute(32, b"pop%d" % at)
-        requests.append(access_request(turn, secret, name, bytes([at, turn] * 8), b"wrong"))
+        requests.append(access_request(turn, secret, name, bytes([at, turn] * 8), b"wrong", True))
     for at in (0, 1, 0, 1):
         sockets[at].sendto(requests[at], server)
     end, left = time.monotonic() + 3, 4
@@ -127,7 +127,7 @@ shows() {
 }
 
 cat > "$folder/accounts.toml" << 'END'
-version = 1
+version = 3
 shards = 1
 reserve_secs = 60
 live_secs = 900
@@ -135,10 +135,10 @@ grace_secs = 900
 closed_secs = 3600
 keep_secs = 10
 client = [
-    { address = "127.0.0.1", secret = "of 127.0.0.1" },
+    { address = "127.0.0.1", secret = "of this machine itself" },
     { address = "10.255.0.1", secret = "of every IPv6 address" },
-    { address = "10.255.0.2", secret = "testing123" },
-    { address = "10.255.0.3", secret = "testing789" },
+    { address = "10.255.0.2", secret = "of ::1, which is one" },
+    { address = "10.255.0.3", secret = "of two access servers" },
 ]
 account = [
     { name = "nemo", password = "arctangent", places = 1, ports = 1 },
@@ -157,27 +157,29 @@ nas='NAS-Identifier = "pop1"'
 nemo='User-Name = "nemo"'
 pap='User-Password = "arctangent"'
 session='Acct-Session-Id = "s1"'
+# radclient signs a request that has this
+signed='Message-Authenticator = 0x00'
 
 # Sends a packet over ::1, as the client of its network, and looks at the answer; and one over 127.0.0.1.
-from_ipv6() { host='[::1]' expect "$1" "$2" "$3" "$4" testing123 "${@:5}"; }
-from_ipv4() { host=127.0.0.1 expect "$1" "$2" "$3" "$4" 'of 127.0.0.1' "${@:5}"; }
+from_ipv6() { host='[::1]' expect "$1" "$2" "$3" "$4" 'of ::1, which is one' "${@:5}"; }
+from_ipv4() { host=127.0.0.1 expect "$1" "$2" "$3" "$4" 'of this machine itself' "${@:5}"; }
 
 shows 'what a check says of a network' 'network ::1/128: access servers without NAS-Identifier and NAS-IP-Address count as one' \
     "$("$program" check "$folder/radlimitd.toml" | grep '^network ::1')"
-from_ipv6 'a login over IPv6' Access-Accept 'Class = ' auth "$nemo" "$pap" "$nas"
+from_ipv6 'a login over IPv6' Access-Accept 'Class = ' auth "$nemo" "$pap" "$nas" "$signed"
 class=$(sed -n 's/^[[:space:]]*\(Class = 0x[0-9a-f]*\)$/\1/p' <<< "$received")
-from_ipv6 'a login beside it' Access-Reject 'Session limit reached' auth "$nemo" "$pap" "$nas"
+from_ipv6 'a login beside it' Access-Reject 'Session limit reached' auth "$nemo" "$pap" "$nas" "$signed"
 from_ipv6 'the session starts' Accounting-Response '' acct 'Acct-Status-Type = Start' "$nemo" "$nas" "$session" "$class"
-from_ipv4 'a login beside it over IPv4' Access-Reject 'Session limit reached' auth "$nemo" "$pap" "$nas"
-from_ipv4 'another account over IPv4' Access-Accept 'Class = ' auth 'User-Name = "ishmael"' 'User-Password = "call me"' "$nas"
+from_ipv4 'a login beside it over IPv4' Access-Reject 'Session limit reached' auth "$nemo" "$pap" "$nas" "$signed"
+from_ipv4 'another account over IPv4' Access-Accept 'Class = ' auth 'User-Name = "ishmael"' 'User-Password = "call me"' "$nas" "$signed"
 from_ipv6 'the session stops' Accounting-Response '' acct 'Acct-Status-Type = Stop' "$nemo" "$nas" "$session" "$class"
-from_ipv4 'a login after it, over IPv4' Access-Accept 'Class = ' auth "$nemo" "$pap" "$nas"
+from_ipv4 'a login after it, over IPv4' Access-Accept 'Class = ' auth "$nemo" "$pap" "$nas" "$signed"
 shows 'answers to each of two with one port' '400 0' "$(answers_of_two)"
 
 moves_before=$(moves)
-from_ipv6 'the status, of logins' Access-Accept 'Message-Authenticator = ' status:auth "$nas" 'Message-Authenticator = 0x00'
-from_ipv6 'the status, of accounting' Accounting-Response '' status:acct "$nas" 'Message-Authenticator = 0x00'
-from_ipv4 'the status over IPv4' Access-Accept 'Message-Authenticator = ' status:auth "$nas" 'Message-Authenticator = 0x00'
+from_ipv6 'the status, of logins' Access-Accept 'Message-Authenticator = ' status:auth "$nas" "$signed"
+from_ipv6 'the status, of accounting' Accounting-Response '' status:acct "$nas" "$signed"
+from_ipv4 'the status over IPv4' Access-Accept 'Message-Authenticator = ' status:auth "$nas" "$signed"
 shows 'the status, signed wrong' 'no answer' "$(answer_to_wrong_status)"
 shows 'what waits at the sockets of all addresses' 'sockets: 0 octets wait, 0 datagrams found no room' \
     "$("$program" status "$folder/radlimitd.toml" | grep '^sockets: ')"

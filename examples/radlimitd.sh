@@ -63,7 +63,7 @@ with socket.socket(socket.AF_INET, socket.SOCK_DGRAM) as one:
     one.bind((HOST, int(sys.argv[2])))
     one.settimeout(3)
     names = attribute(1, b"nemo") + attribute(32, b"pop1")
-    one.sendto(access_request(1, b"testing123", names, bytes(range(16)), b"arctangent"), (HOST, int(sys.argv[1])))
+    one.sendto(access_request(1, b"testing-on-this-machine", names, bytes(range(16)), b"arctangent", True), (HOST, int(sys.argv[1])))
     print(one.recv(4096).hex())
 END
 }
@@ -89,16 +89,18 @@ nas='NAS-Identifier = "pop1"'
 name='User-Name = "nemo"'
 pap='User-Password = "arctangent"'
 session='Acct-Session-Id = "s1"'
+# radclient signs a request that has this
+signed='Message-Authenticator = 0x00'
 
 # Sends a packet as the client 127.0.0.1, and looks at the answer.
-from_client() { expect "$1" "$2" "$3" "$4" testing123 "${@:5}"; }
+from_client() { expect "$1" "$2" "$3" "$4" testing-on-this-machine "${@:5}"; }
 
 shows 'a server on a new folder' 'era 1, new: 0 sessions' "$(cat "$said")"
 shows 'a second one' 'busy, status 2' "$(refused)"
 answer_before=$(first_answer)
 shows 'a login by PAP, its code' 02 "${answer_before:0:2}"
 class="Class = 0x$(sed -n 's/.*1912\([0-9a-f]\{32\}\).*/\1/p' <<< "$answer_before")"
-from_client 'a login beside it' Access-Reject 'Session limit reached' auth "$name" "$pap" "$nas"
+from_client 'a login beside it' Access-Reject 'Session limit reached' auth "$name" "$pap" "$nas" "$signed"
 from_client 'the session starts' Accounting-Response '' acct \
     'Acct-Status-Type = Start' "$name" "$nas" "$session" "$class"
 
@@ -120,11 +122,11 @@ places = 1
 ports = 1
 END
 shows 'an account is added' 'era 2: 1 of 1 sessions of era 1 go on' "$("$program" reload "$folder/radlimitd.toml")"
-from_client 'a login of it' Access-Accept 'Class = ' auth 'User-Name = "dora"' 'User-Password = "pass of dora"' "$nas"
+from_client 'a login of it' Access-Accept 'Class = ' auth 'User-Name = "dora"' 'User-Password = "pass of dora"' "$nas" "$signed"
 shows 'the first request once more, its answer' "$answer_before" "$(first_answer)"
-from_client 'a login beside the session' Access-Reject 'Session limit reached' auth "$name" "$pap" "$nas"
+from_client 'a login beside the session' Access-Reject 'Session limit reached' auth "$name" "$pap" "$nas" "$signed"
 from_client 'the session stops' Accounting-Response '' acct 'Acct-Status-Type = Stop' "$name" "$nas" "$session" "$class"
-from_client 'a login after it' Access-Accept 'Class = ' auth "$name" "$pap" "$nas"
+from_client 'a login after it' Access-Accept 'Class = ' auth "$name" "$pap" "$nas" "$signed"
 
 class=$(sed -n 's/.*\(Class = 0x[0-9a-f]*\).*/\1/p' <<< "$received")
 from_client 'its session starts' Accounting-Response '' acct \
@@ -133,7 +135,7 @@ link=$("$program" sessions nemo "$folder/radlimitd.toml")
 shows 'the link of nemo' 'nemo 127.0.0.1 nas=pop1 s2 live' "${link% age=*}"
 shows 'the access server has forgotten it' freed "$("$program" free "$(cut -d' ' -f1-4 <<< "$link")" "$folder/radlimitd.toml")"
 shows 'its Stop is recorded' 1 "$("$program" lines "$folder"/state/log-2-* | grep -c ' stop account=nemo .* session=s2 -> done')"
-from_client 'a login after that' Access-Accept 'Class = ' auth "$name" "$pap" "$nas"
+from_client 'a login after that' Access-Accept 'Class = ' auth "$name" "$pap" "$nas" "$signed"
 
 shows 'what its accounts hold' 'places 4, held 2' "$("$program" status "$folder/radlimitd.toml" |
     awk '$1 == "places" { places = $2 } $1 == "held" { held = $2 } END { printf "places %s, held %s", places, held }')"

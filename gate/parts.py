@@ -24,7 +24,7 @@ SHOWN = re.compile(r"\./radlimit replay < (examples/\S+)\n(?:```.*?```\n)?(.*?)`
 REPORT = re.compile(r"^```\n(name +places .*?)```", re.M | re.S)
 REPORTS = {
     "docs/RADLIMIT-SERVE.md": ["example_access_request"],
-    "docs/SESSION-RULE.md": ["example_sessions", "example_of_a_yield", "example_of_the_longest_silence"],
+    "docs/SESSION-RULE.md": ["example_sessions", "example_of_a_yield"],
 }
 ROWS = os.path.join(repository.TESTS, "test_scripts", "data")
 
@@ -139,6 +139,15 @@ def ask_through_freeradius():
     return int(run.returncode == 0), int(run.returncode != 0)
 
 
+def ask_over_tls():
+    """radlimitd behind two radsecproxy, which speak TLS to each other, and radclient."""
+    if any(lacks(program, "examples/radsecproxy.sh") for program in ("radsecproxy", "radclient", "openssl")):
+        return left_out_everywhere()
+    words = [os.path.join(TOP, "examples", "radsecproxy.sh"), programs.path_of("radlimitd")]
+    run = subprocess.run(words, check=False)
+    return int(run.returncode == 0), int(run.returncode != 0)
+
+
 def install_package():
     """The Debian package, built and installed."""
     wanted = ("lintian", "mmdebstrap", "systemd-nspawn", "systemd-analyze", "man", "dpkg-deb", "radclient", "curl")
@@ -169,11 +178,13 @@ PARTS = {
     "monitoring": ("a dashboard and alerts", bench, "monitoring"),
     "full-disk": ("a full disk", compiled_bench, "full-disk"),
     "copied": ("a folder that is copied", bench, "backup", "3"),
+    "upgraded": ("folders of earlier versions", bench, "upgrade"),
     "steered": ("what an operator asks", bench, "steering"),
     "page": ("the page", bench, "page"),
     "unrecorded": ("an answer that is not recorded", bench, "unrecorded"),
     "radclient": ("radclient", ask_with_radclient),
     "freeradius": ("behind FreeRADIUS", ask_through_freeradius),
+    "radsec": ("behind radsecproxy", ask_over_tls),
     "package": ("the Debian package", install_package),
     "launcher": ("each way of ./radlimit", bench, "launcher"),
 }
@@ -187,7 +198,7 @@ PATIENT = ("damaged", "package", "reload", "unrecorded", "freeradius", "killed-s
 # server of 16,384 accounts takes half a minute to start there; or it is about the proofs
 SHORT = (
     "streams", "freeradius", "full-disk", "failing-daemon", "refusals", "failing-sockets", "killed-log", "page", "radclient",
-    "copied", "changed", "examples", "monitoring",
+    "copied", "radsec", "upgraded", "changed", "examples", "monitoring",
 )
 
 # the UDP ports that they share out, so that a server which is killed and starts again finds its own ports free

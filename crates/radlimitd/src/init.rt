@@ -111,7 +111,7 @@ state = "state"                 # the folder that the server keeps its history i
 # system likes. Only a loss of power tells them apart.
 sync = "always"
 
-# How long old logs are kept, for billing and audit: a number of days, "keep" or "none".
+# How long old logs are kept, for audit: a number of days, "keep" or "none".
 archive = 7
 
 # Where requests come to: up to 16 of these tables.
@@ -131,7 +131,7 @@ const ACCOUNTS_HEAD: &str =
     r#"# The account file of a radlimitd: who may ask, and who may log in. Secrets and passwords stand here in clear text: let
 # nobody else read this file. radlimit-accounts(5) has every key.
 
-version = 2            # of this format
+version = 3            # of this format
 
 # Into how many parts the accounts are spread, 1 to 4, and times in seconds, 1 to 86,400 each.
 shards = 2
@@ -149,7 +149,7 @@ secret = ""#;
 
 /// The account file after the secret.
 const ACCOUNTS_END: &str = r#""  # what it shares with this server, at random
-signed = true                                 # its requests must have a right Message-Authenticator
+# signed = false                              # only for one that sends no Message-Authenticator; true if left out
 
 # An account: up to 16,384 of these tables. This one is an example.
 [[account]]
@@ -157,4 +157,5 @@ name = "nemo"                                 # the whole User-Name: 1 to 64 vis
 password = "arctangent"                       # 1 to 128 octets
 places = 1                                    # the sessions that it may have at once, 0 to 64
 ports = 1                                     # links of one multilink bundle that share a place, 1 to 16
+# disabled = true                             # rejects its logins; sessions that go on count until they end
 "#;
