@@ -45,6 +45,7 @@ pub(crate) fn change<'a, R: Files<File = File>>(
     now: u64,
     pacing: Pacing<'a>,
 ) -> Result<Started<'a>, StartFault>
+    ensures server { IfOk result (λ started. IsServerOf config.now started.store.books) }
     ensures boot { IfOk result (λ started. started.boot ≡ table.now.boot) }
     ensures era { IfOk result (λ started. started.header.era ≡ greatest_by era_of names.now + 1) }
     ensures found { IfOk result (λ started. started.found.era ≡ started.header.era) }

@@ -1,6 +1,7 @@
 //! A generation that was begun, opened again.
 
 ghost use Rattle.std.specs.Prelude.{◌≡◌, ℕ, List, [], IfOk, IsTrue, OnOk};
+ghost use Rattle.rld_books.specs.Saved.{IsServerOf};
 ghost use Rattle.rld_spelling.specs.Eras.{era_octets};
 ghost use Rattle.rld_spelling.specs.Tables.{table_of};
 ghost use Rattle.rld_store.specs.Generations.{HasHistory};
@@ -84,6 +85,7 @@ pub(crate) fn reopen<'a>(
     requires { (boot : ℕ) × (table.now.octets.items ≡ era_octets (table_of boot config.now)) }
     ensures generation { IfOk result (λ former. former.generation ≡ begun.generation) }
     ensures boot { IfOk result (λ former. former.boot ≡ table.now.boot) }
+    ensures server { IfOk result (λ former. IsServerOf config.now former.opened.store.books) }
 {
     let Begun {
         generation,
@@ -109,6 +111,7 @@ fn open_store<L: Log + Drop>(
     frames: &Frames,
 ) -> Result<Opened<L>, StartFault>
     requires { IsTrue (L.tells log) → frames.now.octets.items ≡ L.seen log }
+    ensures server { IfOk result (λ opened. IsServerOf config.now opened.store.books) }
     ensures stands { IfOk result (λ opened. IsTrue (L.tells opened.store.log) →
         (opening : List BooksSeen) (history : List OneMove) →
         HasHistory config.now opening history (L.seen log) →

@@ -1,6 +1,7 @@
 //! How a server starts from its folder.
 
 ghost use Rattle.std.specs.Prelude.{◌≡◌, ◌+◌, All, IfNone, IfOk, None, OnOk, Some};
+ghost use Rattle.rld_books.specs.Saved.{IsServerOf};
 ghost use Rattle.rld_books.specs.Server.{new_server};
 ghost use Rattle.rld_spelling.specs.Eras.{era_octets};
 ghost use Rattle.rld_spelling.specs.Tables.{table_of};
@@ -69,7 +70,9 @@ pub fn start<'a, R: Files<File = File> + Alloc<A = Global> + Clone + Drop>(
     path: &str,
     now: u64,
     pacing: Pacing<'a>,
-) -> Result<Started<'a>, StartFault> {
+) -> Result<Started<'a>, StartFault>
+    ensures server { IfOk result (λ started. IsServerOf config.now started.store.books) }
+{
     let folder = Folder::open(rt, alloc, path)?;
     let files = folder.files(rt)?;
     let files = files.as_slice();
@@ -101,6 +104,7 @@ fn take_up<'a, R: Files<File = File>>(
     now: u64,
     pacing: Pacing<'a>,
 ) -> Result<Started<'a>, StartFault>
+    ensures server { IfOk result (λ started. IsServerOf config.now started.store.books) }
     ensures earlier { OnOk result (All (IsEarlier (generation_in begun)) archived.now) }
     ensures from { IfOk result (λ started. IsFrom (generation_in begun) started.found) }
     ensures new { IfOk result (λ started. IfNone begun (started.store.books ≡ new_server config.now)) }
@@ -122,6 +126,7 @@ fn begin<'a, R: Files<File = File>>(
     boot: u64,
     pacing: Pacing<'a>,
 ) -> Result<Started<'a>, StartFault>
+    ensures server { IfOk result (λ started. IsServerOf config.now started.store.books) }
     ensures boot { IfOk result (λ started. started.boot ≡ boot) }
     ensures era { IfOk result (λ started. started.header.era ≡ greatest_by era_of names.now + 1) }
     ensures first { IfOk result (λ started.
@@ -172,7 +177,8 @@ fn follow<'a, R: Files<File = File>>(
     now: u64,
     pacing: Pacing<'a>,
 ) -> Result<Started<'a>, StartFault>
-    ensures { IfOk result (λ started. IsFrom (Some begun.generation) started.found) }
+    ensures server { IfOk result (λ started. IsServerOf config.now started.store.books) }
+    ensures from { IfOk result (λ started. IsFrom (Some begun.generation) started.found) }
 {
     let table = read_table(files, alloc, &folder, &begun)?;
     if is_era_file(alloc, config, table.boot, table.octets.as_slice())? {
@@ -199,6 +205,7 @@ fn go_on<'a, R: Files<File = File>>(
     pacing: Pacing<'a>,
 ) -> Result<Started<'a>, StartFault>
     requires { table.now.octets.items ≡ era_octets (table_of table.now.boot config.now) }
+    ensures server { IfOk result (λ started. IsServerOf config.now started.store.books) }
     ensures boot { IfOk result (λ started. started.boot ≡ table.now.boot) }
     ensures found { IfOk result (λ started. IsFrom (Some begun.generation) started.found) }
     ensures era { IfOk result (λ started. started.found.era ≡ begun.generation.era) }
