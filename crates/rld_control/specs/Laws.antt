@@ -1,5 +1,5 @@
 -- What is asked by its line is what was meant.
-use Rattle.std.specs.Prelude.{◌≡◌, ◌<◌, length, List, ℕ, Some}
+use Rattle.std.specs.Prelude.{◌≡◌, length, Some}
 use Rattle.rsl_event.specs.declared.nas.NasName.{NasName}
 use Rattle.rsl_event.specs.declared.nas.NasName.TheVariants.{Identifier, Address, Unnamed}
 use Rattle.rld_values.specs.Laws.{AreOctets}
