@@ -1,5 +1,5 @@
 -- The line of a command asks for it.
-use Rattle.std.proofs.Common.{◌≡◌, ℕ, suc, ◌+◌, ◌%◌, ◌^◌, ◌<◌, ◌≤◌, ◌==◌, cond, List, [], ◌∷◌, ◌++◌, length, take, drop, Bool, true, false, ◌&&◌, not, Option, Some, None, refl, sym, ap, ◌∙◌, arith, append_assoc, lit≤}
+use Rattle.std.proofs.Common.{◌≡◌, ℕ, suc, ◌+◌, ◌%◌, ◌^◌, ◌<◌, ◌≤◌, ◌==◌, cond, List, [], ◌∷◌, ◌++◌, length, drop, Bool, true, false, ◌&&◌, not, Option, Some, None, refl, ap, ◌∙◌, arith, append_assoc, lit≤}
 use Rattle.std.proofs.lemmas.Bool.{agree_below_at, false≢true}
 use Rattle.std.proofs.lemmas.Bool.Decides.{nat_tests}
 use Rattle.std.proofs.lemmas.Fmt.{decimal_by_steps}
@@ -9,19 +9,18 @@ use Rattle.std.proofs.NetLemmas.Ipv4.{read_ipv4_complete}
 use Rattle.std.specs.Fmt.{decimal}
 use Rattle.std.specs.List.{position, position_or_len}
 use Rattle.std.specs.Net.Grammar.{IsDotted}
-use Rattle.std.specs.Net.Reader.{read_ipv4, whole_value}
+use Rattle.std.specs.Net.Reader.{read_ipv4}
 use Rattle.std.specs.Option.{option_map}
 use Rattle.std.specs.Prelude.{codes}
 use Rattle.rsl_accounts.specs.Address.{address_of}
 use Rattle.rsl_event.specs.declared.nas.NasName.{NasName}
 use Rattle.rsl_event.specs.declared.nas.NasName.TheVariants.{Identifier, Address, Unnamed}
 use Rattle.rld_values.specs.Laws.{AreOctets, ReadsBack, ReadsBackBehindKeys, ReadsHexBack}
-use Rattle.rld_values.specs.Read.{octets_of_hex, octets_of_word, unescaped}
 use Rattle.rld_values.specs.Values.{dotted, escaped, escaped_octet, hex, hex_octet, word}
 use Rattle.rld_control.specs.Command.{command_of, command_with, flagged_sessions, line_of, sessions_of}
 use Rattle.rld_control.specs.Laws.{IsCommand, IsNamedSession, IsNasName}
-use Rattle.rld_control.specs.Named.{named, named_by, named_session_of, nas_of_word, nas_word, server_words, session_words, with_account, with_client}
-use Rattle.rld_control.specs.Words.{Parted, by_first_word, by_parts, is_space, parted}
+use Rattle.rld_control.specs.Named.{named_by, named_session_of, nas_of_word, nas_word, session_words, with_account, with_client}
+use Rattle.rld_control.specs.Words.{by_first_word, by_parts, is_space, parted}
 use Rattle.rld_control.specs.declared.command.Command.{Command}
 use Rattle.rld_control.specs.declared.command.Command.TheVariants.{Status, Accounts, Sessions, Free, Reload, Stop}
 use Rattle.rld_control.specs.declared.form.Form.TheVariants.{Lines, Json}

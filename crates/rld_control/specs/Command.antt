@@ -1,5 +1,6 @@
--- The command of a line: a word, and after it its own words, each after one space.
-use Rattle.std.specs.Prelude.{ℕ, List, [], ◌∷◌, ◌++◌, codes, Option, Some, None, ◌||◌, bytes_eq, if◌then◌else◌}
+-- What a line asks a running server for: a word, and after it those that it wants, each after one
+-- space.
+use Rattle.std.specs.Prelude.{ℕ, List, [], ◌++◌, codes, Option, Some, None, ◌||◌, bytes_eq, if◌then◌else◌}
 use Rattle.std.specs.Option.{option_map}
 use Rattle.rld_values.specs.Read.{octets_of_word}
 use Rattle.rld_values.specs.Values.{word}

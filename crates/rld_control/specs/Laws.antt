@@ -1,5 +1,5 @@
--- The line of a command is read as that command.
-use Rattle.std.specs.Prelude.{◌≡◌, ◌<◌, length, List, ℕ, Some}
+-- What is asked by its line is what was meant.
+use Rattle.std.specs.Prelude.{◌≡◌, length, Some}
 use Rattle.rsl_event.specs.declared.nas.NasName.{NasName}
 use Rattle.rsl_event.specs.declared.nas.NasName.TheVariants.{Identifier, Address, Unnamed}
 use Rattle.rld_values.specs.Laws.{AreOctets}

@@ -1,6 +1,7 @@
 -- The Accounting-Request by which an access server says that a session has ended (RFC 2866 section
 -- 4.1).
 use Rattle.std.specs.Prelude.{◌≡◌, ℕ, Bool, false, ◌&&◌, List, [], ◌∷◌, replicate, Ok, Some}
+use Rattle.std.specs.List.{list_any}
 use Rattle.rsl_accounts.specs.Configuration.{Configuration, account_number, client_number, same_octets}
 use Rattle.rsl_auth.specs.Authenticator.{sealed}
 use Rattle.rsl_wire.specs.Attributes.{Attribute, attribute_of, list_octets}
@@ -16,9 +17,14 @@ use Rattle.rsl_event.specs.declared.meaning.Meaning.TheVariants.{Own}
 use Rattle.rsl_event.specs.declared.meaning.Port.TheVariants.{Acct}
 use Rattle.rsl_event.specs.declared.nas.NasName.{NasName}
 use Rattle.rsl_event.specs.declared.nas.NasName.TheVariants.{Identifier, Address, Unnamed}
+use Rattle.rsl_session.specs.Book.{BookLink}
+use Rattle.rsl_session.specs.BookLinks.{is_link_of}
 use Rattle.rsl_session.specs.declared.saved.SavedHolder.{SavedHolder}
 use Rattle.rsl_session.specs.declared.saved.SavedHolder.TheVariants.{Reserved, Bound}
 use Rattle.rsl_session.specs.declared.saved.SavedLink.{SavedLink}
+use Rattle.rsl_session.specs.declared.session.Session.{Session}
+use Rattle.rsl_shard.specs.declared.moved.Move.{Move}
+use Rattle.rsl_shard.specs.declared.moved.Move.TheVariants as moves
 use Rattle.rld_control.specs.declared.named.NamedSession.{NamedSession}
 use Rattle.rld_control.specs.declared.stop.Stop.{Stop}
 
@@ -64,10 +70,23 @@ abbrev pub MeansStop : Configuration → (boot : ℕ) → Source → Stop → Ty
 MeansStop config boot source stop =
     meaning config boot Acct source stop.octets.items ≡ Ok (Own stop.account (acts.Stop stop.nas stop.session))
 
--- whether a link is bound to the session that a Stop ends
+-- the session that a Stop ends
+abbrev pub session_of : Stop → Session
+session_of stop = record { nas = stop.nas; id = stop.session }
+
+-- whether a link of a book is bound to it, by the session rule
+abbrev pub is_held : Stop → List BookLink → Bool
+is_held stop links = list_any (is_link_of (session_of stop)) links
+
+-- the same of a link as it is saved
 abbrev pub is_holder : (session : List ℕ) → SavedHolder → Bool
 is_holder session (Reserved number) = false
 is_holder session (Bound id) = same_octets id session
 
 abbrev pub is_ended : Stop → SavedLink → Bool
 is_ended stop link = same_nas link.nas stop.nas && is_holder stop.session link.holder
+
+-- the move that a Stop is to the books at a moment
+abbrev pub move_of : Stop → (moment : ℕ) → Move
+move_of stop moment =
+    moves.Own stop.account (record { moment = moment; act = acts.Stop stop.nas stop.session })

@@ -3,9 +3,9 @@ ghost use Rattle.std.specs.List.{list_any};
 ghost use Rattle.rsl_accounts.specs.Configuration.{account_number};
 ghost use Rattle.rsl_event.specs.declared.event.Act.TheVariants as acts;
 ghost use Rattle.rsl_event.specs.declared.meaning.Meaning.TheVariants as meanings;
-ghost use Rattle.rsl_shard.specs.declared.moved.Move.TheVariants as moves;
+ghost use Rattle.rsl_session.specs.Saved.{saved_links};
 ghost use Rattle.rsl_wire.specs.NewPacket.{seen};
-ghost use Rattle.rld_control.specs.Stops.{IsStopOf, MeansStop, is_ended, is_holder, request_octets, stop_octets};
+ghost use Rattle.rld_control.specs.Stops.{IsStopOf, MeansStop, is_ended, is_held, is_holder, move_of, request_octets, stop_octets};
 
 use crate::fault::FreeFault;
 use crate::named::NamedSession;
@@ -70,8 +70,16 @@ impl Stop {
         }
     }
 
-    /// Whether one of these links is bound to the session.
+    /// Whether one of these links, as a book's are saved, is bound to the session.
+    #[tactic(auto, using(crate::proofs::Holding::any_ended))]
     pub fn ends_one(&self, links: &[SavedLink]) -> bool
+        ensures { result ≡ is_held self.now (saved_links links.now) }
+    {
+        self.ends_any(links)
+    }
+
+    /// The same, by what is saved of each link.
+    fn ends_any(&self, links: &[SavedLink]) -> bool
         ensures { result ≡ list_any (is_ended self.now) links.now }
     {
         links.iter().any(|link| self.ends(link))
@@ -86,8 +94,7 @@ impl Stop {
 
     /// The move of the Stop at a moment, in seconds since 1970.
     pub fn into_move(self, moment: u64) -> Move
-        ensures { result ≡ moves.Own self.account
-            (record { moment = moment; act = acts.Stop self.nas self.session }) }
+        ensures { result ≡ move_of self moment }
     {
         let Stop {
             account,

@@ -6,17 +6,14 @@ ghost use Rattle.std.specs.Arc.{arc_value};
 use crate::accounts::Accounts;
 use crate::ask_fault::AskFault;
 use crate::server::Server;
-use rld_control::{Command, Form, NamedSession, Reply, Selection, Stop};
+use rld_control::{Command, Form, NamedSession, Reply, Selection};
 use rld_edges::Operator;
-use rld_log::{FileLog, PacedLog};
 use rld_start::Generations;
-use rld_state::ServerState;
-use rld_store::Store;
+use rld_state::Freed;
 use rld_text::{Holder, accounts_text, links_text, status_json, status_text};
 use rsl_accounts::Config;
 use rsl_port::{Clock, SystemClock};
 use rsl_session::SavedLink;
-use rsl_shard::Move;
 use std::io::ErrorKind;
 use std::os::unix::net::UnixStream;
 use std::sync::{Arc, Wait};
@@ -141,45 +138,17 @@ where
     /// Frees the place of a session by the Stop that its access server would have sent. If no link
     /// is bound to the session, nothing is recorded.
     fn free(&self, named: &NamedSession) -> Result<Vec<u8>, AskFault> {
-        if self.record_stop(named)? {
-            self.told(Reply::Done(b"freed\n"))
-        } else {
-            self.told(Reply::Done(b"no such session\n"))
+        match self.freed(named)? {
+            Freed::Done(_recorded) => self.told(Reply::Done(b"freed\n")),
+            Freed::NotHeld => self.told(Reply::Done(b"no such session\n")),
+            Freed::Unrecorded => Err(AskFault::Unrecorded),
         }
     }
 
-    /// Records the Stop of a session, if a link is bound to it, and gives whether one is. The lock
-    /// is held from the look-up of the account and its links until the Stop is recorded.
-    fn record_stop(&self, named: &NamedSession) -> Result<bool, AskFault> {
+    /// What comes of a session that is to be freed. The lock is held from the look at the accounts and the
+    /// links until its Stop is recorded.
+    fn freed(&self, named: &NamedSession) -> Result<Freed, AskFault> {
         let mut state = self.state.lock(self.rt);
-        let stop = Stop::of(self.alloc, state.accounts(), self.plan.boot, named)?;
-        if !self.is_held(&state, &stop)? {
-            return Ok(false);
-        }
-        let batch = self.batch_of(stop)?;
-        let era = state.header().era;
-        match state.record(self.alloc, era, batch) {
-            Ok(_recorded) => Ok(true),
-            Err(_) => Err(AskFault::Unrecorded),
-        }
-    }
-
-    /// Whether a link is bound to the session of a Stop.
-    fn is_held(
-        &self,
-        state: &ServerState<Store<PacedLog<'a, FileLog>>>,
-        stop: &Stop,
-    ) -> Result<bool, AskFault> {
-        match state.recorder().links(self.alloc, stop.account)? {
-            Some(links) => Ok(stop.ends_one(links.as_slice())),
-            None => Ok(false),
-        }
-    }
-
-    /// The move of a Stop at the present moment, as a batch of its own.
-    fn batch_of(&self, stop: Stop) -> Result<Vec<Move>, AskFault> {
-        let mut batch = Vec::with_capacity(self.alloc, 1)?;
-        batch.push(stop.into_move(self.moment()))?;
-        Ok(batch)
+        Ok(state.free(self.alloc, self.plan.boot, named, self.moment())?)
     }
 }

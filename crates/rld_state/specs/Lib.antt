@@ -1,4 +1,5 @@
 pub mod Due
+pub mod Freeing
 pub mod Keeping
 pub mod Notices
 pub mod Places

@@ -1,15 +1,18 @@
-//! The state of a running server, as its lock protects it: the recorder, the accounts and the era
-//! of its books, and the generation that it writes. It records batches, goes on to the next
-//! generation, and to other accounts within the era or with a new one; and it says when the next
+//! The state of a running server, as it stands behind its lock: the recorder, the accounts and the
+//! era of its books, and the generation that it writes. It records batches, goes on to the next
+//! generation, and to other accounts within the era or with a new one; it frees the place of a
+//! session that an operator names; and it says when the next
 //! generation is due and what an operator is to learn. It has no thread, socket or lock of its own.
 //!
 //! The promise: of each call, what the recorder promises; a recorder that can record nothing more
 //! is not called again, and a batch of another era is refused whole (`specs/Keeping.antt`); a
 //! generation or an era that does not begin leaves the present one as it was, and an era begins
-//! with the admitted books, once its log is on the disk (`changing.rt`).
+//! with what is admitted of the books, once its log is on the disk (`changing.rt`); and a session is
+//! called freed only where a link was bound to it and its Stop is recorded (`specs/Freeing.antt`).
 #![tactic(auto)]
 
 mod changing;
+mod freeing;
 mod places;
 mod reloaded;
 mod rolled;
@@ -19,6 +22,7 @@ mod told;
 mod trouble;
 
 pub use changing::Entered;
+pub use freeing::Freed;
 pub use places::places_in;
 pub use reloaded::{EraChange, ReloadFault, Reloaded};
 pub use rolled::{NotBegun, Notice, RollFault, notice_of_archive, notice_of_roll};

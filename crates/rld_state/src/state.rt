@@ -1,5 +1,6 @@
 ghost use Rattle.std.specs.Prelude.{◌≡◌, ℕ, true, length, Err, IfErr, IfOk, IsErrOf, OnErr, OnOk, List, [], ◌++◌, ◌||◌, ◌↔◌, false, IsTrue, Ok};
 ghost use Rattle.std.specs.Arc.{arc_value};
+ghost use Rattle.rld_books.specs.Saved.{IsServerOf};
 ghost use Rattle.rld_books.specs.Server.{decisions_of, replay};
 ghost use Rattle.rld_state.specs.Keeping.{IsGone, ends, is_ended, is_failed, is_over, moves_after};
 ghost use Rattle.rld_spelling.specs.Tables.{table_of};
@@ -188,23 +189,7 @@ impl<S: Recorder> ServerState<S> {
         }
     }
 
-    /// Goes on with other accounts in the present era, if it has their table, and gives whether it
-    /// has; if not, nothing has changed. Nothing is copied or allocated, since receivers wait for
-    /// it.
-    pub fn go_on(&mut self, config: Arc<Config>) -> bool
-        ensures same { (boot : ℕ) → IsTrue result ↔
-            (table_of boot (arc_value self.old.config) ≡ table_of boot (arc_value config)) }
-        ensures config { result ≡ true → self.new ≡ record self.old { config = config } }
-        ensures kept { result ≡ false → self.new ≡ self.old }
-    {
-        let goes_on = is_same_era(&*self.config, &*config);
-        if goes_on {
-            self.config = config;
-        }
-        goes_on
-    }
-
-    /// The recorder, borrowed.
+    /// The recorder, to look at.
     pub fn recorder(&self) -> &S
         ensures { result.now ≡ self.now.recorder }
     {
@@ -313,8 +298,33 @@ impl<L: Log + Drop> ServerState<Store<L>> {
         }
     }
 
-    /// Goes on in an era that was begun, with its accounts, and hands out the store of the former
-    /// one.
+    /// Goes on by other accounts in the present era, if it has their table, and gives whether it has; where
+    /// it has not, all is as before. Nothing is copied or made for it, since receivers rest meanwhile.
+    pub fn go_on(&mut self, config: Arc<Config>) -> bool
+        ensures same { (boot : ℕ) → IsTrue result ↔
+            (table_of boot (arc_value self.old.config) ≡ table_of boot (arc_value config)) }
+        ensures config { result ≡ true → self.new ≡ record self.old { config = config } }
+        ensures kept { result ≡ false → self.new ≡ self.old }
+
+        // The books are those of the accounts, and the store stands for its history by them.
+        ensures server { IsServerOf (arc_value self.old.config) self.old.recorder.books →
+            IsServerOf (arc_value self.new.config) self.new.recorder.books }
+        ensures stands { (opening : List BooksSeen) (history unanswered : List OneMove) →
+            StandsFor (arc_value self.old.config) opening self.old.recorder.counts L.tears self.old.recorder.end
+            (L.seen self.old.recorder.log) (L.may_leave self.old.recorder.log) self.old.recorder.whole
+            self.old.recorder.books history unanswered →
+            StandsFor (arc_value self.new.config) opening self.new.recorder.counts L.tears self.new.recorder.end
+            (L.seen self.new.recorder.log) (L.may_leave self.new.recorder.log) self.new.recorder.whole
+            self.new.recorder.books history unanswered }
+    {
+        let goes_on = is_same_era(&*self.config, &*config);
+        if goes_on {
+            self.config = config;
+        }
+        goes_on
+    }
+
+    /// Goes on in an era that was begun, by its accounts, and hands out the store of the former one.
     pub(crate) fn enter(&mut self, opening: Opening<L>, config: Arc<Config>) -> Store<L>
         requires { opening.synced.generation ≡ generation_named opening.header }
         ensures recorder { self.new.recorder ≡ opening.store }

@@ -3,7 +3,8 @@ use Rattle.std.specs.Prelude.{◌↔◌, IsTrue}
 use Rattle.std.specs.Arc.{arc_value}
 use Rattle.rld_spelling.specs.Tables.{table_of}
 use Rattle.rsl_accounts.specs.Configuration.{Configuration}
-use Rattle.rld_state.proofs.state.ServerState.go_on.Goals as goal
+use Rattle.rld_state.proofs.SameEra.{still_server, still_stands}
+use Rattle.rld_state.proofs.state.ServerState+Store+L.go_on.Goals as goal
 
 -- what is asked of two configurations is asked of what these are
 asked_of : (one other a b : Configuration) (same : Bool) → one ≡ a → other ≡ b
@@ -22,3 +23,13 @@ pub returns-else-goes_on-clause-same : goal.returns-else-goes_on-clause-same
 returns-else-goes_on-clause-same g c =
     asked_of c.deref.result.now c.deref-2.result.now (arc_value c.args.self.now.config) (arc_value c.args.config) c.is_same_era-goes_on.result
     (search rules) (search rules) c.is_same_era-goes_on.ensures
+
+pub returns-then-goes_on-clause-server : goal.returns-then-goes_on-clause-server
+returns-then-goes_on-clause-server g c = λ of.
+    still_server 0 (arc_value c.args.self.now.config) (arc_value c.args.config) ((returns-then-goes_on-clause-same g c 0).0 c.if-goes_on.true) c.args.self.now.recorder.books of
+
+pub returns-then-goes_on-clause-stands : goal.returns-then-goes_on-clause-stands
+returns-then-goes_on-clause-stands g c = λ opening history unanswered stands.
+    still_stands 0 (arc_value c.args.self.now.config) (arc_value c.args.config) ((returns-then-goes_on-clause-same g c 0).0 c.if-goes_on.true)
+    opening c.args.self.now.recorder.counts g.L.Log.tears c.args.self.now.recorder.end (g.L.Log.seen c.args.self.now.recorder.log) (g.L.Log.may_leave c.args.self.now.recorder.log)
+    c.args.self.now.recorder.whole c.args.self.now.recorder.books history unanswered stands

@@ -1,0 +1,121 @@
+//! How the place of a session is freed that its access server has forgotten: by its Stop.
+
+ghost use Rattle.std.specs.Prelude.{◌≡◌, ◌∷◌, [], List, IfOk, IsTrue, OnErr};
+ghost use Rattle.std.specs.Arc.{arc_value};
+ghost use Rattle.rld_state.specs.Freeing.{IsFreed, IsFreedBy, IsNoted, StaysUnheld, books_after_it, history_after_it, is_held_in, moves_after_it};
+ghost use Rattle.rld_store.specs.Stored.{HasRecorded};
+ghost use Rattle.rsl_accounts.specs.Configuration.{Configuration};
+ghost use Rattle.rsl_shard.specs.Restep.{BooksSeen};
+ghost use Rattle.rsl_shard.specs.declared.moved.Move.{Move as OneMove};
+
+use crate::state::ServerState;
+use rld_control::{FreeFault, NamedSession, Stop};
+use rld_log::Log;
+use rld_store::{Recorded, Store};
+use rsl_shard::Move;
+use rsl_wire::NoMemory;
+use std::alloc::Global;
+
+/// What came of a session that was to be freed.
+#[derive(Drop)]
+pub enum Freed {
+    /// A link was bound to it, and its Stop is recorded.
+    Done(Recorded),
+    /// No link is bound to it, so nothing was recorded.
+    NotHeld,
+    /// A link is bound to it, and its Stop was not recorded.
+    Unrecorded,
+}
+
+impl<L: Log + Drop> ServerState<Store<L>> {
+    /// Frees the place of a session that an operator names: records the Stop that its access server would
+    /// have sent to the server with this boot number, at a moment in seconds since 1970. Where no link is
+    /// bound to the session nothing is recorded.
+    ///
+    /// The faults are those of `Stop::of`. With each of them all is as it was.
+    pub fn free(
+        &mut self,
+        alloc: Global,
+        boot: u64,
+        named: &NamedSession,
+        moment: u64,
+    ) -> Result<Freed, FreeFault>
+        ensures freed { IfOk result
+            (IsFreed (arc_value self.old.config) self.old.recorder.books named.now moment) }
+        ensures books { IfOk result (λ freed.
+            self.new.recorder.books ≡ books_after_it self.old.recorder.books freed) }
+        ensures moves { IfOk result (λ freed. self.new.moves ≡ moves_after_it self.old.moves freed) }
+        ensures header { self.new.header ≡ self.old.header }
+        ensures config { self.new.config ≡ self.old.config }
+        ensures not_held { IfOk result (StaysUnheld self.old self.new) }
+        ensures unrecorded { IfOk result (IsNoted self.new.has_failed self.new.has_ended) }
+        ensures err { OnErr result (self.new ≡ self.old) }
+
+        // The store has recorded what it had before, and that Stop.
+        ensures stands { IsTrue (L.tells self.new.recorder.log) →
+            (config : Configuration) (opening : List BooksSeen) (history : List OneMove) →
+            (IsTrue (L.tells self.old.recorder.log) →
+            HasRecorded config opening self.old.recorder.counts L.tears self.old.recorder.end
+            (L.seen self.old.recorder.log) (L.may_leave self.old.recorder.log) self.old.recorder.whole
+            self.old.recorder.books history) → IfOk result (λ freed.
+            HasRecorded config opening self.new.recorder.counts L.tears self.new.recorder.end
+            (L.seen self.new.recorder.log) (L.may_leave self.new.recorder.log) self.new.recorder.whole
+            self.new.recorder.books (history_after_it history freed)) }
+    {
+        let stop = Stop::of(alloc, self.accounts(), boot, named)?;
+        Ok(self.record_stop(alloc, stop, moment)?)
+    }
+
+    /// Records a Stop, if it ends a link.
+    fn record_stop(&mut self, alloc: Global, stop: Stop, moment: u64) -> Result<Freed, NoMemory>
+        ensures freed { IfOk result (IsFreedBy self.old.recorder.books stop moment) }
+        ensures books { IfOk result (λ freed.
+            self.new.recorder.books ≡ books_after_it self.old.recorder.books freed) }
+        ensures moves { IfOk result (λ freed. self.new.moves ≡ moves_after_it self.old.moves freed) }
+        ensures header { self.new.header ≡ self.old.header }
+        ensures config { self.new.config ≡ self.old.config }
+        ensures not_held { IfOk result (StaysUnheld self.old self.new) }
+        ensures unrecorded { IfOk result (IsNoted self.new.has_failed self.new.has_ended) }
+        ensures err { OnErr result (self.new ≡ self.old) }
+
+        // The store has recorded what it had before, and that Stop.
+        ensures stands { IsTrue (L.tells self.new.recorder.log) →
+            (config : Configuration) (opening : List BooksSeen) (history : List OneMove) →
+            (IsTrue (L.tells self.old.recorder.log) →
+            HasRecorded config opening self.old.recorder.counts L.tears self.old.recorder.end
+            (L.seen self.old.recorder.log) (L.may_leave self.old.recorder.log) self.old.recorder.whole
+            self.old.recorder.books history) → IfOk result (λ freed.
+            HasRecorded config opening self.new.recorder.counts L.tears self.new.recorder.end
+            (L.seen self.new.recorder.log) (L.may_leave self.new.recorder.log) self.new.recorder.whole
+            self.new.recorder.books (history_after_it history freed)) }
+    {
+        if !self.holds(alloc, &stop)? {
+            return Ok(Freed::NotHeld);
+        }
+        let batch = batch_of(alloc, stop.into_move(moment))?;
+        let era = self.header().era;
+        match self.record(alloc, era, batch) {
+            Ok(recorded) => Ok(Freed::Done(recorded)),
+            Err(_) => Ok(Freed::Unrecorded),
+        }
+    }
+
+    /// Whether a link is bound to the session that a Stop ends.
+    fn holds(&self, alloc: Global, stop: &Stop) -> Result<bool, NoMemory>
+        ensures { IfOk result (λ held. held ≡ is_held_in self.now.recorder.books stop.now) }
+    {
+        match self.recorder().links(alloc, stop.account)? {
+            Some(links) => Ok(stop.ends_one(links.as_slice())),
+            None => Ok(false),
+        }
+    }
+}
+
+/// A move as a batch of its own.
+fn batch_of(alloc: Global, moved: Move) -> Result<Vec<Move>, NoMemory>
+    ensures { IfOk result (λ batch. batch.items ≡ moved ∷ []) }
+{
+    let mut batch = Vec::with_capacity(alloc, 1)?;
+    batch.push(moved)?;
+    Ok(batch)
+}
