@@ -8,7 +8,7 @@ use crate::fault::TableFault;
 use crate::table::is_era_file;
 use rld_fields::ReadFault;
 use rld_spelling::{Era, EraAccount, EraClient};
-use rsl_accounts::{Client, Config, ConfigFault, Entry, Rules, Secret, Settings, Text};
+use rsl_accounts::{Client, Config, ConfigFault, Entry, Reply, Rules, Secret, Settings, Text};
 use std::alloc::Global;
 
 /// The version of the account file that has times of an account's own.
@@ -110,5 +110,7 @@ fn account_of(alloc: Global, row: &EraAccount) -> Result<Entry, TableFault> {
         own_grace: Some(row.rules.grace),
         interim: None,
         disabled: false,
+        port_limit: true,
+        reply: Reply::none(),
     })
 }

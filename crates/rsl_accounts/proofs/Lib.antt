@@ -12,3 +12,4 @@ pub mod Texts
 pub mod Keys
 pub mod Names
 pub mod Consumed
+pub mod ReplyLists

@@ -9,7 +9,7 @@ use Rattle.rsl_accounts.specs.declared.field.Field.{Field}
 use Rattle.rsl_accounts.specs.declared.field.Field.TheVariants.{InterimSecs}
 use Rattle.rsl_accounts.specs.declared.settings.Settings.{Settings}
 use Rattle.rsl_accounts.specs.Version.{knows_own_times}
-use Rattle.rsl_accounts.specs.Walk.{fault_unless, number_fault, text_fault, option_text_fault, count_fault, option_fault, interim_fault, walk_over, settings_checks, count_checks, client_checks, common_checks, own_times_checks, own_checks, account_checks, first_fault}
+use Rattle.rsl_accounts.specs.Walk.{fault_unless, number_fault, text_fault, option_text_fault, count_fault, option_fault, interim_fault, walk_over, settings_checks, count_checks, client_checks, common_checks, own_times_checks, own_checks, account_checks, first_fault, reply_checks}
 
 abbrev Not : Option ConfigFault → Type 0
 Not x = x ≡ Some NoMemory → ⊥
@@ -86,9 +86,16 @@ of_own version entry = by (knows_own_times version) refl
     by true known = rw known (never-all (own_times_checks entry) (option _ _, (option _ _, (option _ _, tt))))
     by false known = rw known (never-all [] tt)
 
+of_reply : (version : ℕ) (entry : Entry) → Never (reply_checks version entry)
+unfolding reply_checks
+of_reply version entry = never-all (reply_checks version entry) (unless _ _, tt)
+
 of_account : (version : ℕ) (entry : Entry) → Never (account_checks version entry)
 unfolding account_checks
-of_account version entry = never-append (common_checks entry) (own_checks version entry) (of_common entry) (of_own version entry)
+of_account version entry =
+    never-append (common_checks entry ++ own_checks version entry) (reply_checks version entry)
+    (never-append (common_checks entry) (own_checks version entry) (of_common entry) (of_own version entry))
+    (of_reply version entry)
 
 pub no_memory_in_walk : (settings : Settings) (clients : List Client) (accounts : List Entry) → first_fault (walk_over settings clients accounts) ≡ Some NoMemory → ⊥
 unfolding walk_over

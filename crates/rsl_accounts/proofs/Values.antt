@@ -15,7 +15,7 @@ use Rattle.rsl_accounts.specs.Walk.{number_fault}
 use Rattle.rsl_accounts.proofs.Within.{between, right_number}
 
 -- the items of an array, seen one by one
-list_of-items_view : (values : List Value) → list_of (items_view values) ≡ map view values
+pub list_of-items_view : (values : List Value) → list_of (items_view values) ≡ map view values
 list_of-items_view [] = refl
 list_of-items_view (value ∷ values) = ap (λ rest. view value ∷ rest) (list_of-items_view values)
 

@@ -16,8 +16,8 @@ use Rattle.rsl_accounts.specs.Configuration.{with_times, comes_twice, addresses,
 use Rattle.rsl_accounts.specs.Field.{is_between, is_secret, is_name, has_no_nul, is_visible, takes_number, takes_count, takes_text}
 use Rattle.rsl_accounts.specs.Limits.{IsTime, IsInterval, SettingsFit, IsSecret, IsName, IsAccount, IsConfiguration}
 use Rattle.rsl_accounts.specs.Settings.{own_time, interim_of}
-use Rattle.rsl_accounts.specs.Version.{knows_own_times, least_secret}
-use Rattle.rsl_accounts.specs.Walk.{walk_over, settings_checks, count_checks, client_checks, common_checks, own_times_checks, own_checks, account_checks, first_fault, fault_unless, number_fault, text_fault, option_text_fault, trust_fault, count_fault, option_fault}
+use Rattle.rsl_accounts.specs.Version.{knows_own_times, least_secret, reply_room}
+use Rattle.rsl_accounts.specs.Walk.{walk_over, settings_checks, count_checks, client_checks, common_checks, own_times_checks, own_checks, account_checks, first_fault, fault_unless, number_fault, text_fault, option_text_fault, trust_fault, count_fault, option_fault, reply_checks, reply_len_fault, interim_fault}
 use Rattle.rsl_accounts.proofs.Made.{made}
 
 -- checks without a fault have all passed
@@ -160,9 +160,18 @@ either_interval None common own_fits_ common_fits = common_fits
 either_interval (Some n) common own_fits_ common_fits = own_fits_
 
 module _ (settings : Settings) (fits : SettingsFit settings) (entry : Entry) (none : first_fault (account_checks settings.version entry) ≡ None) where
-  both : (first_fault (common_checks entry) ≡ None) × (first_fault (own_checks settings.version entry) ≡ None)
+  all : (first_fault (common_checks entry ++ own_checks settings.version entry) ≡ None) × (first_fault (reply_checks settings.version entry) ≡ None)
   unfolding account_checks
-  both = passed-append (common_checks entry) (own_checks settings.version entry) none
+  all = passed-append (common_checks entry ++ own_checks settings.version entry) (reply_checks settings.version entry) none
+
+  both : (first_fault (common_checks entry) ≡ None) × (first_fault (own_checks settings.version entry) ≡ None)
+  both = passed-append (common_checks entry) (own_checks settings.version entry) all.0
+
+  reply_fits : length entry.reply ≤ reply_room settings.version
+  unfolding reply_checks
+  reply_fits =
+      let p = passed (reply_checks settings.version entry) all.1 in
+      leb-true _ _ (is_right _ field.Reply p.0)
 
   times_fit : IsTime (own_time settings.version entry.own_live settings.live) × IsTime (own_time settings.version entry.own_grace settings.grace)
   unfolding own_checks own_times_checks
@@ -215,6 +224,7 @@ module _ (settings : Settings) (fits : SettingsFit settings) (entry : Entry) (no
         session_timeout = optional field.SessionTimeout (λ n. refl) entry.session_timeout p.1.1.1.1.1.1.0;
         idle_timeout = optional field.IdleTimeout (λ n. refl) entry.idle_timeout p.1.1.1.1.1.1.1.0;
         interim = interim_fits;
+        reply = reply_fits;
       }
 
 -- the times leave the names

@@ -1,6 +1,5 @@
--- The configuration of an account file: the value of each field or its fault, and the parts that
--- they make.
-use Rattle.std.specs.Prelude.{ℕ, pos, Bool, false, ◌&&◌, if◌then◌else◌, List, [], ◌∷◌, length, Option, None, Some, option_map, unwrap_or, ok_or, Result, Ok, Err, is_some}
+-- The configuration of an account file: the value of each field or its fault, and the parts that they make.
+use Rattle.std.specs.Prelude.{ℕ, ◌+◌, pos, Bool, true, false, ◌&&◌, nat_le, bytes_eq, if◌then◌else◌, List, [], ◌∷◌, ◌++◌, length, Option, None, Some, option_map, unwrap_or, ok_or, Result, Ok, Err, is_some}
 use Rattle.std.specs.List.{list_all}
 use Rattle.std.specs.Result.{result_map_both}
 use Rattle.std.specs.Str.{is_utf8}
@@ -9,7 +8,7 @@ use Rattle.toml.specs.Parse.{parse_document}
 use Rattle.rsl_accounts.specs.declared.client.Client.{Client}
 use Rattle.rsl_accounts.specs.declared.entry.Entry.{Entry}
 use Rattle.rsl_accounts.specs.declared.fault.ConfigFault.{ConfigFault}
-use Rattle.rsl_accounts.specs.declared.fault.ConfigFault.TheVariants.{NotToml, Unknown, Missing, BadValue}
+use Rattle.rsl_accounts.specs.declared.fault.ConfigFault.TheVariants.{NotToml, Unknown, Missing, BadValue, BadReply, UnknownProfile, ReplyTooLong}
 use Rattle.rsl_accounts.specs.declared.field.Field.{Field}
 use Rattle.rsl_accounts.specs.declared.field.Field.TheVariants as field
 use Rattle.rsl_accounts.specs.declared.part.Part.{Part}
@@ -19,6 +18,11 @@ use Rattle.rsl_accounts.specs.Address.{address_of}
 use Rattle.rsl_accounts.specs.Configuration.{Configuration, configuration_of, fault_or}
 use Rattle.rsl_accounts.specs.Field.{field_key, takes_number, takes_count, takes_text}
 use Rattle.rsl_accounts.specs.Part.{knows}
+use Rattle.rsl_accounts.specs.declared.profile.Profile.{Profile}
+use Rattle.rsl_accounts.specs.Common.{Common}
+use Rattle.rsl_reply.specs.declared.fault.ReplyFault.{ReplyFault}
+use Rattle.rsl_reply.specs.declared.fault.ReplyFault.TheVariants.{NotText}
+use Rattle.rsl_reply.specs.Reading.{attribute_of_text}
 use Rattle.rsl_accounts.specs.Settings.{rules_of_places}
 use Rattle.rsl_accounts.specs.Version.{is_strict, knows_own_times}
 use Rattle.rsl_accounts.specs.Walk.{secret_len_fault, trust_fault}
@@ -151,6 +155,96 @@ password_in version value =
     if is_strict version then option_text_in value field.Password
     else result_map_both Some (λ fault. fault) (text_in value field.Password)
 
+-- the octets of the attribute that an item of a list `reply` writes, or its fault by its place
+abbrev pub reply_octets : Part → (name : List ℕ) → (place : ℕ) → Result (List ℕ) ReplyFault
+    → Result (List ℕ) ConfigFault
+reply_octets part name place (Ok octets) = Ok octets
+reply_octets part name place (Err fault) = Err (BadReply part name place fault)
+
+abbrev pub reply_item : Part → (name : List ℕ) → (place : ℕ) → Data → Result (List ℕ) ConfigFault
+reply_item part name place (string text) = reply_octets part name place (attribute_of_text text)
+reply_item part name place _ = reply_octets part name place (Err NotText)
+
+-- these octets, and those of all items after them
+unfoldable pub replies_from : Part → (name : List ℕ) → (place : ℕ) → (before : List ℕ) → List Data
+    → Result (List ℕ) ConfigFault
+replies_from part name place before [] = Ok before
+replies_from part name place before (value ∷ values) =
+    and_then (reply_item part name place value) (λ octets.
+    replies_from part name (place + 1) (before ++ octets) values)
+
+-- the octets of the attributes that a list writes
+unfoldable pub reply_list : Part → (name : List ℕ) → Data → Result (List ℕ) ConfigFault
+reply_list part name (array items) = replies_from part name 1 [] (list_of items)
+reply_list part name _ = Err (BadValue field.Reply)
+
+-- a table of a profile: its list alone
+unfoldable pub profile_in : (version : ℕ) → (name : List ℕ) → Data → Result Profile ConfigFault
+profile_in version name value =
+    fault_or (misspelled_in version part.Profile value)
+    (and_then (required field.Reply Some (member_in value field.Reply)) (λ list.
+    and_then (reply_list part.Profile name list) (λ reply.
+    Ok (record { name = name; reply = reply }))))
+
+-- these profiles, and those of all members after them
+unfoldable pub profiles_from : (version : ℕ) → (before : List Profile) → Members
+    → Result (List Profile) ConfigFault
+profiles_from version before no_members = Ok before
+profiles_from version before (member name value rest) =
+    and_then (profile_in version name value) (λ profile.
+    profiles_from version (before ++ profile ∷ []) rest)
+
+abbrev pub profiles_of : (version : ℕ) → Option Data → Result (List Profile) ConfigFault
+profiles_of version None = Ok []
+profiles_of version (Some (table members)) = profiles_from version [] members
+profiles_of version (Some _) = Err (BadValue field.Profile)
+
+-- what the head of a file has for its accounts, which only version 3 knows
+unfoldable pub shared_in : (version : ℕ) → Data → Result Common ConfigFault
+shared_in version value =
+    if is_strict version
+    then and_then (flag_in value field.PortLimit true) (λ port_limit.
+    and_then (profiles_of version (member_in value field.Profile)) (λ profiles.
+    Ok (record { port_limit = port_limit; profiles = profiles })))
+    else Ok (record { port_limit = true; profiles = [] })
+
+-- the octets of the first profile with a name
+abbrev pub profile_named : List Profile → (name : List ℕ) → Option (List ℕ)
+profile_named [] name = None
+profile_named (profile ∷ profiles) name =
+    if bytes_eq profile.name name then Some profile.reply else profile_named profiles name
+
+-- the octets of the profile of an account, by the name that its table has
+abbrev pub profile_of : List Profile → (account : List ℕ) → Option Data
+    → Result (List ℕ) ConfigFault
+profile_of profiles account None = Ok []
+profile_of profiles account (Some (string name)) =
+    ok_or (profile_named profiles name) (UnknownProfile account)
+profile_of profiles account (Some _) = Err (BadValue field.Profile)
+
+abbrev pub own_reply : (account : List ℕ) → Option Data → Result (List ℕ) ConfigFault
+own_reply account None = Ok []
+own_reply account (Some value) = reply_list part.Account account value
+
+-- those of its profile and then its own, if they are not too many
+abbrev pub short_reply : (account : List ℕ) → List ℕ → Result (List ℕ) ConfigFault
+short_reply account octets =
+    if nat_le (length octets) 1000 then Ok octets else Err (ReplyTooLong account)
+
+unfoldable pub reply_in : (version : ℕ) → List Profile → (account : List ℕ) → Data
+    → Result (List ℕ) ConfigFault
+reply_in version profiles account value =
+    if is_strict version
+    then and_then (profile_of profiles account (member_in value field.Profile)) (λ front.
+    and_then (own_reply account (member_in value field.Reply)) (λ own.
+    short_reply account (front ++ own)))
+    else Ok []
+
+-- whether accepts have a Port-Limit: where an account does not say so, as the head says
+abbrev pub port_limit_in : (version : ℕ) → (common : Bool) → Data → Result Bool ConfigFault
+port_limit_in version common value =
+    if is_strict version then flag_in value field.PortLimit common else Ok true
+
 -- the parts of a file, by the values of their fields in the order of the walk
 unfoldable pub settings_in : Data → Result Settings ConfigFault
 settings_in value =
@@ -183,9 +277,9 @@ client_in version value =
     and_then (trusted_in version signed value) (λ trusted.
     Ok (record { address = address; secret = secret; signed = signed; trusted = trusted }))))))
 
--- the times of the rules and the file's own `interim_secs` are filled in later
-unfoldable pub entry_in : (version : ℕ) → Data → Result Entry ConfigFault
-entry_in version value =
+-- the times of the rules are filled in later, and so is the file's own `interim_secs`
+unfoldable pub entry_in : (version : ℕ) → Common → Data → Result Entry ConfigFault
+entry_in version shared value =
     fault_or (misspelled_in version part.Account value)
     (and_then (text_in value field.Name) (λ name.
     and_then (password_in version value) (λ password.
@@ -199,6 +293,8 @@ entry_in version value =
     and_then (own_in version value field.OwnGrace) (λ own_grace.
     and_then (own_in version value field.InterimSecs) (λ interim.
     and_then (disabled_in version value) (λ disabled.
+    and_then (port_limit_in version shared.port_limit value) (λ port_limit.
+    and_then (reply_in version shared.profiles name value) (λ reply.
     Ok (record {
       name = name;
       password = password;
@@ -211,7 +307,9 @@ entry_in version value =
       own_grace = own_grace;
       interim = interim;
       disabled = disabled;
-    }))))))))))))))
+      port_limit = port_limit;
+      reply = reply;
+    }))))))))))))))))
 
 -- each value, or the first fault
 abbrev pub each : {T : Type 0} → (Data → Result T ConfigFault) → List Data
@@ -227,11 +325,12 @@ each part_in (value ∷ values) =
 unfoldable pub configuration_of_file : Data → Result Configuration ConfigFault
 configuration_of_file file =
     and_then (settings_in file) (λ settings.
+    and_then (shared_in settings.version file) (λ shared.
     and_then (tables_in file field.Client) (λ client_tables.
     and_then (tables_in file field.Account) (λ account_tables.
     and_then (each (client_in settings.version) client_tables) (λ clients.
-    and_then (each (entry_in settings.version) account_tables) (λ accounts.
-    configuration_of settings clients accounts)))))
+    and_then (each (entry_in settings.version shared) account_tables) (λ accounts.
+    configuration_of settings clients accounts))))))
 
 abbrev pub configuration_of_parsed : Option Data → Result Configuration ConfigFault
 configuration_of_parsed None = Err NotToml

@@ -1,3 +1,4 @@
+pub mod Common
 pub mod Limits
 pub mod Address
 pub mod Field

@@ -5,7 +5,7 @@ use Rattle.rsl_accounts.specs.declared.rules.Rules.{Rules}
 use Rattle.rsl_accounts.specs.declared.settings.Settings.{Settings}
 use Rattle.rsl_accounts.specs.Configuration.{Configuration, addresses, names, comes_twice}
 use Rattle.rsl_accounts.specs.Settings.{rules_of}
-use Rattle.rsl_accounts.specs.Version.{knows_own_times, least_secret}
+use Rattle.rsl_accounts.specs.Version.{knows_own_times, least_secret, reply_room}
 
 -- the seconds of a time of a rule
 pub record IsTime (seconds : ℕ) : Type 0 where
@@ -66,6 +66,7 @@ pub record IsAccount (settings : Settings) (entry : Entry) : Type 0 where
   pub session_timeout : IfSome entry.session_timeout (λ number. 1 ≤ number)
   pub idle_timeout : IfSome entry.idle_timeout (λ number. 1 ≤ number)
   pub interim : IfSome entry.interim IsInterval
+  pub reply : length_of entry.reply ≤ reply_room settings.version
 
 -- all of the configuration is within its limits, and no two clients have one address, and no two
 -- accounts one name

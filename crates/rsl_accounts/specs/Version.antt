@@ -19,6 +19,10 @@ knows_ipv6 version = is_strict version
 abbrev pub least_secret : (version : ℕ) → ℕ
 least_secret version = if is_strict version then 16 else 1
 
--- how requests without a Message-Authenticator are treated
+-- the most octets of an account's reply attributes: only version 3 knows them
+abbrev pub reply_room : (version : ℕ) → ℕ
+reply_room version = if is_strict version then 1000 else 0
+
+-- how requests without a Message-Authenticator are taken
 abbrev pub unsigned_rule : (version : ℕ) → UnsignedRule
 unsigned_rule version = if is_strict version then Guarded else Trusted

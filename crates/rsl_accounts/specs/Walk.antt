@@ -9,7 +9,7 @@ use Rattle.rsl_accounts.specs.declared.field.Field.{Field}
 use Rattle.rsl_accounts.specs.declared.field.Field.TheVariants as field
 use Rattle.rsl_accounts.specs.declared.settings.Settings.{Settings}
 use Rattle.rsl_accounts.specs.Field.{takes_number, takes_count, takes_text}
-use Rattle.rsl_accounts.specs.Version.{knows_own_times, least_secret}
+use Rattle.rsl_accounts.specs.Version.{knows_own_times, least_secret, reply_room}
 
 -- the fault of a field, unless its value is right
 abbrev pub fault_unless : (is_right : Bool) → Field → Option ConfigFault
@@ -46,6 +46,10 @@ secret_len_fault version length = fault_unless (nat_le (least_secret version) le
 -- the fault of a client that is trusted and does not sign
 abbrev pub trust_fault : (signed trusted : Bool) → Option ConfigFault
 trust_fault signed trusted = fault_unless (signed || not trusted) field.Trusted
+
+-- the fault of reply attributes of so many octets
+abbrev pub reply_len_fault : (version length : ℕ) → Option ConfigFault
+reply_len_fault version length = fault_unless (nat_le length (reply_room version)) field.Reply
 
 -- the checks of the settings, each the fault of a field or `None`
 unfoldable pub settings_checks : Settings → List (Option ConfigFault)
@@ -97,8 +101,12 @@ own_times_checks entry =
 unfoldable pub own_checks : (version : ℕ) → Entry → List (Option ConfigFault)
 own_checks version entry = if knows_own_times version then own_times_checks entry else []
 
+unfoldable pub reply_checks : (version : ℕ) → Entry → List (Option ConfigFault)
+reply_checks version entry = reply_len_fault version (length entry.reply) ∷ []
+
 unfoldable pub account_checks : (version : ℕ) → Entry → List (Option ConfigFault)
-account_checks version entry = common_checks entry ++ own_checks version entry
+account_checks version entry =
+    common_checks entry ++ own_checks version entry ++ reply_checks version entry
 
 -- the checks of the whole walk: the settings, how many clients and accounts there are, then each
 -- client, then each account

@@ -43,6 +43,7 @@ use crate::entry::Entry;
 use crate::fault::ConfigFault;
 use crate::field::Field;
 use crate::file::{clients, entries, parse, settings};
+use crate::replies::shared;
 use crate::settings::{Settings, knows_ipv6, unsigned_rule};
 use crate::table::tables;
 use crate::unsigned_rule::UnsignedRule;
@@ -114,10 +115,11 @@ impl Config {
     {
         let file = parse(alloc, text)?;
         let settings = settings(alloc, &file)?;
+        let shared = shared(alloc, settings.version, &file)?;
         let client_tables = tables(&file, Field::Client)?;
         let account_tables = tables(&file, Field::Account)?;
         let clients = clients(alloc, settings.version, client_tables)?;
-        let accounts = entries(alloc, settings.version, account_tables)?;
+        let accounts = entries(alloc, settings.version, &shared, account_tables)?;
         Config::assemble(alloc, settings, clients, accounts)
     }
 

@@ -5,14 +5,16 @@ ghost use Rattle.rsl_accounts.specs.Walk.{
   common_checks,
   own_checks,
   option_text_fault,
+  reply_checks,
   first_fault,
 };
 
 use crate::fault::ConfigFault;
 use crate::field::Field;
+use crate::reply::Reply;
 use crate::rules::Rules;
 use crate::secret::Secret;
-use crate::settings::knows_own_times;
+use crate::settings::{check_reply_len, knows_own_times};
 use crate::text::Text;
 
 /// An account. The fields that each login reads come first, since fields lie in memory in their
@@ -36,7 +38,11 @@ pub struct Entry {
     pub interim: Option<u32>,
     /// The session limit.
     pub rules: Rules,
-    /// Whether its logins are rejected. Its accounting counts all the same.
+    /// Whether its accepts have a Port-Limit (RFC 2865 section 5.42).
+    pub port_limit: bool,
+    /// The other attributes of its accepts: in version 3 at most 1,000 octets, and else none.
+    pub reply: Reply,
+    /// Whether its logins are rejected. What its sessions send in accounting counts as ever.
     pub disabled: bool,
     /// The User-Name: 1 to 64 octets, each 0x21 to 0x7E.
     pub name: Text,
@@ -54,7 +60,16 @@ impl Entry {
         ensures { result_err result ≡ first_fault (account_checks version self.now) }
     {
         self.check_common()?;
-        self.check_own_times(version)
+        self.check_own_times(version)?;
+        self.check_reply(version)
+    }
+
+    /// `BadValue` of reply attributes that are too long for the version.
+    #[tactic(auto, unfolding(crate::specs::Walk::reply_checks))]
+    fn check_reply(&self, version: u64) -> Result<(), ConfigFault>
+        ensures { result_err result ≡ first_fault (reply_checks version self.now) }
+    {
+        check_reply_len(version, self.reply.len())
     }
 
     /// `BadValue` of the first wrong field among those of every version.

@@ -4,6 +4,7 @@ ghost use Rattle.rsl_accounts.specs.declared.fault.ConfigFault.TheVariants.{NoMe
 use crate::field::Field;
 use crate::part::Part;
 use crate::text::Text;
+use rsl_reply::ReplyFault;
 use rsl_wire::NoMemory;
 use std::alloc::{AllocError, AllocFailed};
 use thiserror::Error;
@@ -24,7 +25,17 @@ pub enum ConfigFault {
     /// The value of the field is of another type, or outside its limits.
     #[error("BadValue {0}")]
     BadValue(Field),
-    /// Two clients have the same address.
+    /// The attribute at this place, from 1 on, in the list `reply` of the profile or account with this
+    /// name is wrong.
+    #[error("BadReply {0}{1:?} {2}: {3}")]
+    BadReply(Part, Text, u64, ReplyFault),
+    /// The account with this name has a profile that the file does not have.
+    #[error("UnknownProfile {0:?}")]
+    UnknownProfile(Text),
+    /// The reply attributes of the account with this name have over 1,000 octets.
+    #[error("ReplyTooLong {0:?}")]
+    ReplyTooLong(Text),
+    /// Two clients have one address.
     #[error("TwiceClient")]
     TwiceClient,
     /// Two accounts have the same name.

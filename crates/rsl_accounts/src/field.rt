@@ -89,6 +89,12 @@ pub enum Field {
     InterimSecs,
     /// Whether the logins of an account are rejected.
     Disabled,
+    /// The attributes of a profile's or an account's accepts.
+    Reply,
+    /// The profiles of the file, or the name of an account's.
+    Profile,
+    /// Whether accepts have a Port-Limit.
+    PortLimit,
 }
 
 impl Field {
@@ -122,6 +128,9 @@ impl Field {
             Field::OwnGrace => "grace_secs",
             Field::InterimSecs => "interim_secs",
             Field::Disabled => "disabled",
+            Field::Reply => "reply",
+            Field::Profile => "profile",
+            Field::PortLimit => "port_limit",
         }
     }
 

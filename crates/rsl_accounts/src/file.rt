@@ -16,6 +16,8 @@ use crate::entry::Entry;
 use crate::fault::ConfigFault;
 use crate::field::Field;
 use crate::part::Part;
+use crate::profile::Shared;
+use crate::replies::{port_limit, reply};
 use crate::rules::Rules;
 use crate::secret::Secret;
 use crate::settings::Settings;
@@ -105,11 +107,11 @@ pub(crate) fn clients(
 }
 
 /// The account of a table.
-#[tactic(auto, unfolding(crate::specs::File::entry_in, crate::specs::Walk::account_checks, crate::specs::Walk::common_checks, crate::specs::Walk::own_checks, crate::specs::Walk::own_times_checks))]
-fn entry(alloc: Global, version: u64, table: &Value) -> Result<Entry, ConfigFault>
-    ensures ok { IfOk result (λ entry. entry_in version (view table.now) ≡ Ok entry) }
+#[tactic(auto, unfolding(crate::specs::File::entry_in, crate::specs::Walk::account_checks, crate::specs::Walk::common_checks, crate::specs::Walk::own_checks, crate::specs::Walk::own_times_checks, crate::specs::Walk::reply_checks))]
+fn entry(alloc: Global, version: u64, shared: &Shared, table: &Value) -> Result<Entry, ConfigFault>
+    ensures ok { IfOk result (λ entry. entry_in version shared.now (view table.now) ≡ Ok entry) }
     ensures fault { IfErr result (λ fault. fault ≢ ConfigFault.NoMemory →
-        entry_in version (view table.now) ≡ Err fault) }
+        entry_in version shared.now (view table.now) ≡ Err fault) }
     ensures right { IfOk result (λ entry. first_fault (account_checks version entry) ≡ None) }
 {
     check_names(alloc, version, Part::Account, table)?;
@@ -126,6 +128,8 @@ fn entry(alloc: Global, version: u64, table: &Value) -> Result<Entry, ConfigFaul
         own_grace: own_time(version, table, Field::OwnGrace)?,
         interim: interim(version, table)?,
         disabled: disabled(version, table)?,
+        port_limit: port_limit(version, shared.port_limit(), table)?,
+        reply: reply(alloc, version, shared.profiles(), name, table)?,
         name: Text::from_str(alloc, name)?,
         password: Secret::from_option(alloc, password)?,
     })
@@ -136,19 +140,20 @@ fn entry(alloc: Global, version: u64, table: &Value) -> Result<Entry, ConfigFaul
 pub(crate) fn entries(
     alloc: Global,
     version: u64,
+    shared: &Shared,
     tables: &[Value],
 ) -> Result<Vec<Entry>, ConfigFault>
     ensures ok { IfOk result (λ entries.
-        each (entry_in version) (map view tables.now) ≡ Ok entries.items) }
+        each (entry_in version shared.now) (map view tables.now) ≡ Ok entries.items) }
     ensures fault { IfErr result (λ fault. fault ≢ ConfigFault.NoMemory →
-        each (entry_in version) (map view tables.now) ≡ Err fault) }
+        each (entry_in version shared.now) (map view tables.now) ≡ Err fault) }
     ensures number { IfOk result (λ entries. length entries.items ≡ length tables.now) }
     ensures right { IfOk result (λ entries.
         first_fault (flat_map (account_checks version) entries.items) ≡ None) }
 {
     let mut entries = Vec::with_capacity(alloc, tables.len())?;
     for table in tables {
-        entries.push(entry(alloc, version, table)?)?;
+        entries.push(entry(alloc, version, shared, table)?)?;
     }
     Ok(entries)
 }

@@ -14,6 +14,8 @@ pub enum Part {
     Client,
     /// A table `account`.
     Account,
+    /// A table in `profile`.
+    Profile,
 }
 
 impl Part {
@@ -33,6 +35,8 @@ impl Part {
                 Field::InterimSecs,
                 Field::Client,
                 Field::Account,
+                Field::Profile,
+                Field::PortLimit,
             ],
             Part::Client => &[Field::Address, Field::Secret, Field::Signed, Field::Trusted],
             Part::Account => &[
@@ -48,7 +52,11 @@ impl Part {
                 Field::OwnGrace,
                 Field::InterimSecs,
                 Field::Disabled,
+                Field::Reply,
+                Field::Profile,
+                Field::PortLimit,
             ],
+            Part::Profile => &[Field::Reply],
         }
     }
 
@@ -66,6 +74,7 @@ impl fmt::Display for Part {
             Part::Head => "",
             Part::Client => "client ",
             Part::Account => "account ",
+            Part::Profile => "profile ",
         })
     }
 }

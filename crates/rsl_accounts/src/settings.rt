@@ -6,11 +6,13 @@ ghost use Rattle.rsl_accounts.specs.Version.{
   knows_ipv6,
   knows_own_times,
   least_secret,
+  reply_room,
   unsigned_rule,
 };
 ghost use Rattle.rsl_accounts.specs.Walk.{
   interim_fault,
   secret_len_fault,
+  reply_len_fault,
   settings_checks,
   first_fault,
 };
@@ -33,7 +35,10 @@ const OWN_TIMES_VERSION: u64 = 2;
 /// The first version in which what is left out or misspelled counts on the safe side.
 const STRICT_VERSION: u64 = 3;
 
-/// The fewest octets of a client's secret from `STRICT_VERSION` on.
+/// The most octets of an account's reply attributes in that version.
+pub(crate) const REPLY_ROOM: usize = 1000;
+
+/// The fewest octets of a client's secret in that version.
 const STRICT_SECRET_LEN: usize = 16;
 
 /// The settings of an account file, common to all accounts.
@@ -157,6 +162,23 @@ pub(crate) fn check_secret_len(version: u64, len: usize) -> Result<(), ConfigFau
         return Err(ConfigFault::BadValue(Field::Secret));
     }
     Ok(())
+}
+
+/// `BadValue` of reply attributes of so many octets that the version has no room for them.
+pub(crate) fn check_reply_len(version: u64, len: usize) -> Result<(), ConfigFault>
+    ensures { result_err result ≡ reply_len_fault version len }
+{
+    if len > reply_room(version) {
+        return Err(ConfigFault::BadValue(Field::Reply));
+    }
+    Ok(())
+}
+
+/// The most octets of an account's reply attributes, which only version 3 knows.
+fn reply_room(version: u64) -> usize
+    ensures { result ≡ reply_room version }
+{
+    if is_strict(version) { REPLY_ROOM } else { 0 }
 }
 
 /// The fewest octets of a client's secret.

@@ -64,15 +64,15 @@ use crate::text::Text;
 use std::alloc::Global;
 use toml::Value;
 
-/// The value under the key of a field.
-fn member(table: &Value, field: Field) -> Option<&Value>
+/// What a table has under the key of a field.
+pub(crate) fn member(table: &Value, field: Field) -> Option<&Value>
     ensures { option_map (λ value. view value.now) result ≡ member_in (view table.now) field }
 {
     table.get(field.key())
 }
 
-/// The value under the key of a field that has to be there.
-fn present(table: &Value, field: Field) -> Result<&Value, ConfigFault>
+/// What a table has under the key of a field that it must have.
+pub(crate) fn present(table: &Value, field: Field) -> Result<&Value, ConfigFault>
     ensures ok { IfOk result (λ value. member_in (view table.now) field ≡ Some (view value.now)) }
     ensures fault { IfErr result (λ fault.
         (member_in (view table.now) field ≡ None) × (fault ≡ ConfigFault.Missing field)) }
@@ -249,7 +249,7 @@ pub(crate) fn address(table: &Value) -> Result<[u8; 4], ConfigFault>
 
 /// The boolean of a field, or `default` if it is left out.
 #[tactic(auto, unfolding(crate::specs::File::flag_in))]
-fn flag(table: &Value, field: Field, default: bool) -> Result<bool, ConfigFault>
+pub(crate) fn flag(table: &Value, field: Field, default: bool) -> Result<bool, ConfigFault>
     ensures { result ≡ flag_in (view table.now) field default }
 {
     match member(table, field) {
@@ -313,8 +313,8 @@ pub(crate) fn secret(version: u64, table: &Value) -> Result<&str, ConfigFault>
     }
 }
 
-/// The first unknown key of a table, in the order of octets.
-fn unknown_name(part: Part, table: &Value) -> Option<&str>
+/// The first name that a table may not have as a key, in the order of their octets.
+pub(crate) fn unknown_name(part: Part, table: &Value) -> Option<&str>
     ensures some { IfSome result (λ name.
         unknown_in part (view table.now) ≡ Some (ConfigFault.Unknown part name.now)) }
     ensures none { IfNone result (unknown_in part (view table.now) ≡ None) }

@@ -9,9 +9,9 @@ use Rattle.rsl_auth.specs.Authenticator.{is_accounting_authentic}
 use Rattle.rsl_wire.specs.Attributes.{Attribute, attribute_list, attributes_in, first_of, number_in}
 use Rattle.rsl_wire.specs.Packet.{Fields, packet_octets, packet_of}
 use Rattle.rsl_wire.specs.declared.packet.WireFault.{WireFault}
-use Rattle.rsl_event.specs.Request.{access_server_of, named_account, proxy_len, secret_of, account_password, is_disabled, is_trusted, text_of}
+use Rattle.rsl_event.specs.Request.{access_server_of, named_account, proxy_len, secret_of, account_password, is_disabled, is_trusted, text_of, most_proxy_len}
 use Rattle.rsl_event.specs.Access.{asks_once, if_let_in, is_let_in, asker, ask_or_reject, unless_dropped, request_meaning, access_by, access_meaning}
-use Rattle.rsl_event.specs.Signature.{must_sign, signature_drop}
+use Rattle.rsl_event.specs.Signature.{must_sign, signature_drop, rule_of}
 use Rattle.rsl_event.specs.Accounting.{note_of, session_act, session_meaning, if_session, by_status, status_meaning, if_status, accounting_by, accounting_meaning}
 use Rattle.rsl_event.specs.Meaning.{packet_meaning, if_client, if_packet, meaning}
 use Rattle.rsl_event.specs.Prepared.{HasProxyStates, HasAccount, HasRoomForReply, IsOfOneAccount, HasOwnAct}
@@ -30,7 +30,7 @@ use Rattle.rsl_event.specs.declared.codes.TheConstants.{ACCESS_REQUEST, ACCOUNTI
 -- what a reply can be made to
 pub record IsMeant (config : Configuration) (attributes : List ℕ) (meaning : Meaning) : Type 0 where
   pub account : HasAccount config meaning
-  pub room : HasRoomForReply attributes meaning
+  pub room : HasRoomForReply config attributes meaning
   pub own : HasOwnAct meaning
 
 abbrev Meant : Type 0
@@ -91,14 +91,14 @@ asker_within config client authenticator attributes account e =
 
 -- ---- the Proxy-States
 
-has_proxy_states : (octets : List ℕ) (attributes : List Attribute) → attribute_list octets ≡ Ok attributes → proxy_len attributes ≤ 3900 → HasProxyStates octets
-has_proxy_states octets attributes e short =
+has_proxy_states : (config : Configuration) (octets : List ℕ) (attributes : List Attribute) → attribute_list octets ≡ Ok attributes → proxy_len attributes ≤ most_proxy_len (rule_of config) → HasProxyStates config octets
+has_proxy_states config octets attributes e short =
     let in_them : attributes_in octets ≡ attributes = ap (λ (r : Result (List Attribute) ℕ). result_unwrap_or r []) e in
-    record { formed = e ∙ ap (λ (x : List Attribute). Ok x) (sym in_them); short = subst (λ (x : List Attribute). proxy_len x ≤ 3900) (sym in_them) short }
+    record { formed = e ∙ ap (λ (x : List Attribute). Ok x) (sym in_them); short = subst (λ (x : List Attribute). proxy_len x ≤ most_proxy_len (rule_of config)) (sym in_them) short }
 
 -- ---- an Access-Request
 
-asked_meant : (config : Configuration) (source : Source) (client : ℕ) (fields : Fields) (attributes : List Attribute) (account : Option ℕ) → HasProxyStates fields.attributes
+asked_meant : (config : Configuration) (source : Source) (client : ℕ) (fields : Fields) (attributes : List Attribute) (account : Option ℕ) → HasProxyStates config fields.attributes
     → asker config client fields.authenticator attributes ≡ account → IsMeant config fields.attributes (ask_or_reject config source client fields attributes account)
 asked_meant config source client fields attributes None has e = record { account = tt; room = has; own = tt }
 asked_meant config source client fields attributes (Some account) has e = record { account = asker_within config client fields.authenticator attributes account e; room = has; own = tt }
@@ -111,8 +111,8 @@ access_by_meant config source client fields (Err at) m is e =
 access_by_meant config source client fields (Ok attributes) m is e =
     let account = asker config client fields.authenticator attributes in
     let signed = undropped (signature_drop config client fields attributes) (request_meaning config source client fields attributes) m e in
-    let p = passed (ltb 3900 (proxy_len attributes)) drops.ProxyTooLong (Ok (ask_or_reject config source client fields attributes account)) m signed in
-    let has = has_proxy_states fields.attributes attributes is (ltb-false _ _ p.0) in
+    let p = passed (ltb (most_proxy_len (rule_of config)) (proxy_len attributes)) drops.ProxyTooLong (Ok (ask_or_reject config source client fields attributes account)) m signed in
+    let has = has_proxy_states config fields.attributes attributes is (ltb-false _ _ p.0) in
     subst (IsMeant config fields.attributes) (ok_is (ask_or_reject config source client fields attributes account) m p.1) (asked_meant config source client fields attributes account has refl)
 
 pub access_meant : (config : Configuration) (source : Source) (client : ℕ) (fields : Fields) (m : Meaning) → access_meaning config source client fields ≡ Ok m → IsMeant config fields.attributes m
@@ -130,19 +130,19 @@ session_own config boot client statuses.InterimUpdate attributes = tt
 session_own config boot client statuses.AccountingOn attributes = tt
 session_own config boot client statuses.AccountingOff attributes = tt
 
-session_meant : (config : Configuration) (boot client : ℕ) (status : Status) (octets : List ℕ) (attributes : List Attribute) (account : Option ℕ) → HasProxyStates octets → named_account config attributes ≡ account
+session_meant : (config : Configuration) (boot client : ℕ) (status : Status) (octets : List ℕ) (attributes : List Attribute) (account : Option ℕ) → HasProxyStates config octets → named_account config attributes ≡ account
     → IsMeant config octets (session_meaning config boot client status attributes account)
 session_meant config boot client status octets attributes None has e = record { account = tt; room = has; own = tt }
 session_meant config boot client status octets attributes (Some account) has e = record { account = named_within config (first_of USER_NAME attributes) account e; room = has; own = session_own config boot client status attributes }
 
-if_session_meant : (config : Configuration) (boot client : ℕ) (status : Status) (octets : List ℕ) (attributes : List Attribute) (m : Meaning) → HasProxyStates octets
+if_session_meant : (config : Configuration) (boot client : ℕ) (status : Status) (octets : List ℕ) (attributes : List Attribute) (m : Meaning) → HasProxyStates config octets
     → if_session config boot client status attributes ≡ Ok m → IsMeant config octets m
 if_session_meant config boot client status octets attributes m has e =
     let meant = session_meaning config boot client status attributes (named_account config attributes) in
     let p = passed (length (text_of ACCT_SESSION_ID attributes) == 0) drops.NoSession (done meant) m e in
     subst (IsMeant config octets) (ok_is meant m p.1) (session_meant config boot client status octets attributes (named_account config attributes) has refl)
 
-by_status_meant : (config : Configuration) (boot client number : ℕ) (octets : List ℕ) (attributes : List Attribute) (status : Option Status) (m : Meaning) → HasProxyStates octets
+by_status_meant : (config : Configuration) (boot client number : ℕ) (octets : List ℕ) (attributes : List Attribute) (status : Option Status) (m : Meaning) → HasProxyStates config octets
     → by_status config boot client number attributes status ≡ Ok m → IsMeant config octets m
 by_status_meant config boot client number octets attributes (Some statuses.AccountingOn) m has e = subst (IsMeant config octets) (ok_is (Restart (access_server_of config client attributes)) m e) (record { account = tt; room = has; own = tt })
 by_status_meant config boot client number octets attributes (Some statuses.AccountingOff) m has e = subst (IsMeant config octets) (ok_is (Restart (access_server_of config client attributes)) m e) (record { account = tt; room = has; own = tt })
@@ -151,12 +151,12 @@ by_status_meant config boot client number octets attributes (Some statuses.Stop)
 by_status_meant config boot client number octets attributes (Some statuses.InterimUpdate) m has e = if_session_meant config boot client statuses.InterimUpdate octets attributes m has e
 by_status_meant config boot client number octets attributes None m has e = subst (IsMeant config octets) (ok_is (Stray (note_of config client number attributes)) m e) (record { account = tt; room = has; own = tt })
 
-status_meant : (config : Configuration) (boot client number : ℕ) (octets : List ℕ) (attributes : List Attribute) (m : Meaning) → HasProxyStates octets
+status_meant : (config : Configuration) (boot client number : ℕ) (octets : List ℕ) (attributes : List Attribute) (m : Meaning) → HasProxyStates config octets
     → status_meaning config boot client number attributes ≡ Ok m → IsMeant config octets m
 unfolding status_meaning
 status_meant config boot client number octets attributes m has e = by_status_meant config boot client number octets attributes (status_of number) m has e
 
-if_status_meant : (config : Configuration) (boot client : ℕ) (octets : List ℕ) (attributes : List Attribute) (status : Option ℕ) (m : Meaning) → HasProxyStates octets
+if_status_meant : (config : Configuration) (boot client : ℕ) (octets : List ℕ) (attributes : List Attribute) (status : Option ℕ) (m : Meaning) → HasProxyStates config octets
     → if_status config boot client attributes status ≡ Ok m → IsMeant config octets m
 if_status_meant config boot client octets attributes None m has e = absurd cc
 if_status_meant config boot client octets attributes (Some status) m has e = status_meant config boot client status octets attributes m has e
@@ -166,8 +166,8 @@ accounting_by_meant : (config : Configuration) (boot client : ℕ) (octets : Lis
 accounting_by_meant config boot client octets (Err at) m is e = absurd cc
 accounting_by_meant config boot client octets (Ok attributes) m is e =
     let status = number_in (first_of ACCT_STATUS_TYPE attributes) in
-    let p = passed (ltb 3900 (proxy_len attributes)) drops.ProxyTooLong (if_status config boot client attributes status) m e in
-    let has = has_proxy_states octets attributes is (ltb-false _ _ p.0) in
+    let p = passed (ltb (most_proxy_len (rule_of config)) (proxy_len attributes)) drops.ProxyTooLong (if_status config boot client attributes status) m e in
+    let has = has_proxy_states config octets attributes is (ltb-false _ _ p.0) in
     if_status_meant config boot client octets attributes status m has p.1
 
 pub accounting_meant : (config : Configuration) (boot client : ℕ) (fields : Fields) (m : Meaning) → accounting_meaning config boot client fields ≡ Ok m → IsMeant config fields.attributes m

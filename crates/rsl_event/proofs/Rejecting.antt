@@ -5,9 +5,9 @@ use Rattle.std.specs.Option.{option_or}
 use Rattle.rsl_accounts.specs.Configuration.{Configuration, client_number}
 use Rattle.rsl_event.specs.Access.{access_by, access_meaning, ask_or_reject, asker, has_one_password, if_let_in, is_vouched, shows_own, shows_password, unless_dropped}
 use Rattle.rsl_event.specs.Meaning.{if_client, if_packet, meaning}
-use Rattle.rsl_event.specs.Request.{account_password, is_disabled, is_trusted, attribute_count, named_account, proxy_len, secret_of}
-use Rattle.rsl_event.specs.Signature.{must_sign, signature_drop}
-use Rattle.rsl_event.specs.declared.codes.TheConstants.{ACCESS_REQUEST, USER_NAME, CHAP_CHALLENGE, MAX_PROXY_STATE_LEN}
+use Rattle.rsl_event.specs.Request.{account_password, is_disabled, is_trusted, attribute_count, named_account, proxy_len, secret_of, most_proxy_len}
+use Rattle.rsl_event.specs.Signature.{must_sign, signature_drop, rule_of}
+use Rattle.rsl_event.specs.declared.codes.TheConstants.{ACCESS_REQUEST, USER_NAME, CHAP_CHALLENGE}
 use Rattle.rsl_event.specs.declared.event.Source.{Source}
 use Rattle.rsl_event.specs.declared.meaning.Dropped.{Dropped}
 use Rattle.rsl_event.specs.declared.meaning.Dropped.TheVariants as drops
@@ -96,7 +96,7 @@ listed : (config : Configuration) (source : Source) (client : ℕ) (fields : Fie
 listed config source client fields (Err at) meant is =
     given (must_sign config client) drops.Unsigned Bare meant (Some Malformed) is refl
 listed config source client fields (Ok attributes) meant is =
-    undropped (signature_drop config client fields attributes) (nat_lt MAX_PROXY_STATE_LEN (proxy_len attributes)) drops.ProxyTooLong
+    undropped (signature_drop config client fields attributes) (nat_lt (most_proxy_len (rule_of config)) (proxy_len attributes)) drops.ProxyTooLong
     (ask_or_reject config source client fields attributes (asker config client fields.authenticator attributes)) meant
     (cause_by config client fields.authenticator (Ok attributes)) is (ask_cause config source client fields attributes)
 

@@ -5,15 +5,15 @@ use Rattle.rsl_auth.specs.Chap.{matches_chap}
 use Rattle.rsl_auth.specs.Password.{matches_password}
 use Rattle.rsl_wire.specs.Attributes.{Attribute, first_of, attribute_list}
 use Rattle.rsl_wire.specs.Packet.{Fields}
-use Rattle.rsl_event.specs.Request.{attribute_count, access_server_of, named_account, proxy_len, secret_of, account_password, is_disabled, is_trusted}
-use Rattle.rsl_event.specs.Signature.{must_sign, signature_drop}
+use Rattle.rsl_event.specs.Request.{attribute_count, access_server_of, named_account, proxy_len, secret_of, account_password, is_disabled, is_trusted, most_proxy_len}
+use Rattle.rsl_event.specs.Signature.{must_sign, signature_drop, rule_of}
 use Rattle.rsl_event.specs.declared.event.Source.{Source}
 use Rattle.rsl_event.specs.declared.event.Act.TheVariants.{Ask}
 use Rattle.rsl_event.specs.declared.meaning.Meaning.{Meaning}
 use Rattle.rsl_event.specs.declared.meaning.Meaning.TheVariants.{Bare, Reject, Own}
 use Rattle.rsl_event.specs.declared.meaning.Dropped.{Dropped}
 use Rattle.rsl_event.specs.declared.meaning.Dropped.TheVariants.{WrongCode, ProxyTooLong, Unsigned}
-use Rattle.rsl_event.specs.declared.codes.TheConstants.{ACCESS_REQUEST, USER_NAME, USER_PASSWORD, CHAP_PASSWORD, CHAP_CHALLENGE, EAP_MESSAGE, MAX_PROXY_STATE_LEN}
+use Rattle.rsl_event.specs.declared.codes.TheConstants.{ACCESS_REQUEST, USER_NAME, USER_PASSWORD, CHAP_PASSWORD, CHAP_CHALLENGE, EAP_MESSAGE}
 
 -- whether there is an EAP-Message (RFC 3579 section 3.1)
 abbrev pub has_eap_message : List Attribute → Bool
@@ -112,7 +112,7 @@ unless_dropped (Some dropped) meaning = Err dropped
 abbrev pub request_meaning : Configuration → Source → (client : ℕ) → Fields → List Attribute
     → Result Meaning Dropped
 request_meaning config source client fields attributes =
-    if nat_lt MAX_PROXY_STATE_LEN (proxy_len attributes) then Err ProxyTooLong
+    if nat_lt (most_proxy_len (rule_of config)) (proxy_len attributes) then Err ProxyTooLong
     else Ok (ask_or_reject config source client fields attributes
     (asker config client fields.authenticator attributes))
 

@@ -6,7 +6,8 @@ use Rattle.rsl_accounts.specs.Configuration.{Configuration}
 use Rattle.rsl_auth.specs.Authenticator.{is_accounting_authentic}
 use Rattle.rsl_wire.specs.Attributes.{Attribute, first_of, number_in, attribute_list}
 use Rattle.rsl_wire.specs.Packet.{Fields, packet_octets}
-use Rattle.rsl_event.specs.Request.{access_server_of, named_account, proxy_len, secret_of, text_of}
+use Rattle.rsl_event.specs.Signature.{rule_of}
+use Rattle.rsl_event.specs.Request.{access_server_of, named_account, proxy_len, secret_of, text_of, most_proxy_len}
 use Rattle.rsl_event.specs.Status.{status_number, status_of}
 use Rattle.rsl_event.specs.declared.event.Act.{Act}
 use Rattle.rsl_event.specs.declared.event.Act.TheVariants.{Alive, Stop}
@@ -17,7 +18,7 @@ use Rattle.rsl_event.specs.declared.meaning.Dropped.{Dropped}
 use Rattle.rsl_event.specs.declared.meaning.Dropped.TheVariants.{WrongCode, BadAuthenticator, Malformed, ProxyTooLong, NoStatus, NoSession}
 use Rattle.rsl_event.specs.declared.status.Status.{Status}
 use Rattle.rsl_event.specs.declared.status.Status.TheVariants as statuses
-use Rattle.rsl_event.specs.declared.codes.TheConstants.{ACCOUNTING_REQUEST, USER_NAME, CLASS, CLASS_LEN, ACCT_STATUS_TYPE, ACCT_SESSION_ID, ACCT_MULTI_SESSION_ID, MAX_PROXY_STATE_LEN}
+use Rattle.rsl_event.specs.declared.codes.TheConstants.{ACCOUNTING_REQUEST, USER_NAME, CLASS, CLASS_LEN, ACCT_STATUS_TYPE, ACCT_SESSION_ID, ACCT_MULTI_SESSION_ID}
 
 -- the accept number in a Class value of this server: 8 octets of its boot number, and 8 of the
 -- number
@@ -104,7 +105,7 @@ abbrev pub accounting_by : Configuration → (boot client : ℕ) → Result (Lis
     → Result Meaning Dropped
 accounting_by config boot client (Err at) = Err Malformed
 accounting_by config boot client (Ok attributes) =
-    if nat_lt MAX_PROXY_STATE_LEN (proxy_len attributes) then Err ProxyTooLong
+    if nat_lt (most_proxy_len (rule_of config)) (proxy_len attributes) then Err ProxyTooLong
     else if_status config boot client attributes (number_in (first_of ACCT_STATUS_TYPE attributes))
 
 -- the meaning of a packet on the accounting port

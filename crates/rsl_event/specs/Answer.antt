@@ -1,6 +1,6 @@
 -- What is answered: the octets of a reply (RFC 2865 sections 4.2 and 4.3, RFC 2866 section 4.2),
 -- and its word.
-use Rattle.std.specs.Prelude.{ℕ, List, [], ◌∷◌, ◌++◌, replicate, codes, slice_get, Option, Some, None}
+use Rattle.std.specs.Prelude.{ℕ, List, [], ◌∷◌, ◌++◌, replicate, codes, slice_get, Option, Some, None, if◌then◌else◌}
 use Rattle.std.specs.Option.{option_map_or}
 use Rattle.std.specs.Int.{w32, w64, to_be_bytes}
 use Rattle.rsl_accounts.specs.Configuration.{Configuration}
@@ -61,47 +61,56 @@ class_octets boot number = to_be_bytes w64 boot ++ to_be_bytes w64 number
 abbrev pub class_attribute : (boot number : ℕ) → Attribute
 class_attribute boot number = attribute_of CLASS (class_octets boot number)
 
--- the attributes of an accept of an account
+-- the Port-Limit of an account's accepts, if they have one
+abbrev pub port_limit_of : Entry → Option ℕ
+port_limit_of entry = if entry.port_limit then Some entry.rules.ports else None
+
+-- the attributes of an accept of an account, but those that its file has for it
 unfoldable pub accept_attributes : (boot number : ℕ) → Entry → List Attribute
 accept_attributes boot number entry =
     class_attribute boot number
-    ∷ number_attribute PORT_LIMIT entry.rules.ports
-    ∷ optional_attribute SERVICE_TYPE entry.service_type
+    ∷ optional_attribute PORT_LIMIT (port_limit_of entry)
+    ++ optional_attribute SERVICE_TYPE entry.service_type
     ++ optional_attribute FRAMED_PROTOCOL entry.framed_protocol
     ++ optional_attribute SESSION_TIMEOUT entry.session_timeout
     ++ optional_attribute IDLE_TIMEOUT entry.idle_timeout
     ++ optional_attribute ACCT_INTERIM_INTERVAL entry.interim
 
--- the attributes of a limit reject
+-- the octets of an accept of an account: after those its reply attributes, as they stand
+abbrev pub accept_octets : (boot number : ℕ) → Entry → List ℕ
+accept_octets boot number entry =
+    list_octets (accept_attributes boot number entry) ++ entry.reply
+
+-- what a limit reject says
 abbrev pub limit_attributes : List Attribute
 limit_attributes = attribute_of REPLY_MESSAGE (codes "Session limit reached") ∷ []
 
--- the attributes of a decision on an ask
-abbrev pub decided_attributes : Configuration → (boot account : ℕ) → Decision → List Attribute
-decided_attributes config boot account (decisions.Accept number) =
-    option_map_or (accept_attributes boot number) (slice_get config.accounts account) []
-decided_attributes config boot account decisions.LimitReject = limit_attributes
-decided_attributes config boot account decisions.Done = limit_attributes
+-- what a decision on an ask says
+abbrev pub decided_octets : Configuration → (boot account : ℕ) → Decision → List ℕ
+decided_octets config boot account (decisions.Accept number) =
+    option_map_or (accept_octets boot number) (slice_get config.accounts account) []
+decided_octets config boot account decisions.LimitReject = list_octets limit_attributes
+decided_octets config boot account decisions.Done = list_octets limit_attributes
 
--- the server's own attributes in a reply
-abbrev pub said_attributes : Configuration → (boot : ℕ) → MeaningKind → Decision → List Attribute
-said_attributes config boot (kinds.Ask account) decision =
-    decided_attributes config boot account decision
-said_attributes config boot _ decision = []
+-- what the server says in a reply
+abbrev pub said_octets : Configuration → (boot : ℕ) → MeaningKind → Decision → List ℕ
+said_octets config boot (kinds.Ask account) decision =
+    decided_octets config boot account decision
+said_octets config boot _ decision = []
 
 -- the request's attributes that a reply repeats
 abbrev pub repeated_attributes : List Attribute → MeaningKind → List Attribute
 repeated_attributes attributes kinds.Bare = []
 repeated_attributes attributes _ = proxy_states attributes
 
--- the attributes of a reply, its Message-Authenticator not yet signed: this comes first, and
--- Proxy-States last, in their order
-abbrev pub reply_attributes : Configuration → (boot : ℕ) → List Attribute → MeaningKind → Decision
-    → List Attribute
-reply_attributes config boot attributes kind decision =
-    signature_attributes (reply_signing (rule_of config) (said_to kind decision) attributes)
-    ++ said_attributes config boot kind decision
-    ++ repeated_attributes attributes kind
+-- the octets of the attributes of a reply, its Message-Authenticator not yet signed: this stands first,
+-- and Proxy-States last, as they came
+abbrev pub reply_octets : Configuration → (boot : ℕ) → List Attribute → MeaningKind → Decision
+    → List ℕ
+reply_octets config boot attributes kind decision =
+    list_octets (signature_attributes (reply_signing (rule_of config) (said_to kind decision) attributes))
+    ++ said_octets config boot kind decision
+    ++ list_octets (repeated_attributes attributes kind)
 
 -- the reply before it is signed and sealed
 abbrev pub unsigned_reply : Configuration → (boot : ℕ) → Fields → MeaningKind → Decision → List ℕ
@@ -109,8 +118,7 @@ unsigned_reply config boot fields kind decision = packet_octets (record {
   code = code_of (said_to kind decision);
   id = fields.id;
   authenticator = replicate 16 0;
-  attributes =
-      list_octets (reply_attributes config boot (attributes_in fields.attributes) kind decision);
+  attributes = reply_octets config boot (attributes_in fields.attributes) kind decision;
 })
 
 -- the octets of the reply to a packet of a client with a meaning of this kind: signed if it is to

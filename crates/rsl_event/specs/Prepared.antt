@@ -3,7 +3,7 @@ use Rattle.std.specs.Prelude.{◌≡◌, ℕ, ◌<◌, ◌≤◌, List, length, 
 use Rattle.rsl_accounts.specs.Configuration.{Configuration}
 use Rattle.rsl_wire.specs.Attributes.{attribute_list, attributes_in}
 use Rattle.rsl_event.specs.Meaning.{Fails}
-use Rattle.rsl_event.specs.Request.{proxy_len}
+use Rattle.rsl_event.specs.Request.{most_proxy_len, proxy_len}
 use Rattle.rsl_event.specs.declared.event.Act.{Act}
 use Rattle.rsl_event.specs.declared.event.Act.TheVariants.{Sweep, Tick}
 use Rattle.rsl_event.specs.declared.meaning_kind.MeaningKind.{MeaningKind}
@@ -13,7 +13,7 @@ use Rattle.rsl_event.specs.declared.meaning.Meaning.{Meaning}
 use Rattle.rsl_event.specs.declared.meaning.Meaning.TheVariants.{Bare, Own}
 use Rattle.rsl_event.specs.declared.meaning.Prepared.{Prepared}
 use Rattle.rsl_event.specs.declared.preparation.Detailed.{Detailed}
-use Rattle.rsl_event.specs.declared.codes.TheConstants.{MAX_PROXY_STATE_LEN}
+use Rattle.rsl_event.specs.Signature.{rule_of}
 
 -- what was prepared, without its detail
 abbrev pub prepared_in : Result Detailed Dropped → Result Prepared Dropped
@@ -26,9 +26,9 @@ GivesPrepared (Ok prepared) defined = defined ≡ Ok prepared.meaning
 GivesPrepared (Err dropped) defined = Fails dropped defined
 
 -- the attributes of a request are well formed, and its Proxy-States have room in a reply
-pub record HasProxyStates (attributes : List ℕ) : Type 0 where
+pub record HasProxyStates (config : Configuration) (attributes : List ℕ) : Type 0 where
   pub formed : attribute_list attributes ≡ Ok (attributes_in attributes)
-  pub short : proxy_len (attributes_in attributes) ≤ MAX_PROXY_STATE_LEN
+  pub short : proxy_len (attributes_in attributes) ≤ most_proxy_len (rule_of config)
 
 -- the account of a meaning is one of the configuration
 abbrev pub HasAccount : Configuration → Meaning → Type 0
@@ -41,14 +41,14 @@ HasAsker config (kinds.Ask account) = account < length config.accounts
 HasAsker config _ = Unit {0}
 
 -- a reply that repeats Proxy-States has room for them
-abbrev pub HasRoomForReply : (attributes : List ℕ) → Meaning → Type 0
-HasRoomForReply attributes Bare = Unit {0}
-HasRoomForReply attributes _ = HasProxyStates attributes
+abbrev pub HasRoomForReply : Configuration → (attributes : List ℕ) → Meaning → Type 0
+HasRoomForReply config attributes Bare = Unit {0}
+HasRoomForReply config attributes _ = HasProxyStates config attributes
 
 -- a reply to a meaning of this kind, if it repeats Proxy-States, has room for them
-abbrev pub HasRoomFor : (attributes : List ℕ) → MeaningKind → Type 0
-HasRoomFor attributes kinds.Bare = Unit {0}
-HasRoomFor attributes _ = HasProxyStates attributes
+abbrev pub HasRoomFor : Configuration → (attributes : List ℕ) → MeaningKind → Type 0
+HasRoomFor config attributes kinds.Bare = Unit {0}
+HasRoomFor config attributes _ = HasProxyStates config attributes
 
 -- an act of one account: an ask, an alive or a stop
 abbrev pub IsOfOneAccount : Act → Type 0
@@ -65,11 +65,11 @@ HasOwnAct _ = Unit {0}
 pub record IsPrepared (config : Configuration) (prepared : Prepared) : Type 0 where
   pub client : prepared.client < length config.clients
   pub account : HasAccount config prepared.meaning
-  pub room : HasRoomForReply prepared.packet.attrs.now prepared.meaning
+  pub room : HasRoomForReply config prepared.packet.attrs.now prepared.meaning
 
 -- what a reply needs: a packet of a client, with a meaning of this kind
 pub record CanReply (config : Configuration) (client : ℕ) (attributes : List ℕ) (kind : MeaningKind)
     : Type 0 where
   pub known : client < length config.clients
   pub asker : HasAsker config kind
-  pub room : HasRoomFor attributes kind
+  pub room : HasRoomFor config attributes kind

@@ -3,11 +3,13 @@ use Rattle.std.specs.Prelude.{ℕ, Bool, false, List, [], length, count_by, sum_
 use Rattle.std.specs.Option.{option_map_or, option_or}
 use Rattle.rsl_accounts.specs.Configuration.{Configuration, account_number}
 use Rattle.rsl_accounts.specs.Version.{knows_ipv6}
+use Rattle.rsl_accounts.specs.declared.unsigned_rule.UnsignedRule.{UnsignedRule}
+use Rattle.rsl_accounts.specs.declared.unsigned_rule.UnsignedRule.TheVariants.{Trusted, Guarded}
 use Rattle.rsl_wire.specs.Attributes.{Attribute, attribute_octets, is_kind, first_of}
 use Rattle.rsl_event.specs.declared.nas.Nas.{Nas}
 use Rattle.rsl_event.specs.declared.nas.NasName.{NasName}
 use Rattle.rsl_event.specs.declared.nas.NasName.TheVariants.{Identifier, Address, Unnamed}
-use Rattle.rsl_event.specs.declared.codes.TheConstants.{USER_NAME, NAS_IDENTIFIER, NAS_IP_ADDRESS, NAS_IPV6_ADDRESS, PROXY_STATE}
+use Rattle.rsl_event.specs.declared.codes.TheConstants.{USER_NAME, NAS_IDENTIFIER, NAS_IP_ADDRESS, NAS_IPV6_ADDRESS, PROXY_STATE, MAX_PROXY_STATE_LEN, GUARDED_PROXY_STATE_LEN}
 
 -- how many attributes of a Type there are
 abbrev pub attribute_count : ℕ → List Attribute → ℕ
@@ -51,6 +53,11 @@ proxy_states attributes = filter (is_kind PROXY_STATE) attributes
 abbrev pub proxy_len : List Attribute → ℕ
 proxy_len attributes =
     sum_by (λ attribute. length (attribute_octets attribute)) (proxy_states attributes)
+
+-- the most of these octets that a request may have: under a guard an accept has more of its own
+abbrev pub most_proxy_len : UnsignedRule → ℕ
+most_proxy_len Trusted = MAX_PROXY_STATE_LEN
+most_proxy_len Guarded = GUARDED_PROXY_STATE_LEN
 
 -- the secret that is shared with a client
 abbrev pub secret_of : Configuration → ℕ → List ℕ

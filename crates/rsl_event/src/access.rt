@@ -9,7 +9,7 @@ use crate::codes::ACCESS_REQUEST;
 use crate::detail::{Detail, RejectCause};
 use crate::event::{Act, Key, Source};
 use crate::meaning::{Dropped, Meaning};
-use crate::request::account_named;
+use crate::request::{account_named, most_proxy_len};
 use crate::signature::signature_drop;
 use rsl_accounts::{Client, Config, Secret};
 use rsl_auth::{chap_ok, pap_ok};
@@ -45,7 +45,7 @@ pub(crate) fn access_meaning(
     if let Some(dropped) = signature_drop(config, client, packet, &attributes) {
         return Err(dropped);
     }
-    if attributes.has_long_proxy_states() {
+    if attributes.has_long_proxy_states(most_proxy_len(config.unsigned_rule())) {
         return Err(Dropped::ProxyTooLong);
     }
     let account = match asker(config, client, &packet.authenticator, &attributes) {

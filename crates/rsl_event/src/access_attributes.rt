@@ -15,7 +15,6 @@ ghost use Rattle.rsl_event.specs.declared.codes.TheConstants.{
   NAS_IPV6_ADDRESS,
   PROXY_STATE,
   MESSAGE_AUTHENTICATOR,
-  MAX_PROXY_STATE_LEN,
 };
 
 use crate::codes::{
@@ -174,11 +173,12 @@ impl<'a> AccessAttributes<'a> {
         }
     }
 
-    /// Whether the Proxy-State attributes have over 3,900 octets, with their headers.
+    /// Whether the Proxy-State attributes have over `most` octets, with their headers.
     #[tactic(auto, using(crate::proofs::OccurrenceLaws::none_to_repeat))]
-    pub(crate) fn has_long_proxy_states(&self) -> bool
-        ensures { result ≡ nat_lt MAX_PROXY_STATE_LEN (proxy_len self.now.all) }
+    pub(crate) fn has_long_proxy_states(&self, most: usize) -> bool
+        requires { most ≤ 3900 }
+        ensures { result ≡ nat_lt most (proxy_len self.now.all) }
     {
-        self.proxy_states.count > 0 && has_long_proxy_states(&self.all)
+        self.proxy_states.count > 0 && has_long_proxy_states(&self.all, most)
     }
 }

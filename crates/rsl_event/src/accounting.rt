@@ -23,7 +23,9 @@ use crate::codes::{
 use crate::detail::Detail;
 use crate::event::Act;
 use crate::meaning::{Dropped, Meaning, Note};
-use crate::request::{access_server_of, account_named, has_long_proxy_states, text_of};
+use crate::request::{
+    access_server_of, account_named, has_long_proxy_states, most_proxy_len, text_of,
+};
 use crate::status::Status;
 use rsl_accounts::Config;
 use rsl_auth::accounting_ok;
@@ -55,7 +57,7 @@ pub(crate) fn accounting_meaning(
     let Ok(attributes) = packet.attributes() else {
         return Err(Dropped::Malformed);
     };
-    if has_long_proxy_states(&attributes) {
+    if has_long_proxy_states(&attributes, most_proxy_len(config.unsigned_rule())) {
         return Err(Dropped::ProxyTooLong);
     }
     let Some(number) = attributes.number(ACCT_STATUS_TYPE) else {

@@ -1,4 +1,5 @@
-//! The numbers of the RFCs, and two of this server's own: `CLASS_LEN` and `MAX_PROXY_STATE_LEN`.
+//! The numbers of the RFCs, and three of this server's own: `CLASS_LEN`, `MAX_PROXY_STATE_LEN` and
+//! `GUARDED_PROXY_STATE_LEN`.
 
 /// Access-Request (RFC 2865 section 4.1).
 pub const ACCESS_REQUEST: u8 = 1;
@@ -70,6 +71,9 @@ pub const CLASS_LEN: usize = 16;
 /// The most octets of Proxy-State attributes, with their headers, in a request: a reply has room
 /// for them.
 pub const MAX_PROXY_STATE_LEN: usize = 3900;
+/// The same under a guard, that is in version 3 of the account file, in which an accept has up to 1,000 octets
+/// of its account's own.
+pub const GUARDED_PROXY_STATE_LEN: usize = 3000;
 
 // The definitions cite these names, so their numbers are checked against the RFCs' own tables.
 // Codes (RFC 2865 section 4, RFC 2866 section 4).
@@ -109,7 +113,8 @@ const _: () = prove!(
 const _: () = prove!(
     START == 1 && STOP == 2 && INTERIM_UPDATE == 3 && ACCOUNTING_ON == 7 && ACCOUNTING_OFF == 8
 );
-// The longest reply, 20 + 18 + 48 + 3,900 octets, is within the 4,096 of a packet.
-const _: () = prove!(MAX_PROXY_STATE_LEN == 3900);
+// The longest replies, 20 + 18 + 54 + 3,900 and 20 + 18 + 54 + 1,000 + 3,000 octets, are within the 4,096 of a
+// packet.
+const _: () = prove!(MAX_PROXY_STATE_LEN == 3900 && GUARDED_PROXY_STATE_LEN == 3000);
 
 const _: () = prove!(CLASS_LEN == 16);

@@ -45,8 +45,8 @@ impl Meaning {
         ensures kind { result ≡ kind_of self.now }
         ensures asker { (config : Configuration) → HasAccount config self.now →
             HasAsker config result }
-        ensures room { (attributes : List ℕ) → HasRoomForReply attributes self.now →
-            HasRoomFor attributes result }
+        ensures room { (config : Configuration) (attributes : List ℕ) → HasRoomForReply config attributes self.now →
+            HasRoomFor config attributes result }
     {
         match self {
             Meaning::Bare => MeaningKind::Bare,

@@ -1,6 +1,7 @@
-ghost use Rattle.std.specs.Prelude.{◌≡◌, ◌<◌, ◌≤◌, [], List, ℕ, length, replicate, unwrap_or, vec_capacity, vec_len, IfOk, IfSome, IsOk, Ok};
+ghost use Rattle.std.specs.Prelude.{◌≡◌, ◌+◌, ◌<◌, ◌≤◌, [], List, ℕ, length, replicate, unwrap_or, vec_capacity, vec_len, IfOk, IfSome, IsOk, Ok};
 ghost use Rattle.rsl_auth.specs.Hmac.{IsKeyOf};
 ghost use Rattle.std.specs.List.{AllByRecursion};
+ghost use Rattle.rsl_accounts.specs.Version.{reply_room};
 ghost use Rattle.rsl_wire.specs.Attributes.{IsAttribute, attribute_list, attributes_in, list_octets};
 ghost use Rattle.rsl_wire.specs.Packet.{packet_octets};
 ghost use Rattle.rsl_wire.specs.Seen.{fields_of};
@@ -8,14 +9,13 @@ ghost use Rattle.rsl_event.specs.Answer.{
   answer,
   answer_to,
   code_of,
-  decided_attributes,
+  decided_octets,
   repeated_attributes,
   said,
-  said_attributes,
+  said_octets,
 };
 ghost use Rattle.rsl_event.specs.Draft.{with_more};
 ghost use Rattle.rsl_event.specs.Request.{proxy_len};
-ghost use Rattle.rsl_event.specs.declared.codes.TheConstants.{MAX_PROXY_STATE_LEN};
 ghost use Rattle.rsl_event.specs.declared.meaning_kind.MeaningKind.TheVariants as kinds;
 ghost use Rattle.rsl_event.specs.Signature.{reply_signing, signed_by};
 ghost use Rattle.rsl_event.specs.Prepared.{CanReply, HasAsker, IsPrepared};
@@ -193,8 +193,8 @@ fn write_said(config: &Config, boot: u64, kind: MeaningKind, decision: Decision,
     requires asker { HasAsker config.now kind }
     requires room { length draft.old.attributes ≤ 18 }
     ensures written { draft.new ≡ with_more draft.old
-        (list_octets (said_attributes config.now boot kind decision)) }
-    ensures short { length draft.new.attributes ≤ 72 }
+        (said_octets config.now boot kind decision) }
+    ensures short { length draft.new.attributes ≤ 72 + reply_room config.now.settings.version }
     ensures kept { length draft.old.attributes ≤ length draft.new.attributes }
 {
     if let MeaningKind::Ask(account) = kind {
@@ -206,8 +206,7 @@ fn write_said(config: &Config, boot: u64, kind: MeaningKind, decision: Decision,
 fn write_repeated(request: &Option<Attrs<'_>>, kind: MeaningKind, draft: &mut Draft)
     requires each { IfSome request.now (AllByRecursion IsAttribute) }
     requires room { (kind ≡ kinds.Bare → ⊥) →
-        proxy_len (unwrap_or request.now []) ≤ MAX_PROXY_STATE_LEN }
-    requires short { length draft.old.attributes ≤ 72 }
+        20 + (length draft.old.attributes + proxy_len (unwrap_or request.now [])) ≤ 4096 }
     ensures written { draft.new ≡ with_more draft.old (list_octets (repeated_attributes
         (unwrap_or request.now []) kind)) }
     ensures kept { length draft.old.attributes ≤ length draft.new.attributes }
@@ -225,8 +224,9 @@ fn write_decision(config: &Config, boot: u64, account: u32, decision: Decision, 
     requires account { account < length config.now.accounts }
     requires room { length draft.old.attributes ≤ 18 }
     ensures written { draft.new ≡ with_more draft.old
-        (list_octets (decided_attributes config.now boot account decision)) }
-    ensures short { length draft.new.attributes ≤ 72 }
+        (decided_octets config.now boot account decision) }
+    ensures short { length draft.new.attributes ≤ 72 + reply_room config.now.settings.version }
+    ensures kept { length draft.old.attributes ≤ length draft.new.attributes }
 {
     match decision {
         Decision::Accept(number) => push_accept(draft, boot, number, config.entry(account)),

@@ -3,13 +3,14 @@ ghost use Rattle.rsl_accounts.specs.Configuration.{account_number};
 ghost use Rattle.rsl_wire.specs.Attributes.{first_of};
 ghost use Rattle.rsl_event.specs.Copied.{IsNamed};
 ghost use Rattle.rsl_event.specs.Occurrences.{value_of};
-ghost use Rattle.rsl_event.specs.Request.{access_server_of, nas_address, nas_name_of, proxy_len, text_of};
+ghost use Rattle.rsl_event.specs.Request.{access_server_of, nas_address, nas_name_of, most_proxy_len, proxy_len, text_of};
 
 use crate::codes::{
-    MAX_PROXY_STATE_LEN, NAS_IDENTIFIER, NAS_IP_ADDRESS, NAS_IPV6_ADDRESS, PROXY_STATE,
+    GUARDED_PROXY_STATE_LEN, MAX_PROXY_STATE_LEN, NAS_IDENTIFIER, NAS_IP_ADDRESS, NAS_IPV6_ADDRESS,
+    PROXY_STATE,
 };
 use crate::nas::{Nas, NasName};
-use rsl_accounts::Config;
+use rsl_accounts::{Config, UnsignedRule};
 use rsl_wire::{ATTR_HEADER_LEN, Attrs, NoMemory, Octets};
 use std::alloc::Global;
 
@@ -102,15 +103,27 @@ pub(crate) fn text_of<'a>(attributes: &Attrs<'a>, kind: u8) -> &'a [u8]
     attributes.first(kind).unwrap_or(&[])
 }
 
-/// Whether the Proxy-State attributes have over 3,900 octets, with their headers.
-pub(crate) fn has_long_proxy_states(attributes: &Attrs<'_>) -> bool
-    ensures { result ≡ nat_lt MAX_PROXY_STATE_LEN (proxy_len attributes.now) }
+/// The most octets of Proxy-State attributes that a request may have, with their headers.
+pub(crate) fn most_proxy_len(rule: UnsignedRule) -> usize
+    ensures value { result ≡ most_proxy_len rule }
+    ensures limit { result ≤ 3900 }
+{
+    match rule {
+        UnsignedRule::Trusted => MAX_PROXY_STATE_LEN,
+        UnsignedRule::Guarded => GUARDED_PROXY_STATE_LEN,
+    }
+}
+
+/// Whether the Proxy-State attributes have over `most` octets, with their headers.
+pub(crate) fn has_long_proxy_states(attributes: &Attrs<'_>, most: usize) -> bool
+    requires { most ≤ 3900 }
+    ensures { result ≡ nat_lt most (proxy_len attributes.now) }
 {
     let mut len = 0usize;
     for (kind, value) in attributes.iter() {
         if kind == PROXY_STATE {
             len += ATTR_HEADER_LEN + value.len();
-            if len > MAX_PROXY_STATE_LEN {
+            if len > most {
                 return true;
             }
         }

@@ -66,6 +66,8 @@ account_with name password places options = record {
   own_grace = options.grace;
   interim = None;
   disabled = false;
+  port_limit = true;
+  reply = [];
 }
 
 -- an account: NAME PASSWORD PLACES, and its optional words

@@ -18,7 +18,7 @@ use crate::happening::read_event;
 use crate::values::{leading_number, read_number};
 use crate::verb::{Setting, Verb, setting_of, verb_of};
 use crate::words::{are_words, is_silent, line_words, text_of};
-use rsl_accounts::{Client, Entry, Rules, Secret, Text, address_of};
+use rsl_accounts::{Client, Entry, Reply, Rules, Secret, Text, address_of};
 use rsl_wire::NoMemory;
 use std::alloc::Global;
 
@@ -189,5 +189,7 @@ fn account_with(
         own_grace: options.grace,
         interim: None,
         disabled: false,
+        port_limit: true,
+        reply: Reply::none(),
     })
 }

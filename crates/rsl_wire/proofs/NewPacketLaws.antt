@@ -102,6 +102,17 @@ pushed_is octets headed whole value kind n begun long len e f seen_as =
     ap (drop 20) joined ∙ m.1 ∙ ap (λ (x : List ℕ). x ++ (kind ∷ n ∷ value)) (ap (λ (b : Begun). b.attributes) seen_as) ∙ ap (λ (k : ℕ). begun.attributes ++ (kind ∷ k ∷ value)) len in
     λ i. record { id = id_is i; attributes = attributes_are i }
 
+-- a draft after octets that were written at its end
+pub appended_is : (octets whole more : List ℕ) (begun : Begun) → 20 ≤ length octets → whole ≡ octets ++ more → begun_of octets ≡ begun
+    → begun_of whole ≡ record { id = begun.id; attributes = begun.attributes ++ more }
+appended_is octets whole more begun long e seen_as =
+    let joined : whole ≡ (octets ++ []) ++ more = e ∙ ap (λ (x : List ℕ). x ++ more) (sym (append-nil octets)) in
+    let m = begun_more octets [] more long in
+    let id_is : get_or whole 1 0 ≡ begun.id = ap (λ (x : List ℕ). get_or x 1 0) joined ∙ m.0 ∙ ap (λ (b : Begun). b.id) seen_as in
+    let attributes_are : drop 20 whole ≡ begun.attributes ++ more =
+    ap (drop 20) joined ∙ m.1 ∙ ap (λ (x : List ℕ). x ++ more) (ap (λ (b : Begun). b.attributes) seen_as) in
+    λ i. record { id = id_is i; attributes = attributes_are i }
+
 -- one attribute more is written
 pub written_step : (draft after : Begun) (id : ℕ) (xs : List Attr) (i : ℕ) (none : Attr) → i < length xs → draft ≡ begun_with id (list_octets (map seen (take i xs)))
     → after ≡ with_attribute draft (attribute_octets (seen (get_or xs i none))) → after ≡ begun_with id (list_octets (map seen (take (i + 1) xs)))

@@ -95,8 +95,24 @@ impl Draft {
         Ok(())
     }
 
-    /// The octets of the packet (RFC 2865 section 3), with nothing after them. It allocates
-    /// nothing.
+    /// Writes the octets of attributes, as they stand, after those that are there. `TooLong` comes exactly
+    /// where the whole packet would have over 4,096 octets, and then the draft is as it was.
+    pub fn push_octets(&mut self, octets: &[u8]) -> Result<(), TooLong>
+        ensures fits { IsOk result ↔
+            (20 + length self.old.attributes + length octets.now ≤ 4096) }
+        ensures ok { OnOk result (self.new ≡ record self.old {
+          attributes = self.old.attributes ++ octets.now;
+        }) }
+        ensures err { OnErr result (self.new ≡ self.old) }
+    {
+        if self.octets.len() + octets.len() > MAX_LEN {
+            return Err(TooLong);
+        }
+        append(&mut self.octets, octets);
+        Ok(())
+    }
+
+    /// The octets of the packet (RFC 2865 section 3), with nothing after them. It takes no memory.
     pub fn finish(self, code: u8, authenticator: &[u8; 16]) -> Vec<u8>
         ensures { result.items ≡ packet_octets (record {
           code = code;

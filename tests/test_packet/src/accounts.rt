@@ -6,7 +6,7 @@ mod making;
 mod names;
 mod printing;
 
-use rsl_accounts::{Client, Config, ConfigFault, Entry, Rules, Secret, Settings, Text};
+use rsl_accounts::{Client, Config, ConfigFault, Entry, Reply, Rules, Secret, Settings, Text};
 use std::alloc::Global;
 use std::test::Fail;
 use test_rows::{number, shown};
@@ -79,6 +79,8 @@ fn entry(alloc: Global, name: &str, password: &str) -> Result<Entry, Fail> {
         own_grace: None,
         interim: None,
         disabled: false,
+        port_limit: true,
+        reply: Reply::none(),
     })
 }
 

@@ -1,7 +1,7 @@
-use Rattle.rsl_event.proofs.ReplyAttributeLaws.{accept_written}
+use Rattle.std.proofs.Common.{refl}
+use Rattle.rsl_event.proofs.ReplyAttributeLaws.{more_twice}
 use Rattle.rsl_event.proofs.reply_attributes.push_accept.Goals as goal
 
 pub returns-clause-written : goal.returns-clause-written
 returns-clause-written c =
-    accept_written c.args.boot c.args.number c.args.entry.now c.args.draft.now _ _ _ _ _ _ _
-    c.push_class.ensures.written c.push_number.ensures.written c.push_optional.ensures.written c.push_optional-2.ensures.written c.push_optional-3.ensures.written c.push_optional-4.ensures.written c.push_optional-5.ensures.written
+    more_twice c.args.draft.now _ _ _ _ _ c.push_set.ensures.written c.push_reply.ensures.written refl

@@ -4,7 +4,7 @@ use Rattle.rsl_wire.specs.Seen.{fields_of}
 use Rattle.rsl_event.specs.Answer.{repeated_attributes}
 use Rattle.rsl_event.specs.Signature.{reply_signing}
 use Rattle.rsl_event.proofs.ClientKeys.{key_of_secret}
-use Rattle.rsl_event.proofs.ReplyAttributeLaws.{answer_is, formed_unless_bare, repeated_short, with_attributes}
+use Rattle.rsl_event.proofs.ReplyAttributeLaws.{answer_is, formed_unless_bare, repeated_fits, repeated_short, with_attributes}
 use Rattle.rsl_event.proofs.reply_packet.reply_to.Goals as goal
 
 pub returns : goal.returns
@@ -20,8 +20,9 @@ returns c =
     c.client_at.ensures.client c.expose-secret.ensures.octets (c.finish-octets.ensures.octets c.expose-secret.result.now kept) c.sealed.ensures
 
 pub attributes_of-attributes-requires : goal.attributes_of-attributes-requires
-attributes_of-attributes-requires c other = formed_unless_bare c.args.request.now.attrs.now c.args.kind c.requires.prepared.room other
+attributes_of-attributes-requires c other = formed_unless_bare c.args.config.now c.args.request.now.attrs.now c.args.kind c.requires.prepared.room other
 
 pub write_repeated-requires-clause-room : goal.write_repeated-requires-clause-room
 write_repeated-requires-clause-room c other =
-    repeated_short c.args.request.now.attrs.now (unwrap_or c.attributes_of-attributes.result []) c.args.kind c.attributes_of-attributes.ensures.list c.requires.prepared.room other
+    repeated_fits c.args.config.now _ _ c.write_said.ensures.short
+    (repeated_short c.args.config.now c.args.request.now.attrs.now (unwrap_or c.attributes_of-attributes.result []) c.args.kind c.attributes_of-attributes.ensures.list c.requires.prepared.room other)

@@ -6,5 +6,5 @@ use Rattle.rsl_event.proofs.request.has_long_proxy_states.Given as goal
 abbrev pub invariant-loop-kind : goal.invariant-loop-kind
 invariant-loop-kind l = record {
   counted : l.len + proxy_len l.kind-iterator ≡ proxy_len l.attributes;
-  short : l.len ≤ 3900;
+  short : l.len ≤ l.most;
 }

@@ -13,25 +13,31 @@ returns-in_err-settings-clause-fault c =
     let p = err_from_is_err_and c.from_residual-in_err-settings.result c.from_residual-in_err-settings.ensures.1 in
     rw (p.1, p.2) (λ other. rw (c.in_ok-file.ensures.ok, c.in_err-settings.ensures.fault other))
 
+pub returns-in_err-shared-clause-fault : goal.returns-in_err-shared-clause-fault
+unfolding configuration_of_file
+returns-in_err-shared-clause-fault c =
+    let p = err_from_is_err_and c.from_residual-in_err-shared.result c.from_residual-in_err-shared.ensures.1 in
+    rw (p.1, p.2) (λ other. rw (c.in_ok-file.ensures.ok, c.in_ok-settings.ensures.ok, c.in_err-shared.ensures.fault other))
+
 pub returns-in_err-client_tables-clause-fault : goal.returns-in_err-client_tables-clause-fault
 unfolding configuration_of_file
 returns-in_err-client_tables-clause-fault c =
     let p = err_from_is_err_and c.from_residual-in_err-client_tables.result c.from_residual-in_err-client_tables.ensures.1 in
-    rw (p.1, p.2) (λ _. rw (c.in_ok-file.ensures.ok, c.in_ok-settings.ensures.ok, c.in_err-client_tables.ensures.fault))
+    rw (p.1, p.2) (λ _. rw (c.in_ok-file.ensures.ok, c.in_ok-settings.ensures.ok, c.in_ok-shared.ensures.ok, c.in_err-client_tables.ensures.fault))
 
 pub returns-in_err-account_tables-clause-fault : goal.returns-in_err-account_tables-clause-fault
 unfolding configuration_of_file
 returns-in_err-account_tables-clause-fault c =
     let p = err_from_is_err_and c.from_residual-in_err-account_tables.result c.from_residual-in_err-account_tables.ensures.1 in
     rw (p.1, p.2)
-    (λ _. rw (c.in_ok-file.ensures.ok, c.in_ok-settings.ensures.ok, c.in_ok-client_tables.ensures.ok, c.in_err-account_tables.ensures.fault))
+    (λ _. rw (c.in_ok-file.ensures.ok, c.in_ok-settings.ensures.ok, c.in_ok-shared.ensures.ok, c.in_ok-client_tables.ensures.ok, c.in_err-account_tables.ensures.fault))
 
 pub returns-in_err-clients-clause-fault : goal.returns-in_err-clients-clause-fault
 unfolding configuration_of_file
 returns-in_err-clients-clause-fault c =
     let p = err_from_is_err_and c.from_residual-in_err-clients.result c.from_residual-in_err-clients.ensures.1 in
     rw (p.1, p.2)
-    (λ other. rw (c.in_ok-file.ensures.ok, c.in_ok-settings.ensures.ok, c.in_ok-client_tables.ensures.ok, c.in_ok-account_tables.ensures.ok, c.in_err-clients.ensures.fault other))
+    (λ other. rw (c.in_ok-file.ensures.ok, c.in_ok-settings.ensures.ok, c.in_ok-shared.ensures.ok, c.in_ok-client_tables.ensures.ok, c.in_ok-account_tables.ensures.ok, c.in_err-clients.ensures.fault other))
 
 pub returns-in_err-accounts-clause-fault : goal.returns-in_err-accounts-clause-fault
 unfolding configuration_of_file
@@ -39,7 +45,7 @@ returns-in_err-accounts-clause-fault c =
     let p = err_from_is_err_and c.from_residual-in_err-accounts.result c.from_residual-in_err-accounts.ensures.1 in
     rw (p.1, p.2)
     (λ other.
-    rw (c.in_ok-file.ensures.ok, c.in_ok-settings.ensures.ok, c.in_ok-client_tables.ensures.ok, c.in_ok-account_tables.ensures.ok, c.in_ok-clients.ensures.ok, c.in_err-accounts.ensures.fault other))
+    rw (c.in_ok-file.ensures.ok, c.in_ok-settings.ensures.ok, c.in_ok-shared.ensures.ok, c.in_ok-client_tables.ensures.ok, c.in_ok-account_tables.ensures.ok, c.in_ok-clients.ensures.ok, c.in_err-accounts.ensures.fault other))
 
 pub returns-clause-ok : goal.returns-clause-ok
 unfolding configuration_of_file
@@ -48,7 +54,7 @@ returns-clause-ok c =
     (λ config. configuration_of c.in_ok-settings.settings c.in_ok-clients.clients.items c.in_ok-accounts.accounts.items ≡ Ok config)
     (λ config. configuration_of_text c.args.text.now ≡ Ok config)
     (λ config made.
-    rw (c.in_ok-file.ensures.ok, c.in_ok-settings.ensures.ok, c.in_ok-client_tables.ensures.ok, c.in_ok-account_tables.ensures.ok, c.in_ok-clients.ensures.ok, c.in_ok-accounts.ensures.ok) made)
+    rw (c.in_ok-file.ensures.ok, c.in_ok-settings.ensures.ok, c.in_ok-shared.ensures.ok, c.in_ok-client_tables.ensures.ok, c.in_ok-account_tables.ensures.ok, c.in_ok-clients.ensures.ok, c.in_ok-accounts.ensures.ok) made)
     c.assemble.ensures.ok
 
 pub returns-clause-fault : goal.returns-clause-fault
@@ -56,7 +62,7 @@ unfolding configuration_of_file
 returns-clause-fault c =
     IfErr-weaker c.assemble.result _ _
     (λ fault made other.
-    rw (c.in_ok-file.ensures.ok, c.in_ok-settings.ensures.ok, c.in_ok-client_tables.ensures.ok, c.in_ok-account_tables.ensures.ok, c.in_ok-clients.ensures.ok, c.in_ok-accounts.ensures.ok) (made other))
+    rw (c.in_ok-file.ensures.ok, c.in_ok-settings.ensures.ok, c.in_ok-shared.ensures.ok, c.in_ok-client_tables.ensures.ok, c.in_ok-account_tables.ensures.ok, c.in_ok-clients.ensures.ok, c.in_ok-accounts.ensures.ok) (made other))
     c.assemble.ensures.fault
 
 pub assemble-requires : goal.assemble-requires

@@ -1,0 +1,37 @@
+-- What names stand for: attributes by the table of names, and values by that of their names.
+use Rattle.std.specs.Prelude.{ℕ, ◌==◌, ◌&&◌, if◌then◌else◌, List, [], ◌∷◌, map, Option, None, Some}
+use Rattle.std.specs.Str.{str_eq_ignore_ascii_case}
+use Rattle.rsl_reply.specs.declared.form.Form.{Form}
+use Rattle.rsl_reply.specs.declared.target.Target.{Target}
+use Rattle.rsl_reply.specs.declared.dictionary.TheConstants.{DICTIONARY, VALUE_NAMES}
+
+-- a row of either table
+abbrev pub Row : Type 0
+Row = List ℕ × ℕ × ℕ × Form
+
+abbrev pub ValueRow : Type 0
+ValueRow = ℕ × List ℕ × ℕ
+
+-- the attribute of the first row with this name, in capitals or not
+abbrev pub attribute_in : List Row → (name : List ℕ) → Option Target
+attribute_in [] name = None
+attribute_in (row ∷ rows) name =
+    if str_eq_ignore_ascii_case row.0 name
+    then Some (record { vendor = row.1; number = row.2; form = row.3; tag = 0 })
+    else attribute_in rows name
+
+-- the attribute that has this name
+unfoldable pub attribute_named : (name : List ℕ) → Option Target
+attribute_named = attribute_in (map (λ row. (row.0.now, row.1, row.2, row.3)) DICTIONARY)
+
+-- the number of the first row with this Type and this name
+abbrev pub value_in : List ValueRow → (number : ℕ) → (name : List ℕ) → Option ℕ
+value_in [] number name = None
+value_in (row ∷ rows) number name =
+    if row.0 == number && str_eq_ignore_ascii_case row.1 name
+    then Some row.2
+    else value_in rows number name
+
+-- the number that this name stands for in an attribute of this Type
+unfoldable pub value_named : (number : ℕ) → (name : List ℕ) → Option ℕ
+value_named = value_in (map (λ row. (row.0, row.1.now, row.2)) VALUE_NAMES)

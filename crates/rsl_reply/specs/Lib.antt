@@ -1,0 +1,5 @@
+pub mod Dictionary
+pub mod Naming
+pub mod Reading
+pub mod Value
+pub mod Words
