@@ -1,4 +1,4 @@
-ghost use Rattle.std.specs.Prelude.{◌≡◌, IfOk, OnErr, is_none, nat_lt};
+ghost use Rattle.std.specs.Prelude.{◌≡◌, ◌≤◌, IfOk, OnErr, is_none, nat_lt};
 ghost use Rattle.rsl_wire.specs.Attributes.{first_of};
 ghost use Rattle.rsl_event.specs.Access.{asks_once, has_eap_message, has_one_password, is_vouched};
 ghost use Rattle.rsl_event.specs.Cause.{count_cause};

@@ -1,4 +1,4 @@
-ghost use Rattle.std.specs.Prelude.{◌≡◌, ◌<◌, IfOk, IfSome, OnErr, length, nat_lt, option_and_then};
+ghost use Rattle.std.specs.Prelude.{◌≡◌, ◌<◌, ◌≤◌, IfOk, IfSome, OnErr, length, nat_lt, option_and_then};
 ghost use Rattle.rsl_accounts.specs.Configuration.{account_number};
 ghost use Rattle.rsl_wire.specs.Attributes.{first_of};
 ghost use Rattle.rsl_event.specs.Copied.{IsNamed};
