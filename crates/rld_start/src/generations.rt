@@ -8,11 +8,16 @@ use crate::number::next_generation;
 use rld_admit::era_file;
 use rld_books::BlankBooks;
 use rld_config::Archive;
-use rld_folder::{Folder, FolderFault, Generation, Removed, Synced, logless_eras, older_logs};
+use rld_folder::{
+    ArchivedLog, Folder, FolderFault, Generation, Removed, Synced, logless_eras, older_logs,
+};
 use rld_log::{FileLog, Log, PacedLog, Pacing};
 use rsl_accounts::Config;
 use std::alloc::Global;
 use std::fs::{File, Files};
+
+/// The octets of a megabyte.
+const MEGABYTE: u64 = 1_000_000;
 
 /// A log in which a generation can begin.
 #[derive(Drop)]
@@ -89,13 +94,18 @@ pub trait Generations {
 
     /// Puts away the logs before the newest generation, as the archive is kept, once the log of that one
     /// is on the disk: they go to the folder `archive`, or are removed where nothing is kept. Logs that
-    /// were kept for as many days as they shall be at this second since 1970 are removed from it. Then
+    /// were kept for as many days as they shall be at this second since 1970 are removed from it, and then
+    /// the oldest ones, until it has no more octets than it may. Then
     /// the table of each era before that of the newest generation is removed of which no log is left,
     /// neither in the folder nor in its archive; where the archive keeps all logs, all tables stay.
     ///
     /// The first fault is the folder's. What cannot be put away stays where it is, and is tried again by
     /// the next call; nothing that a start needs is moved.
     fn put_away(&self, alloc: Global, newest: Generation, now: u64) -> Result<(), FolderFault>;
+
+    /// The logs of the archive, in no order, each with its octets; none where there is no archive. `Unread`
+    /// comes where the archive, or what the system knows of a log, cannot be read.
+    fn archived_logs(&self, alloc: Global) -> Result<Vec<ArchivedLog>, FolderFault>;
 }
 
 /// The logs of a folder, which is locked as long as this value is there.
@@ -104,18 +114,27 @@ pub struct FolderGenerations<'a, R> {
     files: &'a R,
     folder: Folder,
     archive: Archive,
+    megabytes: Option<u16>,
 }
 
 impl<'a, R: Files<File = File>> FolderGenerations<'a, R> {
-    /// The logs of `folder`, whose archive is kept as `archive` says.
-    pub fn new(files: &'a R, folder: Folder, archive: Archive) -> FolderGenerations<'a, R>
+    /// The logs of `folder`, whose archive is kept as `archive` says and has at most `megabytes` megabytes, if
+    /// these are given.
+    pub fn new(
+        files: &'a R,
+        folder: Folder,
+        archive: Archive,
+        megabytes: Option<u16>,
+    ) -> FolderGenerations<'a, R>
         ensures folder { result.folder ≡ folder }
         ensures archive { result.archive ≡ archive }
+        ensures megabytes { result.megabytes ≡ megabytes }
     {
         FolderGenerations {
             files,
             folder,
             archive,
+            megabytes,
         }
     }
 
@@ -144,8 +163,19 @@ impl<'a, R: Files<File = File>> FolderGenerations<'a, R> {
         self.folder.remove_eras(self.files, alloc, eras.as_slice())
     }
 
-    /// Removes what the archive keeps no more: logs that were kept long enough at this second, and the
-    /// tables of eras that then have no log.
+    /// Removes the oldest logs of the archive, where it has more octets than it may.
+    fn remove_excess(&self, alloc: Global) -> Result<(), FolderFault> {
+        match self.megabytes {
+            Some(megabytes) => {
+                let limit = u64::from(megabytes) * MEGABYTE;
+                self.folder.remove_excess(&(self.files, alloc), limit)
+            }
+            None => Ok(()),
+        }
+    }
+
+    /// Removes what the archive keeps no more: logs that were kept long enough at this second, the oldest
+    /// ones where it has too many octets, and the tables of eras that then have no log.
     fn remove_unkept(
         &self,
         alloc: Global,
@@ -153,15 +183,13 @@ impl<'a, R: Files<File = File>> FolderGenerations<'a, R> {
         now: u64,
     ) -> Result<(), FolderFault> {
         let expired = match self.archive {
-            Archive::Keep => return Ok(()),
+            Archive::Keep if self.megabytes.is_none() => return Ok(()),
             Archive::Days(days) => self.folder.remove_expired(&(self.files, alloc), days, now),
-            Archive::Nothing => Ok(()),
+            Archive::Keep | Archive::Nothing => Ok(()),
         };
+        let excess = self.remove_excess(alloc);
         let logless = self.remove_logless(alloc, newest);
-        match expired {
-            Ok(()) => logless,
-            Err(fault) => Err(fault),
-        }
+        expired.and(excess).and(logless)
     }
 }
 
@@ -216,5 +244,9 @@ impl<R: Files<File = File>> Generations for FolderGenerations<'_, R> {
             Ok(()) => removed,
             Err(fault) => Err(fault),
         }
+    }
+
+    fn archived_logs(&self, alloc: Global) -> Result<Vec<ArchivedLog>, FolderFault> {
+        self.folder.archived_logs(&(self.files, alloc))
     }
 }
