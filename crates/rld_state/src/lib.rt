@@ -1,7 +1,7 @@
 //! The state of a running server, as it stands behind its lock: the recorder, the accounts and the
 //! era of its books, and the generation that it writes. It records batches, goes on to the next
 //! generation, and to other accounts within the era or with a new one; and it says when the next
-//! generation is due and what an operator is to learn. It has no thread, socket or lock of its own.
+//! generation is due, whether the clock is behind, and what an operator is to learn. It has no thread, socket or lock of its own.
 //!
 //! The promise: of each call, what the recorder promises; a recorder that can record nothing more
 //! is asked no more, and a batch of another era is refused whole (`specs/Keeping.antt`); a
@@ -9,7 +9,9 @@
 //! with what is admitted of the books, once its log is on the disk (`changing.rt`).
 #![tactic(auto)]
 
+mod archived;
 mod changing;
+mod clock;
 mod places;
 mod reloaded;
 mod rolled;
@@ -18,7 +20,9 @@ mod timer;
 mod told;
 mod trouble;
 
+pub use archived::archive_look;
 pub use changing::Entered;
+pub use clock::{ClockNews, news_of_clock, seconds_behind};
 pub use places::places_in;
 pub use reloaded::{EraChange, ReloadFault, Reloaded};
 pub use rolled::{NotBegun, Notice, RollFault, notice_of_archive, notice_of_roll};
