@@ -1,11 +1,13 @@
 /* failing.c - a library that stands before the C library, and has calls of one kind fail: CALL names the kind, NTH is
  * the number of the one that fails (0: every one; -4: the fourth, and every one behind it), ERROR the errno that it
  * gives, PORT the UDP port of its socket (0: any file), and WHILE a file as long as which is there calls are counted and
- * fail (none: always). Every other call goes to the system.
+ * fail (none: always). Every other call goes to the system. SHIFT names a file with the seconds by which the clock is set
+ * ahead of the system's (none: 0).
  * cc -shared -fPIC -o failing.so failing.c */
 #define _GNU_SOURCE
 #include <dlfcn.h>
 #include <errno.h>
+#include <fcntl.h>
 #include <netinet/in.h>
 #include <pthread.h>
 #include <stdatomic.h>
@@ -76,8 +78,22 @@ int fdatasync(int fd) { return fails("fdatasync", fd) ? -1 : syscall(SYS_fdatasy
 
 int fsync(int fd) { return fails("fsync", fd) ? -1 : syscall(SYS_fsync, fd); }
 
+static long shift(void) {
+    const char *file = getenv("SHIFT");
+    char text[24] = "";
+    if (!file) return 0;
+    int fd = syscall(SYS_openat, AT_FDCWD, file, O_RDONLY);
+    if (fd < 0) return 0;
+    syscall(SYS_read, fd, text, sizeof text - 1);
+    syscall(SYS_close, fd);
+    return atol(text);
+}
+
 int clock_gettime(clockid_t clock, struct timespec *now) {
-    return clock == CLOCK_REALTIME && fails("clock_gettime", -1) ? -1 : syscall(SYS_clock_gettime, clock, now);
+    if (clock == CLOCK_REALTIME && fails("clock_gettime", -1)) return -1;
+    int status = syscall(SYS_clock_gettime, clock, now);
+    if (!status && clock == CLOCK_REALTIME) now->tv_sec += shift();
+    return status;
 }
 
 int pthread_create(pthread_t *thread, const pthread_attr_t *how, void *(*work)(void *), void *given) {

@@ -88,7 +88,12 @@ where
         header,
         ..
     } = started;
-    let generations = FolderGenerations::new(files, folder, server.archive);
+    let generations = FolderGenerations::new(
+        files,
+        folder,
+        server.archive,
+        server.archive_megabytes,
+    );
     let accounts = ServerAccounts {
         files,
         name,

@@ -2,7 +2,7 @@
 use Rattle.std.specs.Prelude.{ℕ, List, [], ◌∷◌, Bool, false, not, ◌==◌, ◌&&◌, ◌||◌, nat_le, length, codes, bytes_eq}
 use Rattle.std.specs.List.{list_all, list_any}
 use Rattle.rld_config.specs.declared.key.Key.{Key}
-use Rattle.rld_config.specs.declared.key.Key.TheVariants.{Accounts, State, Sync, Archive, Listen, Network, Control, Web, Trust, Address, Auth, Acct, Receivers, StatusServer, Prefix, Client, Socket, Mode, Group, Port, ReadableAccounts}
+use Rattle.rld_config.specs.declared.key.Key.TheVariants.{Accounts, State, Sync, Archive, ArchiveMegabytes, Listen, Network, Control, Web, Trust, Address, Auth, Acct, Receivers, StatusServer, Prefix, Client, Socket, Mode, Group, Port, ReadableAccounts}
 use Rattle.rld_config.specs.declared.part.Part.{Part}
 use Rattle.rld_config.specs.declared.part.Part.TheVariants.{Head, Listen as OfListen, Network as OfNetwork, Control as OfControl, Web as OfWeb, Trust as OfTrust}
 
@@ -12,6 +12,7 @@ key_name Accounts = codes "accounts"
 key_name State = codes "state"
 key_name Sync = codes "sync"
 key_name Archive = codes "archive"
+key_name ArchiveMegabytes = codes "archive_megabytes"
 key_name Listen = codes "listen"
 key_name Network = codes "network"
 key_name Control = codes "control"
@@ -32,7 +33,7 @@ key_name ReadableAccounts = codes "readable_accounts"
 
 -- the keys that a table may have
 abbrev pub keys_of : Part → List Key
-keys_of Head = Accounts ∷ State ∷ Sync ∷ Archive ∷ Listen ∷ Network ∷ Control ∷ Web ∷ Trust ∷ []
+keys_of Head = Accounts ∷ State ∷ Sync ∷ Archive ∷ ArchiveMegabytes ∷ Listen ∷ Network ∷ Control ∷ Web ∷ Trust ∷ []
 keys_of (OfListen number) = Address ∷ Auth ∷ Acct ∷ Receivers ∷ StatusServer ∷ []
 keys_of (OfNetwork number) = Prefix ∷ Client ∷ []
 keys_of OfControl = Socket ∷ Mode ∷ Group ∷ []
@@ -51,9 +52,10 @@ is_between least most number = nat_le least number && nat_le number most
 abbrev pub is_mode : ℕ → Bool
 is_mode number = number == 384 || number == 432 || number == 438
 
--- a number within the key's limits: days of an archive, a port, how many receivers, a mode
+-- a number that the key may have: days or megabytes of an archive, a port, how many receivers, a mode
 abbrev pub takes_number : Key → ℕ → Bool
 takes_number Archive number = is_between 1 36500 number
+takes_number ArchiveMegabytes number = is_between 1 65535 number
 takes_number Auth number = is_between 1 65535 number
 takes_number Acct number = is_between 1 65535 number
 takes_number Port number = is_between 1 65535 number

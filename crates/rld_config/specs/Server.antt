@@ -40,6 +40,7 @@ pub record Server : Type 0 where
   pub state : List ℕ
   pub sync : SyncPolicy
   pub archive : Archive
+  pub archive_megabytes : Option ℕ
   pub listens : List Listen
   pub networks : List Network
   pub control : ControlSocket
@@ -52,6 +53,7 @@ server_in file = record {
   state = file.state;
   sync = file.sync;
   archive = file.archive;
+  archive_megabytes = file.archive_megabytes;
   listens = file.listens.items;
   networks = file.networks.items;
   control = file.control;
@@ -119,6 +121,11 @@ unfoldable pub archive_in : Data → Result Archive ServerFault
 archive_in file =
     or_default part.Head key.Archive archive_value (Days 7) (member_in file key.Archive)
 
+-- how many megabytes the logs of the archive may have, if the file says it
+unfoldable pub megabytes_in : Data → Result (Option ℕ) ServerFault
+megabytes_in file =
+    optional part.Head key.ArchiveMegabytes (number_of key.ArchiveMegabytes) (member_in file key.ArchiveMegabytes)
+
 unfoldable pub head_in : Data → Result Head ServerFault
 head_in file =
     fault_or (unknown_in part.Head file)
@@ -126,7 +133,14 @@ head_in file =
     and_then (path_in part.Head file key.State) (λ state.
     and_then (sync_in file) (λ sync.
     and_then (archive_in file) (λ archive.
-    Ok (record { accounts = accounts; state = state; sync = sync; archive = archive }))))))
+    and_then (megabytes_in file) (λ megabytes.
+    Ok (record {
+      accounts = accounts;
+      state = state;
+      sync = sync;
+      archive = archive;
+      archive_megabytes = megabytes;
+    })))))))
 
 unfoldable pub listen_in : (number : ℕ) → Data → Result Listen ServerFault
 listen_in number value =

@@ -9,4 +9,5 @@ pub(crate) struct Head {
     pub(crate) state: Text,
     pub(crate) sync: SyncPolicy,
     pub(crate) archive: Archive,
+    pub(crate) archive_megabytes: Option<u16>,
 }

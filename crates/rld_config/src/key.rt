@@ -6,7 +6,10 @@ use std::fmt;
 /// The most days that an archive may be kept: a hundred years.
 const MAX_DAYS: u64 = 36_500;
 
-/// The greatest UDP or TCP port.
+/// The most megabytes that an archive may have.
+const MAX_MEGABYTES: u64 = 65_535;
+
+/// The most that a UDP or TCP port can be.
 const MAX_PORT: u64 = 65_535;
 
 /// The most receivers on each socket of a table.
@@ -29,7 +32,9 @@ pub enum Key {
     Sync,
     /// How long files that no start needs any more are kept.
     Archive,
-    /// The addresses and ports of packets, as an array of tables.
+    /// How many megabytes of logs the archive may have.
+    ArchiveMegabytes,
+    /// Where packets come to, as an array of tables.
     Listen,
     /// The networks that stand for clients, as an array of tables.
     Network,
@@ -75,6 +80,7 @@ impl Key {
             Key::State => "state",
             Key::Sync => "sync",
             Key::Archive => "archive",
+            Key::ArchiveMegabytes => "archive_megabytes",
             Key::Listen => "listen",
             Key::Network => "network",
             Key::Control => "control",
@@ -102,6 +108,7 @@ impl Key {
     {
         match self {
             Key::Archive => is_between(1, MAX_DAYS, number),
+            Key::ArchiveMegabytes => is_between(1, MAX_MEGABYTES, number),
             Key::Auth | Key::Acct | Key::Port => is_between(1, MAX_PORT, number),
             Key::Receivers => is_between(1, MAX_RECEIVERS, number),
             Key::Mode => is_mode(number),

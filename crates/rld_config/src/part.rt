@@ -35,6 +35,7 @@ impl Part {
                 Key::State,
                 Key::Sync,
                 Key::Archive,
+                Key::ArchiveMegabytes,
                 Key::Listen,
                 Key::Network,
                 Key::Control,

@@ -34,8 +34,8 @@ use crate::part::Part;
 use crate::sync::SyncPolicy;
 use crate::trust::Trust;
 use crate::value::{
-    address, archive, check_names, client, flag, group, ip_address, member, needed_number, number,
-    path, path_or_none, prefix, sync, tables_of,
+    address, archive, archive_megabytes, check_names, client, flag, group, ip_address, member,
+    needed_number, number, path, path_or_none, prefix, sync, tables_of,
 };
 use crate::web::Web;
 use rld_networks::Network;
@@ -66,7 +66,10 @@ pub struct ServerFile {
     pub sync: SyncPolicy,
     /// How long files that no start needs any more are kept.
     pub archive: Archive,
-    /// The addresses and ports of packets: 1 to 16, no two on one port.
+    /// How many megabytes, of 1,000,000 octets, the logs of the archive may have: 1 to 65,535. Where it is
+    /// absent no log goes for its octets.
+    pub archive_megabytes: Option<u16>,
+    /// Where packets come to: 1 to 16, no two on one port.
     pub listens: Vec<Listen>,
     /// The networks that stand for clients: at most 256, no two with one prefix.
     pub networks: Vec<Network>,
@@ -111,6 +114,7 @@ impl ServerFile {
             state: head.state,
             sync: head.sync,
             archive: head.archive,
+            archive_megabytes: head.archive_megabytes,
             listens,
             networks,
             control,
@@ -146,6 +150,7 @@ fn head(alloc: Global, file: &Value) -> Result<Head, ServerFault>
         state: path(alloc, Part::Head, file, Key::State)?,
         sync: sync(file)?,
         archive: archive(file)?,
+        archive_megabytes: archive_megabytes(file)?,
     })
 }
 

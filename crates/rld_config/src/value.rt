@@ -40,6 +40,7 @@ ghost use Rattle.rld_config.specs.Server.{
   client_in,
   group_in,
   ip_address_in,
+  megabytes_in,
   prefix_in,
   flag_in,
   needed_port_in,
@@ -333,7 +334,21 @@ pub(crate) fn archive(file: &Value) -> Result<Archive, ServerFault>
     }
 }
 
-/// The value as an array of 1 to `most` tables.
+/// How many megabytes of logs the archive may have: as many as there are if the file does not say it.
+#[tactic(auto, unfolding(crate::specs::Server::megabytes_in))]
+pub(crate) fn archive_megabytes(file: &Value) -> Result<Option<u16>, ServerFault>
+    ensures { result ≡ megabytes_in (view file.now) }
+{
+    match member(file, Key::ArchiveMegabytes) {
+        Some(value) => match number_of(value, Key::ArchiveMegabytes) {
+            Some(number) => Ok(Some(number)),
+            None => Err(ServerFault::BadValue(Part::Head, Key::ArchiveMegabytes)),
+        },
+        None => Ok(None),
+    }
+}
+
+/// The items of a value that is an array of 1 to `most` tables.
 pub(crate) fn tables_of(value: &Value, most: u64) -> Option<&[Value]>
     ensures value { option_map (λ tables. map view tables.now) result
         ≡ tables_of most (view value.now) }

@@ -7,7 +7,7 @@ ghost use Rattle.rld_folder.specs.Newest.{Precedes};
 use crate::fault::FolderFault;
 use crate::folder::{Folder, files_among, make_folder, path_in, sync_names};
 use crate::name::{FileName, Generation};
-use crate::older::is_expired;
+use crate::older::{ArchivedLog, excess_logs, is_expired};
 use std::alloc::{AllocError, Global};
 use std::fs::{self, File};
 use std::io::ErrorKind;
@@ -63,7 +63,15 @@ fn remove_file<R: Files<File = File>>(files: &R, path: &str) -> Result<(), Folde
     }
 }
 
-/// The second since 1970 of a file's last change.
+/// How many octets a file has.
+fn len_of<R: Files<File = File>>(files: &R, path: &str) -> Result<u64, FolderFault> {
+    match fs::metadata(files, path) {
+        Ok(found) => Ok(found.len()),
+        Err(error) => Err(FolderFault::of(&error, FolderFault::Unread)),
+    }
+}
+
+/// The second since 1970 at which a file changed last.
 fn changed<R: Files<File = File>>(files: &R, path: &str) -> Result<u64, FolderFault> {
     let found = match fs::metadata(files, path) {
         Ok(found) => found,
@@ -247,6 +255,45 @@ impl Folder {
                 let path = path_in(rt.alloc(), archive.as_str(), *file)?;
                 outcome = first_fault(outcome, remove_if_expired(rt, path.as_str(), days, now));
             }
+        }
+        outcome
+    }
+
+    /// The logs of its archive, in no order, each with its octets; none where there is no archive. `Unread`
+    /// comes where the archive, or what the system knows of a log, cannot be read.
+    pub fn archived_logs<R: Files<File = File> + Alloc<A = Global> + Clone + Drop>(
+        &self,
+        rt: &R,
+    ) -> Result<Vec<ArchivedLog>, FolderFault> {
+        let archive = self.archive_path(rt.alloc())?;
+        let mut logs = Vec::new(rt.alloc());
+        for file in self.archived(rt)?.as_slice() {
+            if let FileName::Log(generation) = file {
+                let path = path_in(rt.alloc(), archive.as_str(), *file)?;
+                logs.push(ArchivedLog {
+                    generation: *generation,
+                    octets: len_of(rt, path.as_str())?,
+                })?;
+            }
+        }
+        Ok(logs)
+    }
+
+    /// Removes the oldest logs of the archive, one after the other, until what is left has at most `limit`
+    /// octets (`excess_logs`). Where it fails for one the others are removed all the same, and the first
+    /// fault is given: `Unread` where the archive, or what the system knows of a log, cannot be read; then
+    /// none is removed. `Unremoved` where one cannot be removed.
+    pub fn remove_excess<R: Files<File = File> + Alloc<A = Global> + Clone + Drop>(
+        &self,
+        rt: &R,
+        limit: u64,
+    ) -> Result<(), FolderFault> {
+        let logs = self.archived_logs(rt)?;
+        let archive = self.archive_path(rt.alloc())?;
+        let mut outcome = Ok(());
+        for generation in excess_logs(rt.alloc(), logs, limit)?.as_slice() {
+            let path = path_in(rt.alloc(), archive.as_str(), FileName::Log(*generation))?;
+            outcome = first_fault(outcome, remove_file(rt, path.as_str()));
         }
         outcome
     }

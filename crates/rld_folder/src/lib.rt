@@ -14,4 +14,4 @@ pub use fault::FolderFault;
 pub use folder::Folder;
 pub use name::{FileName, Generation};
 pub use newest::newest_generation;
-pub use older::{is_expired, logless_eras, older_logs};
+pub use older::{ArchivedLog, excess_logs, is_expired, logless_eras, octets_in, older_logs};

@@ -1,9 +1,9 @@
 //! The logs that no start needs any more, and the tables of eras without a log.
 
-ghost use Rattle.std.specs.Prelude.{◌≡◌, ◌↔◌, All, IfOk, IfSome, IsTrue};
+ghost use Rattle.std.specs.Prelude.{◌≡◌, ◌↔◌, ◌<◌, ◌^◌, All, IfOk, IfSome, IsTrue, sum_by};
 ghost use Rattle.std.specs.List.{list_any};
 ghost use Rattle.rld_folder.specs.Newest.{Precedes};
-ghost use Rattle.rld_folder.specs.Older.{IsExpired, has_log, is_log_of, is_logless, logless_era, logless_eras, older_log, older_logs};
+ghost use Rattle.rld_folder.specs.Older.{AreExcess, IsExpired, excess, octets_in, has_log, is_log_of, is_logless, logless_era, logless_eras, older_log, older_logs};
 
 use crate::name::{FileName, Generation};
 use std::alloc::{AllocError, Global};
@@ -111,8 +111,58 @@ pub fn logless_eras(
     Ok(eras)
 }
 
-/// Whether a file that last changed at `changed` is older than `days` days at `now`. Both moments
-/// are in seconds since 1970.
+/// A log of an archive.
+#[derive(Clone, Copy)]
+pub struct ArchivedLog {
+    /// Its generation.
+    pub generation: Generation,
+    /// How many octets it has.
+    pub octets: u64,
+}
+
+/// How many octets logs have together; at most 2^64 - 1.
+pub fn octets_in(logs: &[ArchivedLog]) -> u64
+    ensures { octets_in logs.now < 2 ^ 64 → result ≡ octets_in logs.now }
+{
+    let mut octets: u64 = 0;
+    for log in logs {
+        octets = octets.saturating_add(log.octets);
+    }
+    octets
+}
+
+/// Of the logs of an archive those that go for what is left to have at most `limit` octets: the oldest first,
+/// and no more of them than that takes. It fails only where memory is refused.
+pub fn excess_logs(
+    alloc: Global,
+    mut logs: Vec<ArchivedLog>,
+    limit: u64,
+) -> Result<Vec<Generation>, AllocError>
+    ensures { IfOk result (λ gone. AreExcess limit logs.items gone.items) }
+{
+    logs.sort_by_cached_key(|log| (log.generation.era, log.generation.number))?;
+    let gone = excess(alloc, logs.as_slice(), limit)?;
+    Ok(gone)
+}
+
+/// Of logs, the oldest first, those that go for what is left to have at most `limit` octets.
+fn excess(alloc: Global, logs: &[ArchivedLog], limit: u64) -> Result<Vec<Generation>, AllocError>
+    ensures { IfOk result (λ gone. octets_in logs.now < 2 ^ 64 → gone.items ≡ excess limit logs.now) }
+{
+    let mut left = octets_in(logs);
+    let mut gone = Vec::new(alloc);
+    for log in logs {
+        if left <= limit {
+            return Ok(gone);
+        }
+        gone.push(log.generation)?;
+        left = left.saturating_sub(log.octets);
+    }
+    Ok(gone)
+}
+
+/// Whether a file that last changed at `changed` has been kept for more than `days` days at `now`.
+/// Both moments are in seconds since 1970.
 pub fn is_expired(days: u16, changed: u64, now: u64) -> bool
     ensures { IsTrue result ↔ IsExpired days changed now }
 {

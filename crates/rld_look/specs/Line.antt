@@ -2,6 +2,9 @@
 use Rattle.std.specs.Prelude.{ℕ, ◌==◌, List, [], ◌++◌, codes, if◌then◌else◌, Option, Some, None}
 use Rattle.std.specs.Fmt.{decimal}
 use Rattle.std.specs.List.{flat_map}
+use Rattle.std.specs.Net.Text.{ip_text}
+use Rattle.std.specs.declared.net.ip_addr.IpAddr.{IpAddr}
+use Rattle.std.specs.declared.net.ip_addr.IpAddr.TheVariants.{V4, V6}
 use Rattle.rld_counts.specs.Counts.{count_in}
 use Rattle.rld_counts.specs.Ends.{all_ends, kind_of, name_of, port_of}
 use Rattle.rld_counts.specs.declared.end.End.{End}
@@ -39,8 +42,20 @@ priority_of kinds.Failed = Warning
 unfoldable pub front_words : Sink → End → List ℕ
 front_words sink end = mark_of sink (priority_of (kind_of end)) ++ (codes "refused port=" ++ port_of end)
 
-unfoldable pub source_words : Source → List ℕ
-source_words source = codes " client=" ++ (dotted source.address ++ (codes ":" ++ decimal source.port))
+-- an address before a port: one of IPv6 in brackets (RFC 3986 section 3.2.2)
+abbrev pub address_words : IpAddr → List ℕ
+address_words (V4 address) = ip_text (V4 address)
+address_words (V6 address) = codes "[" ++ (ip_text (V6 address) ++ codes "]")
+
+-- the client that a peer stands for; of a peer that stands for none, its own address
+abbrev pub client_words : (client : Option ℕ) → Source → (peer : IpAddr) → List ℕ
+client_words (Some client) source peer = dotted source.address
+client_words None source peer = address_words peer
+
+unfoldable pub source_words : Refusal → List ℕ
+source_words refusal =
+    codes " client=" ++ (client_words refusal.client refusal.source refusal.peer
+    ++ (codes ":" ++ decimal refusal.source.port))
 
 abbrev pub nas_words : NasName → List ℕ
 nas_words (Identifier name) = codes " nas=" ++ escaped name
@@ -63,7 +78,7 @@ held_words (Some places) = codes " held=" ++ (decimal places.held ++ (codes "/" 
 
 unfoldable pub line_of : Sink → Refusal → Option Places → List ℕ
 line_of sink refusal places =
-    front_words sink refusal.end ++ (source_words refusal.source
+    front_words sink refusal.end ++ (source_words refusal
     ++ (asker_words refusal ++ (cause_words refusal.end ++ held_words places)))
 
 -- ---- the refusals that were left out

@@ -41,6 +41,7 @@ abbrev pub refusal_with : Refused → List Attribute → Refusal
 refusal_with refused attributes = record {
   moment = refused.moment;
   source = refused.source;
+  peer = refused.peer;
   client = refused.client;
   nas = nas_name_of (first_of NAS_IDENTIFIER attributes) (first_of NAS_IP_ADDRESS attributes);
   name = first_of USER_NAME attributes;

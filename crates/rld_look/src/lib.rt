@@ -11,6 +11,7 @@ mod accounts;
 mod backlog;
 mod build;
 mod clients;
+mod health;
 mod history;
 mod lately;
 mod line;
@@ -26,9 +27,12 @@ pub use accounts::{MOST_FULLEST, fullest_looks, held_in};
 pub use backlog::{Backlog, MOST_LINES, Noted, Taken};
 pub use build::{Build, Proof};
 pub use clients::client_looks;
+pub use health::Health;
 pub use history::History;
 pub use line::{Places, write_left_out};
-pub use look::{AccountLook, AccountsLook, ClientLook, Look, Minute, Recording, SocketLook};
+pub use look::{
+    AccountLook, AccountsLook, ArchiveLook, ClientLook, Look, Minute, Recording, SocketLook,
+};
 pub use pages::{Pages, Shown};
 pub use priority::{Priority, Sink};
 pub use refusal::{Refusal, Refused, is_refusal};

@@ -1,15 +1,16 @@
 //! The lines of refusals.
 
 ghost use Rattle.std.specs.Prelude.{◌≡◌, ◌++◌, OnOk};
-ghost use Rattle.rld_look.specs.Line.{account_words, asker_words, cause_words, front_words, held_words, left_out_if_any, left_out_among, left_out_line, left_out_lines, line_of, more_words, nas_words, number_words, source_words};
+ghost use Rattle.rld_look.specs.Line.{account_words, address_words, asker_words, cause_words, client_words, front_words, held_words, left_out_if_any, left_out_among, left_out_line, left_out_lines, line_of, more_words, nas_words, number_words, source_words};
 
 use crate::priority::{Priority, Sink};
 use crate::refusal::Refusal;
 use rld_counts::{Counts, End};
 use rld_values::{push_decimal, push_dotted, push_escaped, push_hex, push_text};
-use rsl_event::{NasName, Source};
+use rsl_event::NasName;
 use rsl_wire::Octets;
-use std::alloc::AllocError;
+use std::alloc::{AllocError, Global};
+use std::net::IpAddr;
 
 /// The places of an account.
 #[derive(Clone, Copy)]
@@ -27,6 +28,7 @@ impl Refusal {
     #[tactic(auto, unfolding(crate::specs::Line::line_of))]
     pub fn write_line(
         &self,
+        alloc: Global,
         out: &mut Vec<u8>,
         sink: Sink,
         places: Option<Places>,
@@ -34,7 +36,7 @@ impl Refusal {
         ensures { OnOk result (out.new.items ≡ out.old.items ++ line_of sink self.now places) }
     {
         push_front(out, sink, self.end)?;
-        push_source(out, self.source)?;
+        push_source(alloc, out, self)?;
         push_asker(out, self)?;
         push_cause(out, self.end)?;
         push_held(out, places)
@@ -78,13 +80,39 @@ fn push_front(out: &mut Vec<u8>, sink: Sink, end: End) -> Result<(), AllocError>
 
 /// Writes the source of a datagram.
 #[tactic(auto, unfolding(crate::specs::Line::source_words))]
-fn push_source(out: &mut Vec<u8>, source: Source) -> Result<(), AllocError>
-    ensures { OnOk result (out.new.items ≡ out.old.items ++ source_words source) }
+fn push_source(alloc: Global, out: &mut Vec<u8>, refusal: &Refusal) -> Result<(), AllocError>
+    ensures { OnOk result (out.new.items ≡ out.old.items ++ source_words refusal.now) }
 {
     push_text(out, " client=")?;
-    push_dotted(out, source.address)?;
+    push_client(alloc, out, refusal)?;
     push_text(out, ":")?;
-    push_decimal(out, u64::from(source.port))
+    push_decimal(out, u64::from(refusal.source.port))
+}
+
+/// Writes the address of the client that a peer stands for; of a peer that stands for none, its own.
+fn push_client(alloc: Global, out: &mut Vec<u8>, refusal: &Refusal) -> Result<(), AllocError>
+    ensures { OnOk result (out.new.items
+        ≡ out.old.items ++ client_words refusal.now.client refusal.now.source refusal.now.peer) }
+{
+    match refusal.client {
+        Some(_) => push_dotted(out, refusal.source.address),
+        None => push_address(alloc, out, refusal.peer),
+    }
+}
+
+/// Writes an address before a port.
+fn push_address(alloc: Global, out: &mut Vec<u8>, address: IpAddr) -> Result<(), AllocError>
+    ensures { OnOk result (out.new.items ≡ out.old.items ++ address_words address) }
+{
+    let text = format!(in alloc; "{address}")?;
+    match address {
+        IpAddr::V4(_) => push_text(out, text.as_str()),
+        IpAddr::V6(_) => {
+            push_text(out, "[")?;
+            push_text(out, text.as_str())?;
+            push_text(out, "]")
+        }
+    }
 }
 
 /// Writes who asks, as far as it is known: the access server, and the account.

@@ -27,6 +27,11 @@ pub struct Look {
     pub memory: u64,
     /// Whether batches are being recorded.
     pub recording: Recording,
+    /// By how many seconds the system's clock is behind the greatest moment that the books have seen. No
+    /// deadline passes until it is there.
+    pub clock_behind: u64,
+    /// What the archive had when logs were last put away.
+    pub archive: ArchiveLook,
     /// How the datagrams of both ports ended.
     pub counts: Counts,
     /// How the datagrams of each client ended, in file order.
@@ -111,6 +116,15 @@ pub struct SocketLook {
     /// The datagrams that the system has dropped since the socket was bound because the buffer was
     /// full.
     pub dropped: u64,
+}
+
+/// What the archive of a state folder has.
+#[derive(Clone, Copy)]
+pub struct ArchiveLook {
+    /// How many logs.
+    pub logs: u64,
+    /// How many octets these have.
+    pub octets: u64,
 }
 
 /// Whether batches are being recorded.

@@ -8,15 +8,18 @@ use rsl_event::codes::{NAS_IDENTIFIER, NAS_IP_ADDRESS, USER_NAME};
 use rsl_event::{NasName, Source};
 use rsl_wire::{Attrs, NoMemory, Octets, read};
 use std::alloc::Global;
+use std::net::IpAddr;
 
 /// A datagram that has ended, as a receiver sees it.
 #[derive(Clone, Copy)]
 pub struct Refused<'a> {
     /// When it ended, in seconds since 1970.
     pub moment: u64,
-    /// Its source.
+    /// The source as which it was seen: the address of the client that the peer stands for, and the port.
     pub source: Source,
-    /// The number of the client that has this address, if there is one.
+    /// The address of the peer that it came from.
+    pub peer: IpAddr,
+    /// The number of the client that the peer stands for, if there is one.
     pub client: Option<u32>,
     /// Its octets, or none if they are not available.
     pub octets: &'a [u8],
@@ -29,9 +32,11 @@ pub struct Refused<'a> {
 pub struct Refusal {
     /// When it ended, in seconds since 1970.
     pub moment: u64,
-    /// Its source.
+    /// The source as which it was seen: the address of the client that the peer stands for, and the port.
     pub source: Source,
-    /// The number of the client that has this address, if there is one.
+    /// The address of the peer that it came from.
+    pub peer: IpAddr,
+    /// The number of the client that the peer stands for, if there is one.
     pub client: Option<u32>,
     /// The name of the access server. It is also unnamed if the datagram's attributes cannot be
     /// read.
@@ -64,6 +69,7 @@ impl Refusal {
         Ok(Refusal {
             moment: self.moment,
             source: self.source,
+            peer: self.peer,
             client: self.client,
             nas: self.nas.try_copy(alloc)?,
             name: Octets::try_copy_option(alloc, &self.name)?,
@@ -90,6 +96,7 @@ fn bare(refused: &Refused<'_>) -> Refusal
     Refusal {
         moment: refused.moment,
         source: refused.source,
+        peer: refused.peer,
         client: refused.client,
         nas: NasName::Unnamed,
         name: None,
@@ -104,6 +111,7 @@ fn named(alloc: Global, refused: &Refused<'_>, attributes: &Attrs<'_>) -> Result
     Ok(Refusal {
         moment: refused.moment,
         source: refused.source,
+        peer: refused.peer,
         client: refused.client,
         nas: nas_name(
             alloc,

@@ -69,6 +69,8 @@ impl<'a, G, A, R: time::Clock + Wait> Server<'a, G, A, R> {
             moves,
             memory: books_octets(&*config),
             recording: self.recording(),
+            clock_behind: self.clock_behind.load(Ordering::SeqCst),
+            archive: *self.archive.lock(self.rt),
             counts,
             clients: client_looks(self.alloc, &*config, &auth, &acct)?,
             auth_times: auth.times(),

@@ -129,7 +129,7 @@ where
             _ => None,
         };
         let mut line = Vec::new(self.alloc);
-        let written = refusal.write_line(&mut line, self.plan.sink, places);
+        let written = refusal.write_line(self.alloc, &mut line, self.plan.sink, places);
         written.is_ok() && self.write(writer, line.as_slice())
     }
 

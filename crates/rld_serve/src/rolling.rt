@@ -4,7 +4,9 @@ use crate::accounts::Accounts;
 use crate::server::Server;
 use rld_edges::RunFault;
 use rld_start::{Generations, generation_named};
-use rld_state::{Notice, RollFault, RollTimer, Told, Trouble, notice_of_archive, notice_of_roll};
+use rld_state::{
+    Notice, RollFault, RollTimer, Told, Trouble, archive_look, notice_of_archive, notice_of_roll,
+};
 use std::net::Net;
 use std::sync::Wait;
 use std::time;
@@ -68,12 +70,15 @@ where
         Ok(())
     }
 
-    /// Puts old logs away, and reports a failure.
+    /// Puts old logs away, and reports where that fails. What the archive then has is kept for whoever looks.
     pub(crate) fn put_away(&self, rolls: &mut Rolls, now: u64) {
         let header = self.state.lock(self.rt).header();
         let newest = generation_named(&header);
         let outcome = self.generations.put_away(self.alloc, newest, now);
         self.tell_if_any(notice_of_archive(&mut rolls.archive, outcome));
+        if let Ok(logs) = self.generations.archived_logs(self.alloc) {
+            *self.archive.lock(self.rt) = archive_look(logs.as_slice());
+        }
     }
 
     /// Reports a notice, if there is one.

@@ -8,11 +8,11 @@ use rld_edges::{
     Control, Job, Readiness, RunFault, Shutdown, Sockets, Start, outcome_of, ports_of,
 };
 use rld_log::{FileLog, PacedLog, Pacing};
-use rld_look::{Build, History, Pages, Refusals, Sink};
+use rld_look::{ArchiveLook, Build, History, Pages, Refusals, Sink};
 use rld_networks::Network;
 use rld_spelling::Header;
 use rld_start::Generations;
-use rld_state::{ServerState, Told, Trouble};
+use rld_state::{ServerState, Told, Trouble, news_of_clock, seconds_behind};
 use rld_store::Store;
 use rld_turn::{RecordFault, tick};
 use rld_watch::Board;
@@ -20,7 +20,7 @@ use rsl_accounts::Config;
 use rsl_port::{Clock, SystemClock};
 use std::alloc::Global;
 use std::net::{Net, TcpListener, TcpStream};
-use std::sync::atomic::{AtomicBool, Ordering};
+use std::sync::atomic::{AtomicBool, AtomicU64, Ordering};
 use std::sync::{Arc, Mutex, RwLock, Wait};
 use std::thread::{self, Threads};
 use std::time::{self, Duration};
@@ -67,6 +67,8 @@ pub(crate) struct Server<'a, G, A, R> {
     pub(crate) told: Mutex<HeapCircularBuffer<Told>>,
     pub(crate) history: Mutex<History>,
     pub(crate) is_failing: AtomicBool,
+    pub(crate) clock_behind: AtomicU64,
+    pub(crate) archive: Mutex<ArchiveLook>,
     pub(crate) shutdown: Shutdown,
     pub(crate) current: RwLock<Current>,
 }
@@ -144,6 +146,8 @@ where
         told: Mutex::new(HeapCircularBuffer::with_capacity(alloc, MOST_TOLD)?),
         history: Mutex::new(history),
         is_failing: AtomicBool::new(false),
+        clock_behind: AtomicU64::new(0),
+        archive: Mutex::new(ArchiveLook { logs: 0, octets: 0 }),
         shutdown: Shutdown::new(jobs.len()),
         current: RwLock::new(current),
     };
@@ -253,6 +257,7 @@ where
         let mut recorder = self.recorder(None);
         let mut clock = SystemClock::new(self.rt, self.plan.start);
         let mut trouble = Trouble::new();
+        let mut clock_trouble = Trouble::new();
         let mut rolls = Rolls::new();
         self.put_away(&mut rolls, clock.now());
         for _ in self.rt.forever() {
@@ -261,6 +266,7 @@ where
             }
             let has_failed = self.tick_once(&mut recorder, &mut clock)?;
             self.is_failing.store(has_failed, Ordering::SeqCst);
+            self.watch_clock(&mut clock_trouble, &mut clock);
             self.end_minute_if_over(clock.now());
             if let Some(news) = trouble.news(has_failed) {
                 self.tell(Told::Recording(news));
@@ -271,7 +277,18 @@ where
         Ok(())
     }
 
-    /// Makes a tick, and gives whether it, or a batch of any worker since the last one, was not
+    /// Looks whether the clock is behind the books, and reports where that begins and where it is over. The
+    /// clock is read last: whoever has stepped the books has read it before.
+    fn watch_clock(&self, trouble: &mut Trouble, clock: &mut SystemClock<'_, R>) {
+        let of_books = self.state.lock(self.rt).clock();
+        let behind = seconds_behind(clock.now(), of_books);
+        self.clock_behind.store(behind, Ordering::SeqCst);
+        if let Some(news) = news_of_clock(trouble, behind) {
+            self.tell(Told::Clock(news));
+        }
+    }
+
+    /// Makes a tick, and gives whether it, or a batch of another worker since the last one, was not
     /// recorded.
     fn tick_once(
         &self,

@@ -8,13 +8,18 @@ use crate::number::next_generation;
 use rld_admit::era_file;
 use rld_books::BlankBooks;
 use rld_config::Archive;
-use rld_folder::{Folder, FolderFault, Generation, Removed, Synced, logless_eras, older_logs};
+use rld_folder::{
+    ArchivedLog, Folder, FolderFault, Generation, Removed, Synced, logless_eras, older_logs,
+};
 use rld_log::{FileLog, Log, PacedLog, Pacing};
 use rsl_accounts::Config;
 use std::alloc::Global;
 use std::fs::{File, Files};
 
-/// A log for a new generation.
+/// The octets of a megabyte.
+const MEGABYTE: u64 = 1_000_000;
+
+/// A log in which a generation can begin.
 #[derive(Drop)]
 pub struct NextLog<L> {
     /// The generation, whose number no log of the folder had.
@@ -89,15 +94,20 @@ pub trait Generations {
     fn remove(&self, alloc: Global, generation: Generation) -> Result<Removed, FolderFault>
         ensures { IfOk result (λ removed. removed.generation ≡ generation) };
 
-    /// Puts away the logs before the newest generation, once the log of that one is on the disk:
-    /// they are moved to the folder `archive`, or removed if nothing is kept. Logs that have been
-    /// kept long enough at this second since 1970 are removed from the archive. Then the table of
-    /// each era before that of the newest generation is removed if no log of the era is left, in
-    /// the folder or in its archive; if the archive keeps all logs, all tables stay.
+    /// Puts away the logs before the newest generation, as the archive is kept, once the log of that one
+    /// is on the disk: they go to the folder `archive`, or are removed where nothing is kept. Logs that
+    /// were kept for as many days as they shall be at this second since 1970 are removed from it, and then
+    /// the oldest ones, until it has no more octets than it may. Then
+    /// the table of each era before that of the newest generation is removed of which no log is left,
+    /// neither in the folder nor in its archive; where the archive keeps all logs, all tables stay.
     ///
     /// The first fault is the folder's. What cannot be put away stays in place, and the next call
     /// tries it again; nothing that a start needs is moved.
     fn put_away(&self, alloc: Global, newest: Generation, now: u64) -> Result<(), FolderFault>;
+
+    /// The logs of the archive, in no order, each with its octets; none where there is no archive. `Unread`
+    /// comes where the archive, or what the system knows of a log, cannot be read.
+    fn archived_logs(&self, alloc: Global) -> Result<Vec<ArchivedLog>, FolderFault>;
 }
 
 /// The logs of a folder, which is locked until the value is dropped.
@@ -106,18 +116,27 @@ pub struct FolderGenerations<'a, R> {
     files: &'a R,
     folder: Folder,
     archive: Archive,
+    megabytes: Option<u16>,
 }
 
 impl<'a, R: Files<File = File>> FolderGenerations<'a, R> {
-    /// The logs of `folder`, with this archive.
-    pub fn new(files: &'a R, folder: Folder, archive: Archive) -> FolderGenerations<'a, R>
+    /// The logs of `folder`, whose archive is kept as `archive` says and has at most `megabytes` megabytes, if
+    /// these are given.
+    pub fn new(
+        files: &'a R,
+        folder: Folder,
+        archive: Archive,
+        megabytes: Option<u16>,
+    ) -> FolderGenerations<'a, R>
         ensures folder { result.folder ≡ folder }
         ensures archive { result.archive ≡ archive }
+        ensures megabytes { result.megabytes ≡ megabytes }
     {
         FolderGenerations {
             files,
             folder,
             archive,
+            megabytes,
         }
     }
 
@@ -146,8 +165,19 @@ impl<'a, R: Files<File = File>> FolderGenerations<'a, R> {
         self.folder.remove_eras(self.files, alloc, eras.as_slice())
     }
 
-    /// Removes what the archive need not keep any longer: logs that were kept long enough at this
-    /// second, and the tables of eras that then have no log.
+    /// Removes the oldest logs of the archive, where it has more octets than it may.
+    fn remove_excess(&self, alloc: Global) -> Result<(), FolderFault> {
+        match self.megabytes {
+            Some(megabytes) => {
+                let limit = u64::from(megabytes) * MEGABYTE;
+                self.folder.remove_excess(&(self.files, alloc), limit)
+            }
+            None => Ok(()),
+        }
+    }
+
+    /// Removes what the archive keeps no more: logs that were kept long enough at this second, the oldest
+    /// ones where it has too many octets, and the tables of eras that then have no log.
     fn remove_unkept(
         &self,
         alloc: Global,
@@ -155,15 +185,13 @@ impl<'a, R: Files<File = File>> FolderGenerations<'a, R> {
         now: u64,
     ) -> Result<(), FolderFault> {
         let expired = match self.archive {
-            Archive::Keep => return Ok(()),
+            Archive::Keep if self.megabytes.is_none() => return Ok(()),
             Archive::Days(days) => self.folder.remove_expired(&(self.files, alloc), days, now),
-            Archive::Nothing => Ok(()),
+            Archive::Keep | Archive::Nothing => Ok(()),
         };
+        let excess = self.remove_excess(alloc);
         let logless = self.remove_logless(alloc, newest);
-        match expired {
-            Ok(()) => logless,
-            Err(fault) => Err(fault),
-        }
+        expired.and(excess).and(logless)
     }
 }
 
@@ -218,5 +246,9 @@ impl<R: Files<File = File>> Generations for FolderGenerations<'_, R> {
             Ok(()) => removed,
             Err(fault) => Err(fault),
         }
+    }
+
+    fn archived_logs(&self, alloc: Global) -> Result<Vec<ArchivedLog>, FolderFault> {
+        self.folder.archived_logs(&(self.files, alloc))
     }
 }

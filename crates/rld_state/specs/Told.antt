@@ -1,15 +1,19 @@
 -- The priority of a line that an operator reads on standard error, except refusals.
 use Rattle.rld_look.specs.declared.priority.Priority.{Priority}
 use Rattle.rld_look.specs.declared.priority.Priority.TheVariants as priorities
+use Rattle.rld_state.specs.declared.clock.ClockNews.TheVariants.{Behind, CaughtUp}
 use Rattle.rld_state.specs.declared.rolled.Notice.TheVariants.{NotBegun, Begun, NotPutAway, PutAway}
 use Rattle.rld_state.specs.declared.told.Told.{Told}
-use Rattle.rld_state.specs.declared.told.Told.TheVariants.{Recording, Generations, Accounts}
+use Rattle.rld_state.specs.declared.told.Told.TheVariants.{Recording, Clock, Generations, Accounts}
 use Rattle.rld_state.specs.declared.trouble.News.TheVariants.{Began, Over}
 
--- an error if nothing is answered, a warning if anything else fails, and else a notice
+-- an error where nothing is answered, a warning where something fails beside that or the clock went back, and else a
+-- notice
 abbrev pub priority_of : Told → Priority
 priority_of (Recording Began) = priorities.Error
 priority_of (Recording Over) = priorities.Notice
+priority_of (Clock (Behind seconds)) = priorities.Warning
+priority_of (Clock CaughtUp) = priorities.Notice
 priority_of (Generations (NotBegun fault)) = priorities.Warning
 priority_of (Generations Begun) = priorities.Notice
 priority_of (Generations (NotPutAway fault)) = priorities.Warning

@@ -1,8 +1,7 @@
 //! The state of a running server, as it stands behind its lock: the recorder, the accounts and the
 //! era of its books, and the generation that it writes. It records batches, goes on to the next
-//! generation, and to other accounts within the era or with a new one; it frees the place of a
-//! session that an operator names; and it says when the next
-//! generation is due and what an operator is to learn. It has no thread, socket or lock of its own.
+//! generation, and to other accounts within the era or with a new one; and it says when the next
+//! generation is due, whether the clock is behind, and what an operator is to learn. It has no thread, socket or lock of its own.
 //!
 //! The promise: of each call, what the recorder promises; a recorder that can record nothing more
 //! is not called again, and a batch of another era is refused whole (`specs/Keeping.antt`); a
@@ -11,8 +10,9 @@
 //! called freed only where a link was bound to it and its Stop is recorded (`specs/Freeing.antt`).
 #![tactic(auto)]
 
+mod archived;
 mod changing;
-mod freeing;
+mod clock;
 mod places;
 mod reloaded;
 mod rolled;
@@ -21,8 +21,9 @@ mod timer;
 mod told;
 mod trouble;
 
+pub use archived::archive_look;
 pub use changing::Entered;
-pub use freeing::Freed;
+pub use clock::{ClockNews, news_of_clock, seconds_behind};
 pub use places::places_in;
 pub use reloaded::{EraChange, ReloadFault, Reloaded};
 pub use rolled::{NotBegun, Notice, RollFault, notice_of_archive, notice_of_roll};

@@ -1,6 +1,7 @@
 ghost use Rattle.std.specs.Prelude.{◌≡◌};
 ghost use Rattle.rld_state.specs.Told.{priority_of};
 
+use crate::clock::ClockNews;
 use crate::reloaded::Reloaded;
 use crate::rolled::Notice;
 use crate::trouble::News;
@@ -12,7 +13,9 @@ use std::fmt;
 pub enum Told {
     /// Whether batches are recorded.
     Recording(News),
-    /// Whether generations begin, and old logs are put away.
+    /// Whether the clock goes on.
+    Clock(ClockNews),
+    /// How generations follow each other, and where old logs go.
     Generations(Notice),
     /// The result of a reload.
     Accounts(Reloaded),
@@ -25,8 +28,10 @@ impl Told {
     {
         match self {
             Told::Recording(News::Began) => Priority::Error,
-            Told::Generations(Notice::NotBegun(_) | Notice::NotPutAway(_)) => Priority::Warning,
+            Told::Clock(ClockNews::Behind(_))
+            | Told::Generations(Notice::NotBegun(_) | Notice::NotPutAway(_)) => Priority::Warning,
             Told::Recording(News::Over)
+            | Told::Clock(ClockNews::CaughtUp)
             | Told::Generations(Notice::Begun | Notice::PutAway)
             | Told::Accounts(_) => Priority::Notice,
         }
@@ -47,6 +52,7 @@ impl fmt::Display for ToldLine {
         f.write_str(self.told.priority().mark(self.sink))?;
         match &self.told {
             Told::Recording(news) => news.fmt(f)?,
+            Told::Clock(news) => news.fmt(f)?,
             Told::Generations(notice) => notice.fmt(f)?,
             Told::Accounts(reloaded) => write!(f, "accounts read anew: {reloaded}")?,
         }

@@ -10,6 +10,7 @@ use Rattle.rld_counts.specs.declared.end.End.{End}
 use Rattle.rld_look.specs.Totals.{plus}
 use Rattle.rld_look.specs.declared.build.Build.{Build}
 use Rattle.rld_look.specs.declared.look.ClientLook.{ClientLook}
+use Rattle.rld_look.specs.declared.look.ArchiveLook.{ArchiveLook}
 use Rattle.rld_look.specs.declared.look.Look.{Look}
 use Rattle.rld_look.specs.declared.look.Recording.{Recording}
 use Rattle.rld_look.specs.declared.look.Recording.TheVariants.{Recorded, Failing}
@@ -149,11 +150,19 @@ at_sockets waiting dropped =
     ++ sample (codes "counter") (codes "radlimitd_sockets_dropped_total")
     (codes "Datagrams that the system dropped at the UDP sockets for want of room.") dropped
 
+-- the clock, and what the archive has
+unfoldable pub state_gauges : (clock_behind : ℕ) → ArchiveLook → List ℕ
+state_gauges clock_behind archive =
+    gauge (codes "radlimitd_clock_behind_seconds") (codes "Seconds by which the clock is behind the books: no deadline passes until it is there.") clock_behind
+    ++ (gauge (codes "radlimitd_archive_logs") (codes "Logs that the archive has.") archive.logs
+    ++ gauge (codes "radlimitd_archive_octets") (codes "Octets of the logs that the archive has.") archive.octets)
+
 unfoldable pub numbers_text : Look → List ℕ
 numbers_text look =
     holdings look.totals
     ++ (writing look.era look.generation look.start (recording_of look.recording)
-    ++ at_sockets (waiting_after 0 look.sockets.items) (dropped_after 0 look.sockets.items))
+    ++ (state_gauges look.clock_behind look.archive
+    ++ at_sockets (waiting_after 0 look.sockets.items) (dropped_after 0 look.sockets.items)))
 
 -- ---- the build of the program
 

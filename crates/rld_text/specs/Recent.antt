@@ -95,9 +95,14 @@ abbrev pub sockets_if_any : List SocketLook → List ℕ
 sockets_if_any sockets =
     if length sockets == 0 then [] else sockets_line (waiting_after 0 sockets) (dropped_after 0 sockets)
 
+unfoldable pub archive_line : (logs octets : ℕ) → List ℕ
+archive_line logs octets =
+    codes "archive: " ++ (decimal logs ++ (codes " logs, " ++ (decimal octets ++ codes " octets\n")))
+
 unfoldable pub recent_lines : Look → List ℕ
 recent_lines look =
     minute_if_any (last_of look.minutes.items)
-    ++ (port_line (codes "auth:") look.counts (take 21 all_ends)
-    ++ (port_line (codes "acct:") look.counts (drop 21 all_ends)
-    ++ (full_lines 5 look.fullest.items ++ sockets_if_any look.sockets.items)))
+    ++ (port_line (codes "auth:") look.counts (take 20 all_ends)
+    ++ (port_line (codes "acct:") look.counts (drop 20 all_ends)
+    ++ (full_lines 5 look.fullest.items
+    ++ (sockets_if_any look.sockets.items ++ archive_line look.archive.logs look.archive.octets))))

@@ -1,13 +1,13 @@
--- The status of a running server: who it is and whether it records, numbers, a line each, what has
--- happened recently, and the line `ok`; or all of that except the times for people as one JSON
--- object.
-use Rattle.std.specs.Prelude.{◌≡◌, ℕ, List, ◌++◌, codes}
+-- What a running server says of itself: who it is and whether it records, numbers, a line each, what has happened
+-- lately, and that it is all; or all of that but the times for people as one object of JSON.
+use Rattle.std.specs.Prelude.{◌≡◌, ℕ, ◌==◌, List, [], ◌++◌, codes, if◌then◌else◌}
 use Rattle.std.specs.Fmt.{decimal}
 use Rattle.std.specs.List.{flat_map}
 use Rattle.rld_counts.specs.Counts.{count_in}
 use Rattle.rld_counts.specs.Ends.{all_ends, name_of, port_of}
 use Rattle.rld_counts.specs.declared.end.End.{End}
 use Rattle.rld_look.specs.declared.build.Build.{Build}
+use Rattle.rld_look.specs.declared.look.ArchiveLook.{ArchiveLook}
 use Rattle.rld_look.specs.declared.look.Look.{Look}
 use Rattle.rld_look.specs.declared.look.Recording.{Recording}
 use Rattle.rld_look.specs.declared.look.Recording.TheVariants.{Recorded, Failing}
@@ -22,6 +22,14 @@ use Rattle.rld_text.specs.Words.{number_line}
 abbrev pub recording_line : Recording → List ℕ
 recording_line Recorded = codes "recording\n"
 recording_line Failing = codes "NOT RECORDING: the disk is full or fails, or memory is refused\n"
+
+unfoldable pub behind_line : (behind : ℕ) → List ℕ
+behind_line behind =
+    codes "CLOCK BEHIND by " ++ (decimal behind ++ codes " s: no deadline passes until it is there\n")
+
+-- by how many seconds the clock is behind the books, if it is
+abbrev pub clock_line : (behind : ℕ) → List ℕ
+clock_line behind = if behind == 0 then [] else behind_line behind
 
 abbrev pub totals_lines : Totals → List ℕ
 totals_lines totals =
@@ -44,12 +52,12 @@ number_lines look =
     ++ number_line (codes "moves") look.moves
     ++ number_line (codes "memory") look.memory
 
--- the build, the start, whether it records, the numbers, what has happened recently, and the line
--- `ok`
+-- who it is, since when, whether it records, whether its clock is behind, the numbers, what has happened lately, and that it is all
 unfoldable pub status_of : (dates : ℕ → List ℕ) → Look → List ℕ
 status_of dates look =
     build_line look.build ++ (start_line dates look.start look.now
-    ++ (recording_line look.recording ++ (number_lines look ++ (recent_lines look ++ codes "ok\n"))))
+    ++ (recording_line look.recording ++ (clock_line look.clock_behind
+    ++ (number_lines look ++ (recent_lines look ++ codes "ok\n")))))
 
 -- the status, with the dates of all seconds
 abbrev pub IsStatus : Look → (text : List ℕ) → Type 0
@@ -100,9 +108,16 @@ unfoldable pub socket_members : (waiting dropped : ℕ) → List ℕ
 socket_members waiting dropped =
     number_member (codes "sockets_waiting_octets") waiting ++ number_member (codes "sockets_dropped") dropped
 
+-- by how many seconds the clock is behind, and what the archive has
+unfoldable pub state_members : (clock_behind : ℕ) → ArchiveLook → List ℕ
+state_members clock_behind archive =
+    number_member (codes "clock_behind") clock_behind
+    ++ (number_member (codes "archive_logs") archive.logs ++ number_member (codes "archive_octets") archive.octets)
+
 unfoldable pub status_object : Look → List ℕ
 status_object look =
     who_members look.build look.start look.now look.recording
     ++ (numbers_members look
+    ++ (state_members look.clock_behind look.archive
     ++ (ends_members look.counts all_ends
-    ++ (socket_members (waiting_after 0 look.sockets.items) (dropped_after 0 look.sockets.items) ++ codes "}\nok\n")))
+    ++ (socket_members (waiting_after 0 look.sockets.items) (dropped_after 0 look.sockets.items) ++ codes "}\nok\n"))))

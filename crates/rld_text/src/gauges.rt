@@ -1,9 +1,9 @@
 ghost use Rattle.std.specs.Prelude.{◌≡◌, ◌++◌, OnOk, codes};
-ghost use Rattle.rld_text.specs.Metrics.{at_sockets, gauge, holdings, numbers_text, recording_of, sample, writing};
+ghost use Rattle.rld_text.specs.Metrics.{at_sockets, gauge, holdings, numbers_text, recording_of, sample, state_gauges, writing};
 
 use crate::sums::{dropped, waiting};
 use crate::text::{Head, push_head};
-use rld_look::{Look, Recording, Totals};
+use rld_look::{ArchiveLook, Look, Recording, Totals};
 use rld_values::{push_decimal, push_text};
 use std::alloc::AllocError;
 
@@ -104,7 +104,33 @@ fn push_writing(
     Ok(())
 }
 
-/// Writes the octets that wait at the sockets, and the datagrams that the system dropped there.
+/// Writes by how many seconds the clock is behind, and what the archive has.
+#[tactic(auto, unfolding(crate::specs::Metrics::state_gauges))]
+fn push_state(out: &mut Vec<u8>, clock_behind: u64, archive: &ArchiveLook) -> Result<(), AllocError>
+    ensures { OnOk result (out.new.items ≡ out.old.items ++ state_gauges clock_behind archive.now) }
+{
+    push_gauge(
+        out,
+        "radlimitd_clock_behind_seconds",
+        "Seconds by which the clock is behind the books: no deadline passes until it is there.",
+        clock_behind,
+    )?;
+    push_gauge(
+        out,
+        "radlimitd_archive_logs",
+        "Logs that the archive has.",
+        archive.logs,
+    )?;
+    push_gauge(
+        out,
+        "radlimitd_archive_octets",
+        "Octets of the logs that the archive has.",
+        archive.octets,
+    )?;
+    Ok(())
+}
+
+/// Writes what waits at the sockets, and what the system dropped there.
 #[tactic(auto, unfolding(crate::specs::Metrics::at_sockets))]
 fn push_at_sockets(out: &mut Vec<u8>, waiting: u64, dropped: u64) -> Result<(), AllocError>
     ensures { OnOk result (out.new.items ≡ out.old.items ++ at_sockets waiting dropped) }
@@ -150,5 +176,6 @@ pub(crate) fn push_numbers(out: &mut Vec<u8>, look: &Look) -> Result<(), AllocEr
         look.start,
         recording_of(look.recording),
     )?;
+    push_state(out, look.clock_behind, &look.archive)?;
     push_at_sockets(out, waiting(sockets), dropped(sockets))
 }

@@ -4,12 +4,12 @@
 ghost use Rattle.std.specs.Prelude.{◌≡◌, ◌++◌, List, IfOk, OnOk, codes, drop, take, ℕ};
 ghost use Rattle.rld_counts.specs.Ends.{all_ends};
 ghost use Rattle.rld_look.specs.History.{last_of};
-ghost use Rattle.rld_text.specs.Recent.{break_before, column_after, column_at, count_at, count_words, counts_from, full_line, full_lines, is_shown, len_of, minute_if_any, minute_line, port_line, rate, recent_lines, sockets_if_any, sockets_line, start_line};
+ghost use Rattle.rld_text.specs.Recent.{archive_line, break_before, column_after, column_at, count_at, count_words, counts_from, full_line, full_lines, is_shown, len_of, minute_if_any, minute_line, port_line, rate, recent_lines, sockets_if_any, sockets_line, start_line};
 ghost use Rattle.rld_values.specs.Dates.{AreDates};
 
 use crate::sums::{dropped, waiting};
 use rld_counts::{Counts, End};
-use rld_look::{AccountLook, Look, Minute, SocketLook};
+use rld_look::{AccountLook, ArchiveLook, Look, Minute, SocketLook};
 use rld_values::{push_age, push_date, push_decimal, push_text, push_word};
 use std::alloc::{AllocError, Global};
 
@@ -44,7 +44,21 @@ pub(crate) fn push_recent(alloc: Global, out: &mut Vec<u8>, look: &Look) -> Resu
     push_acct(alloc, out, &look.counts)?;
     push_full(out, look)?;
     push_waiting(out, look)?;
+    push_archive(out, look.archive)?;
     Ok(())
+}
+
+/// Writes what the archive has.
+#[tactic(auto, unfolding(crate::specs::Recent::archive_line))]
+fn push_archive(out: &mut Vec<u8>, archive: ArchiveLook) -> Result<(), AllocError>
+    ensures { OnOk result (out.new.items
+        ≡ out.old.items ++ archive_line archive.logs archive.octets) }
+{
+    push_text(out, "archive: ")?;
+    push_decimal(out, archive.logs)?;
+    push_text(out, " logs, ")?;
+    push_decimal(out, archive.octets)?;
+    push_text(out, " octets\n")
 }
 
 /// Writes what came in the last whole minute of a look.

@@ -1,5 +1,5 @@
 ghost use Rattle.std.specs.Prelude.{◌≡◌, ◌++◌, IfOk, List, OnOk, codes, ℕ};
-ghost use Rattle.rld_text.specs.Status.{IsStatus, number_lines, recording_line, status_of, totals_lines};
+ghost use Rattle.rld_text.specs.Status.{IsStatus, behind_line, clock_line, number_lines, recording_line, status_of, totals_lines};
 ghost use Rattle.rld_values.specs.Dates.{AreDates};
 
 use crate::build::push_build_line;
@@ -7,7 +7,7 @@ use crate::recent::{push_recent, push_start};
 use crate::words::push_number_line;
 use rld_control::Reply;
 use rld_look::{Look, Recording, Totals};
-use rld_values::push_text;
+use rld_values::{push_decimal, push_text};
 use std::alloc::{AllocError, Global};
 
 /// The status of a server: who it is and whether it records, and numbers, a line each, then what
@@ -29,6 +29,7 @@ fn push_status(alloc: Global, out: &mut Vec<u8>, look: &Look) -> Result<(), Allo
     push_build_line(out, &look.build)?;
     push_start(out, look.start, look.now)?;
     push_recording(out, look.recording)?;
+    push_clock(out, look.clock_behind)?;
     push_numbers(alloc, out, look)?;
     push_recent(alloc, out, look)?;
     push_end(out)?;
@@ -53,6 +54,27 @@ fn push_recording(out: &mut Vec<u8>, recording: Recording) -> Result<(), AllocEr
             "NOT RECORDING: the disk is full or fails, or memory is refused\n",
         ),
     }
+}
+
+/// Writes whether the clock is behind the books, if it is.
+fn push_clock(out: &mut Vec<u8>, behind: u64) -> Result<(), AllocError>
+    ensures { OnOk result (out.new.items ≡ out.old.items ++ clock_line behind) }
+{
+    if behind == 0 {
+        Ok(())
+    } else {
+        push_behind(out, behind)
+    }
+}
+
+/// Writes by how many seconds the clock is behind.
+#[tactic(auto, unfolding(crate::specs::Status::behind_line))]
+fn push_behind(out: &mut Vec<u8>, behind: u64) -> Result<(), AllocError>
+    ensures { OnOk result (out.new.items ≡ out.old.items ++ behind_line behind) }
+{
+    push_text(out, "CLOCK BEHIND by ")?;
+    push_decimal(out, behind)?;
+    push_text(out, " s: no deadline passes until it is there\n")
 }
 
 /// Writes the numbers.

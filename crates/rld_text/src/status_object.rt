@@ -1,14 +1,14 @@
 //! The status of a server as a JSON object.
 
 ghost use Rattle.std.specs.Prelude.{◌≡◌, ◌++◌, IfOk, OnOk};
-ghost use Rattle.rld_text.specs.Status.{end_member, ends_members, numbers_members, recording_word, socket_members, status_object, totals_members, who_members};
+ghost use Rattle.rld_text.specs.Status.{end_member, ends_members, numbers_members, recording_word, socket_members, state_members, status_object, totals_members, who_members};
 
 use crate::build::push_proof_word;
 use crate::json::{push_member_front, push_number_member, push_text_string};
 use crate::sums::{dropped, waiting};
 use rld_control::Reply;
 use rld_counts::{Counts, End};
-use rld_look::{Build, Look, Recording, Totals};
+use rld_look::{ArchiveLook, Build, Look, Recording, Totals};
 use rld_values::{push_decimal, push_text};
 use std::alloc::{AllocError, Global};
 
@@ -21,6 +21,7 @@ pub fn status_json(alloc: Global, look: &Look) -> Result<Vec<u8>, AllocError>
     let mut text = Vec::new(alloc);
     push_who(&mut text, &look.build, look.start, look.now, look.recording)?;
     push_numbers(&mut text, look)?;
+    push_state(&mut text, look.clock_behind, &look.archive)?;
     push_ends(&mut text, &look.counts, &End::all())?;
     push_sockets(&mut text, waiting(sockets), dropped(sockets))?;
     push_text(&mut text, "}\n")?;
@@ -90,7 +91,18 @@ fn push_totals(out: &mut Vec<u8>, totals: &Totals) -> Result<(), AllocError>
     Ok(())
 }
 
-/// Writes the number of datagrams that ended in each of these ways.
+/// Writes by how many seconds the clock is behind, and what the archive has.
+#[tactic(auto, unfolding(crate::specs::Status::state_members))]
+fn push_state(out: &mut Vec<u8>, clock_behind: u64, archive: &ArchiveLook) -> Result<(), AllocError>
+    ensures { OnOk result (out.new.items ≡ out.old.items ++ state_members clock_behind archive.now) }
+{
+    push_number_member(out, "clock_behind", clock_behind)?;
+    push_number_member(out, "archive_logs", archive.logs)?;
+    push_number_member(out, "archive_octets", archive.octets)?;
+    Ok(())
+}
+
+/// Writes how many datagrams ended in each of these ways.
 fn push_ends(out: &mut Vec<u8>, counts: &Counts, ends: &[End]) -> Result<(), AllocError>
     ensures { OnOk result (out.new.items ≡ out.old.items ++ ends_members counts.now ends.now) }
 {

@@ -1,11 +1,13 @@
 ghost use Rattle.std.specs.Prelude.{◌≡◌};
 ghost use Rattle.rld_turn.specs.Told.{is_answered, told_as};
 ghost use Rattle.rld_watch.specs.Counted.{count_of, time_if};
+ghost use Rattle.rld_watch.specs.Noted.{IsNotedAs};
 
 use crate::board::{Board, Place};
 use crate::ending::end_at;
 use rld_counts::{End as CountedEnd, Ended as CountedEnded};
 use rld_look::{Refusals, Refused, is_refusal};
+use rld_networks::canonical;
 use rld_turn::{End, Ended, Watch};
 use rsl_event::Port;
 use std::alloc::Global;
@@ -75,13 +77,7 @@ impl<'a, R: Wait + Clock> Watcher<'a, R> {
             Ok(now) => now.as_secs(),
             Err(_) => 0,
         };
-        let refused = Refused {
-            moment,
-            source: ended.origin.source,
-            client: ended.client,
-            octets: ended.octets,
-            end,
-        };
+        let refused = refused_as(moment, ended, end);
         refusals.note(self.rt, self.alloc, self.receiver, &refused);
     }
 }
@@ -103,8 +99,22 @@ impl<R: Wait + Clock> Watch for Watcher<'_, R> {
     }
 }
 
-/// What is counted of a datagram on this port, from what a watcher learns of it, if its answer took
-/// `micros` microseconds. It is never `None`, as `laws` says.
+/// What is noted of a datagram that was refused and that ended at this second: it came from that peer.
+fn refused_as<'b>(moment: u64, ended: &Ended<'b>, end: CountedEnd) -> Refused<'b>
+    ensures { IsNotedAs moment (told_as ended.now) end result }
+{
+    Refused {
+        moment,
+        source: ended.origin.source,
+        peer: canonical(ended.origin.peer.ip()),
+        client: ended.client,
+        octets: ended.octets,
+        end,
+    }
+}
+
+/// What is counted of a datagram that came to this port, by what a watcher learns of it, if its
+/// answer took `micros` microseconds. There is always something, as `laws` says.
 fn count_of(port: Port, ended: &Ended<'_>, micros: Option<u64>) -> Option<CountedEnded>
     ensures { result ≡ count_of port (told_as ended.now) micros }
 {

@@ -7,14 +7,14 @@ use Rattle.http1.specs.Fields.{Header}
 use Rattle.http_uri.specs.Uri.{uri_path}
 use Rattle.http_server.specs.declared.response.Response.{Response}
 use Rattle.http_server.specs.Response.{IsResponse}
+use Rattle.rld_look.specs.Health.{health_of, health_text}
+use Rattle.rld_look.specs.declared.health.Health.{Health}
+use Rattle.rld_look.specs.declared.health.Health.TheVariants as Is
 use Rattle.rld_look.specs.declared.look.AccountsLook.{AccountsLook}
 use Rattle.rld_look.specs.declared.look.Look.{Look}
 use Rattle.rld_text.specs.Metrics.{metrics_text}
-use Rattle.rld_page.specs.Health.{health_of, health_text}
 use Rattle.rld_page.specs.Json.{accounts_json}
-use Rattle.rld_page.specs.Page.{IsPage}
-use Rattle.rld_page.specs.declared.health.Health.{Health}
-use Rattle.rld_page.specs.declared.health.Health.TheVariants as Is
+use Rattle.rld_page.specs.Page.{IsHtml}
 use Rattle.rld_web.specs.Path.{media_type_of, path_of, plain}
 use Rattle.rld_web.specs.Place.{host_of, is_asked_for}
 use Rattle.rld_web.specs.declared.path.Path.{Path}
@@ -40,18 +40,19 @@ abbrev pub IsTextOf : Look → Option AccountsLook → Path → List ℕ → Typ
 IsTextOf look accounts Of.Page text = IsPage look text
 IsTextOf look accounts Of.Metrics text = text ≡ metrics_text look
 IsTextOf look accounts Of.Accounts text = AreAccounts accounts text
-IsTextOf look accounts Of.Health text = text ≡ health_text (health_of look.recording)
+IsTextOf look accounts Of.Health text = text ≡ health_text (health_of look.recording look.clock_behind)
 
 -- 200, or 503 for the health of a server that is not well
 abbrev pub health_status : Health → ℕ
 health_status Is.Well = 200
-health_status Is.Failing = 503
+health_status Is.NotRecording = 503
+health_status Is.ClockBehind = 503
 
 abbrev pub status_of : Look → Path → ℕ
 status_of look Of.Page = 200
 status_of look Of.Metrics = 200
 status_of look Of.Accounts = 200
-status_of look Of.Health = health_status (health_of look.recording)
+status_of look Of.Health = health_status (health_of look.recording look.clock_behind)
 
 -- the response to a known path, and to any other one
 abbrev pub IsShown : Look → Option AccountsLook → Option Path → Response → Type 0

@@ -1,5 +1,6 @@
 ghost use Rattle.std.specs.Prelude.{◌≡◌, IfOk, IfSome, OnOk, Some};
 ghost use Rattle.http_server.specs.Response.{IsBlank};
+ghost use Rattle.rld_look.specs.Health.{health_of};
 ghost use Rattle.rld_web.specs.Answer.{Answers, HasAnswered, IsRead, IsRefusedMethod, IsShown, IsTextOf, is_reading, status_of};
 ghost use Rattle.rld_web.specs.Path.{path_of};
 
@@ -10,8 +11,8 @@ use bytes::Bytes;
 use http::{HeaderValue, Request, StatusCode};
 use http_header::ALLOW;
 use http_server::{Response, Service};
-use rld_look::{AccountsLook, Look, Shown};
-use rld_page::{Health, accounts_json, page};
+use rld_look::{AccountsLook, Health, Look, Shown};
+use rld_page::{accounts_json, page};
 use rld_text::push_metrics;
 use std::alloc::{AllocError, Global};
 use std::net::SocketAddrV4;
@@ -201,16 +202,25 @@ fn text_of(
             Some(accounts) => accounts_json(alloc, accounts),
             None => Err(AllocError),
         },
-        Path::Health => Vec::from_slice(alloc, Health::of(look.recording).text().as_bytes()),
+        Path::Health => Vec::from_slice(alloc, health_of(look).text().as_bytes()),
     }
 }
 
-/// The status of a path: 200, or 503 for the health of a server that is not well.
+/// The health of a server that shows this.
+fn health_of(look: &Look) -> Health
+    ensures { result ≡ health_of look.entry.now.recording look.entry.now.clock_behind }
+{
+    Health::of(look.recording, look.clock_behind)
+}
+
+/// The status of a path: 200, and 503 for the health of a server that is not well.
 fn status_of(look: &Look, path: Path) -> StatusCode
     ensures { result ≡ status_of look.entry.now path }
 {
-    match (path, Health::of(look.recording)) {
-        (Path::Health, Health::Failing) => StatusCode::SERVICE_UNAVAILABLE,
+    match (path, health_of(look)) {
+        (Path::Health, Health::NotRecording | Health::ClockBehind) => {
+            StatusCode::SERVICE_UNAVAILABLE
+        }
         _ => StatusCode::OK,
     }
 }

@@ -59,6 +59,12 @@ fn the_first_fault_of_the_head_is_named(rt: HostRuntime) -> Result<(), Fail> {
         a day more | accounts = "a" | state = "s" | archive = 36501 | BadValue archive
         a day below 0 | accounts = "a" | state = "s" | archive = -1 | BadValue archive
         days in a text | accounts = "a" | state = "s" | archive = "7" | BadValue archive
+        no megabyte | accounts = "a" | state = "s" | archive_megabytes = 0 | BadValue archive_megabytes
+        65,536 megabytes | accounts = "a" | state = "s" | archive_megabytes = 65536 | BadValue archive_megabytes
+        megabytes in a text | accounts = "a" | state = "s" | archive_megabytes = "9" | BadValue archive_megabytes
+        the archive before its megabytes | accounts = "a" | state = "s" | archive_megabytes = 0 | archive = 0 | BadValue archive
+        the policy before both | accounts = "a" | state = "s" | archive_megabytes = 0 | archive = 0 | sync = 1 | BadValue sync
+        megabytes of a listen | accounts = "a" | state = "s" | [[listen]] | archive_megabytes = 9 | Unknown listen 1 "archive_megabytes"
         the first of two | accounts = 1 | state = 2 | BadValue accounts
         a key before a policy | sync = "often" | accounts = "a" | Missing state
     "#;
@@ -151,20 +157,31 @@ impl Subject for Heads {
     fn found(&self, alloc: Global, fields: &[&str]) -> Result<String, Fail> {
         let file = read(alloc, fields)?;
         let (accounts, state) = (Plain(file.accounts.as_str()), Plain(file.state.as_str()));
-        printed(alloc, &(accounts, state, file.sync, file.archive))
+        printed(
+            alloc,
+            &(
+                accounts,
+                state,
+                file.sync,
+                file.archive,
+                file.archive_megabytes,
+            ),
+        )
     }
 }
 
 #[test]
 fn a_head_says_what_stands_in_it(rt: HostRuntime) -> Result<(), Fail> {
     let rows = r#"
-        the shortest | accounts = "a" | state = "s" | (a, s, Always, Days(7))
-        each answer | accounts = "/a/b" | state = "../s" | sync = "always" | (/a/b, ../s, Always, Days(7))
-        each second | accounts = "a" | state = "s" | sync = "second" | (a, s, Second, Days(7))
-        never | accounts = "a" | state = "s" | sync = "never" | (a, s, Never, Days(7))
-        for ever | accounts = "a" | state = "s" | archive = "keep" | (a, s, Always, Keep)
-        no archive | accounts = "a" | state = "s" | archive = "none" | (a, s, Always, Nothing)
-        a month | accounts = "a" | state = "s" | archive = 30 | (a, s, Always, Days(30))
+        the shortest | accounts = "a" | state = "s" | (a, s, Always, Days(7), None)
+        each answer | accounts = "/a/b" | state = "../s" | sync = "always" | (/a/b, ../s, Always, Days(7), None)
+        each second | accounts = "a" | state = "s" | sync = "second" | (a, s, Second, Days(7), None)
+        never | accounts = "a" | state = "s" | sync = "never" | (a, s, Never, Days(7), None)
+        for ever | accounts = "a" | state = "s" | archive = "keep" | (a, s, Always, Keep, None)
+        no archive | accounts = "a" | state = "s" | archive = "none" | (a, s, Always, Nothing, None)
+        a month | accounts = "a" | state = "s" | archive = 30 | (a, s, Always, Days(30), None)
+        a week of at most 1 MB | accounts = "a" | state = "s" | archive_megabytes = 1 | (a, s, Always, Days(7), Some(1))
+        at most 65,535 MB | accounts = "a" | state = "s" | archive = "keep" | archive_megabytes = 65535 | (a, s, Always, Keep, Some(65535))
     "#;
     check_rows(&rt, &Heads, rows)
 }

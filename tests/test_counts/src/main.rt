@@ -3,7 +3,7 @@
 #![tactic(auto)]
 
 use rld_counts::{AcctEnd, AuthEnd, Cell, ClientCounts, Counts, End, Ended, Histogram};
-use rld_look::{Build, ClientLook, Look, Proof, Recording, SocketLook, Totals};
+use rld_look::{ArchiveLook, Build, ClientLook, Look, Proof, Recording, SocketLook, Totals};
 use rld_text::push_metrics;
 use std::io::{self, Write};
 
@@ -138,6 +138,11 @@ fn print_metrics(
         moves: 12,
         memory: 0,
         recording: Recording::Recorded,
+        clock_behind: 37,
+        archive: ArchiveLook {
+            logs: 12,
+            octets: 34_567_890,
+        },
         counts: all.counts(),
         clients: vec![in alloc;
             client(all, 0, [10, 0, 0, 1]),

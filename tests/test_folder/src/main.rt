@@ -1,13 +1,16 @@
 //! The program `test_folder`: makes a server's folder in the folder that it runs in, and says what
-//! each call on it gives; with which account files an era goes on; and which tables are needed no more.
+//! each call on it gives; with which account files an era goes on; which tables are needed no more, and which
+//! logs go of an archive that has a size.
 #![tactic(auto)]
 
 mod eras;
+mod sizes;
 mod tables;
 
 use eras::say_eras;
 use rld_folder::{Folder, FolderFault, Generation, newest_generation};
 use rld_log::{Log, LogFault};
+use sizes::say_sizes;
 use std::fs::{self, Permissions};
 use std::io;
 use std::os::unix::fs::PermissionsExt;
@@ -22,7 +25,8 @@ fn main(rt: HostRuntime) -> io::Result<()> {
     finds_what_is_there(&rt)?;
     removes_tables(&rt)?;
     say_eras(&rt)?;
-    say_tables(&rt)
+    say_tables(&rt)?;
+    say_sizes(&rt)
 }
 
 /// What a call says: `ok`, or its fault.

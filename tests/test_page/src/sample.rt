@@ -2,14 +2,15 @@
 
 use rld_counts::{AcctEnd, AuthEnd, Counts, End, Histogram};
 use rld_look::{
-    AccountLook, AccountsLook, Build, ClientLook, Look, Minute, Proof, Recording, Refusal,
-    SocketLook, Totals,
+    AccountLook, AccountsLook, ArchiveLook, Build, ClientLook, Look, Minute, Proof, Recording,
+    Refusal, SocketLook, Totals,
 };
 use rsl_accounts::Text;
 use rsl_event::{NasName, Source};
 use rsl_shard::Row;
 use rsl_wire::{NoMemory, Octets};
 use std::alloc::Global;
+use std::net::IpAddr;
 
 /// Second 1,764,182,907 since 1970: 2025-11-26 18:48:27 UTC.
 const NOW: u64 = 1_764_182_907;
@@ -47,6 +48,8 @@ pub(crate) fn idle(alloc: Global) -> Result<Look, NoMemory> {
         moves: 0,
         memory: 0,
         recording: Recording::Failing,
+        clock_behind: 0,
+        archive: ArchiveLook { logs: 0, octets: 0 },
         counts: Counts::new(),
         clients: Vec::new(alloc),
         auth_times: Histogram::new(),
@@ -178,6 +181,7 @@ fn add_refusals(alloc: Global, refusals: &mut Vec<Refusal>) -> Result<(), NoMemo
     refusals.push(Refusal {
         moment: NOW - 90,
         source: source([198, 51, 100, 9]),
+        peer: IpAddr::from([198u8, 51, 100, 9]),
         client: None,
         nas: NasName::Unnamed,
         name: None,
@@ -186,6 +190,7 @@ fn add_refusals(alloc: Global, refusals: &mut Vec<Refusal>) -> Result<(), NoMemo
     refusals.push(Refusal {
         moment: NOW - 31,
         source: source([192, 0, 2, 7]),
+        peer: IpAddr::from([192u8, 0, 2, 7]),
         client: Some(0),
         nas: NasName::Identifier(Octets::from_slice(alloc, b"bras\" onload=\"x")?),
         name: Some(Octets::from_slice(alloc, b"<b>nemo\n\\\xff")?),
@@ -194,6 +199,7 @@ fn add_refusals(alloc: Global, refusals: &mut Vec<Refusal>) -> Result<(), NoMemo
     refusals.push(Refusal {
         moment: NOW - 2,
         source: source([192, 0, 2, 7]),
+        peer: IpAddr::from([192u8, 0, 2, 7]),
         client: Some(0),
         nas: NasName::Address(Octets::from_slice(alloc, &[192, 0, 2, 77])?),
         name: Some(Octets::from_slice(alloc, b"nemo")?),

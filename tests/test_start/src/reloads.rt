@@ -64,7 +64,7 @@ fn begin_era(rt: &HostRuntime, running: Started<'_>, old: &Config, new: &Config)
         header,
         ..
     } = running;
-    let generations = FolderGenerations::new(rt, folder, Archive::Keep);
+    let generations = FolderGenerations::new(rt, folder, Archive::Keep, None);
     let former = generation_named(&header);
     let Ok(next) = generations.next_era(rt.alloc(), new, boot) else {
         return println!(rt; "no era");
@@ -115,7 +115,7 @@ fn put_away(rt: &HostRuntime, how: &str, archive: Archive, now: u64) -> io::Resu
         return println!(rt; "{how}: no folder");
     };
     let newest = Generation { era: 2, number: 2 };
-    match FolderGenerations::new(rt, folder, archive).put_away(rt.alloc(), newest, now) {
+    match FolderGenerations::new(rt, folder, archive, None).put_away(rt.alloc(), newest, now) {
         Ok(()) => println!(rt; "{how}: put away")?,
         Err(fault) => println!(rt; "{how}: {fault}")?,
     }

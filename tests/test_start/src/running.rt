@@ -42,7 +42,7 @@ impl<'a> Running<'a> {
                     header.era, header.generation, found.moves
                 )?;
                 Ok(Some(Running {
-                    generations: FolderGenerations::new(rt, folder, archive),
+                    generations: FolderGenerations::new(rt, folder, archive, None),
                     pacing: pacing(ticks),
                     store,
                     header,

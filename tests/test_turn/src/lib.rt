@@ -18,6 +18,8 @@ mod looks;
 #[cfg(test)]
 mod notes;
 #[cfg(test)]
+mod refused;
+#[cfg(test)]
 mod rejects;
 #[cfg(test)]
 mod turns;

@@ -1,0 +1,9 @@
+use Rattle.rld_text.specs.Metrics.{state_gauges}
+use Rattle.rld_text.proofs.Pieces.{written_3}
+use Rattle.rld_text.proofs.gauges.push_state.Goals as goal
+
+pub returns : goal.returns
+unfolding state_gauges
+returns c =
+    written_3 _ _ _ _ _ _ _
+    c.in_ok-push_gauge.ensures c.in_ok-push_gauge-2.ensures c.in_ok-push_gauge-3.ensures
