@@ -139,16 +139,16 @@ asker config (Mean.Restart nas) account = tt
 asker config (Mean.Stray note) account = tt
 
 -- the reply has room
-room : (attributes : List ℕ) (m : Meaning) → HasRoomForReply attributes m → HasRoomFor attributes (kind_of m)
-room attributes Mean.Bare has = tt
-room attributes Mean.Reject has = has
-room attributes (Mean.Own number (acts.Ask key nas)) has = has
-room attributes (Mean.Own number (acts.Alive nas session bundle class)) has = has
-room attributes (Mean.Own number (acts.Stop nas session)) has = has
-room attributes (Mean.Own number (acts.Sweep nas)) has = has
-room attributes (Mean.Own number acts.Tick) has = has
-room attributes (Mean.Restart nas) has = has
-room attributes (Mean.Stray note) has = has
+room : (config : Configuration) (attributes : List ℕ) (m : Meaning) → HasRoomForReply config attributes m → HasRoomFor config attributes (kind_of m)
+room config attributes Mean.Bare has = tt
+room config attributes Mean.Reject has = has
+room config attributes (Mean.Own number (acts.Ask key nas)) has = has
+room config attributes (Mean.Own number (acts.Alive nas session bundle class)) has = has
+room config attributes (Mean.Own number (acts.Stop nas session)) has = has
+room config attributes (Mean.Own number (acts.Sweep nas)) has = has
+room config attributes (Mean.Own number acts.Tick) has = has
+room config attributes (Mean.Restart nas) has = has
+room config attributes (Mean.Stray note) has = has
 
 -- what was made of a datagram that was understood is a request
 is_request : (service : ServiceSeen) (port : Port) (moment : ℕ) (origin : Origin) (peer : SocketAddr) (datagram : List ℕ)
@@ -185,14 +185,14 @@ is_request service port moment origin peer datagram detailed request moved from 
     }
   where
     can_reply : (config : Configuration) (client one : ℕ) (attributes : List ℕ) (kind : MeaningKind) (meant : Meaning)
-        → client ≡ one → kind ≡ kind_of meant → one < length config.clients → HasAccount config meant → HasRoomForReply attributes meant
+        → client ≡ one → kind ≡ kind_of meant → one < length config.clients → HasAccount config meant → HasRoomForReply config attributes meant
         → CanReply config client attributes kind
     can_reply config client one attributes kind meant i j known account has =
         subst (λ (c : ℕ). CanReply config c attributes kind) (sym i)
         (subst (λ (k : MeaningKind). CanReply config one attributes k) (sym j) (record {
           known = known;
           asker = asker config meant account;
-          room = room attributes meant has;
+          room = room config attributes meant has;
         }))
 
 -- what was added of a datagram that was understood is entered

@@ -8,10 +8,10 @@ use Rattle.rsl_event.specs.Access.{access_by, access_meaning, ask_or_reject, ask
 use Rattle.rsl_event.specs.Accounting.{accounting_by, accounting_meaning, by_status, if_session, if_status, session_act, session_meaning, status_meaning}
 use Rattle.rsl_event.specs.Meaning.{if_client, if_packet, meaning}
 use Rattle.rsl_event.specs.MeaningKind.{kind_of, kind_of_act}
-use Rattle.rsl_event.specs.Request.{attribute_count, named_account, proxy_len, secret_of, text_of}
+use Rattle.rsl_event.specs.Request.{attribute_count, most_proxy_len, named_account, proxy_len, secret_of, text_of}
 use Rattle.rsl_event.specs.Signature.{has_right_signature, has_signature, is_guarded, must_sign, rule_of}
 use Rattle.rsl_event.specs.Status.{status_of}
-use Rattle.rsl_event.specs.declared.codes.TheConstants.{ACCESS_REQUEST, ACCOUNTING_REQUEST, ACCT_SESSION_ID, ACCT_STATUS_TYPE, MAX_PROXY_STATE_LEN, PROXY_STATE}
+use Rattle.rsl_event.specs.declared.codes.TheConstants.{ACCESS_REQUEST, ACCOUNTING_REQUEST, ACCT_SESSION_ID, ACCT_STATUS_TYPE, PROXY_STATE}
 use Rattle.rsl_event.specs.declared.event.Act.TheVariants.{Ask}
 use Rattle.rsl_event.specs.declared.event.Source.{Source}
 use Rattle.rsl_event.specs.declared.meaning.Dropped.{Dropped}
@@ -62,7 +62,7 @@ auth_signed false b false false rest holds = holds
 auth_requested : (config : Configuration) (source : Source) (client : ℕ) (fields : Fields) (attributes : List Attribute)
     → OfAuth (request_meaning config source client fields attributes)
 auth_requested config source client fields attributes =
-    auth_if (nat_lt MAX_PROXY_STATE_LEN (proxy_len attributes)) (Err drops.ProxyTooLong)
+    auth_if (nat_lt (most_proxy_len (rule_of config)) (proxy_len attributes)) (Err drops.ProxyTooLong)
     (Ok (ask_or_reject config source client fields attributes (asker config client fields.authenticator attributes)))
     refl (auth_asked config source client fields attributes (asker config client fields.authenticator attributes))
 
@@ -150,7 +150,7 @@ acct_listed : (config : Configuration) (boot client : ℕ) (list : Result (List 
     → OfAcct (accounting_by config boot client list)
 acct_listed config boot client (Err at) = refl
 acct_listed config boot client (Ok attributes) =
-    acct_if (nat_lt MAX_PROXY_STATE_LEN (proxy_len attributes)) (Err drops.ProxyTooLong)
+    acct_if (nat_lt (most_proxy_len (rule_of config)) (proxy_len attributes)) (Err drops.ProxyTooLong)
     (if_status config boot client attributes (number_in (first_of ACCT_STATUS_TYPE attributes)))
     refl (acct_numbered config boot client attributes (number_in (first_of ACCT_STATUS_TYPE attributes)))
 

@@ -12,5 +12,5 @@ reply_to-octets-requires-clause-prepared c after =
     (record {
       known = after.requires.prepared.client;
       asker = after.kind-kind.ensures.asker after.args.self.now.config after.requires.prepared.account;
-      room = after.kind-kind.ensures.room after.args.prepared.packet.attrs.now after.requires.prepared.room;
+      room = after.kind-kind.ensures.room after.args.self.now.config after.args.prepared.packet.attrs.now after.requires.prepared.room;
     })
