@@ -3,6 +3,7 @@
 
 mod access;
 mod accounting;
+mod carried;
 mod copies;
 mod drops;
 mod guard;

@@ -10,4 +10,6 @@ mod auth;
 #[cfg(test)]
 mod event;
 #[cfg(test)]
+mod reply;
+#[cfg(test)]
 mod wire;
