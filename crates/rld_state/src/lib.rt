@@ -1,7 +1,8 @@
 //! The state of a running server, as it stands behind its lock: the recorder, the accounts and the
 //! era of its books, and the generation that it writes. It records batches, goes on to the next
 //! generation, and to other accounts within the era or with a new one; and it says when the next
-//! generation is due, whether the clock is behind, and what an operator is to learn. It has no thread, socket or lock of its own.
+//! generation is due, whether the clock is behind, and what an operator is to learn. It has no
+//! thread, socket or lock of its own.
 //!
 //! The promise: of each call, what the recorder promises; a recorder that can record nothing more
 //! is not called again, and a batch of another era is refused whole (`specs/Keeping.antt`); a
@@ -13,6 +14,7 @@
 mod archived;
 mod changing;
 mod clock;
+mod freeing;
 mod places;
 mod reloaded;
 mod rolled;
@@ -24,6 +26,7 @@ mod trouble;
 pub use archived::archive_look;
 pub use changing::Entered;
 pub use clock::{ClockNews, news_of_clock, seconds_behind};
+pub use freeing::Freed;
 pub use places::places_in;
 pub use reloaded::{EraChange, ReloadFault, Reloaded};
 pub use rolled::{NotBegun, Notice, RollFault, notice_of_archive, notice_of_roll};
