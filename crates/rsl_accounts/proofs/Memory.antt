@@ -9,7 +9,7 @@ use Rattle.rsl_accounts.specs.declared.field.Field.{Field}
 use Rattle.rsl_accounts.specs.declared.field.Field.TheVariants.{InterimSecs}
 use Rattle.rsl_accounts.specs.declared.settings.Settings.{Settings}
 use Rattle.rsl_accounts.specs.Version.{knows_own_times}
-use Rattle.rsl_accounts.specs.Walk.{fault_unless, number_fault, text_fault, count_fault, option_fault, interim_fault, walk_over, settings_checks, count_checks, client_checks, common_checks, own_times_checks, own_checks, account_checks, first_fault}
+use Rattle.rsl_accounts.specs.Walk.{fault_unless, number_fault, text_fault, option_text_fault, count_fault, option_fault, interim_fault, walk_over, settings_checks, count_checks, client_checks, common_checks, own_times_checks, own_checks, account_checks, first_fault}
 
 abbrev Not : Option ConfigFault → Type 0
 Not x = x ≡ Some NoMemory → ⊥
@@ -36,6 +36,10 @@ count f n = unless _ f
 option : (f : Field) (n : Option ℕ) → Not (option_fault f n)
 option f None is = cc
 option f (Some n) is = number f n is
+
+option_text : (f : Field) (t : Option (List ℕ)) → Not (option_text_fault f t)
+option_text f None is = cc
+option_text f (Some t) is = text f t is
 
 interim : (version : ℕ) (n : Option ℕ) → Not (interim_fault version n)
 interim version n = by (knows_own_times version) refl
@@ -68,11 +72,11 @@ of_counts clients accounts = never-all (count_checks clients accounts) (count _ 
 
 of_client : (version : ℕ) (client : Client) → Never (client_checks version client)
 unfolding client_checks
-of_client version client = never-all (client_checks version client) (text _ _, (unless _ _, tt))
+of_client version client = never-all (client_checks version client) (text _ _, (unless _ _, (unless _ _, tt)))
 
 of_common : (entry : Entry) → Never (common_checks entry)
 unfolding common_checks
-of_common entry = never-all (common_checks entry) (text _ _, (text _ _, (number _ _, (number _ _, (option _ _, (option _ _, (option _ _, (option _ _, tt))))))))
+of_common entry = never-all (common_checks entry) (text _ _, (option_text _ _, (number _ _, (number _ _, (option _ _, (option _ _, (option _ _, (option _ _, tt))))))))
 
 of_own : (version : ℕ) (entry : Entry) → Never (own_checks version entry)
 unfolding own_checks own_times_checks

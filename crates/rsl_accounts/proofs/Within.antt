@@ -17,7 +17,7 @@ use Rattle.rsl_accounts.specs.Field.{is_between, is_secret, is_name, has_no_nul,
 use Rattle.rsl_accounts.specs.Limits.{IsTime, IsInterval, SettingsFit, IsSecret, IsName, IsAccount, IsConfiguration}
 use Rattle.rsl_accounts.specs.Settings.{own_time, interim_of}
 use Rattle.rsl_accounts.specs.Version.{knows_own_times, least_secret}
-use Rattle.rsl_accounts.specs.Walk.{walk_over, settings_checks, count_checks, client_checks, common_checks, own_times_checks, own_checks, account_checks, first_fault, fault_unless, interim_fault, number_fault, text_fault, count_fault, option_fault}
+use Rattle.rsl_accounts.specs.Walk.{walk_over, settings_checks, count_checks, client_checks, common_checks, own_times_checks, own_checks, account_checks, first_fault, fault_unless, number_fault, text_fault, option_text_fault, trust_fault, count_fault, option_fault}
 use Rattle.rsl_accounts.proofs.Made.{made}
 
 -- checks without a fault have all passed
@@ -127,12 +127,23 @@ name text right =
       visible = λ k d within. between 33 126 _ (AllPass-from_list_all (λ octet. is_between 33 126 octet) text clean k d within);
     }
 
+-- a password, where there is one
+own_password : (text : Option (List ℕ)) → option_text_fault field.Password text ≡ None → IfSome text IsSecret
+own_password None none = tt
+own_password (Some text) none = secret text (right_text field.Password text none)
+
+-- a client that is trusted signs
+signs : (signed trusted : Bool) → trust_fault signed trusted ≡ None → trusted ≡ true → signed ≡ true
+signs true trusted none is = refl
+signs false true none is = cc
+signs false false none is = cc
+
 client_fits : (version : ℕ) (client : Client) → first_fault (client_checks version client) ≡ None
-    → IsSecret client.secret × (least_secret version ≤ length client.secret)
+    → IsSecret client.secret × ((least_secret version ≤ length client.secret) × (client.trusted ≡ true → client.signed ≡ true))
 unfolding client_checks
 client_fits version client none =
     let p = passed (client_checks version client) none in
-    (secret client.secret (right_text field.Secret client.secret p.0), leb-true _ _ (is_right _ field.Secret p.1.0))
+    (secret client.secret (right_text field.Secret client.secret p.0), (leb-true _ _ (is_right _ field.Secret p.1.0), signs client.signed client.trusted p.1.1.0))
 
 optional : (f : Field) → ((n : ℕ) → takes_number f n ≡ is_between 1 4294967295 n) → (number : Option ℕ) → option_fault f number ≡ None → IfSome number (λ n. 1 ≤ n)
 optional f takes None none = tt
@@ -186,7 +197,7 @@ module _ (settings : Settings) (fits : SettingsFit settings) (entry : Entry) (no
       let times = times_fit in
       record {
         name = name entry.name (right_text field.Name entry.name p.0);
-        password = secret entry.password (right_text field.Password entry.password p.1.0);
+        password = own_password entry.password p.1.0;
         rules = record {
           places = (between 0 64 entry.rules.places (right_number field.Places entry.rules.places p.1.1.0)).1;
           a_port = ports.0;
@@ -244,7 +255,8 @@ made_fits settings clients accounts none differ differ_too short =
       an_account = rw (length-map accounts (with_times settings)) fits.accounts.0;
       accounts = rw (length-map accounts (with_times settings)) fits.accounts.1;
       secrets = λ k d within. (client_fits settings.version (get_or clients k d) (each_client k d within)).0;
-      long_secrets = λ k d within. (client_fits settings.version (get_or clients k d) (each_client k d within)).1;
+      long_secrets = λ k d within. (client_fits settings.version (get_or clients k d) (each_client k d within)).1.0;
+      trusted_sign = λ k d within. (client_fits settings.version (get_or clients k d) (each_client k d within)).1.1;
       each_account = All-map (IsAccount settings) (with_times settings) accounts (λ k d within. entry_fits settings settings_fit (get_or accounts k d) (each_entry k d within));
       addresses_differ = differ;
       names_differ = rw (names-with_times settings accounts) differ_too;

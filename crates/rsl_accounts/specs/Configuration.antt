@@ -1,6 +1,6 @@
 -- The configuration of some settings, clients and accounts: the checks that they have to pass, and
 -- what is looked up in it.
-use Rattle.std.specs.Prelude.{◌≡◌, ℕ, Bool, false, ◌||◌, if◌then◌else◌, nat_lt, nat_eq, List, [], ◌∷◌, ◌++◌, ◌*◌, map, position, Option, None, Some, Result, Ok, Err}
+use Rattle.std.specs.Prelude.{◌≡◌, ℕ, Bool, false, ◌||◌, if◌then◌else◌, nat_lt, nat_eq, List, [], ◌∷◌, ◌++◌, ◌*◌, map, position, Option, None, Some, is_none, Result, Ok, Err}
 use Rattle.std.specs.Cmp.Lexicographic.{pointwise}
 use Rattle.std.specs.List.{list_any}
 use Rattle.std.specs.Option.{option_map_or}
@@ -74,6 +74,17 @@ configuration_of settings clients accounts =
 abbrev pub has_short_live : Entry → Bool
 has_short_live entry =
     option_map_or (λ seconds. nat_lt entry.rules.live (2 * seconds)) entry.interim false
+
+-- whether the requests of some client may ask without a password
+abbrev pub has_trusted : List Client → Bool
+has_trusted clients = list_any (λ client. client.trusted) clients
+
+-- the number of the first account that nobody can log in to: it has no password, and no client is
+-- trusted
+abbrev pub first_without_login : Configuration → Option ℕ
+first_without_login config =
+    if has_trusted config.clients then None
+    else position (λ entry. is_none entry.password) config.accounts
 
 -- the number of the client with the address
 abbrev pub client_number : Configuration → List ℕ → Option ℕ

@@ -2,7 +2,7 @@
 use Rattle.std.specs.Prelude.{ℕ, List, Bool, false, not, ◌==◌, ◌&&◌, nat_le, length, codes}
 use Rattle.std.specs.List.{list_all}
 use Rattle.rsl_accounts.specs.declared.field.Field.{Field}
-use Rattle.rsl_accounts.specs.declared.field.Field.TheVariants.{Version, Shards, ReserveSecs, LiveSecs, GraceSecs, ClosedSecs, KeepSecs, Client, Account, Address, Secret, Name, Password, Signed, Places, Ports, ServiceType, FramedProtocol, SessionTimeout, IdleTimeout, OwnLive, OwnGrace, InterimSecs, Disabled}
+use Rattle.rsl_accounts.specs.declared.field.Field.TheVariants.{Version, Shards, ReserveSecs, LiveSecs, GraceSecs, ClosedSecs, KeepSecs, Client, Account, Address, Secret, Name, Password, Signed, Trusted, Places, Ports, ServiceType, FramedProtocol, SessionTimeout, IdleTimeout, OwnLive, OwnGrace, InterimSecs, Disabled}
 
 -- the key under which the field stands in the file
 abbrev pub field_key : Field → List ℕ
@@ -18,6 +18,7 @@ field_key Account = codes "account"
 field_key Address = codes "address"
 field_key Secret = codes "secret"
 field_key Signed = codes "signed"
+field_key Trusted = codes "trusted"
 field_key Name = codes "name"
 field_key Password = codes "password"
 field_key Places = codes "places"

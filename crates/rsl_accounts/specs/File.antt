@@ -20,7 +20,7 @@ use Rattle.rsl_accounts.specs.Field.{field_key, takes_number, takes_count, takes
 use Rattle.rsl_accounts.specs.Part.{knows}
 use Rattle.rsl_accounts.specs.Settings.{rules_of_places}
 use Rattle.rsl_accounts.specs.Version.{is_strict, knows_own_times}
-use Rattle.rsl_accounts.specs.Walk.{secret_len_fault}
+use Rattle.rsl_accounts.specs.Walk.{secret_len_fault, trust_fault}
 
 -- the table that the text is, if it is UTF-8 and TOML
 unfoldable pub file_of : List ℕ → Option Data
@@ -83,6 +83,9 @@ option_in value field = optional field (number_of field) (member_in value field)
 unfoldable pub text_in : Data → Field → Result (List ℕ) ConfigFault
 text_in value field = required field (text_of field) (member_in value field)
 
+unfoldable pub option_text_in : Data → Field → Result (Option (List ℕ)) ConfigFault
+option_text_in value field = optional field (text_of field) (member_in value field)
+
 unfoldable pub tables_in : Data → Field → Result (List Data) ConfigFault
 tables_in value field = required field (tables_of field) (member_in value field)
 
@@ -133,6 +136,20 @@ secret_in version value =
     and_then (text_in value field.Secret) (λ secret.
     fault_or (secret_len_fault version (length secret)) (Ok secret))
 
+-- a client that does not say so is not trusted; one that is has to sign, and only version 3 knows it
+unfoldable pub trusted_in : (version : ℕ) → (signed : Bool) → Data → Result Bool ConfigFault
+trusted_in version signed value =
+    if is_strict version
+    then and_then (flag_in value field.Trusted false) (λ trusted.
+    fault_or (trust_fault signed trusted) (Ok trusted))
+    else Ok false
+
+-- an account's password, which version 3 lets it leave out
+unfoldable pub password_in : (version : ℕ) → Data → Result (Option (List ℕ)) ConfigFault
+password_in version value =
+    if is_strict version then option_text_in value field.Password
+    else result_map_both Some (λ fault. fault) (text_in value field.Password)
+
 -- the parts of a file, by the values of their fields in the order of the walk
 unfoldable pub settings_in : Data → Result Settings ConfigFault
 settings_in value =
@@ -162,14 +179,15 @@ client_in version value =
     (and_then (address_in value) (λ address.
     and_then (secret_in version value) (λ secret.
     and_then (signed_in version value) (λ signed.
-    Ok (record { address = address; secret = secret; signed = signed })))))
+    and_then (trusted_in version signed value) (λ trusted.
+    Ok (record { address = address; secret = secret; signed = signed; trusted = trusted }))))))
 
 -- the times of the rules are filled in later, and so is the file's own `interim_secs`
 unfoldable pub entry_in : (version : ℕ) → Data → Result Entry ConfigFault
 entry_in version value =
     fault_or (misspelled_in version part.Account value)
     (and_then (text_in value field.Name) (λ name.
-    and_then (text_in value field.Password) (λ password.
+    and_then (password_in version value) (λ password.
     and_then (number_in value field.Places) (λ places.
     and_then (number_in value field.Ports) (λ ports.
     and_then (option_in value field.ServiceType) (λ service_type.

@@ -58,7 +58,7 @@ pub record IsName (text : List ℕ) : Type 0 where
 -- the account is within its limits, and its times are its own or those of the settings
 pub record IsAccount (settings : Settings) (entry : Entry) : Type 0 where
   pub name : IsName entry.name
-  pub password : IsSecret entry.password
+  pub password : IfSome entry.password IsSecret
   pub rules : RulesFit entry.rules
   pub times : entry.rules ≡ rules_of settings entry
   pub service_type : IfSome entry.service_type (λ number. 1 ≤ number)
@@ -78,6 +78,7 @@ pub record IsConfiguration (config : Configuration) : Type 0 where
   pub secrets : All (λ client. IsSecret client.secret) config.clients
   pub long_secrets : All (λ client. least_secret config.settings.version ≤ length_of client.secret)
       config.clients
+  pub trusted_sign : All (λ client. client.trusted ≡ true → client.signed ≡ true) config.clients
   pub each_account : All (IsAccount config.settings) config.accounts
   pub addresses_differ : comes_twice (addresses config.clients) ≡ false
   pub names_differ : comes_twice (names config.accounts) ≡ false

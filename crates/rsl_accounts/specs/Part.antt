@@ -12,7 +12,7 @@ abbrev pub fields_of : Part → List Field
 fields_of Head =
     field.Version ∷ field.Shards ∷ field.ReserveSecs ∷ field.LiveSecs ∷ field.GraceSecs
     ∷ field.ClosedSecs ∷ field.KeepSecs ∷ field.InterimSecs ∷ field.Client ∷ field.Account ∷ []
-fields_of Client = field.Address ∷ field.Secret ∷ field.Signed ∷ []
+fields_of Client = field.Address ∷ field.Secret ∷ field.Signed ∷ field.Trusted ∷ []
 fields_of Account =
     field.Name ∷ field.Password ∷ field.Places ∷ field.Ports ∷ field.ServiceType
     ∷ field.FramedProtocol ∷ field.SessionTimeout ∷ field.IdleTimeout ∷ field.OwnLive

@@ -11,6 +11,10 @@ knows_own_times version = nat_le 2 version
 abbrev pub is_strict : (version : ℕ) → Bool
 is_strict version = version == 3
 
+-- whether a NAS-IPv6-Address (RFC 3162 section 2.1) names an access server: in version 3
+abbrev pub knows_ipv6 : (version : ℕ) → Bool
+knows_ipv6 version = is_strict version
+
 -- the fewest octets of a client's secret
 abbrev pub least_secret : (version : ℕ) → ℕ
 least_secret version = if is_strict version then 16 else 1

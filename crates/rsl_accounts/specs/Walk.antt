@@ -1,5 +1,5 @@
 -- The walk over settings, clients and accounts: in which order their values are checked, and the first fault.
-use Rattle.std.specs.Prelude.{ℕ, Bool, List, [], ◌∷◌, ◌++◌, if◌then◌else◌, nat_le, length, Option, None, Some}
+use Rattle.std.specs.Prelude.{ℕ, Bool, not, ◌||◌, List, [], ◌∷◌, ◌++◌, if◌then◌else◌, nat_le, length, Option, None, Some}
 use Rattle.std.specs.List.{flat_map}
 use Rattle.rsl_accounts.specs.declared.client.Client.{Client}
 use Rattle.rsl_accounts.specs.declared.entry.Entry.{Entry}
@@ -29,6 +29,11 @@ abbrev pub option_fault : Field → Option ℕ → Option ConfigFault
 option_fault field None = None
 option_fault field (Some number) = number_fault field number
 
+-- the fault of a text that may be left out
+abbrev pub option_text_fault : Field → Option (List ℕ) → Option ConfigFault
+option_text_fault field None = None
+option_text_fault field (Some text) = text_fault field text
+
 -- the fault of the seconds between interim updates, which version 1 does not know
 abbrev pub interim_fault : (version : ℕ) → Option ℕ → Option ConfigFault
 interim_fault version interim =
@@ -37,6 +42,10 @@ interim_fault version interim =
 -- the fault of a client's secret of so few octets
 abbrev pub secret_len_fault : (version length : ℕ) → Option ConfigFault
 secret_len_fault version length = fault_unless (nat_le (least_secret version) length) field.Secret
+
+-- the fault of a client that is trusted and does not sign
+abbrev pub trust_fault : (signed trusted : Bool) → Option ConfigFault
+trust_fault signed trusted = fault_unless (signed || not trusted) field.Trusted
 
 -- the checks of the settings, each the fault of a field or `None`
 unfoldable pub settings_checks : Settings → List (Option ConfigFault)
@@ -56,18 +65,19 @@ unfoldable pub count_checks : (clients accounts : ℕ) → List (Option ConfigFa
 count_checks clients accounts =
     count_fault field.Client clients ∷ count_fault field.Account accounts ∷ []
 
--- the checks of a client: any four octets are an address, and a client is signed or is not
+-- the checks of a client: any four octets are an address, and one that is trusted has to sign
 unfoldable pub client_checks : (version : ℕ) → Client → List (Option ConfigFault)
 client_checks version client =
     text_fault field.Secret client.secret
     ∷ secret_len_fault version (length client.secret)
+    ∷ trust_fault client.signed client.trusted
     ∷ []
 
 -- the checks of an account in every version
 unfoldable pub common_checks : Entry → List (Option ConfigFault)
 common_checks entry =
     text_fault field.Name entry.name
-    ∷ text_fault field.Password entry.password
+    ∷ option_text_fault field.Password entry.password
     ∷ number_fault field.Places entry.rules.places
     ∷ number_fault field.Ports entry.rules.ports
     ∷ option_fault field.ServiceType entry.service_type

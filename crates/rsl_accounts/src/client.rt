@@ -1,6 +1,6 @@
 ghost use Rattle.std.specs.Prelude.{◌≡◌};
 ghost use Rattle.std.specs.Result.{result_err};
-ghost use Rattle.rsl_accounts.specs.Walk.{client_checks, first_fault};
+ghost use Rattle.rsl_accounts.specs.Walk.{client_checks, first_fault, trust_fault};
 
 use crate::fault::ConfigFault;
 use crate::field::Field;
@@ -17,17 +17,31 @@ pub struct Client {
     /// Whether each of its Access-Requests must have a right Message-Authenticator (RFC 3579
     /// section 3.2).
     pub signed: bool,
+    /// Whether it has checked who asks, so that a request of it without a password is an ask of the account
+    /// that it names. Only a client that signs is trusted.
+    pub trusted: bool,
 }
 
 impl Client {
-    /// `BadValue` of the first field with a wrong value: any four octets are an address, and a client
-    /// is signed or is not.
+    /// `BadValue` of the first field with a wrong value: any four octets are an address, and one that is
+    /// trusted has to sign.
     #[tactic(auto, unfolding(crate::specs::Walk::client_checks))]
     pub(crate) fn check(&self, version: u64) -> Result<(), ConfigFault>
         ensures { result_err result ≡ first_fault (client_checks version self.now) }
     {
         let secret = self.secret.expose();
         Field::Secret.check_text(secret)?;
-        check_secret_len(version, secret.len())
+        check_secret_len(version, secret.len())?;
+        check_trust(self.signed, self.trusted)
     }
+}
+
+/// `BadValue` of a client that is trusted and does not sign.
+pub(crate) fn check_trust(signed: bool, trusted: bool) -> Result<(), ConfigFault>
+    ensures { result_err result ≡ trust_fault signed trusted }
+{
+    if trusted && !signed {
+        return Err(ConfigFault::BadValue(Field::Trusted));
+    }
+    Ok(())
 }

@@ -11,6 +11,7 @@ ghost use Rattle.std.specs.Prelude.{
   IfSome,
   count_by,
   position,
+  is_none,
   length,
   slice_get,
   map,
@@ -27,11 +28,13 @@ ghost use Rattle.rsl_accounts.specs.Configuration.{
   names,
   with_times,
   has_short_live,
+  first_without_login,
+  has_trusted,
 };
 ghost use Rattle.rsl_accounts.specs.File.{configuration_of_text};
 ghost use Rattle.rsl_accounts.specs.Keys.{AreKeysOf};
 ghost use Rattle.rsl_auth.specs.Hmac.{IsKeyOf};
-ghost use Rattle.rsl_accounts.specs.Version.{unsigned_rule};
+ghost use Rattle.rsl_accounts.specs.Version.{knows_ipv6, unsigned_rule};
 ghost use Rattle.rsl_accounts.specs.Walk.{first_fault, walk_over};
 ghost use Rattle.rsl_accounts.specs.Limits.{IsConfiguration, IsAccount, IsSecret};
 
@@ -40,7 +43,7 @@ use crate::entry::Entry;
 use crate::fault::ConfigFault;
 use crate::field::Field;
 use crate::file::{clients, entries, parse, settings};
-use crate::settings::{Settings, unsigned_rule};
+use crate::settings::{Settings, knows_ipv6, unsigned_rule};
 use crate::table::tables;
 use crate::unsigned_rule::UnsignedRule;
 use crate::walk::walk;
@@ -185,6 +188,13 @@ impl Config {
         unsigned_rule(self.settings.version)
     }
 
+    /// Whether a NAS-IPv6-Address (RFC 3162 section 2.1) names an access server.
+    pub fn knows_ipv6(&self) -> bool
+        ensures { result ≡ knows_ipv6 self.now.settings.version }
+    {
+        knows_ipv6(self.settings.version)
+    }
+
     /// The number of the account with the name, if there is one.
     pub fn account(&self, name: &[u8]) -> Option<u32>
         ensures number { result ≡ account_number self.now name.now }
@@ -242,6 +252,20 @@ impl Config {
             .count() as u32
     }
 
+    /// The number of the first account that nobody can log in to: it has no password, and no client is
+    /// trusted. None if there is no such account.
+    pub fn first_without_login(&self) -> Option<u32>
+        ensures number { result ≡ first_without_login self.now }
+        ensures within { IfSome result (λ number. number < length self.now.accounts) }
+        ensures limits { IsConfiguration self.now }
+    {
+        if has_trusted(self.clients.as_slice()) {
+            return None;
+        }
+        let number = position_without_password(self.accounts.as_slice())?;
+        Some(number as u32)
+    }
+
     /// How many shards the accounts are spread over: 1 to 4.
     pub fn shards(&self) -> u32
         ensures number { result ≡ self.now.settings.shards }
@@ -265,6 +289,21 @@ fn position_of_short_live(accounts: &[Entry]) -> Option<usize>
     ensures within { IfSome result (λ index. index < length accounts.now) }
 {
     accounts.iter().position(|entry| has_short_live(entry))
+}
+
+/// Whether the requests of some client may ask without a password.
+fn has_trusted(clients: &[Client]) -> bool
+    ensures { result ≡ has_trusted clients.now }
+{
+    clients.iter().any(|client| client.trusted)
+}
+
+/// The index of the first account that has no password.
+fn position_without_password(accounts: &[Entry]) -> Option<usize>
+    ensures index { result ≡ position (λ entry. is_none entry.password) accounts.now }
+    ensures within { IfSome result (λ index. index < length accounts.now) }
+{
+    accounts.iter().position(|entry| entry.password.is_none())
 }
 
 /// Whether an account's live time is under two of the intervals that its accepts ask for.

@@ -4,6 +4,7 @@ ghost use Rattle.rsl_accounts.specs.Walk.{
   account_checks,
   common_checks,
   own_checks,
+  option_text_fault,
   first_fault,
 };
 
@@ -17,8 +18,9 @@ use crate::text::Text;
 /// An account. What each login reads of it stands first, as fields lie in memory in their order.
 #[derive(Drop)]
 pub struct Entry {
-    /// The password: 1 to 128 octets of UTF-8 without NUL.
-    pub password: Secret,
+    /// The password: 1 to 128 octets of UTF-8 without NUL. An account without one is asked for by trusted
+    /// clients alone.
+    pub password: Option<Secret>,
     /// The Service-Type of the account's accepts (RFC 2865 section 5.6), at least 1.
     pub service_type: Option<u32>,
     /// The Framed-Protocol of the account's accepts (RFC 2865 section 5.7), at least 1.
@@ -60,13 +62,23 @@ impl Entry {
         ensures { result_err result ≡ first_fault (common_checks self.now) }
     {
         Field::Name.check_text(self.name.as_bytes())?;
-        Field::Password.check_text(self.password.expose())?;
+        self.check_password()?;
         Field::Places.check_number(self.rules.places)?;
         Field::Ports.check_number(self.rules.ports)?;
         Field::ServiceType.check_short(self.service_type)?;
         Field::FramedProtocol.check_short(self.framed_protocol)?;
         Field::SessionTimeout.check_short(self.session_timeout)?;
         Field::IdleTimeout.check_short(self.idle_timeout)
+    }
+
+    /// `BadValue` of a password that is wrong.
+    fn check_password(&self) -> Result<(), ConfigFault>
+        ensures { result_err result ≡ option_text_fault Field.Password self.now.password }
+    {
+        match &self.password {
+            Some(password) => Field::Password.check_text(password.expose()),
+            None => Ok(()),
+        }
     }
 
     /// `BadValue` of the first field with a wrong value, of its own times and the seconds between

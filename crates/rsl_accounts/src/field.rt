@@ -63,6 +63,8 @@ pub enum Field {
     Secret,
     /// Whether a client signs its requests with a Message-Authenticator.
     Signed,
+    /// Whether a client's requests may ask without a password.
+    Trusted,
     /// The User-Name of an account.
     Name,
     /// The password of an account.
@@ -107,6 +109,7 @@ impl Field {
             Field::Address => "address",
             Field::Secret => "secret",
             Field::Signed => "signed",
+            Field::Trusted => "trusted",
             Field::Name => "name",
             Field::Password => "password",
             Field::Places => "places",

@@ -20,7 +20,8 @@ use crate::rules::Rules;
 use crate::secret::Secret;
 use crate::settings::Settings;
 use crate::table::{
-    address, check_names, disabled, interim, number, own_time, secret, short_number, signed, text,
+    address, check_names, disabled, interim, number, own_time, password, secret, short_number,
+    signed, text, trusted,
 };
 use crate::text::Text;
 use std::alloc::Global;
@@ -72,9 +73,11 @@ fn client(alloc: Global, version: u64, table: &Value) -> Result<Client, ConfigFa
     check_names(alloc, version, Part::Client, table)?;
     let address = address(table)?;
     let secret = secret(version, table)?;
+    let signed = signed(version, table)?;
     Ok(Client {
         address,
-        signed: signed(version, table)?,
+        signed,
+        trusted: trusted(version, signed, table)?,
         secret: Secret::from_str(alloc, secret)?,
     })
 }
@@ -112,7 +115,7 @@ fn entry(alloc: Global, version: u64, table: &Value) -> Result<Entry, ConfigFaul
     check_names(alloc, version, Part::Account, table)?;
     // these are copied last, so that none is owned where a fault of another field leaves
     let name = text(table, Field::Name)?;
-    let password = text(table, Field::Password)?;
+    let password = password(version, table)?;
     Ok(Entry {
         rules: Rules::of_places(number(table, Field::Places)?, number(table, Field::Ports)?),
         service_type: short_number(table, Field::ServiceType)?,
@@ -124,7 +127,7 @@ fn entry(alloc: Global, version: u64, table: &Value) -> Result<Entry, ConfigFaul
         interim: interim(version, table)?,
         disabled: disabled(version, table)?,
         name: Text::from_str(alloc, name)?,
-        password: Secret::from_str(alloc, password)?,
+        password: Secret::from_option(alloc, password)?,
     })
 }
 

@@ -34,7 +34,7 @@ impl Part {
                 Field::Client,
                 Field::Account,
             ],
-            Part::Client => &[Field::Address, Field::Secret, Field::Signed],
+            Part::Client => &[Field::Address, Field::Secret, Field::Signed, Field::Trusted],
             Part::Account => &[
                 Field::Name,
                 Field::Password,

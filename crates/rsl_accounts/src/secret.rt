@@ -1,4 +1,4 @@
-ghost use Rattle.std.specs.Prelude.{◌≡◌, ◌≤◌, IfOk, IsOk, length, nat_eq};
+ghost use Rattle.std.specs.Prelude.{◌≡◌, ◌≤◌, IfOk, IsOk, length, nat_eq, option_copied};
 ghost use Rattle.std.specs.Str.{IsUtf8};
 ghost use Rattle.std.specs.Cmp.{partial_equiv_from_equiv};
 ghost use Rattle.std.specs.Cmp.Lexicographic.{pointwise, nat_list_eq_equiv};
@@ -34,6 +34,16 @@ impl Secret {
         Ok(Secret {
             text: Text::from_str(alloc, text)?,
         })
+    }
+
+    /// A secret with the octets of the text, if there is one. It fails only where memory is refused.
+    pub(crate) fn from_option(alloc: Global, text: Option<&str>) -> Result<Option<Secret>, NoMemory>
+        ensures { IfOk result (λ secret. secret ≡ option_copied text.entry) }
+    {
+        match text {
+            Some(text) => Ok(Some(Secret::from_str(alloc, text)?)),
+            None => Ok(None),
+        }
     }
 
     /// The octets of the secret, lent. They are UTF-8, as the type keeps.

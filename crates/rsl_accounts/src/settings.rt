@@ -3,6 +3,7 @@ ghost use Rattle.std.specs.Result.{result_err};
 ghost use Rattle.rsl_accounts.specs.Settings.{own_time};
 ghost use Rattle.rsl_accounts.specs.Version.{
   is_strict,
+  knows_ipv6,
   knows_own_times,
   least_secret,
   unsigned_rule,
@@ -128,6 +129,13 @@ pub(crate) fn is_strict(version: u64) -> bool
     ensures { result ≡ is_strict version }
 {
     version == STRICT_VERSION
+}
+
+/// Whether a NAS-IPv6-Address names an access server.
+pub(crate) fn knows_ipv6(version: u64) -> bool
+    ensures { result ≡ knows_ipv6 version }
+{
+    is_strict(version)
 }
 
 /// How requests without a Message-Authenticator are taken.

@@ -29,6 +29,8 @@ ghost use Rattle.rsl_accounts.specs.File.{
   tables_of,
   number_in,
   option_in,
+  option_text_in,
+  password_in,
   text_in,
   address_in,
   disabled_in,
@@ -36,6 +38,7 @@ ghost use Rattle.rsl_accounts.specs.File.{
   misspelled_in,
   secret_in,
   signed_in,
+  trusted_in,
   unknown_in,
   own_in,
   tables_in,
@@ -46,10 +49,13 @@ ghost use Rattle.rsl_accounts.specs.Walk.{
   interim_fault,
   secret_len_fault,
   text_fault,
+  option_text_fault,
   count_fault,
+  trust_fault,
 };
 
 use crate::address::address_of;
+use crate::client::check_trust;
 use crate::fault::ConfigFault;
 use crate::field::Field;
 use crate::part::Part;
@@ -188,6 +194,41 @@ pub(crate) fn text(table: &Value, field: Field) -> Result<&str, ConfigFault>
     }
 }
 
+/// The text of a field that may be left out, lent.
+#[tactic(auto, unfolding(crate::specs::File::option_text_in))]
+fn optional_text(table: &Value, field: Field) -> Result<Option<&str>, ConfigFault>
+    ensures ok { IfOk result (λ text.
+        option_text_in (view table.now) field ≡ Ok (option_copied text)) }
+    ensures fault { IfErr result (λ fault. option_text_in (view table.now) field ≡ Err fault) }
+    ensures right { IfOk result (λ text. option_text_fault field (option_copied text) ≡ None) }
+{
+    match member(table, field) {
+        Some(value) => match text_of(value, field) {
+            Some(text) => Ok(Some(text)),
+            None => Err(ConfigFault::BadValue(field)),
+        },
+        None => Ok(None),
+    }
+}
+
+/// The password of an account, lent, which version 3 lets it leave out.
+#[tactic(auto, unfolding(crate::specs::File::password_in))]
+pub(crate) fn password(version: u64, table: &Value) -> Result<Option<&str>, ConfigFault>
+    ensures ok { IfOk result (λ text.
+        password_in version (view table.now) ≡ Ok (option_copied text)) }
+    ensures fault { IfErr result (λ fault. password_in version (view table.now) ≡ Err fault) }
+    ensures right { IfOk result (λ text.
+        option_text_fault Field.Password (option_copied text) ≡ None) }
+{
+    if is_strict(version) {
+        return optional_text(table, Field::Password);
+    }
+    match text(table, Field::Password) {
+        Ok(text) => Ok(Some(text)),
+        Err(fault) => Err(fault),
+    }
+}
+
 /// The octets that a value spells, if it is the text of an address.
 fn address_value(value: &Value) -> Option<[u8; 4]>
     ensures { result ≡ address_value (view value.now) }
@@ -225,6 +266,24 @@ pub(crate) fn signed(version: u64, table: &Value) -> Result<bool, ConfigFault>
     ensures { result ≡ signed_in version (view table.now) }
 {
     flag(table, Field::Signed, is_strict(version))
+}
+
+/// Whether a client's requests may ask without a password, which only version 3 knows: `BadValue` of one
+/// that does not sign.
+#[tactic(auto, unfolding(crate::specs::File::trusted_in))]
+pub(crate) fn trusted(version: u64, signed: bool, table: &Value) -> Result<bool, ConfigFault>
+    ensures value { result ≡ trusted_in version signed (view table.now) }
+    ensures right { IfOk result (λ trusted. trust_fault signed trusted ≡ None) }
+{
+    if is_strict(version) {
+        let trusted = flag(table, Field::Trusted, false)?;
+        match check_trust(signed, trusted) {
+            Ok(()) => Ok(trusted),
+            Err(fault) => Err(fault),
+        }
+    } else {
+        Ok(false)
+    }
 }
 
 /// Whether an account's logins are rejected, which only version 3 knows.
