@@ -9,8 +9,8 @@ use Rattle.rsl_auth.specs.Authenticator.{is_accounting_authentic}
 use Rattle.rsl_wire.specs.Attributes.{Attribute, attribute_list, attributes_in, first_of, number_in}
 use Rattle.rsl_wire.specs.Packet.{Fields, packet_octets, packet_of}
 use Rattle.rsl_wire.specs.declared.packet.WireFault.{WireFault}
-use Rattle.rsl_event.specs.Request.{access_server_of, named_account, proxy_len, secret_of, account_password, is_disabled, text_of}
-use Rattle.rsl_event.specs.Access.{asks_once, if_shown, shows_password, asker, ask_or_reject, unless_dropped, request_meaning, access_by, access_meaning}
+use Rattle.rsl_event.specs.Request.{access_server_of, named_account, proxy_len, secret_of, account_password, is_disabled, is_trusted, text_of}
+use Rattle.rsl_event.specs.Access.{asks_once, if_let_in, is_let_in, asker, ask_or_reject, unless_dropped, request_meaning, access_by, access_meaning}
 use Rattle.rsl_event.specs.Signature.{must_sign, signature_drop}
 use Rattle.rsl_event.specs.Accounting.{note_of, session_act, session_meaning, if_session, by_status, status_meaning, if_status, accounting_by, accounting_meaning}
 use Rattle.rsl_event.specs.Meaning.{packet_meaning, if_client, if_packet, meaning}
@@ -75,9 +75,9 @@ some_of : (b : Bool) (x y : ℕ) → cond b (Some x) None ≡ Some y → x ≡ y
 some_of true x y e = cc
 some_of false x y e = absurd cc
 
-shown_is : (config : Configuration) (secret authenticator : List ℕ) (attributes : List Attribute) (found : Option ℕ) (account : ℕ) → option_and_then (if_shown config secret authenticator attributes) found ≡ Some account → found ≡ Some account
-shown_is config secret authenticator attributes None account e = absurd cc
-shown_is config secret authenticator attributes (Some other) account e = ap (λ (x : ℕ). Some x) (some_of (shows_password secret authenticator attributes (account_password config other) && not (is_disabled config other)) other account e)
+let_in_is : (config : Configuration) (client : ℕ) (authenticator : List ℕ) (attributes : List Attribute) (found : Option ℕ) (account : ℕ) → option_and_then (if_let_in config client authenticator attributes) found ≡ Some account → found ≡ Some account
+let_in_is config client authenticator attributes None account e = absurd cc
+let_in_is config client authenticator attributes (Some other) account e = ap (λ (x : ℕ). Some x) (some_of (is_let_in (is_trusted config client) (secret_of config client) authenticator attributes (account_password config other) && not (is_disabled config other)) other account e)
 
 asked_is : (b : Bool) (found : Option ℕ) (account : ℕ) → cond b found None ≡ Some account → found ≡ Some account
 asked_is true found account e = e
@@ -86,9 +86,8 @@ asked_is false found account e = absurd cc
 pub asker_within : (config : Configuration) (client : ℕ) (authenticator : List ℕ) (attributes : List Attribute) (account : ℕ) → asker config client authenticator attributes ≡ Some account → account < length config.accounts
 unfolding asker
 asker_within config client authenticator attributes account e =
-    let secret = secret_of config client in
-    let shown = asked_is (asks_once attributes) (option_and_then (if_shown config secret authenticator attributes) (named_account config attributes)) account e in
-    named_within config (first_of USER_NAME attributes) account (shown_is config secret authenticator attributes (named_account config attributes) account shown)
+    let shown = asked_is (asks_once (is_trusted config client) attributes) (option_and_then (if_let_in config client authenticator attributes) (named_account config attributes)) account e in
+    named_within config (first_of USER_NAME attributes) account (let_in_is config client authenticator attributes (named_account config attributes) account shown)
 
 -- ---- the Proxy-States
 
@@ -100,7 +99,7 @@ has_proxy_states octets attributes e short =
 -- ---- an Access-Request
 
 asked_meant : (config : Configuration) (source : Source) (client : ℕ) (fields : Fields) (attributes : List Attribute) (account : Option ℕ) → HasProxyStates fields.attributes
-    → asker config client fields.authenticator attributes ≡ account → IsMeant config fields.attributes (ask_or_reject source client fields attributes account)
+    → asker config client fields.authenticator attributes ≡ account → IsMeant config fields.attributes (ask_or_reject config source client fields attributes account)
 asked_meant config source client fields attributes None has e = record { account = tt; room = has; own = tt }
 asked_meant config source client fields attributes (Some account) has e = record { account = asker_within config client fields.authenticator attributes account e; room = has; own = tt }
 
@@ -112,9 +111,9 @@ access_by_meant config source client fields (Err at) m is e =
 access_by_meant config source client fields (Ok attributes) m is e =
     let account = asker config client fields.authenticator attributes in
     let signed = undropped (signature_drop config client fields attributes) (request_meaning config source client fields attributes) m e in
-    let p = passed (ltb 3900 (proxy_len attributes)) drops.ProxyTooLong (Ok (ask_or_reject source client fields attributes account)) m signed in
+    let p = passed (ltb 3900 (proxy_len attributes)) drops.ProxyTooLong (Ok (ask_or_reject config source client fields attributes account)) m signed in
     let has = has_proxy_states fields.attributes attributes is (ltb-false _ _ p.0) in
-    subst (IsMeant config fields.attributes) (ok_is (ask_or_reject source client fields attributes account) m p.1) (asked_meant config source client fields attributes account has refl)
+    subst (IsMeant config fields.attributes) (ok_is (ask_or_reject config source client fields attributes account) m p.1) (asked_meant config source client fields attributes account has refl)
 
 pub access_meant : (config : Configuration) (source : Source) (client : ℕ) (fields : Fields) (m : Meaning) → access_meaning config source client fields ≡ Ok m → IsMeant config fields.attributes m
 unfolding access_meaning
@@ -124,33 +123,33 @@ access_meant config source client fields m e =
 
 -- ---- an Accounting-Request
 
-session_own : (boot client : ℕ) (status : Status) (attributes : List Attribute) → IsOfOneAccount (session_act boot client status attributes)
-session_own boot client statuses.Start attributes = tt
-session_own boot client statuses.Stop attributes = tt
-session_own boot client statuses.InterimUpdate attributes = tt
-session_own boot client statuses.AccountingOn attributes = tt
-session_own boot client statuses.AccountingOff attributes = tt
+session_own : (config : Configuration) (boot client : ℕ) (status : Status) (attributes : List Attribute) → IsOfOneAccount (session_act config boot client status attributes)
+session_own config boot client statuses.Start attributes = tt
+session_own config boot client statuses.Stop attributes = tt
+session_own config boot client statuses.InterimUpdate attributes = tt
+session_own config boot client statuses.AccountingOn attributes = tt
+session_own config boot client statuses.AccountingOff attributes = tt
 
 session_meant : (config : Configuration) (boot client : ℕ) (status : Status) (octets : List ℕ) (attributes : List Attribute) (account : Option ℕ) → HasProxyStates octets → named_account config attributes ≡ account
-    → IsMeant config octets (session_meaning boot client status attributes account)
+    → IsMeant config octets (session_meaning config boot client status attributes account)
 session_meant config boot client status octets attributes None has e = record { account = tt; room = has; own = tt }
-session_meant config boot client status octets attributes (Some account) has e = record { account = named_within config (first_of USER_NAME attributes) account e; room = has; own = session_own boot client status attributes }
+session_meant config boot client status octets attributes (Some account) has e = record { account = named_within config (first_of USER_NAME attributes) account e; room = has; own = session_own config boot client status attributes }
 
 if_session_meant : (config : Configuration) (boot client : ℕ) (status : Status) (octets : List ℕ) (attributes : List Attribute) (m : Meaning) → HasProxyStates octets
     → if_session config boot client status attributes ≡ Ok m → IsMeant config octets m
 if_session_meant config boot client status octets attributes m has e =
-    let meant = session_meaning boot client status attributes (named_account config attributes) in
+    let meant = session_meaning config boot client status attributes (named_account config attributes) in
     let p = passed (length (text_of ACCT_SESSION_ID attributes) == 0) drops.NoSession (done meant) m e in
     subst (IsMeant config octets) (ok_is meant m p.1) (session_meant config boot client status octets attributes (named_account config attributes) has refl)
 
 by_status_meant : (config : Configuration) (boot client number : ℕ) (octets : List ℕ) (attributes : List Attribute) (status : Option Status) (m : Meaning) → HasProxyStates octets
     → by_status config boot client number attributes status ≡ Ok m → IsMeant config octets m
-by_status_meant config boot client number octets attributes (Some statuses.AccountingOn) m has e = subst (IsMeant config octets) (ok_is (Restart (access_server_of client attributes)) m e) (record { account = tt; room = has; own = tt })
-by_status_meant config boot client number octets attributes (Some statuses.AccountingOff) m has e = subst (IsMeant config octets) (ok_is (Restart (access_server_of client attributes)) m e) (record { account = tt; room = has; own = tt })
+by_status_meant config boot client number octets attributes (Some statuses.AccountingOn) m has e = subst (IsMeant config octets) (ok_is (Restart (access_server_of config client attributes)) m e) (record { account = tt; room = has; own = tt })
+by_status_meant config boot client number octets attributes (Some statuses.AccountingOff) m has e = subst (IsMeant config octets) (ok_is (Restart (access_server_of config client attributes)) m e) (record { account = tt; room = has; own = tt })
 by_status_meant config boot client number octets attributes (Some statuses.Start) m has e = if_session_meant config boot client statuses.Start octets attributes m has e
 by_status_meant config boot client number octets attributes (Some statuses.Stop) m has e = if_session_meant config boot client statuses.Stop octets attributes m has e
 by_status_meant config boot client number octets attributes (Some statuses.InterimUpdate) m has e = if_session_meant config boot client statuses.InterimUpdate octets attributes m has e
-by_status_meant config boot client number octets attributes None m has e = subst (IsMeant config octets) (ok_is (Stray (note_of client number attributes)) m e) (record { account = tt; room = has; own = tt })
+by_status_meant config boot client number octets attributes None m has e = subst (IsMeant config octets) (ok_is (Stray (note_of config client number attributes)) m e) (record { account = tt; room = has; own = tt })
 
 status_meant : (config : Configuration) (boot client number : ℕ) (octets : List ℕ) (attributes : List Attribute) (m : Meaning) → HasProxyStates octets
     → status_meaning config boot client number attributes ≡ Ok m → IsMeant config octets m

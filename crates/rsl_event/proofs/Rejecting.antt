@@ -1,13 +1,13 @@
 -- A request that is understood has a cause exactly where it is rejected.
 use Rattle.std.proofs.Common.{◌≡◌, ℕ, Bool, true, false, not, cond, List, refl, subst, sym}
-use Rattle.std.specs.Prelude.{◌+◌, ◌==◌, ◌&&◌, nat_le, nat_lt, option_and_then, Option, Some, None, Result, Ok, Err}
+use Rattle.std.specs.Prelude.{◌==◌, ◌&&◌, ◌||◌, nat_le, nat_lt, option_and_then, Option, Some, None, Result, Ok, Err}
 use Rattle.std.specs.Option.{option_or}
 use Rattle.rsl_accounts.specs.Configuration.{Configuration, client_number}
-use Rattle.rsl_event.specs.Access.{access_by, access_meaning, ask_or_reject, asker, if_shown, shows_password, unless_dropped}
+use Rattle.rsl_event.specs.Access.{access_by, access_meaning, ask_or_reject, asker, has_one_password, if_let_in, is_vouched, shows_own, shows_password, unless_dropped}
 use Rattle.rsl_event.specs.Meaning.{if_client, if_packet, meaning}
-use Rattle.rsl_event.specs.Request.{account_password, is_disabled, attribute_count, named_account, proxy_len, secret_of}
+use Rattle.rsl_event.specs.Request.{account_password, is_disabled, is_trusted, attribute_count, named_account, proxy_len, secret_of}
 use Rattle.rsl_event.specs.Signature.{must_sign, signature_drop}
-use Rattle.rsl_event.specs.declared.codes.TheConstants.{ACCESS_REQUEST, USER_NAME, USER_PASSWORD, CHAP_PASSWORD, CHAP_CHALLENGE, MAX_PROXY_STATE_LEN}
+use Rattle.rsl_event.specs.declared.codes.TheConstants.{ACCESS_REQUEST, USER_NAME, CHAP_CHALLENGE, MAX_PROXY_STATE_LEN}
 use Rattle.rsl_event.specs.declared.event.Source.{Source}
 use Rattle.rsl_event.specs.declared.meaning.Dropped.{Dropped}
 use Rattle.rsl_event.specs.declared.meaning.Dropped.TheVariants as drops
@@ -19,50 +19,59 @@ use Rattle.rsl_wire.specs.Packet.{Fields, packet_of}
 use Rattle.rsl_wire.specs.declared.packet.WireFault.{WireFault}
 use Rattle.rsl_wire.specs.declared.packet.WireFault.TheVariants as wire
 use Rattle.rsl_event.specs.Detail as details
-use Rattle.rsl_event.specs.Cause.{asker_cause, cause_by, request_cause}
+use Rattle.rsl_event.specs.Cause.{asker_cause, cause_by, disabled_cause, password_cause, request_cause}
 use Rattle.rsl_event.specs.Detail.{detail_by, detail_of}
 use Rattle.rsl_event.specs.Laws.{IsCauseOf, cause_in}
 use Rattle.rsl_event.specs.declared.detail.RejectCause.{RejectCause}
-use Rattle.rsl_event.specs.declared.detail.RejectCause.TheVariants.{Malformed, NotOneName, NotOnePassword, SeveralChallenges, UnknownAccount, WrongPassword, DisabledAccount}
+use Rattle.rsl_event.specs.declared.detail.RejectCause.TheVariants.{Malformed, NotOneName, NotOnePassword, SeveralChallenges, UnknownAccount, NoPassword, WrongPassword, DisabledAccount}
 
--- by whether the password is shown, and the account disabled
-shown : (b d : Bool) (source : Source) (client : ℕ) (fields : Fields) (attributes : List Attribute) (account : ℕ)
-    → IsCauseOf (ask_or_reject source client fields attributes (cond (b && not d) (Some account) None))
-    (cond b (cond d (Some DisabledAccount) None) (Some WrongPassword))
-shown true false source client fields attributes account = refl
-shown true true source client fields attributes account = λ (e : DisabledAccount ≡ Malformed). cc
-shown false d source client fields attributes account = λ (e : WrongPassword ≡ Malformed). cc
+-- by whether the client vouches, whether the account has a password that is shown, and whether it is disabled
+let_in : (v d : Bool) (config : Configuration) (source : Source) (client : ℕ) (fields : Fields) (attributes : List Attribute) (account : ℕ) (password : Option (List ℕ))
+    → IsCauseOf (ask_or_reject config source client fields attributes
+    (cond ((v || shows_own (secret_of config client) fields.authenticator attributes password) && not d) (Some account) None))
+    (option_or (cond v None (password_cause (secret_of config client) fields.authenticator attributes password)) (disabled_cause d))
+let_in true false config source client fields attributes account password = refl
+let_in true true config source client fields attributes account password = λ (e : DisabledAccount ≡ Malformed). cc
+let_in false d config source client fields attributes account None = λ (e : NoPassword ≡ Malformed). cc
+let_in false d config source client fields attributes account (Some password) =
+    by (shows_password (secret_of config client) fields.authenticator attributes password) d
+  where
+    by : (s d : Bool) → IsCauseOf (ask_or_reject config source client fields attributes (cond (s && not d) (Some account) None))
+        (option_or (cond s None (Some WrongPassword)) (disabled_cause d))
+    by true false = refl
+    by true true = λ (e : DisabledAccount ≡ Malformed). cc
+    by false d = λ (e : WrongPassword ≡ Malformed). cc
 
 -- by the account that is named
 asked : (config : Configuration) (source : Source) (client : ℕ) (fields : Fields) (attributes : List Attribute) (named : Option ℕ)
-    → IsCauseOf (ask_or_reject source client fields attributes (option_and_then (if_shown config (secret_of config client) fields.authenticator attributes) named))
+    → IsCauseOf (ask_or_reject config source client fields attributes (option_and_then (if_let_in config client fields.authenticator attributes) named))
     (asker_cause config client fields.authenticator attributes named)
 asked config source client fields attributes None = λ (e : UnknownAccount ≡ Malformed). cc
 asked config source client fields attributes (Some account) =
-    shown (shows_password (secret_of config client) fields.authenticator attributes (account_password config account))
-    (is_disabled config account) source client fields attributes account
+    let_in (is_vouched (is_trusted config client) attributes) (is_disabled config account) config source client fields attributes account
+    (account_password config account)
 
 -- by how often each attribute stands there
-counted : (a b c : Bool) (source : Source) (client : ℕ) (fields : Fields) (attributes : List Attribute)
+counted : (a b c : Bool) (config : Configuration) (source : Source) (client : ℕ) (fields : Fields) (attributes : List Attribute)
     (account : Option ℕ) (cause : Option RejectCause)
-    → IsCauseOf (ask_or_reject source client fields attributes account) cause
-    → IsCauseOf (ask_or_reject source client fields attributes (cond (a && b && c) account None))
+    → IsCauseOf (ask_or_reject config source client fields attributes account) cause
+    → IsCauseOf (ask_or_reject config source client fields attributes (cond (a && b && c) account None))
     (option_or (cond a (cond b (cond c None (Some SeveralChallenges)) (Some NotOnePassword)) (Some NotOneName)) cause)
-counted true true true source client fields attributes account cause holds = holds
-counted true true false source client fields attributes account cause holds = λ (e : SeveralChallenges ≡ Malformed). cc
-counted true false c source client fields attributes account cause holds = λ (e : NotOnePassword ≡ Malformed). cc
-counted false b c source client fields attributes account cause holds = λ (e : NotOneName ≡ Malformed). cc
+counted true true true config source client fields attributes account cause holds = holds
+counted true true false config source client fields attributes account cause holds = λ (e : SeveralChallenges ≡ Malformed). cc
+counted true false c config source client fields attributes account cause holds = λ (e : NotOnePassword ≡ Malformed). cc
+counted false b c config source client fields attributes account cause holds = λ (e : NotOneName ≡ Malformed). cc
 
 -- a well-formed request that is not dropped
 ask_cause : (config : Configuration) (source : Source) (client : ℕ) (fields : Fields) (attributes : List Attribute)
-    → IsCauseOf (ask_or_reject source client fields attributes (asker config client fields.authenticator attributes))
+    → IsCauseOf (ask_or_reject config source client fields attributes (asker config client fields.authenticator attributes))
     (cause_by config client fields.authenticator (Ok attributes))
 unfolding asker
 ask_cause config source client fields attributes =
     counted (attribute_count USER_NAME attributes == 1)
-    (attribute_count USER_PASSWORD attributes + attribute_count CHAP_PASSWORD attributes == 1)
-    (nat_le (attribute_count CHAP_CHALLENGE attributes) 1) source client fields attributes
-    (option_and_then (if_shown config (secret_of config client) fields.authenticator attributes) (named_account config attributes))
+    (has_one_password attributes || is_vouched (is_trusted config client) attributes)
+    (nat_le (attribute_count CHAP_CHALLENGE attributes) 1) config source client fields attributes
+    (option_and_then (if_let_in config client fields.authenticator attributes) (named_account config attributes))
     (asker_cause config client fields.authenticator attributes (named_account config attributes))
     (asked config source client fields attributes (named_account config attributes))
 
@@ -88,7 +97,7 @@ listed config source client fields (Err at) meant is =
     given (must_sign config client) drops.Unsigned Bare meant (Some Malformed) is refl
 listed config source client fields (Ok attributes) meant is =
     undropped (signature_drop config client fields attributes) (nat_lt MAX_PROXY_STATE_LEN (proxy_len attributes)) drops.ProxyTooLong
-    (ask_or_reject source client fields attributes (asker config client fields.authenticator attributes)) meant
+    (ask_or_reject config source client fields attributes (asker config client fields.authenticator attributes)) meant
     (cause_by config client fields.authenticator (Ok attributes)) is (ask_cause config source client fields attributes)
 
 -- by the Code

@@ -1,11 +1,11 @@
 -- What an Access-Request means (RFC 2865 section 4.1).
-use Rattle.std.specs.Prelude.{ℕ, ◌+◌, ◌==◌, ◌&&◌, nat_le, nat_lt, Bool, false, not, List, unwrap_or, option_and_then, if◌then◌else◌, Option, Some, None, Result, Ok, Err}
+use Rattle.std.specs.Prelude.{ℕ, ◌+◌, ◌==◌, ◌&&◌, ◌||◌, nat_le, nat_lt, Bool, false, not, List, unwrap_or, is_some, option_and_then, if◌then◌else◌, Option, Some, None, Result, Ok, Err}
 use Rattle.rsl_accounts.specs.Configuration.{Configuration}
 use Rattle.rsl_auth.specs.Chap.{matches_chap}
 use Rattle.rsl_auth.specs.Password.{matches_password}
 use Rattle.rsl_wire.specs.Attributes.{Attribute, first_of, attribute_list}
 use Rattle.rsl_wire.specs.Packet.{Fields}
-use Rattle.rsl_event.specs.Request.{attribute_count, access_server_of, named_account, proxy_len, secret_of, account_password, is_disabled}
+use Rattle.rsl_event.specs.Request.{attribute_count, access_server_of, named_account, proxy_len, secret_of, account_password, is_disabled, is_trusted}
 use Rattle.rsl_event.specs.Signature.{must_sign, signature_drop}
 use Rattle.rsl_event.specs.declared.event.Source.{Source}
 use Rattle.rsl_event.specs.declared.event.Act.TheVariants.{Ask}
@@ -13,13 +13,32 @@ use Rattle.rsl_event.specs.declared.meaning.Meaning.{Meaning}
 use Rattle.rsl_event.specs.declared.meaning.Meaning.TheVariants.{Bare, Reject, Own}
 use Rattle.rsl_event.specs.declared.meaning.Dropped.{Dropped}
 use Rattle.rsl_event.specs.declared.meaning.Dropped.TheVariants.{WrongCode, ProxyTooLong, Unsigned}
-use Rattle.rsl_event.specs.declared.codes.TheConstants.{ACCESS_REQUEST, USER_NAME, USER_PASSWORD, CHAP_PASSWORD, CHAP_CHALLENGE, MAX_PROXY_STATE_LEN}
+use Rattle.rsl_event.specs.declared.codes.TheConstants.{ACCESS_REQUEST, USER_NAME, USER_PASSWORD, CHAP_PASSWORD, CHAP_CHALLENGE, EAP_MESSAGE, MAX_PROXY_STATE_LEN}
 
--- exactly one User-Name, exactly one password, of either kind, and at most one CHAP-Challenge
-abbrev pub asks_once : List Attribute → Bool
-asks_once attributes =
+-- whether there is an EAP-Message (RFC 3579 section 3.1)
+abbrev pub has_eap_message : List Attribute → Bool
+has_eap_message attributes = is_some (first_of EAP_MESSAGE attributes)
+
+-- A trusted client vouches for a request that has nothing to check: no password of either kind, and no
+-- EAP-Message.
+abbrev pub is_vouched : (trusted : Bool) → List Attribute → Bool
+is_vouched trusted attributes =
+    trusted
+    && attribute_count USER_PASSWORD attributes == 0
+    && attribute_count CHAP_PASSWORD attributes == 0
+    && not (has_eap_message attributes)
+
+-- exactly one password, of either kind
+abbrev pub has_one_password : List Attribute → Bool
+has_one_password attributes =
+    attribute_count USER_PASSWORD attributes + attribute_count CHAP_PASSWORD attributes == 1
+
+-- exactly one User-Name, exactly one password unless the client vouches, and at most one
+-- CHAP-Challenge
+abbrev pub asks_once : (trusted : Bool) → List Attribute → Bool
+asks_once trusted attributes =
     attribute_count USER_NAME attributes == 1
-    && attribute_count USER_PASSWORD attributes + attribute_count CHAP_PASSWORD attributes == 1
+    && (has_one_password attributes || is_vouched trusted attributes)
     && nat_le (attribute_count CHAP_CHALLENGE attributes) 1
 
 -- the CHAP challenge: the CHAP-Challenge where there is one, else the Request Authenticator (RFC
@@ -43,32 +62,46 @@ shows_password secret authenticator attributes password =
     shows secret authenticator (challenge_of authenticator attributes) password
     (first_of USER_PASSWORD attributes) (first_of CHAP_PASSWORD attributes)
 
--- the account, if its password is shown and it is not disabled
-abbrev pub if_shown : Configuration → (secret authenticator : List ℕ) → List Attribute
+-- the same of the password that an account has or has not
+abbrev pub shows_own : (secret authenticator : List ℕ) → List Attribute
+    → (password : Option (List ℕ)) → Bool
+shows_own secret authenticator attributes None = false
+shows_own secret authenticator attributes (Some password) =
+    shows_password secret authenticator attributes password
+
+-- the client vouches, or the account's password is shown
+abbrev pub is_let_in : (trusted : Bool) (secret authenticator : List ℕ) → List Attribute
+    → (password : Option (List ℕ)) → Bool
+is_let_in trusted secret authenticator attributes password =
+    is_vouched trusted attributes || shows_own secret authenticator attributes password
+
+-- the account, if the login is let in and the account is not disabled
+abbrev pub if_let_in : Configuration → (client : ℕ) → (authenticator : List ℕ) → List Attribute
     → (account : ℕ) → Option ℕ
-if_shown config secret authenticator attributes account =
-    if shows_password secret authenticator attributes (account_password config account)
+if_let_in config client authenticator attributes account =
+    if is_let_in (is_trusted config client) (secret_of config client) authenticator attributes
+    (account_password config account)
     && not (is_disabled config account)
     then Some account
     else None
 
--- the account that the request asks for, with its password
+-- the account that the request asks for, with its password or by a client that vouches
 unfoldable pub asker : Configuration → (client : ℕ) → (authenticator : List ℕ) → List Attribute
     → Option ℕ
 asker config client authenticator attributes =
-    if asks_once attributes
-    then option_and_then (if_shown config (secret_of config client) authenticator attributes)
+    if asks_once (is_trusted config client) attributes
+    then option_and_then (if_let_in config client authenticator attributes)
     (named_account config attributes)
     else None
 
 -- an ask of that account, or a reject
-abbrev pub ask_or_reject : Source → (client : ℕ) → Fields → List Attribute → (account : Option ℕ)
-    → Meaning
-ask_or_reject source client fields attributes None = Reject
-ask_or_reject source client fields attributes (Some account) =
+abbrev pub ask_or_reject : Configuration → Source → (client : ℕ) → Fields → List Attribute
+    → (account : Option ℕ) → Meaning
+ask_or_reject config source client fields attributes None = Reject
+ask_or_reject config source client fields attributes (Some account) =
     Own account
     (Ask (record { source = source; id = fields.id; authenticator = fields.authenticator })
-    (access_server_of client attributes))
+    (access_server_of config client attributes))
 
 -- by the cause to drop the request, if there is one
 abbrev pub unless_dropped : Option Dropped → Result Meaning Dropped → Result Meaning Dropped
@@ -80,7 +113,7 @@ abbrev pub request_meaning : Configuration → Source → (client : ℕ) → Fie
     → Result Meaning Dropped
 request_meaning config source client fields attributes =
     if nat_lt MAX_PROXY_STATE_LEN (proxy_len attributes) then Err ProxyTooLong
-    else Ok (ask_or_reject source client fields attributes
+    else Ok (ask_or_reject config source client fields attributes
     (asker config client fields.authenticator attributes))
 
 -- by the attributes, or the fault in their list: a malformed list has no Message-Authenticator

@@ -42,48 +42,49 @@ unless_empty (Some []) = None
 unless_empty (Some (octet ∷ id)) = Some (octet ∷ id)
 
 -- what is noted of a packet
-abbrev pub note_of : (client number : ℕ) → List Attribute → Note
-note_of client number attributes = record {
-  nas = access_server_of client attributes;
+abbrev pub note_of : Configuration → (client number : ℕ) → List Attribute → Note
+note_of config client number attributes = record {
+  nas = access_server_of config client attributes;
   status = number;
   name = text_of USER_NAME attributes;
   session = text_of ACCT_SESSION_ID attributes;
 }
 
 -- the session of a packet of this status has ended, or goes on
-abbrev pub session_act : (boot client : ℕ) → Status → List Attribute → Act
-session_act boot client statuses.Stop attributes =
-    Stop (access_server_of client attributes) (text_of ACCT_SESSION_ID attributes)
-session_act boot client _ attributes =
-    Alive (access_server_of client attributes) (text_of ACCT_SESSION_ID attributes)
+abbrev pub session_act : Configuration → (boot client : ℕ) → Status → List Attribute → Act
+session_act config boot client statuses.Stop attributes =
+    Stop (access_server_of config client attributes) (text_of ACCT_SESSION_ID attributes)
+session_act config boot client _ attributes =
+    Alive (access_server_of config client attributes) (text_of ACCT_SESSION_ID attributes)
     (unless_empty (first_of ACCT_MULTI_SESSION_ID attributes)) (class_in boot attributes)
 
 -- that is the act of the account that the packet names, if there is one
-abbrev pub session_meaning : (boot client : ℕ) → Status → List Attribute → (account : Option ℕ)
-    → Meaning
-session_meaning boot client status attributes None =
-    Stray (note_of client (status_number status) attributes)
-session_meaning boot client status attributes (Some account) =
-    Own account (session_act boot client status attributes)
+abbrev pub session_meaning : Configuration → (boot client : ℕ) → Status → List Attribute
+    → (account : Option ℕ) → Meaning
+session_meaning config boot client status attributes None =
+    Stray (note_of config client (status_number status) attributes)
+session_meaning config boot client status attributes (Some account) =
+    Own account (session_act config boot client status attributes)
 
 -- a session's packet names the session
 abbrev pub if_session : Configuration → (boot client : ℕ) → Status → List Attribute
     → Result Meaning Dropped
 if_session config boot client status attributes =
     if length (text_of ACCT_SESSION_ID attributes) == 0 then Err NoSession
-    else Ok (session_meaning boot client status attributes (named_account config attributes))
+    else Ok (session_meaning config boot client status attributes (named_account config attributes))
 
 -- by the status that has this number, if there is one: at Accounting-On and Accounting-Off the
 -- access server has restarted, and the others are of a session
 abbrev pub by_status : Configuration → (boot client number : ℕ) → List Attribute → Option Status
     → Result Meaning Dropped
 by_status config boot client number attributes (Some statuses.AccountingOn) =
-    Ok (Restart (access_server_of client attributes))
+    Ok (Restart (access_server_of config client attributes))
 by_status config boot client number attributes (Some statuses.AccountingOff) =
-    Ok (Restart (access_server_of client attributes))
+    Ok (Restart (access_server_of config client attributes))
 by_status config boot client number attributes (Some status) =
     if_session config boot client status attributes
-by_status config boot client number attributes None = Ok (Stray (note_of client number attributes))
+by_status config boot client number attributes None =
+    Ok (Stray (note_of config client number attributes))
 
 -- by the number of the status
 unfoldable pub status_meaning : Configuration → (boot client number : ℕ) → List Attribute

@@ -1,42 +1,59 @@
 -- Why an Access-Request is rejected, whatever the books hold: the first condition of an ask that it
 -- does not meet (RFC 2865 section 4.1).
-use Rattle.std.specs.Prelude.{◌≡◌, ℕ, ◌+◌, ◌==◌, nat_le, List, if◌then◌else◌, Option, Some, None, Result, Ok, Err}
+use Rattle.std.specs.Prelude.{◌≡◌, ℕ, ◌==◌, ◌||◌, nat_le, Bool, List, if◌then◌else◌, Option, Some, None, Result, Ok, Err}
 use Rattle.std.specs.Option.{option_or}
 use Rattle.rsl_accounts.specs.Configuration.{Configuration}
 use Rattle.rsl_wire.specs.Attributes.{Attribute, attribute_list}
 use Rattle.rsl_wire.specs.Packet.{Fields}
-use Rattle.rsl_event.specs.Access.{shows_password}
-use Rattle.rsl_event.specs.Request.{account_password, is_disabled, attribute_count, named_account, secret_of}
-use Rattle.rsl_event.specs.declared.codes.TheConstants.{USER_NAME, USER_PASSWORD, CHAP_PASSWORD, CHAP_CHALLENGE}
+use Rattle.rsl_event.specs.Access.{has_one_password, is_vouched, shows_password}
+use Rattle.rsl_event.specs.Request.{account_password, is_disabled, is_trusted, attribute_count, named_account, secret_of}
+use Rattle.rsl_event.specs.declared.codes.TheConstants.{USER_NAME, CHAP_CHALLENGE}
 use Rattle.rsl_event.specs.declared.detail.RejectCause.{RejectCause}
-use Rattle.rsl_event.specs.declared.detail.RejectCause.TheVariants.{Malformed, NotOneName, NotOnePassword, SeveralChallenges, UnknownAccount, WrongPassword, DisabledAccount}
+use Rattle.rsl_event.specs.declared.detail.RejectCause.TheVariants.{Malformed, NotOneName, NotOnePassword, SeveralChallenges, UnknownAccount, NoPassword, WrongPassword, DisabledAccount}
 
--- one User-Name, one password of either kind, at most one CHAP-Challenge: the first of these that is
--- not so
-abbrev pub count_cause : List Attribute → Option RejectCause
-count_cause attributes =
+-- one User-Name, one password of either kind unless the client vouches, at most one CHAP-Challenge: the
+-- first of these that is not so
+abbrev pub count_cause : (trusted : Bool) → List Attribute → Option RejectCause
+count_cause trusted attributes =
     if attribute_count USER_NAME attributes == 1
-    then (if attribute_count USER_PASSWORD attributes + attribute_count CHAP_PASSWORD attributes == 1
+    then (if has_one_password attributes || is_vouched trusted attributes
     then (if nat_le (attribute_count CHAP_CHALLENGE attributes) 1 then None
     else Some SeveralChallenges)
     else Some NotOnePassword)
     else Some NotOneName
 
--- there is an account of the name, its password is shown, and it is not disabled
+-- the account has a password, and it is shown
+abbrev pub password_cause : (secret authenticator : List ℕ) → List Attribute
+    → (password : Option (List ℕ)) → Option RejectCause
+password_cause secret authenticator attributes None = Some NoPassword
+password_cause secret authenticator attributes (Some password) =
+    if shows_password secret authenticator attributes password then None else Some WrongPassword
+
+-- unless the client vouches
+abbrev pub login_cause : (trusted : Bool) (secret authenticator : List ℕ) → List Attribute
+    → (password : Option (List ℕ)) → Option RejectCause
+login_cause trusted secret authenticator attributes password =
+    if is_vouched trusted attributes then None
+    else password_cause secret authenticator attributes password
+
+abbrev pub disabled_cause : (is_disabled : Bool) → Option RejectCause
+disabled_cause is_disabled = if is_disabled then Some DisabledAccount else None
+
+-- there is an account of the name, the login is let in, and the account is not disabled
 abbrev pub asker_cause : Configuration → (client : ℕ) → (authenticator : List ℕ) → List Attribute
     → (account : Option ℕ) → Option RejectCause
 asker_cause config client authenticator attributes None = Some UnknownAccount
 asker_cause config client authenticator attributes (Some account) =
-    if shows_password (secret_of config client) authenticator attributes
-    (account_password config account)
-    then (if is_disabled config account then Some DisabledAccount else None)
-    else Some WrongPassword
+    option_or
+    (login_cause (is_trusted config client) (secret_of config client) authenticator attributes
+    (account_password config account))
+    (disabled_cause (is_disabled config account))
 
 -- by the attributes
 abbrev pub listed_cause : Configuration → (client : ℕ) → (authenticator : List ℕ) → List Attribute
     → Option RejectCause
 listed_cause config client authenticator attributes =
-    option_or (count_cause attributes)
+    option_or (count_cause (is_trusted config client) attributes)
     (asker_cause config client authenticator attributes (named_account config attributes))
 
 -- by the attributes, or the fault in their list

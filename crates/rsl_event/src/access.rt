@@ -1,7 +1,7 @@
-ghost use Rattle.std.specs.Prelude.{◌≡◌, ◌<◌, IfOk, length};
+ghost use Rattle.std.specs.Prelude.{◌≡◌, ◌<◌, IfOk, is_none, length};
 ghost use Rattle.rsl_wire.specs.Seen.{fields_of};
-ghost use Rattle.rsl_event.specs.Access.{shows_password, asker, access_meaning};
-ghost use Rattle.rsl_event.specs.Cause.{IsAsker, listed_cause, request_cause};
+ghost use Rattle.rsl_event.specs.Access.{shows_password, is_let_in, asker, access_meaning};
+ghost use Rattle.rsl_event.specs.Cause.{IsAsker, listed_cause, login_cause, request_cause};
 ghost use Rattle.rsl_event.specs.Detail.{GivesDetailed, detail_by};
 
 use crate::access_attributes::AccessAttributes;
@@ -9,9 +9,9 @@ use crate::codes::ACCESS_REQUEST;
 use crate::detail::{Detail, RejectCause};
 use crate::event::{Act, Key, Source};
 use crate::meaning::{Dropped, Meaning};
-use crate::request::{access_server, account_named};
+use crate::request::account_named;
 use crate::signature::signature_drop;
-use rsl_accounts::Config;
+use rsl_accounts::{Client, Config, Secret};
 use rsl_auth::{chap_ok, pap_ok};
 use rsl_wire::Packet;
 use std::alloc::Global;
@@ -57,12 +57,7 @@ pub(crate) fn access_meaning(
         id: packet.id,
         authenticator: packet.authenticator,
     };
-    let nas = access_server(
-        alloc,
-        client,
-        attributes.identifiers.first,
-        attributes.addresses.first,
-    )?;
+    let nas = attributes.access_server(alloc, config, client)?;
     let meaning = Meaning::Own {
         account,
         act: Act::Ask { key, nas },
@@ -70,7 +65,8 @@ pub(crate) fn access_meaning(
     Ok((meaning, Detail::Asks))
 }
 
-/// The account that a request asks for, with its password, or why it is rejected.
+/// The account that a request asks for, with its password or by a client that vouches, or why it is
+/// rejected.
 #[tactic(auto, unfolding(crate::specs::Access::asker))]
 fn asker(
     config: &Config,
@@ -84,21 +80,48 @@ fn asker(
         (listed_cause config.now client authenticator.now attributes.now.all) }
     ensures within { IfOk result (λ account. account < length config.now.accounts) }
 {
-    if let Some(cause) = attributes.count_cause() {
+    let client = config.client_at(client);
+    if let Some(cause) = attributes.count_cause(client) {
         return Err(cause);
     }
     let Some(account) = account_named(config, attributes.names.first) else {
         return Err(RejectCause::UnknownAccount);
     };
-    let secret = config.client_at(client).secret.expose();
     let entry = config.entry(account);
-    if !shows_password(secret, authenticator, attributes, entry.password.expose()) {
-        return Err(RejectCause::WrongPassword);
+    if let Some(cause) = login_cause(client, authenticator, attributes, &entry.password) {
+        return Err(cause);
     }
     if entry.disabled {
         return Err(RejectCause::DisabledAccount);
     }
     Ok(account)
+}
+
+/// Why the login of an account with this password is not let in, if it is not: unless the client vouches,
+/// there has to be a password, and the request has to show it.
+fn login_cause(
+    client: &Client,
+    authenticator: &[u8; 16],
+    attributes: &AccessAttributes<'_>,
+    password: &Option<Secret>,
+) -> Option<RejectCause>
+    ensures cause { result ≡ login_cause client.now.trusted client.now.secret
+        authenticator.now attributes.now.all password.now }
+    ensures let_in { is_none result ≡ is_let_in client.now.trusted client.now.secret
+        authenticator.now attributes.now.all password.now }
+{
+    if attributes.is_vouched(client) {
+        return None;
+    }
+    let Some(password) = password else {
+        return Some(RejectCause::NoPassword);
+    };
+    let secret = client.secret.expose();
+    if shows_password(secret, authenticator, attributes, password.expose()) {
+        None
+    } else {
+        Some(RejectCause::WrongPassword)
+    }
 }
 
 /// Whether the User-Password or the CHAP-Password is right for this password.

@@ -1,8 +1,10 @@
-ghost use Rattle.std.specs.Prelude.{◌≡◌, is_none, nat_lt};
-ghost use Rattle.rsl_event.specs.Access.{asks_once};
+ghost use Rattle.std.specs.Prelude.{◌≡◌, IfOk, OnErr, is_none, nat_lt};
+ghost use Rattle.rsl_wire.specs.Attributes.{first_of};
+ghost use Rattle.rsl_event.specs.Access.{asks_once, has_eap_message, has_one_password, is_vouched};
 ghost use Rattle.rsl_event.specs.Cause.{count_cause};
-ghost use Rattle.rsl_event.specs.Occurrences.{AreOf};
-ghost use Rattle.rsl_event.specs.Request.{proxy_len};
+ghost use Rattle.rsl_event.specs.Copied.{IsNamed};
+ghost use Rattle.rsl_event.specs.Occurrences.{AreOf, value_of};
+ghost use Rattle.rsl_event.specs.Request.{access_server_of, nas_address, proxy_len};
 ghost use Rattle.rsl_event.specs.declared.codes.TheConstants.{
   USER_NAME,
   USER_PASSWORD,
@@ -10,19 +12,23 @@ ghost use Rattle.rsl_event.specs.declared.codes.TheConstants.{
   CHAP_CHALLENGE,
   NAS_IDENTIFIER,
   NAS_IP_ADDRESS,
+  NAS_IPV6_ADDRESS,
   PROXY_STATE,
   MESSAGE_AUTHENTICATOR,
   MAX_PROXY_STATE_LEN,
 };
 
 use crate::codes::{
-    CHAP_CHALLENGE, CHAP_PASSWORD, MESSAGE_AUTHENTICATOR, NAS_IDENTIFIER, NAS_IP_ADDRESS,
-    PROXY_STATE, USER_NAME, USER_PASSWORD,
+    CHAP_CHALLENGE, CHAP_PASSWORD, EAP_MESSAGE, MESSAGE_AUTHENTICATOR, NAS_IDENTIFIER,
+    NAS_IP_ADDRESS, NAS_IPV6_ADDRESS, PROXY_STATE, USER_NAME, USER_PASSWORD,
 };
 use crate::detail::RejectCause;
+use crate::nas::Nas;
 use crate::occurrences::Occurrences;
-use crate::request::has_long_proxy_states;
-use rsl_wire::Attrs;
+use crate::request::{access_server, has_long_proxy_states, nas_address};
+use rsl_accounts::{Client, Config};
+use rsl_wire::{Attrs, NoMemory};
+use std::alloc::Global;
 
 /// The attributes of an Access-Request, and what its meaning hangs on among them, which one walk
 /// finds.
@@ -96,22 +102,77 @@ impl<'a> AccessAttributes<'a> {
     }
 
     /// The first of the attributes of an ask that does not stand there as often as it has to: exactly one
-    /// User-Name, exactly one password, of either kind, and at most one CHAP-Challenge.
-    pub(crate) fn count_cause(&self) -> Option<RejectCause>
-        ensures cause { result ≡ count_cause self.now.all }
-        ensures once { is_none result ≡ asks_once self.now.all }
+    /// User-Name, exactly one password, of either kind, unless the client vouches, and at most one
+    /// CHAP-Challenge.
+    pub(crate) fn count_cause(&self, client: &Client) -> Option<RejectCause>
+        ensures cause { result ≡ count_cause client.now.trusted self.now.all }
+        ensures once { is_none result ≡ asks_once client.now.trusted self.now.all }
     {
         if self.names.count != 1 {
             return Some(RejectCause::NotOneName);
         }
-        let passwords = (self.user_passwords.count, self.chap_passwords.count);
-        if !matches!(passwords, (1, 0) | (0, 1)) {
+        if !self.has_one_password() && !self.is_vouched(client) {
             return Some(RejectCause::NotOnePassword);
         }
         if self.challenges.count > 1 {
             return Some(RejectCause::SeveralChallenges);
         }
         None
+    }
+
+    /// Whether there is exactly one password, of either kind.
+    fn has_one_password(&self) -> bool
+        ensures { result ≡ has_one_password self.now.all }
+    {
+        let passwords = (self.user_passwords.count, self.chap_passwords.count);
+        matches!(passwords, (1, 0) | (0, 1))
+    }
+
+    /// Whether the client vouches for the request: it is trusted, and there is no password of either kind, and
+    /// no EAP-Message.
+    pub(crate) fn is_vouched(&self, client: &Client) -> bool
+        ensures { result ≡ is_vouched client.now.trusted self.now.all }
+    {
+        client.trusted
+            && self.user_passwords.count == 0
+            && self.chap_passwords.count == 0
+            && !self.has_eap_message()
+    }
+
+    /// Whether there is an EAP-Message.
+    fn has_eap_message(&self) -> bool
+        ensures { result ≡ has_eap_message self.now.all }
+    {
+        self.all.first(EAP_MESSAGE).is_some()
+    }
+
+    /// The access server of the request, of this client.
+    pub(crate) fn access_server(
+        &self,
+        alloc: Global,
+        config: &Config,
+        client: u32,
+    ) -> Result<Nas, NoMemory>
+        ensures found { IfOk result (λ nas.
+            nas ≡ access_server_of config.now client self.now.all) }
+        ensures refused { OnErr result
+            (IsNamed (access_server_of config.now client self.now.all).name) }
+    {
+        match self.identifiers.first {
+            Some(identifier) => access_server(alloc, client, Some(identifier), None),
+            None => access_server(alloc, client, None, self.nas_address(config)),
+        }
+    }
+
+    /// The address by which the access server calls itself.
+    fn nas_address(&self, config: &Config) -> Option<&'a [u8]>
+        ensures { value_of result ≡ nas_address config.now.settings.version
+            (first_of NAS_IP_ADDRESS self.now.all) (first_of NAS_IPV6_ADDRESS self.now.all) }
+    {
+        match self.addresses.first {
+            Some(address) => Some(address),
+            None => nas_address(config, None, self.all.first(NAS_IPV6_ADDRESS)),
+        }
     }
 
     /// Whether the Proxy-State attributes have over 3,900 octets, with their headers.

@@ -79,10 +79,10 @@ fn status_meaning(
 {
     match Status::from_number(number) {
         Some(Status::AccountingOn | Status::AccountingOff) => Ok(Meaning::Restart {
-            nas: access_server_of(alloc, client, attributes)?,
+            nas: access_server_of(alloc, config, client, attributes)?,
         }),
         Some(status) => session_meaning(alloc, config, boot, client, status, attributes),
-        None => Ok(Meaning::Stray(note_of(alloc, client, number, attributes)?)),
+        None => Ok(Meaning::Stray(note_of(alloc, config, client, number, attributes)?)),
     }
 }
 
@@ -103,23 +103,24 @@ fn session_meaning(
     Ok(match account_named(config, attributes.first(USER_NAME)) {
         Some(account) => Meaning::Own {
             account,
-            act: session_act(alloc, boot, client, status, attributes)?,
+            act: session_act(alloc, config, boot, client, status, attributes)?,
         },
-        None => Meaning::Stray(note_of(alloc, client, status.number(), attributes)?),
+        None => Meaning::Stray(note_of(alloc, config, client, status.number(), attributes)?),
     })
 }
 
 /// A session of an account has ended, or goes on.
 fn session_act(
     alloc: Global,
+    config: &Config,
     boot: u64,
     client: u32,
     status: Status,
     attributes: &Attrs<'_>,
 ) -> Result<Act, NoMemory>
-    ensures { IfOk result (λ act. act ≡ session_act boot client status attributes.now) }
+    ensures { IfOk result (λ act. act ≡ session_act config.now boot client status attributes.now) }
 {
-    let nas = access_server_of(alloc, client, attributes)?;
+    let nas = access_server_of(alloc, config, client, attributes)?;
     let session = Octets::from_slice(alloc, text_of(attributes, ACCT_SESSION_ID))?;
     if let Status::Stop = status {
         return Ok(Act::Stop { nas, session });
@@ -187,14 +188,15 @@ fn number_of(octets: &[u8]) -> u64
 /// What is noted of a packet whose Acct-Status-Type has this number.
 fn note_of(
     alloc: Global,
+    config: &Config,
     client: u32,
     number: u32,
     attributes: &Attrs<'_>,
 ) -> Result<Note, NoMemory>
-    ensures { IfOk result (λ note. note ≡ note_of client number attributes.now) }
+    ensures { IfOk result (λ note. note ≡ note_of config.now client number attributes.now) }
 {
     Ok(Note {
-        nas: access_server_of(alloc, client, attributes)?,
+        nas: access_server_of(alloc, config, client, attributes)?,
         status: number,
         name: Octets::from_slice(alloc, text_of(attributes, USER_NAME))?,
         session: Octets::from_slice(alloc, text_of(attributes, ACCT_SESSION_ID))?,

@@ -45,10 +45,14 @@ pub const ACCT_MULTI_SESSION_ID: u8 = 50;
 pub const CHAP_CHALLENGE: u8 = 60;
 /// Port-Limit (RFC 2865 section 5.42).
 pub const PORT_LIMIT: u8 = 62;
+/// EAP-Message (RFC 3579 section 3.1).
+pub const EAP_MESSAGE: u8 = 79;
 /// Message-Authenticator (RFC 3579 section 3.2).
 pub const MESSAGE_AUTHENTICATOR: u8 = 80;
 /// Acct-Interim-Interval (RFC 2869 section 5.16).
 pub const ACCT_INTERIM_INTERVAL: u8 = 85;
+/// NAS-IPv6-Address (RFC 3162 section 2.1).
+pub const NAS_IPV6_ADDRESS: u8 = 95;
 
 /// Acct-Status-Type Start: the session begins (RFC 2866 section 5.1).
 pub const START: u32 = 1;
@@ -76,7 +80,8 @@ const _: () = prove!(
         && ACCOUNTING_REQUEST == 4
         && ACCOUNTING_RESPONSE == 5
 );
-// Types (RFC 2865 section 5, RFC 2866 section 5, RFC 3579 section 3.2, RFC 2869 section 5.16).
+// Types (RFC 2865 section 5, RFC 2866 section 5, RFC 3579 section 3, RFC 2869 section 5.16, RFC 3162
+// section 2.1).
 const _: () = prove!(
     USER_NAME == 1
         && USER_PASSWORD == 2
@@ -95,8 +100,10 @@ const _: () = prove!(
         && ACCT_MULTI_SESSION_ID == 50
         && CHAP_CHALLENGE == 60
         && PORT_LIMIT == 62
+        && EAP_MESSAGE == 79
         && MESSAGE_AUTHENTICATOR == 80
         && ACCT_INTERIM_INTERVAL == 85
+        && NAS_IPV6_ADDRESS == 95
 );
 // Values of Acct-Status-Type (RFC 2866 section 5.1).
 const _: () = prove!(

@@ -41,7 +41,7 @@ impl Key {
 /// What happens to an account.
 #[derive(PartialEq, Eq, Drop)]
 pub enum Act {
-    /// An Access-Request whose password is right.
+    /// An Access-Request whose password is right, or for which a trusted client vouches.
     Ask {
         /// What it is known by.
         key: Key,

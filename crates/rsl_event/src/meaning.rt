@@ -50,8 +50,8 @@ pub enum Meaning {
     /// A request on the authentication port whose attributes are malformed: it is rejected, and
     /// nothing of it is repeated.
     Bare,
-    /// An Access-Request that asks for no account with the right password, or for a disabled one: it is
-    /// rejected.
+    /// An Access-Request that asks for no account with the right password, nor by a client that vouches for
+    /// it, or for a disabled account: it is rejected.
     Reject,
     /// An act of one account: an ask, an alive or a stop.
     Own {

@@ -9,10 +9,11 @@ use std::alloc::Global;
 pub enum NasName {
     /// The value of the first NAS-Identifier (RFC 2865 section 5.32), of any length.
     Identifier(Octets),
-    /// The value of the first NAS-IP-Address (RFC 2865 section 5.4), where there is no
-    /// NAS-Identifier.
+    /// The value of the first NAS-IP-Address (RFC 2865 section 5.4), of any length, where there is no
+    /// NAS-Identifier; in version 3 of the account file else that of the first NAS-IPv6-Address (RFC 3162
+    /// section 2.1).
     Address(Octets),
-    /// The packet has neither.
+    /// The packet has none of them.
     Unnamed,
 }
 
