@@ -61,6 +61,7 @@ fn client(alloc: Global, address: [u8; 4], secret: &str) -> Result<Client, Fail>
         address,
         secret: Secret::from_str(alloc, secret)?,
         signed: false,
+        trusted: false,
     })
 }
 
@@ -68,7 +69,7 @@ fn client(alloc: Global, address: [u8; 4], secret: &str) -> Result<Client, Fail>
 fn entry(alloc: Global, name: &str, password: &str) -> Result<Entry, Fail> {
     Ok(Entry {
         name: Text::from_str(alloc, name)?,
-        password: Secret::from_str(alloc, password)?,
+        password: Some(Secret::from_str(alloc, password)?),
         rules: rules([1, 1, 1, 2, 3, 4, 5]),
         service_type: None,
         framed_protocol: None,

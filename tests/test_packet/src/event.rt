@@ -9,6 +9,7 @@ mod guard;
 mod hostile;
 mod replies;
 mod signatures;
+mod trusted;
 
 use rsl_accounts::Config;
 use rsl_event::{Decision, Meaning, Port, Prepared, Said, Source, prepare, reply, room, said};

@@ -154,6 +154,22 @@ fn version_3_is_strict(rt: HostRuntime) -> Result<(), Fail> {
         its own times | <3> | <16> | => live_secs = 0\n | BadValue live_secs
         interim_secs | <3> | <16> | => interim_secs = 59\n | BadValue interim_secs
         keep last | <3> | <16> | keep_secs = 10\n => keep_secs = 61\n | KeepTooLong
+        a trusted client | <3> | <16> | <trusted> true\n | Ok
+        one that says that it signs | <3> | <16> | <trusted> true\nsigned = true\n | Ok
+        one that does not sign | <3> | <16> | <trusted> true\nsigned = false\n | BadValue trusted
+        one that is not and does not | <3> | <16> | <trusted> false\nsigned = false\n | Ok
+        a number for trusted | <3> | <16> | <trusted> 1\n | BadValue trusted
+        signed before trusted | <3> | <16> | <trusted> 1\nsigned = 1\n | BadValue signed
+        trusted before the accounts | <3> | <16> | <trusted> 1\n | name = "nemo"\n => | BadValue trusted
+        trusted after its secret | <3> | <trusted> 1\n | BadValue secret
+        trusted in version 2 | <2> | <trusted> true\n | Ok
+        a number for trusted in version 2 | <2> | <trusted> 1\n | Ok
+        trusted of an account | <3> | <16> | => trusted = true\n | Unknown account "trusted"
+        no password | <3> | <16> | <none> | Ok
+        an empty one | <3> | <16> | arctangent => | BadValue password
+        a number for it | <3> | <16> | "arctangent" => 1 | BadValue password
+        none in version 2 | <2> | <none> | Missing password
+        none in version 1 | <none> | Missing password
     "#;
     check_rows(&rt, &FileRows, strict(rt.alloc(), rows)?.as_str())
 }
@@ -164,6 +180,8 @@ fn strict(alloc: Global, rows: &str) -> Result<String, Fail> {
 <3> = version = 1 => version = 3
 <16> = xyzzy5461 => 1234567xyzzy5461
 <sigend> = 5461"\n => 5461"\nsigend = true\n
+<trusted> = 5461"\n => 5461"\ntrusted =
+<none> = password = "arctangent"\n =>
 <128> = <64><64>
 <64> = 1234567890123456789012345678901234567890123456789012345678901234"#;
     replaced(alloc, rows, words)
@@ -382,6 +400,38 @@ fn seconds_between_interim_updates_are_those_of_version_2(rt: HostRuntime) -> Re
     check_rows(&rt, &IntervalRows, rows.as_str())
 }
 
+/// Whether the first client is trusted, whether the first account has a password, and the first account that
+/// nobody can log in to.
+struct TrustRows;
+
+impl Subject for TrustRows {
+    fn found(&self, alloc: Global, fields: &[&str]) -> Result<String, Fail> {
+        let text = file_of(alloc, fields)?;
+        let config = Config::read(alloc, text.as_bytes())?;
+        let _accounts = config.accounts();
+        let has_password = config.entry(0).password.is_some();
+        let first = config.first_without_login();
+        printed(alloc, &(config.client_at(0).trusted, has_password, first))
+    }
+}
+
+#[test]
+fn account_without_a_password_wants_a_trusted_client(rt: HostRuntime) -> Result<(), Fail> {
+    let rows = r#"
+        neither | <3> | <16> | (false, true, None)
+        a trusted client | <3> | <16> | <trusted> true\n | (true, true, None)
+        in version 2 | <2> | <trusted> true\n | (false, true, None)
+        one that is not | <3> | <16> | <trusted> false\n | (false, true, None)
+        no password | <3> | <16> | <none> | (false, false, Some(0))
+        and a trusted client | <3> | <16> | <trusted> true\n | <none> | (true, false, None)
+        the second has none | <3> | <16> | => <second> | (false, true, Some(1))
+        neither has one | <3> | <16> | <none> | => <second> | (false, false, Some(0))
+    "#;
+    let second = r"<second> = \n[[account]]\nname = 'b'\nplaces = 1\nports = 1\n";
+    let rows = replaced(rt.alloc(), rows, second)?;
+    check_rows(&rt, &TrustRows, strict(rt.alloc(), rows.as_str())?.as_str())
+}
+
 /// What the first client and the first account of a file have.
 struct ContentRows;
 
@@ -394,7 +444,9 @@ impl Subject for ContentRows {
 }
 
 fn contents(alloc: Global, client: &Client, nemo: &Entry) -> Result<String, Fail> {
-    let (secret, password) = (client.secret.expose(), nemo.password.expose());
+    let secret = client.secret.expose();
+    let password = nemo.password.as_ref().map(|password| password.expose());
+    let password = password.ok_or("an account has a password")?;
     let client = (client.address, str::from_utf8(secret)?, client.signed);
     let texts = (nemo.name.as_str(), str::from_utf8(password)?);
     let attributes = (nemo.service_type, nemo.framed_protocol);

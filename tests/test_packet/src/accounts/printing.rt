@@ -37,6 +37,7 @@ fn faults_are_printed_with_the_key_of_their_field(rt: HostRuntime) -> Result<(),
         ConfigFault::BadValue(Field::OwnGrace),
         ConfigFault::BadValue(Field::InterimSecs),
         ConfigFault::BadValue(Field::Disabled),
+        ConfigFault::BadValue(Field::Trusted),
         ConfigFault::Unknown(Part::Head, Text::from_str(rt.alloc(), "shard")?),
         ConfigFault::Unknown(Part::Client, Text::from_str(rt.alloc(), "sigend")?),
         ConfigFault::Unknown(Part::Account, Text::from_str(rt.alloc(), "a \"b\"")?),
@@ -47,7 +48,7 @@ fn faults_are_printed_with_the_key_of_their_field(rt: HostRuntime) -> Result<(),
         BadValue address, BadValue secret, BadValue signed, BadValue name, BadValue password, \
         BadValue places, BadValue ports, BadValue service_type, BadValue framed_protocol, \
         BadValue session_timeout, BadValue idle_timeout, BadValue live_secs, BadValue grace_secs, \
-        BadValue interim_secs, BadValue disabled, Unknown \"shard\", \
+        BadValue interim_secs, BadValue disabled, BadValue trusted, Unknown \"shard\", \
         Unknown client \"sigend\", Unknown account \"a \\\"b\\\"\", ";
     let found = all_shown(rt.alloc(), &faults)?;
     assert_eq!(rt; found.as_str(), expected);
