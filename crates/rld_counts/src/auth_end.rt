@@ -44,13 +44,15 @@ pub enum AuthEnd {
     WrongPassword,
     /// An Access-Reject was sent: the account is disabled.
     DisabledAccount,
+    /// An Access-Reject was sent: the account has no password.
+    NoPassword,
 }
 
 impl AuthEnd {
     /// Its number, in the order above.
     pub(crate) fn number(self) -> usize
         ensures number { result ≡ auth_number self }
-        ensures below { result < 20 }
+        ensures below { result < 21 }
     {
         match self {
             AuthEnd::Short => 0,
@@ -73,6 +75,7 @@ impl AuthEnd {
             AuthEnd::UnknownAccount => 17,
             AuthEnd::WrongPassword => 18,
             AuthEnd::DisabledAccount => 19,
+            AuthEnd::NoPassword => 20,
         }
     }
 
@@ -101,6 +104,7 @@ impl AuthEnd {
             AuthEnd::UnknownAccount => "reject_unknown_account",
             AuthEnd::WrongPassword => "reject_wrong_password",
             AuthEnd::DisabledAccount => "reject_disabled_account",
+            AuthEnd::NoPassword => "reject_no_password",
         }
     }
 }

@@ -21,7 +21,7 @@ impl Model for Counts {
 
     ghost view = { λ counts. counts.counters };
 
-    ghost invariant = { λ counts. length counts.counters ≡ 38 };
+    ghost invariant = { λ counts. length counts.counters ≡ 39 };
 
     ghost inverse = { λ counters. record { counters = counters } };
 }

@@ -7,10 +7,10 @@ use crate::auth_end::AuthEnd;
 use crate::kind::Kind;
 
 /// How many ends there are, of both ports.
-pub const ENDS: usize = 38;
+pub const ENDS: usize = 39;
 
 /// How many of them are of the authentication port: the first ones.
-const AUTH_ENDS: usize = 20;
+const AUTH_ENDS: usize = 21;
 
 /// How a datagram ended, with the port that it came to.
 #[derive(Clone, Copy)]
@@ -25,7 +25,7 @@ impl End {
     /// Its number: those of the accounting port follow those of the authentication port.
     pub(crate) fn number(self) -> usize
         ensures number { result ≡ number_of self }
-        ensures below { result < 38 }
+        ensures below { result < 39 }
     {
         match self {
             End::Auth(end) => end.number(),
@@ -60,6 +60,7 @@ impl End {
             End::Auth(AuthEnd::UnknownAccount),
             End::Auth(AuthEnd::WrongPassword),
             End::Auth(AuthEnd::DisabledAccount),
+            End::Auth(AuthEnd::NoPassword),
             End::Acct(AcctEnd::Short),
             End::Acct(AcctEnd::BadLength),
             End::Acct(AcctEnd::UnknownClient),
@@ -83,14 +84,14 @@ impl End {
 
     /// Those of all ends that are of the authentication port.
     pub fn of_auth(all: &[End; ENDS]) -> &[End]
-        ensures { result.now ≡ take 20 all.now }
+        ensures { result.now ≡ take 21 all.now }
     {
         &all[..AUTH_ENDS]
     }
 
     /// Those of all ends that are of the accounting port.
     pub fn of_acct(all: &[End; ENDS]) -> &[End]
-        ensures { result.now ≡ drop 20 all.now }
+        ensures { result.now ≡ drop 21 all.now }
     {
         &all[AUTH_ENDS..]
     }
@@ -109,7 +110,8 @@ impl End {
                 | AuthEnd::SeveralChallenges
                 | AuthEnd::UnknownAccount
                 | AuthEnd::WrongPassword
-                | AuthEnd::DisabledAccount,
+                | AuthEnd::DisabledAccount
+                | AuthEnd::NoPassword,
             ) => Kind::Rejected,
             End::Acct(
                 AcctEnd::Start

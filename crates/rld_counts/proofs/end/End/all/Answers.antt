@@ -13,7 +13,7 @@ unfolding all_ends
 of_auth auth.Short = refl
 of_auth _ = refl
 
-of_acct : (end : AcctEnd) → slice_get all_ends (20 + acct_number end) ≡ Some (Acct end)
+of_acct : (end : AcctEnd) → slice_get all_ends (21 + acct_number end) ≡ Some (Acct end)
 unfolding all_ends
 of_acct acct.Short = refl
 of_acct _ = refl
