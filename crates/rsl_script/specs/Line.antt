@@ -33,7 +33,12 @@ unfoldable pub client_line : (words : List (List ℕ)) → Option ScriptLine
 client_line (address ∷ secret ∷ rest) = do
   address ← address_of address
   signed ← read_signed rest
-  Some (lines.Client (record { address = address; secret = secret; signed = signed }))
+  Some (lines.Client (record {
+    address = address;
+    secret = secret;
+    signed = signed;
+    trusted = false;
+  }))
 client_line _ = None
 
 -- what an account may have: [PORTS] [live=N] [grace=N], each at most once and in this order
@@ -51,7 +56,7 @@ read_options words =
 abbrev pub account_with : (name password : List ℕ) → (places : ℕ) → Options → Entry
 account_with name password places options = record {
   name = name;
-  password = password;
+  password = Some password;
   rules = rules_of_places places (unwrap_or options.ports 1);
   service_type = None;
   framed_protocol = None;

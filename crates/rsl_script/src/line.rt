@@ -118,6 +118,7 @@ fn client_line(alloc: Global, words: &[&str]) -> Result<ScriptLine, LineFault>
         [address, secret, rest @ ..] => Ok(ScriptLine::Client(Client {
             address: address_of(address.as_bytes()).ok_or(LineFault::Wrong)?,
             signed: read_signed(rest).ok_or(LineFault::Wrong)?,
+            trusted: false,
             secret: Secret::from_str(alloc, secret)?,
         })),
         _ => Err(LineFault::Wrong),
@@ -178,7 +179,7 @@ fn account_with(
 {
     Ok(Entry {
         name: Text::from_str(alloc, name)?,
-        password: Secret::from_str(alloc, password)?,
+        password: Some(Secret::from_str(alloc, password)?),
         rules: Rules::of_places(places, options.ports.unwrap_or(1)),
         service_type: None,
         framed_protocol: None,
