@@ -28,6 +28,7 @@ pub(crate) fn check<F: Files, W: Write>(
         writeln!(writer, "{warning}")?;
     }
     tell_short_lives(&accounts.config, writer)?;
+    tell_no_login(&accounts.config, writer)?;
     Ok(writer.flush()?)
 }
 
@@ -40,6 +41,19 @@ fn tell_short_lives<W: Write>(config: &Config, writer: &mut W) -> Result<(), Fau
         writeln!(
             writer,
             "accounts: live_secs is under two interim_secs in {accounts}, first in {name}"
+        )?;
+    }
+    Ok(())
+}
+
+/// Writes the first account that nobody can log in to, for it has no password and no client is trusted; nothing
+/// where there is none.
+fn tell_no_login<W: Write>(config: &Config, writer: &mut W) -> Result<(), Fault> {
+    if let Some(first) = config.first_without_login() {
+        let name = config.entry(first).name.as_str();
+        writeln!(
+            writer,
+            "accounts: {name} has no password, and no client is trusted to ask without one"
         )?;
     }
     Ok(())

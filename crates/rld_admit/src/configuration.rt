@@ -77,6 +77,7 @@ fn clients_of(alloc: Global, rows: &[EraClient]) -> Result<Vec<Client>, TableFau
             address: row.address,
             secret: Secret::from_str(alloc, NO_SECRET)?,
             signed: false,
+            trusted: false,
         };
         clients.push(client)?;
     }
@@ -98,7 +99,7 @@ fn account_of(alloc: Global, row: &EraAccount) -> Result<Entry, TableFault> {
         return Err(TableFault::NoConfiguration);
     };
     Ok(Entry {
-        password: Secret::from_str(alloc, NO_SECRET)?,
+        password: None,
         service_type: None,
         framed_protocol: None,
         session_timeout: None,

@@ -33,6 +33,7 @@ fn auth_words(end: AuthEnd) -> &'static str {
         AuthEnd::UnknownAccount => "Rejected: unknown account",
         AuthEnd::WrongPassword => "Rejected: wrong password",
         AuthEnd::DisabledAccount => "Rejected: disabled account",
+        AuthEnd::NoPassword => "Rejected: account without password",
     }
 }
 

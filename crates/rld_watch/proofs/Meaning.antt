@@ -45,10 +45,10 @@ auth_if : (b : Bool) (one other : Result Meaning Dropped) → OfAuth one → OfA
 auth_if true one other first second = first
 auth_if false one other first second = second
 
-auth_asked : (source : Source) (client : ℕ) (fields : Fields) (attributes : List Attribute) (account : Option ℕ)
-    → OfAuth (Ok (ask_or_reject source client fields attributes account))
-auth_asked source client fields attributes None = tt
-auth_asked source client fields attributes (Some account) = tt
+auth_asked : (config : Configuration) (source : Source) (client : ℕ) (fields : Fields) (attributes : List Attribute) (account : Option ℕ)
+    → OfAuth (Ok (ask_or_reject config source client fields attributes account))
+auth_asked config source client fields attributes None = tt
+auth_asked config source client fields attributes (Some account) = tt
 
 -- by the Message-Authenticator
 auth_signed : (a b c d : Bool) (rest : Result Meaning Dropped) → OfAuth rest
@@ -63,8 +63,8 @@ auth_requested : (config : Configuration) (source : Source) (client : ℕ) (fiel
     → OfAuth (request_meaning config source client fields attributes)
 auth_requested config source client fields attributes =
     auth_if (nat_lt MAX_PROXY_STATE_LEN (proxy_len attributes)) (Err drops.ProxyTooLong)
-    (Ok (ask_or_reject source client fields attributes (asker config client fields.authenticator attributes)))
-    refl (auth_asked source client fields attributes (asker config client fields.authenticator attributes))
+    (Ok (ask_or_reject config source client fields attributes (asker config client fields.authenticator attributes)))
+    refl (auth_asked config source client fields attributes (asker config client fields.authenticator attributes))
 
 auth_listed : (config : Configuration) (source : Source) (client : ℕ) (fields : Fields) (list : Result (List Attribute) ℕ)
     → OfAuth (access_by config source client fields list)
@@ -109,25 +109,25 @@ acct_if : (b : Bool) (one other : Result Meaning Dropped) → OfAcct one → OfA
 acct_if true one other first second = first
 acct_if false one other first second = second
 
-acct_act : (boot client : ℕ) (status : Status) (attributes : List Attribute) (account : ℕ)
-    → kind_of_act account (session_act boot client status attributes) ≡ kinds.Account
-acct_act boot client statuses.Start attributes account = refl
-acct_act boot client statuses.Stop attributes account = refl
-acct_act boot client statuses.InterimUpdate attributes account = refl
-acct_act boot client statuses.AccountingOn attributes account = refl
-acct_act boot client statuses.AccountingOff attributes account = refl
+acct_act : (config : Configuration) (boot client : ℕ) (status : Status) (attributes : List Attribute) (account : ℕ)
+    → kind_of_act account (session_act config boot client status attributes) ≡ kinds.Account
+acct_act config boot client statuses.Start attributes account = refl
+acct_act config boot client statuses.Stop attributes account = refl
+acct_act config boot client statuses.InterimUpdate attributes account = refl
+acct_act config boot client statuses.AccountingOn attributes account = refl
+acct_act config boot client statuses.AccountingOff attributes account = refl
 
-acct_named : (boot client : ℕ) (status : Status) (attributes : List Attribute) (account : Option ℕ)
-    → kind_of (session_meaning boot client status attributes account) ≡ kinds.Account
-acct_named boot client status attributes None = refl
-acct_named boot client status attributes (Some account) = acct_act boot client status attributes account
+acct_named : (config : Configuration) (boot client : ℕ) (status : Status) (attributes : List Attribute) (account : Option ℕ)
+    → kind_of (session_meaning config boot client status attributes account) ≡ kinds.Account
+acct_named config boot client status attributes None = refl
+acct_named config boot client status attributes (Some account) = acct_act config boot client status attributes account
 
 acct_session : (config : Configuration) (boot client : ℕ) (status : Status) (attributes : List Attribute)
     → OfAcct (if_session config boot client status attributes)
 acct_session config boot client status attributes =
     acct_if (length (text_of ACCT_SESSION_ID attributes) == 0) (Err drops.NoSession)
-    (Ok (session_meaning boot client status attributes (named_account config attributes)))
-    refl (acct_named boot client status attributes (named_account config attributes))
+    (Ok (session_meaning config boot client status attributes (named_account config attributes)))
+    refl (acct_named config boot client status attributes (named_account config attributes))
 
 acct_status : (config : Configuration) (boot client number : ℕ) (attributes : List Attribute) (status : Option Status)
     → OfAcct (by_status config boot client number attributes status)

@@ -103,6 +103,7 @@ rejected service one (Some causes.SeveralChallenges) means is holds = record { m
 rejected service one (Some causes.UnknownAccount) means is holds = record { means = means; is_cause = is }
 rejected service one (Some causes.WrongPassword) means is holds = record { means = means; is_cause = is }
 rejected service one (Some causes.DisabledAccount) means is holds = record { means = means; is_cause = is }
+rejected service one (Some causes.NoPassword) means is holds = record { means = means; is_cause = is }
 
 -- an ask is accepted, or finds no place
 asked : (service : ServiceSeen) (one : PeerDatagram) (cause : Option RejectCause) (account : ℕ) (key : Key) (nas : Nas) (decision : Decision)

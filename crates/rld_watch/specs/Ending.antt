@@ -50,6 +50,7 @@ reject_end causes.SeveralChallenges = auth.SeveralChallenges
 reject_end causes.UnknownAccount = auth.UnknownAccount
 reject_end causes.WrongPassword = auth.WrongPassword
 reject_end causes.DisabledAccount = auth.DisabledAccount
+reject_end causes.NoPassword = auth.NoPassword
 
 -- an answer that was sent, of a request with this cause to reject it, if there is one
 abbrev pub auth_answer : (cause : Option RejectCause) → Said → Option AuthEnd

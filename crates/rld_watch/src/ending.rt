@@ -97,6 +97,7 @@ fn reject_end(cause: RejectCause) -> AuthEnd
         RejectCause::UnknownAccount => AuthEnd::UnknownAccount,
         RejectCause::WrongPassword => AuthEnd::WrongPassword,
         RejectCause::DisabledAccount => AuthEnd::DisabledAccount,
+        RejectCause::NoPassword => AuthEnd::NoPassword,
     }
 }
 
