@@ -5,7 +5,7 @@ ghost use Rattle.std.specs.Str.{bytes_eq};
 
 /// Whether two lists of octets are the same. Of two of one length each octet is looked at, wherever
 /// they differ first.
-pub(crate) fn same_octets(octets: &[u8], others: &[u8]) -> bool
+pub fn same_octets(octets: &[u8], others: &[u8]) -> bool
     ensures { result ≡ bytes_eq octets.now others.now }
 {
     octets.len() == others.len() && differing_bits(octets, others) == 0
