@@ -28,6 +28,8 @@ pub enum Command {
     Sessions(Form, Octets),
     /// To free the place of this session.
     Free(NamedSession),
+    /// Whether an account that was checked elsewhere has a place, by the form of the ask.
+    Ask(Octets),
     /// To read its accounts anew.
     Reload,
     /// To end.
@@ -36,7 +38,7 @@ pub enum Command {
 
 impl Command {
     /// What a line asks for, which is given without its line feed: `status`, `accounts`, `sessions` and
-    /// a name, `free` and the words of a session, `reload`, or `stop`. Behind the first three may stand
+    /// a name, `free` and the words of a session, `ask` and a form, `reload`, or `stop`. Behind the first three may stand
     /// `--json`, and behind `accounts` also `--held` or `--full`. `None` for any other line. It fails only
     /// where memory is refused.
     pub fn read(alloc: Global, line: &[u8]) -> Result<Option<Command>, NoMemory>
@@ -74,6 +76,8 @@ fn command_with(alloc: Global, word: &[u8], words: &[u8]) -> Result<Option<Comma
         sessions_with(alloc, words)
     } else if word == b"free".as_slice() {
         Ok(NamedSession::read(alloc, words)?.map(Command::Free))
+    } else if word == b"ask".as_slice() {
+        Ok(Some(Command::Ask(Octets::from_slice(alloc, words)?)))
     } else if word == b"status".as_slice() {
         Ok(status_with(words))
     } else if word == b"accounts".as_slice() {

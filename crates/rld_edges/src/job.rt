@@ -20,6 +20,8 @@ pub enum Job<'a> {
     Report,
     /// It shows the server to those who ask.
     Show,
+    /// It takes asks over HTTP.
+    Ask,
 }
 
 impl Sockets {

@@ -1,9 +1,11 @@
 use crate::accounts::Accounts;
+use crate::asking::Seat;
 use crate::current::Current;
 use crate::reporting::MOST_TOLD;
 use crate::rolling::Rolls;
 use crate::shared_recorder::SharedRecorder;
 use circular_buffer::HeapCircularBuffer;
+use rld_ask::Asks;
 use rld_edges::{
     Control, Job, Readiness, RunFault, Shutdown, Sockets, Start, outcome_of, ports_of,
 };
@@ -17,6 +19,7 @@ use rld_store::Store;
 use rld_turn::{RecordFault, tick};
 use rld_watch::Board;
 use rsl_accounts::Config;
+use rsl_event::Port;
 use rsl_port::{Clock, SystemClock};
 use std::alloc::Global;
 use std::net::{Net, TcpListener, TcpStream};
@@ -63,6 +66,8 @@ pub(crate) struct Server<'a, G, A, R> {
     pub(crate) accounts: &'a A,
     pub(crate) state: Mutex<ServerState<Store<PacedLog<'a, FileLog>>>>,
     pub(crate) board: Board,
+    /// Where asks are counted, if they come in.
+    pub(crate) seat: Option<Seat>,
     pub(crate) refusals: Refusals,
     pub(crate) told: Mutex<HeapCircularBuffer<Told>>,
     pub(crate) history: Mutex<History>,
@@ -74,8 +79,8 @@ pub(crate) struct Server<'a, G, A, R> {
 /// Serves until it is asked to end or cannot go on: takes RADIUS datagrams from the sockets and
 /// answers each once its move is recorded, and makes a tick each second. Each receiver has a thread of
 /// its own, and so has the worker that makes ticks, the one that answers at the control, the one that
-/// writes on standard error, and, if there are `pages`, the one that shows the server to those who ask for
-/// it.
+/// writes on standard error, if there are `pages`, the one that shows the server to those who ask for
+/// it, and, if there are `asks`, the one that takes them.
 ///
 /// The next generation begins after 1,000,000 moves or ten minutes, whichever comes first. Where it
 /// cannot begin the present one goes on, and it is tried again a minute later. At the start, and once a
@@ -105,6 +110,7 @@ pub fn serve<'a, P, G, A, R>(
     sockets: &'a Sockets,
     control: &Control,
     pages: Option<&P>,
+    asks: Option<&Asks>,
     generations: &'a G,
     accounts: &'a A,
     store: Store<PacedLog<'a, FileLog>>,
@@ -124,7 +130,17 @@ where
     if pages.is_some() {
         jobs.push(Job::Show)?;
     }
-    let ports = ports_of(alloc, jobs.as_slice())?;
+    if asks.is_some() {
+        jobs.push(Job::Ask)?;
+    }
+    let mut ports = ports_of(alloc, jobs.as_slice())?;
+    let seat = asks.map(|asks| Seat {
+        client: asks.client(),
+        number: ports.len(),
+    });
+    if seat.is_some() {
+        ports.push(Port::Auth)?;
+    }
     let board = Board::new(alloc, config.clients(), ports.as_slice())?;
     let history = History::new(alloc, plan.start)?;
     let config = Arc::new(alloc, config)?;
@@ -142,6 +158,7 @@ where
         accounts,
         state: Mutex::new(ServerState::new(store, config, plan.header)),
         board,
+        seat,
         refusals: Refusals::new(alloc, ports.len())?,
         told: Mutex::new(HeapCircularBuffer::with_capacity(alloc, MOST_TOLD)?),
         history: Mutex::new(history),
@@ -149,7 +166,7 @@ where
         shutdown: Shutdown::new(jobs.len()),
         current: RwLock::new(current),
     };
-    run_jobs(&server, jobs.as_slice(), pages)
+    run_jobs(&server, jobs.as_slice(), pages, asks)
 }
 
 /// Has each job done on a thread of its own, and gives what they came to. That nothing more can be
@@ -158,6 +175,7 @@ fn run_jobs<P, G, A, R>(
     server: &Server<'_, G, A, R>,
     jobs: &[Job<'_>],
     pages: Option<&P>,
+    asks: Option<&Asks>,
 ) -> Result<(), RunFault>
 where
     P: Pages + Sync,
@@ -174,7 +192,7 @@ where
         server.rt,
         server.alloc,
         jobs.len(),
-        &|i| server.work(jobs.get(i), i, pages),
+        &|i| server.work(jobs.get(i), i, pages, asks),
     )?;
     if server.state.lock(server.rt).has_ended() {
         return Err(RunFault::Unsynced);
@@ -195,6 +213,7 @@ where
         job: Option<&Job<'_>>,
         number: usize,
         pages: Option<&P>,
+        asks: Option<&Asks>,
     ) -> Result<(), RunFault> {
         let outcome = match job {
             Some(Job::Receive(socket, port)) => self.receive_all(socket, *port, number),
@@ -203,6 +222,10 @@ where
             Some(Job::Report) => self.report_all(),
             Some(Job::Show) => match pages {
                 Some(pages) => self.show(pages),
+                None => Ok(()),
+            },
+            Some(Job::Ask) => match asks {
+                Some(asks) => self.take_asks(asks),
                 None => Ok(()),
             },
             None => Ok(()),

@@ -16,6 +16,8 @@ pub enum Told {
     Generations(Notice),
     /// What came of accounts that were read anew.
     Accounts(Reloaded),
+    /// How many requests over HTTP were refused that are no asks: without the token, and others.
+    Asks(u64, u64),
 }
 
 impl Told {
@@ -25,7 +27,9 @@ impl Told {
     {
         match self {
             Told::Recording(News::Began) => Priority::Error,
-            Told::Generations(Notice::NotBegun(_) | Notice::NotPutAway(_)) => Priority::Warning,
+            Told::Generations(Notice::NotBegun(_) | Notice::NotPutAway(_)) | Told::Asks(_, _) => {
+                Priority::Warning
+            }
             Told::Recording(News::Over)
             | Told::Generations(Notice::Begun | Notice::PutAway)
             | Told::Accounts(_) => Priority::Notice,
@@ -49,6 +53,12 @@ impl fmt::Display for ToldLine {
             Told::Recording(news) => news.fmt(f)?,
             Told::Generations(notice) => notice.fmt(f)?,
             Told::Accounts(reloaded) => write!(f, "accounts read anew: {reloaded}")?,
+            Told::Asks(token, other) => {
+                write!(
+                    f,
+                    "requests to ask refused: {token} without the token, {other} others"
+                )?;
+            }
         }
         f.write_str("\n")
     }
