@@ -1,6 +1,6 @@
 #!/usr/bin/env bash
 # Starts two radlimitd and a FreeRADIUS in front of them on free ports of this machine, with the files of
-# docs/BEHIND-FREERADIUS.md, asks FreeRADIUS as an access server would, kills a radlimitd, starts it again, and looks at
+# examples/freeradius-passes-on, asks FreeRADIUS as an access server would, kills a radlimitd, starts it again, and looks at
 # each answer. It exits with 0 only where every answer was the right one.
 #
 # usage: examples/behind-freeradius.sh [PROGRAM]    PROGRAM: the program radlimitd, as it was built if it is not given
@@ -34,13 +34,11 @@ free_pair() {
     done
 }
 
-# Writes the files of FreeRADIUS that the document has, with addresses and ports of this machine.
+# Writes the files of FreeRADIUS with addresses and ports of this machine.
 write_files() {
     cp -r /etc/freeradius/3.0 "$raddb"
     rm "$raddb"/sites-enabled/* "$raddb"/mods-enabled/eap
-    awk -v to="$raddb/" '/^```$/ { inside = !inside; name = ""; next }
-        inside && name == "" { name = to $2; printf "" > name }
-        inside { print > name }' < <(sed -n '/^## The files of FreeRADIUS/,/^## /p' "$top/docs/BEHIND-FREERADIUS.md")
+    cp -r "$top"/examples/freeradius-passes-on/* "$raddb"
     sed -i -e 's/192\.0\.2\.100/127.0.0.1/' "$raddb/clients.conf"
     sed -i -e "s/192\.0\.2\.10$/${home_address[1]}/; s/192\.0\.2\.11$/${home_address[2]}/; s/= 1812/= $home/" \
         "$raddb/proxy.conf"

@@ -148,6 +148,19 @@ def ask_over_tls():
     return int(run.returncode == 0), int(run.returncode != 0)
 
 
+def ask_from_freeradius():
+    """A radlimitd, and a FreeRADIUS that checks logins and asks it for places."""
+    wanted = ("freeradius", "radclient", "smbencrypt", "eapol_test", "sqlite3", "openssl")
+    if any(lacks(program, "examples/freeradius-checks.sh") for program in wanted):
+        return left_out_everywhere()
+    if not os.path.exists("/usr/lib/freeradius/rlm_rest.so"):
+        print("check: there is no freeradius-rest here, so this part is left out: examples/freeradius-checks.sh")
+        return left_out_everywhere()
+    words = [os.path.join(TOP, "examples", "freeradius-checks.sh"), programs.path_of("radlimitd")]
+    run = subprocess.run(words, check=False)
+    return int(run.returncode == 0), int(run.returncode != 0)
+
+
 def install_package():
     """The Debian package, built and installed."""
     wanted = ("lintian", "mmdebstrap", "systemd-nspawn", "systemd-analyze", "man", "dpkg-deb", "radclient", "curl")
@@ -181,24 +194,26 @@ PARTS = {
     "upgraded": ("folders of earlier versions", bench, "upgrade"),
     "steered": ("what an operator asks", bench, "steering"),
     "page": ("the page", bench, "page"),
+    "asks": ("asks over HTTP", bench, "asks"),
     "unrecorded": ("an answer that is not recorded", bench, "unrecorded"),
     "radclient": ("radclient", ask_with_radclient),
     "freeradius": ("behind FreeRADIUS", ask_through_freeradius),
     "radsec": ("behind radsecproxy", ask_over_tls),
+    "freeradius-checks": ("behind FreeRADIUS that checks logins", ask_from_freeradius),
     "package": ("the Debian package", install_package),
     "launcher": ("each way of ./radlimit", bench, "launcher"),
 }
 
 # the parts that wait as long as an answer takes, the longest first: they run beside one another. Of the others each looks
 # at how soon something is answered or ends, or has all processors to itself
-PATIENT = ("damaged", "package", "reload", "unrecorded", "freeradius", "killed-server", "copied", "killed-log")
+PATIENT = ("damaged", "package", "reload", "unrecorded", "freeradius", "freeradius-checks", "killed-server", "copied", "killed-log")
 
 # the parts that an unproved run tries, the longest first. There none looks at how soon an answer comes, and all run beside
 # one another. Each other part takes over a minute on builds that are not proved, since these check each access, and a
 # server of 16,384 accounts takes half a minute to start there; or it is about the proofs
 SHORT = (
-    "streams", "freeradius", "full-disk", "failing-daemon", "refusals", "failing-sockets", "killed-log", "page", "radclient",
-    "copied", "radsec", "upgraded", "changed", "examples", "monitoring",
+    "streams", "freeradius", "freeradius-checks", "asks", "full-disk", "failing-daemon", "refusals", "failing-sockets",
+    "killed-log", "page", "radclient", "copied", "radsec", "upgraded", "changed", "examples", "monitoring",
 )
 
 # the UDP ports that they share out, so that a server which is killed and starts again finds its own ports free

@@ -12,7 +12,7 @@ from gate import comparing, repository, unproved
 # crates of tests that are tried as one, since each try compiles all that stands below: a crate, and those whose modules
 # it takes too. No two of their modules have one name.
 TRIED_WITH = {
-    "test_packet": ["test_rule"],
+    "test_packet": ["test_rule", "test_ask"],
     "test_server": ["test_service"],
     "test_library": ["test_store"],
     "test_turn": ["test_spelling", "test_config", "test_status", "test_lives"],

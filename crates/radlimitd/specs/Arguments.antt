@@ -17,6 +17,7 @@ topic_of word =
     else if bytes_eq word (codes "accounts") then Some topics.Accounts
     else if bytes_eq word (codes "sessions") then Some topics.Sessions
     else if bytes_eq word (codes "free") then Some topics.Free
+    else if bytes_eq word (codes "ask") then Some topics.Ask
     else if bytes_eq word (codes "reload") then Some topics.Reload
     else if bytes_eq word (codes "stop") then Some topics.Stop
     else if bytes_eq word (codes "lines") then Some topics.Lines
@@ -29,6 +30,7 @@ abbrev pub takes : Topic → (words : ℕ) → Bool
 takes topics.Lines words = nat_le 1 words
 takes topics.Sessions words = words == 2 || words == 3
 takes topics.Free words = nat_le 2 words
+takes topics.Ask words = nat_le 2 words
 takes topics.Check words = words == 1
 takes topics.Init words = words == 1
 takes topics.Run words = words == 1

@@ -2,6 +2,7 @@ use crate::command::Misuse;
 use crate::fault::Fault;
 use crate::files::server_file;
 use crate::topic::Topic;
+use form_urlencoded::Serializer;
 use rld_config::Paths;
 use rld_control::{Command, Reply};
 use std::alloc::Global;
@@ -35,7 +36,10 @@ pub(crate) fn ask<R: Files + Net, W: Write>(
     if name.as_str().starts_with("--") {
         return Err(Fault::Usage(Misuse::Words(topic)));
     }
-    let line = line_of(alloc, words)?;
+    let line = match topic {
+        Topic::Ask => ask_line(alloc, words)?,
+        _ => line_of(alloc, words)?,
+    };
     if Command::read(alloc, line.as_bytes())?.is_none() {
         return Err(Fault::Usage(Misuse::Unreadable(topic)));
     }
@@ -71,6 +75,26 @@ fn line_of(alloc: Global, words: &[String]) -> Result<String, Fault> {
         }
         line.push_str(word.as_str())?;
     }
+    Ok(line)
+}
+
+/// The line of an ask: the first word after the command's name is the account's, and each other one a field of
+/// the form, `=` and its value.
+fn ask_line(alloc: Global, words: &[String]) -> Result<String, Fault> {
+    let [command, name, fields @ ..] = words else {
+        return Err(Fault::Usage(Misuse::Words(Topic::Ask)));
+    };
+    let mut form = Serializer::new(String::new(alloc));
+    form.append_pair("name", name.as_str())?;
+    for field in fields {
+        let Some((field, value)) = field.as_str().split_once('=') else {
+            return Err(Fault::Usage(Misuse::Unreadable(Topic::Ask)));
+        };
+        form.append_pair(field, value)?;
+    }
+    let mut line = String::from_str(alloc, command.as_str())?;
+    line.push_str(" ")?;
+    line.push_str(form.finish().as_str())?;
     Ok(line)
 }
 

@@ -19,6 +19,12 @@ pub(crate) enum Wrong {
     /// Everybody can read an account file, but the operator does not allow that.
     #[error("others may read it")]
     Readable,
+    /// Others than its owner can read or write the file with the token of asks.
+    #[error("others may read or write to it")]
+    Shared,
+    /// It is no token: one line of 16 to 256 visible characters of ASCII.
+    #[error("no token of 16 to 256 visible characters")]
+    NoToken,
     /// It has more octets than it may have.
     #[error("too long")]
     TooLong,

@@ -1,3 +1,4 @@
+use crate::asks::token_in;
 use crate::fault::Fault;
 use crate::files::{accounts_for, server_file};
 use rld_config::{Paths, warnings};
@@ -17,6 +18,9 @@ pub(crate) fn check<F: Files, W: Write>(
     let server = server_file(files, alloc, name)?;
     let paths = Paths::of(alloc, name, &server)?;
     let accounts = accounts_for(files, alloc, name, &server, paths.accounts.as_str())?;
+    if let Some(path) = &paths.token {
+        let _token = token_in(files, alloc, path.as_str())?;
+    }
     let told = warnings(
         alloc,
         &accounts.config,

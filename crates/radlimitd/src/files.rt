@@ -6,8 +6,8 @@
 use crate::bad_file::{BadFile, Wrong};
 use crate::fault::Fault;
 use rld_config::{
-    Exposure, Place, ServerFault, ServerFile, break_of, shadowed_client, unknown_client,
-    unsigned_client,
+    Exposure, Place, ServerFault, ServerFile, asker_fault, break_of, shadowed_client,
+    unknown_client, unsigned_client,
 };
 use rsl_accounts::{Config, ConfigFault, TextFault, read_file};
 use std::alloc::Global;
@@ -65,6 +65,9 @@ pub(crate) fn accounts_for<F: Files>(
     if let Some(fault) = shadowed_client(networks, &accounts.config) {
         return bad_file(alloc, name, None, Wrong::Server(fault));
     }
+    if let Some(fault) = asker_fault(&server.ask, &accounts.config) {
+        return bad_file(alloc, name, None, Wrong::Server(fault));
+    }
     match server.trust.exposure(accounts.mode) {
         Some(Exposure::Writable) => bad_file(alloc, path, None, Wrong::Writable),
         Some(Exposure::Readable) => bad_file(alloc, path, None, Wrong::Readable),
@@ -98,7 +101,7 @@ pub(crate) fn account_file<F: Files>(
 }
 
 /// The text of the file of this name.
-fn file_text<F: Files>(files: &F, alloc: Global, name: &str) -> Result<Vec<u8>, Fault> {
+pub(crate) fn file_text<F: Files>(files: &F, alloc: Global, name: &str) -> Result<Vec<u8>, Fault> {
     match read_file(files, alloc, name, MAX_FILE_LEN) {
         Ok(text) => Ok(text),
         Err(TextFault::Unreadable) => bad_file(alloc, name, None, Wrong::Unreadable),

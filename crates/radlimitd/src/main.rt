@@ -10,6 +10,7 @@
 
 mod accounts;
 mod ask;
+mod asks;
 mod bad_file;
 mod check;
 mod command;
@@ -69,6 +70,8 @@ What a running server is asked:
                                the links of an account, each as `free` wants it
     radlimitd free NAME CLIENT NAS SESSION FILE
                                to free the place of a session that its access server has forgotten
+    radlimitd ask NAME FIELD=VALUE.. FILE
+                               for a place of an account that was checked elsewhere
     radlimitd reload FILE      to read its accounts anew, and go on by them
     radlimitd stop FILE        to end
 

@@ -1,5 +1,6 @@
 use crate::VERSION;
 use crate::accounts::ServerAccounts;
+use crate::asks::asks_of;
 use crate::bad_file::Wrong;
 use crate::fault::Fault;
 use crate::files::{AccountFile, accounts_for, bad_file, server_file};
@@ -33,7 +34,8 @@ use std::time::Clock;
 /// a network whose client is not in the account file, whose client need not sign under a guard, or
 /// that takes another client's address; an account file that others may write to or read; `busy`,
 /// if another process has the state folder, or what is wrong with the folder itself; a socket that
-/// cannot be bound, those of RADIUS before that of the page; a group that the system does not know;
+/// cannot be bound, those of RADIUS before that of the page and that of asks, before which the file
+/// with their token is read; a group that the system does not know;
 /// a control socket that cannot be made; and last what is wrong with the files of the folder. So if
 /// an address, a port or a path cannot be used, nothing has changed in the folder, except that it
 /// may be new, with an empty `lock` in it.
@@ -68,6 +70,7 @@ where
     check_free(rt, alloc, state)?;
     let sockets = Sockets::bind(rt, alloc, server.listens.as_slice())?;
     let web = web_of(rt, files, alloc, server.web)?;
+    let asks = asks_of(rt, alloc, &server, token_path(&paths))?;
     let access = access_of(rt, alloc, name, &server.control)?;
     let control = match Control::bind(rt, alloc, paths.control.as_str(), access) {
         Ok(control) => control,
@@ -119,10 +122,19 @@ where
         &sockets,
         &control,
         web.as_ref(),
+        asks.as_ref(),
         &generations,
         &accounts,
         store,
     )?)
+}
+
+/// The path of the file with the token of asks, if they come in.
+fn token_path(paths: &Paths) -> Option<&str> {
+    match &paths.token {
+        Some(path) => Some(path.as_str()),
+        None => None,
+    }
 }
 
 /// The message of a start: what was found, and a line for each client that need not sign, under a

@@ -20,6 +20,8 @@ pub(crate) enum Topic {
     Sessions,
     /// Free the place of a session.
     Free,
+    /// Ask it whether an account that was checked elsewhere has a place.
+    Ask,
     /// Make it read its accounts again.
     Reload,
     /// Stop it.
@@ -43,6 +45,7 @@ impl Topic {
             "accounts" => Some(Topic::Accounts),
             "sessions" => Some(Topic::Sessions),
             "free" => Some(Topic::Free),
+            "ask" => Some(Topic::Ask),
             "reload" => Some(Topic::Reload),
             "stop" => Some(Topic::Stop),
             "lines" => Some(Topic::Lines),
@@ -62,7 +65,7 @@ impl Topic {
             Topic::Status => words == 1 || words == 2,
             Topic::Accounts => words == 1 || words == 2 || words == 3,
             Topic::Sessions => words == 2 || words == 3,
-            Topic::Free => words >= 2,
+            Topic::Free | Topic::Ask => words >= 2,
             Topic::Check | Topic::Init | Topic::Run | Topic::Reload | Topic::Stop | Topic::Rebase =>
                 words == 1,
         }
@@ -78,6 +81,7 @@ impl Topic {
             Topic::Accounts => "radlimitd accounts [--json] [--held | --full] FILE",
             Topic::Sessions => "radlimitd sessions [--json] NAME FILE",
             Topic::Free => "radlimitd free NAME CLIENT NAS SESSION FILE",
+            Topic::Ask => "radlimitd ask NAME FIELD=VALUE.. FILE",
             Topic::Reload => "radlimitd reload FILE",
             Topic::Stop => "radlimitd stop FILE",
             Topic::Lines => "radlimitd lines FILE..",
@@ -91,6 +95,7 @@ impl Topic {
             Topic::Free =>
                 "; NAS is nas=NAME, nas-address=DIGITS or unnamed, as `sessions` prints it",
             Topic::Sessions => "; NAME is written as `accounts` prints it",
+            Topic::Ask => "; FIELD is key, nas_identifier, nas_ip_address or calling_station_id",
             Topic::Check
             | Topic::Init
             | Topic::Run
@@ -113,6 +118,7 @@ impl Topic {
             Topic::Accounts => ACCOUNTS,
             Topic::Sessions => SESSIONS,
             Topic::Free => FREE,
+            Topic::Ask => ASK,
             Topic::Reload => RELOAD,
             Topic::Stop => STOP,
             Topic::Lines => LINES,
@@ -209,6 +215,20 @@ first four words of a line of `sessions`. It prints `freed`, or `no such session
     radlimitd free nemo 192.0.2.7 nas=pop1 0000A1F3 /etc/radlimit/radlimitd.toml
 
 Exit status: 0; 1 the words name no session, or FILE is wrong; 2 no server answers, or it refuses; 3 no memory.
+";
+
+const ASK: &str = "\
+radlimitd ask NAME FIELD=VALUE.. FILE
+
+Asks the running server of the file FILE for a place of the account NAME, which whoever asks has checked himself, as the
+client of `[ask]` in FILE. FIELD is `key`, which makes a repeat a repeat; `nas_identifier`, `nas_ip_address` or both, for
+the access server; and `calling_station_id`. It prints what the accept carries, a line each: the Class belongs into the
+session's accounting.
+
+    radlimitd ask nemo key=portal-4711 nas_identifier=pop1 /etc/radlimit/radlimitd.toml
+
+Exit status: 0 there is a place; 1 a word is wrong, or FILE is; 2 there is none, or a field is wrong, or no server answers;
+3 no memory.
 ";
 
 const RELOAD: &str = "\

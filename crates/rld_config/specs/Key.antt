@@ -2,9 +2,9 @@
 use Rattle.std.specs.Prelude.{ℕ, List, [], ◌∷◌, Bool, false, not, ◌==◌, ◌&&◌, ◌||◌, nat_le, length, codes, bytes_eq}
 use Rattle.std.specs.List.{list_all, list_any}
 use Rattle.rld_config.specs.declared.key.Key.{Key}
-use Rattle.rld_config.specs.declared.key.Key.TheVariants.{Accounts, State, Sync, Archive, ArchiveMegabytes, Listen, Network, Control, Web, Trust, Address, Auth, Acct, Receivers, StatusServer, Prefix, Client, Socket, Mode, Group, Port, ReadableAccounts}
+use Rattle.rld_config.specs.declared.key.Key.TheVariants.{Accounts, State, Sync, Archive, ArchiveMegabytes, Listen, Network, Control, Web, Ask, Trust, Address, Auth, Acct, Receivers, StatusServer, Prefix, Client, Socket, Mode, Group, Port, TokenFile, ReadableAccounts}
 use Rattle.rld_config.specs.declared.part.Part.{Part}
-use Rattle.rld_config.specs.declared.part.Part.TheVariants.{Head, Listen as OfListen, Network as OfNetwork, Control as OfControl, Web as OfWeb, Trust as OfTrust}
+use Rattle.rld_config.specs.declared.part.Part.TheVariants.{Head, Listen as OfListen, Network as OfNetwork, Control as OfControl, Web as OfWeb, Ask as OfAsk, Trust as OfTrust}
 
 -- the key as it is in the file
 abbrev pub key_name : Key → List ℕ
@@ -17,6 +17,7 @@ key_name Listen = codes "listen"
 key_name Network = codes "network"
 key_name Control = codes "control"
 key_name Web = codes "web"
+key_name Ask = codes "ask"
 key_name Trust = codes "trust"
 key_name Address = codes "address"
 key_name Auth = codes "auth"
@@ -29,15 +30,17 @@ key_name Socket = codes "socket"
 key_name Mode = codes "mode"
 key_name Group = codes "group"
 key_name Port = codes "port"
+key_name TokenFile = codes "token_file"
 key_name ReadableAccounts = codes "readable_accounts"
 
 -- the keys that a table may have
 abbrev pub keys_of : Part → List Key
-keys_of Head = Accounts ∷ State ∷ Sync ∷ Archive ∷ ArchiveMegabytes ∷ Listen ∷ Network ∷ Control ∷ Web ∷ Trust ∷ []
+keys_of Head = Accounts ∷ State ∷ Sync ∷ Archive ∷ ArchiveMegabytes ∷ Listen ∷ Network ∷ Control ∷ Web ∷ Ask ∷ Trust ∷ []
 keys_of (OfListen number) = Address ∷ Auth ∷ Acct ∷ Receivers ∷ StatusServer ∷ []
 keys_of (OfNetwork number) = Prefix ∷ Client ∷ []
 keys_of OfControl = Socket ∷ Mode ∷ Group ∷ []
 keys_of OfWeb = Address ∷ Port ∷ []
+keys_of OfAsk = Address ∷ Port ∷ TokenFile ∷ Client ∷ []
 keys_of OfTrust = ReadableAccounts ∷ []
 
 -- whether a table may have a key of this name

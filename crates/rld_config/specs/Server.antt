@@ -9,9 +9,10 @@ use Rattle.std.specs.declared.net.ipv4_addr.Ipv4Addr.{Ipv4Addr}
 use Rattle.toml.specs.Data.{Data, table}
 use Rattle.rld_config.specs.declared.archive.Archive.{Archive}
 use Rattle.rld_config.specs.declared.archive.Archive.TheVariants.{Days}
+use Rattle.rld_config.specs.declared.ask.AskSettings.{AskSettings}
 use Rattle.rld_config.specs.declared.control.ControlSocket.{ControlSocket}
 use Rattle.rld_config.specs.declared.fault.ServerFault.{ServerFault}
-use Rattle.rld_config.specs.declared.fault.ServerFault.TheVariants.{NotToml, BadValue, ShadowedClient, TakenPort, TakenPrefix, UnknownClient, UnsignedClient}
+use Rattle.rld_config.specs.declared.fault.ServerFault.TheVariants.{NotToml, BadValue, ShadowedClient, TakenPort, TakenPrefix, UnknownClient, UnsignedClient, UntrustedClient}
 use Rattle.rld_config.specs.declared.head.Head.{Head}
 use Rattle.rld_config.specs.declared.key.Key.{Key}
 use Rattle.rld_config.specs.declared.key.Key.TheVariants as key
@@ -45,6 +46,7 @@ pub record Server : Type 0 where
   pub networks : List Network
   pub control : ControlSocket
   pub web : Option Web
+  pub ask : Option AskSettings
   pub trust : Trust
 
 abbrev pub server_in : ServerFile → Server
@@ -58,6 +60,7 @@ server_in file = record {
   networks = file.networks.items;
   control = file.control;
   web = file.web;
+  ask = file.ask;
   trust = file.trust;
 }
 
@@ -276,6 +279,18 @@ page_in value =
 unfoldable pub web_in : Data → Result (Option Web) ServerFault
 web_in file = option_at key.Web page_in (member_in file key.Web)
 
+unfoldable pub asks_in : Data → Result AskSettings ServerFault
+asks_in value =
+    fault_or (unknown_in part.Ask value)
+    (and_then (address_in part.Ask value own_address) (λ address.
+    and_then (needed_port_in part.Ask value key.Port) (λ port.
+    and_then (path_in part.Ask value key.TokenFile) (λ token.
+    and_then (client_in part.Ask value) (λ client.
+    Ok (record { address = address; port = port; token_file = token; client = client }))))))
+
+unfoldable pub ask_in : Data → Result (Option AskSettings) ServerFault
+ask_in file = option_at key.Ask asks_in (member_in file key.Ask)
+
 unfoldable pub readers_in : Data → Result Trust ServerFault
 readers_in value =
     fault_or (unknown_in part.Trust value)
@@ -291,7 +306,7 @@ unfoldable pub trust_in : Data → Result Trust ServerFault
 trust_in file = trust_at (member_in file key.Trust)
 
 -- the contents of the file, or its first fault: of the head, of the tables `listen` in order, of
--- the tables `network`, of `control`, of `web`, of `trust`
+-- the tables `network`, of `control`, of `web`, of `ask`, of `trust`
 unfoldable pub server_of_file : Data → Result Server ServerFault
 server_of_file file =
     and_then (head_in file) (λ head.
@@ -299,6 +314,7 @@ server_of_file file =
     and_then (networks_in file) (λ networks.
     and_then (control_in file) (λ control.
     and_then (web_in file) (λ web.
+    and_then (ask_in file) (λ ask.
     and_then (trust_in file) (λ trust.
     Ok (record {
       accounts = head.accounts;
@@ -309,8 +325,9 @@ server_of_file file =
       networks = networks;
       control = control;
       web = web;
+      ask = ask;
       trust = trust;
-    })))))))
+    }))))))))
 
 abbrev pub server_of_parsed : Option Data → Result Server ServerFault
 server_of_parsed None = Err NotToml
@@ -330,6 +347,21 @@ unfoldable pub unknown_client : List Network → Configuration → Option Server
 unknown_client networks config =
     unknown_client_at
     (position (λ network. not (is_some (client_number config network.client))) networks)
+
+-- whether the client of this number may ask without a password
+abbrev pub is_trusted_at : Configuration → (number : ℕ) → Bool
+is_trusted_at config number =
+    option_map_or (λ client. client.trusted) (slice_get config.clients number) false
+
+-- what is wrong with the client that asks count as from, by its number
+abbrev pub asker_fault_at : Configuration → Option ℕ → Option ServerFault
+asker_fault_at config None = Some (UnknownClient part.Ask key.Client)
+asker_fault_at config (Some number) =
+    if is_trusted_at config number then None else Some (UntrustedClient part.Ask key.Client)
+
+abbrev pub asker_fault : Option AskSettings → Configuration → Option ServerFault
+asker_fault None config = None
+asker_fault (Some ask) config = asker_fault_at config (client_number config ask.client)
 
 -- whether the client with this number need not sign
 abbrev pub is_unsigned_at : Configuration → Option ℕ → Bool

@@ -38,6 +38,9 @@ pub enum ServerFault {
     /// for a network.
     #[error("UnsignedClient {0}{1}")]
     UnsignedClient(Part, Key),
+    /// The client of this address is not trusted, so that it may not ask without a password.
+    #[error("UntrustedClient {0}{1}")]
+    UntrustedClient(Part, Key),
     /// The address of this client of the account file stands for another client by a network.
     #[error("ShadowedClient {0}")]
     ShadowedClient(Ipv4Addr),

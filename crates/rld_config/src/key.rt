@@ -42,9 +42,11 @@ pub enum Key {
     Control,
     /// The page of the running server, as a table.
     Web,
+    /// Where asks come in over HTTP, as a table.
+    Ask,
     /// What others may do, as a table.
     Trust,
-    /// The address of a `listen` or of `web`.
+    /// The address of a `listen`, of `web` or of `ask`.
     Address,
     /// The UDP port for Access-Requests.
     Auth,
@@ -56,7 +58,7 @@ pub enum Key {
     StatusServer,
     /// The prefix of a `network`.
     Prefix,
-    /// The IPv4 address of the client that a `network` stands for.
+    /// The IPv4 address of the client that a `network` stands for, or that asks count as from.
     Client,
     /// The path of the control socket.
     Socket,
@@ -64,8 +66,10 @@ pub enum Key {
     Mode,
     /// The name of the group of the control socket.
     Group,
-    /// The TCP port of the page.
+    /// The TCP port of the page, or of asks.
     Port,
+    /// The path of the file with the token of asks.
+    TokenFile,
     /// Whether everybody may read the account file.
     ReadableAccounts,
 }
@@ -85,6 +89,7 @@ impl Key {
             Key::Network => "network",
             Key::Control => "control",
             Key::Web => "web",
+            Key::Ask => "ask",
             Key::Trust => "trust",
             Key::Address => "address",
             Key::Auth => "auth",
@@ -97,6 +102,7 @@ impl Key {
             Key::Mode => "mode",
             Key::Group => "group",
             Key::Port => "port",
+            Key::TokenFile => "token_file",
             Key::ReadableAccounts => "readable_accounts",
         }
     }

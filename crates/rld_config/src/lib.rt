@@ -10,6 +10,7 @@
 #![tactic(auto)]
 
 mod archive;
+mod ask;
 mod control;
 mod fault;
 mod head;
@@ -27,11 +28,12 @@ mod warning;
 mod web;
 
 pub use archive::Archive;
+pub use ask::AskSettings;
 pub use control::ControlSocket;
 pub use fault::ServerFault;
 pub use key::Key;
 pub use listen::Listen;
-pub use network::{shadowed_client, unknown_client, unsigned_client};
+pub use network::{asker_fault, shadowed_client, unknown_client, unsigned_client};
 pub use part::Part;
 pub use paths::Paths;
 pub use place::{Place, break_of};

@@ -5,8 +5,9 @@ ghost use Rattle.std.specs.List.{list_any};
 ghost use Rattle.rld_networks.specs.Prefix.{same_prefix};
 ghost use Rattle.rsl_accounts.specs.Configuration.{client_number};
 ghost use Rattle.rld_networks.specs.declared.network.Network.{Network as OneNetwork};
-ghost use Rattle.rld_config.specs.Server.{first_taken, need_not_sign, shadowed_client, shadows, taken_prefix, unknown_client, unsigned_client};
+ghost use Rattle.rld_config.specs.Server.{first_taken, need_not_sign, shadowed_client, shadows, taken_prefix, asker_fault, unknown_client, unsigned_client};
 
+use crate::ask::AskSettings;
 use crate::fault::ServerFault;
 use crate::key::Key;
 use crate::part::Part;
@@ -55,6 +56,21 @@ pub fn unknown_client(networks: &[Network], config: &Config) -> Option<ServerFau
     let index = first_lacking(networks, config)?;
     let part = Part::Network(index as u64 + 1);
     Some(ServerFault::UnknownClient(part, Key::Client))
+}
+
+/// What is wrong with the client that asks count as from: `UnknownClient` where the account file does not have
+/// it, and `UntrustedClient` where it is not trusted.
+pub fn asker_fault(ask: &Option<AskSettings>, config: &Config) -> Option<ServerFault>
+    ensures { result ≡ asker_fault ask.now config.now }
+{
+    let Some(ask) = ask else {
+        return None;
+    };
+    match config.client(ask.client) {
+        Some(number) if config.client_at(number).trusted => None,
+        Some(_) => Some(ServerFault::UntrustedClient(Part::Ask, Key::Client)),
+        None => Some(ServerFault::UnknownClient(Part::Ask, Key::Client)),
+    }
 }
 
 /// The index of the first network whose client is missing.

@@ -20,6 +20,8 @@ pub enum Part {
     Control,
     /// The table `web`.
     Web,
+    /// The table `ask`.
+    Ask,
     /// The table `trust`.
     Trust,
 }
@@ -40,6 +42,7 @@ impl Part {
                 Key::Network,
                 Key::Control,
                 Key::Web,
+                Key::Ask,
                 Key::Trust,
             ],
             Part::Listen(_) => &[
@@ -52,6 +55,7 @@ impl Part {
             Part::Network(_) => &[Key::Prefix, Key::Client],
             Part::Control => &[Key::Socket, Key::Mode, Key::Group],
             Part::Web => &[Key::Address, Key::Port],
+            Part::Ask => &[Key::Address, Key::Port, Key::TokenFile, Key::Client],
             Part::Trust => &[Key::ReadableAccounts],
         }
     }
@@ -72,6 +76,7 @@ impl fmt::Display for Part {
             Part::Network(number) => write!(f, "network {number} "),
             Part::Control => f.write_str("control "),
             Part::Web => f.write_str("web "),
+            Part::Ask => f.write_str("ask "),
             Part::Trust => f.write_str("trust "),
         }
     }

@@ -1,7 +1,8 @@
-ghost use Rattle.std.specs.Prelude.{◌≡◌, IfOk};
+ghost use Rattle.std.specs.Prelude.{◌≡◌, IfOk, option_map};
 ghost use Rattle.std.specs.Path.{path_buf_bytes};
-ghost use Rattle.rld_config.specs.Paths.{beside, control_path, paths_in, paths_of};
+ghost use Rattle.rld_config.specs.Paths.{beside, control_path, paths_in, paths_of, token_path};
 
+use crate::ask::AskSettings;
 use crate::server::ServerFile;
 use rsl_accounts::Text;
 use rsl_wire::NoMemory;
@@ -20,6 +21,8 @@ pub struct Paths {
     pub state: PathBuf,
     /// The control socket.
     pub control: PathBuf,
+    /// The file with the token of asks, if they come in.
+    pub token: Option<PathBuf>,
 }
 
 impl Paths {
@@ -30,10 +33,12 @@ impl Paths {
         let accounts = beside(alloc, file, server.accounts.as_str())?;
         let state = beside(alloc, file, server.state.as_str())?;
         let control = control(alloc, file, &server.state, &server.control.path)?;
+        let token = token(alloc, file, &server.ask)?;
         Ok(Paths {
             accounts,
             state,
             control,
+            token,
         })
     }
 }
@@ -43,6 +48,16 @@ fn beside(alloc: Global, file: &str, path: &str) -> Result<PathBuf, NoMemory>
     ensures { IfOk result (λ found. path_buf_bytes found ≡ beside file.now path.now) }
 {
     Ok(Path::new(file).with_file_name(alloc, path)?)
+}
+
+/// Where the file with the token of asks is, if they come in.
+fn token(alloc: Global, file: &str, ask: &Option<AskSettings>) -> Result<Option<PathBuf>, NoMemory>
+    ensures { IfOk result (λ found. option_map path_buf_bytes found ≡ token_path file.now ask.now) }
+{
+    match ask {
+        Some(ask) => Ok(Some(beside(alloc, file, ask.token_file.as_str())?)),
+        None => Ok(None),
+    }
 }
 
 /// The path of the control socket.

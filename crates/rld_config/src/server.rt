@@ -1,9 +1,11 @@
 //! The server's file: TOML with the paths at its head, arrays of tables `listen` and `network`, and
-//! tables `control`, `web` and `trust`.
+//! tables `control`, `web`, `ask` and `trust`.
 ghost use Rattle.std.specs.Prelude.{◌≡◌, ◌≢◌, ◌≤◌, Some, None, map, length, IfOk, IfErr, option_map};
 ghost use Rattle.toml.specs.View.{view};
 ghost use Rattle.rsl_accounts.specs.File.{file_of};
 ghost use Rattle.rld_config.specs.Server.{
+  ask_in,
+  asks_in,
   control_in,
   each,
   head_in,
@@ -24,6 +26,7 @@ ghost use Rattle.rld_config.specs.Server.{
 };
 
 use crate::archive::Archive;
+use crate::ask::AskSettings;
 use crate::control::ControlSocket;
 use crate::fault::ServerFault;
 use crate::head::Head;
@@ -77,6 +80,8 @@ pub struct ServerFile {
     pub control: ControlSocket,
     /// The address of the page, if it is served.
     pub web: Option<Web>,
+    /// Where asks come in, if they do.
+    pub ask: Option<AskSettings>,
     /// What others may do with the account file.
     pub trust: Trust,
 }
@@ -85,8 +90,8 @@ impl ServerFile {
     /// The contents of a server's file from its text. The faults come in this order: `NotToml`; of
     /// the head, the first unknown key, then the first key that is absent or has a wrong value; the
     /// same of each table `listen`, in the file's order, then `TakenPort`; the same of each table
-    /// `network`, then `TakenPrefix`; the same of `control`, of `web` and of `trust`. `NoMemory`
-    /// comes if memory is refused, before the checks that follow.
+    /// `network`, then `TakenPrefix`; the same of `control`, of `web`, of `ask` and of `trust`.
+    /// `NoMemory` comes if memory is refused, before the checks that follow.
     pub fn read(alloc: Global, text: &[u8]) -> Result<ServerFile, ServerFault>
         ensures ok { IfOk result (λ file. server_of_text text.now ≡ Ok (server_in file)) }
         ensures fault { IfErr result (λ fault. fault ≢ ServerFault.NoMemory →
@@ -108,6 +113,7 @@ impl ServerFile {
         let networks = networks(alloc, file)?;
         let control = control(alloc, file)?;
         let web = web(alloc, file)?;
+        let ask = ask(alloc, file)?;
         let trust = trust(alloc, file)?;
         Ok(ServerFile {
             accounts: head.accounts,
@@ -119,6 +125,7 @@ impl ServerFile {
             networks,
             control,
             web,
+            ask,
             trust,
         })
     }
@@ -338,6 +345,36 @@ fn web(alloc: Global, file: &Value) -> Result<Option<Web>, ServerFault>
     match member(file, Key::Web) {
         Some(table) if table.is_table() => Ok(Some(page(alloc, table)?)),
         Some(_) => Err(ServerFault::BadValue(Part::Head, Key::Web)),
+        None => Ok(None),
+    }
+}
+
+/// Reads a table `ask`.
+#[tactic(auto, unfolding(crate::specs::Server::asks_in))]
+fn asks(alloc: Global, table: &Value) -> Result<AskSettings, ServerFault>
+    ensures ok { IfOk result (λ ask. asks_in (view table.now) ≡ Ok ask) }
+    ensures fault { IfErr result (λ fault. fault ≢ ServerFault.NoMemory →
+        asks_in (view table.now) ≡ Err fault) }
+{
+    check_names(alloc, Part::Ask, table)?;
+    Ok(AskSettings {
+        address: address(Part::Ask, table, OWN_ADDRESS)?,
+        port: needed_number(Part::Ask, table, Key::Port)?,
+        token_file: path(alloc, Part::Ask, table, Key::TokenFile)?,
+        client: client(Part::Ask, table)?,
+    })
+}
+
+/// Where asks come in, if they do.
+#[tactic(auto, unfolding(crate::specs::Server::ask_in))]
+fn ask(alloc: Global, file: &Value) -> Result<Option<AskSettings>, ServerFault>
+    ensures ok { IfOk result (λ ask. ask_in (view file.now) ≡ Ok ask) }
+    ensures fault { IfErr result (λ fault. fault ≢ ServerFault.NoMemory →
+        ask_in (view file.now) ≡ Err fault) }
+{
+    match member(file, Key::Ask) {
+        Some(table) if table.is_table() => Ok(Some(asks(alloc, table)?)),
+        Some(_) => Err(ServerFault::BadValue(Part::Head, Key::Ask)),
         None => Ok(None),
     }
 }

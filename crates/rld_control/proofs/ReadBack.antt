@@ -22,7 +22,7 @@ use Rattle.rld_control.specs.Laws.{IsCommand, IsNamedSession, IsNasName}
 use Rattle.rld_control.specs.Named.{named_by, named_session_of, nas_of_word, nas_word, session_words, with_account, with_client}
 use Rattle.rld_control.specs.Words.{by_first_word, by_parts, is_space, parted}
 use Rattle.rld_control.specs.declared.command.Command.{Command}
-use Rattle.rld_control.specs.declared.command.Command.TheVariants.{Status, Accounts, Sessions, Free, Reload, Stop}
+use Rattle.rld_control.specs.declared.command.Command.TheVariants.{Status, Accounts, Sessions, Free, Ask, Reload, Stop}
 use Rattle.rld_control.specs.declared.form.Form.TheVariants.{Lines, Json}
 use Rattle.rld_control.specs.declared.form.Selection.TheVariants.{All, Held, Full}
 use Rattle.rld_control.specs.declared.named.NamedSession.{NamedSession}
@@ -214,3 +214,4 @@ line_read words values digits (Sessions Json account) is =
 line_read words values digits (Free session) is =
     at_word command_with _ (codes "free") (session_words session) refl
     ∙ ap (option_map (λ (session : NamedSession). Free session)) (session_read words values digits session is)
+line_read words values digits (Ask form) is = at_word command_with _ (codes "ask") form refl

@@ -7,7 +7,7 @@ use Rattle.rld_values.specs.Values.{word}
 use Rattle.rld_control.specs.Named.{named_session_of, session_words}
 use Rattle.rld_control.specs.Words.{by_first_word}
 use Rattle.rld_control.specs.declared.command.Command.{Command}
-use Rattle.rld_control.specs.declared.command.Command.TheVariants.{Status, Accounts, Sessions, Free, Reload, Stop}
+use Rattle.rld_control.specs.declared.command.Command.TheVariants.{Status, Accounts, Sessions, Free, Ask, Reload, Stop}
 use Rattle.rld_control.specs.declared.form.Form.{Form}
 use Rattle.rld_control.specs.declared.form.Form.TheVariants.{Lines, Json}
 use Rattle.rld_control.specs.declared.form.Selection.{Selection}
@@ -31,6 +31,7 @@ line_of (Accounts form selection) = codes "accounts" ++ form_flag form ++ select
 line_of (Sessions Lines account) = codes "sessions " ++ word account
 line_of (Sessions Json account) = codes "sessions --json " ++ word account
 line_of (Free session) = codes "free " ++ session_words session
+line_of (Ask form) = codes "ask " ++ form
 line_of Reload = codes "reload"
 line_of Stop = codes "stop"
 
@@ -75,6 +76,7 @@ abbrev pub command_with : (word words : List ℕ) → Option Command
 command_with word words =
     if bytes_eq word (codes "sessions") then sessions_with words
     else if bytes_eq word (codes "free") then option_map Free (named_session_of words)
+    else if bytes_eq word (codes "ask") then Some (Ask words)
     else if bytes_eq word (codes "status") then status_with words
     else if bytes_eq word (codes "accounts") then accounts_with words
     else None

@@ -5,7 +5,7 @@ use Rattle.rsl_event.specs.declared.nas.NasName.TheVariants.{Identifier, Address
 use Rattle.rld_values.specs.Laws.{AreOctets}
 use Rattle.rld_control.specs.Command.{command_of, line_of}
 use Rattle.rld_control.specs.declared.command.Command.{Command}
-use Rattle.rld_control.specs.declared.command.Command.TheVariants.{Status, Accounts, Sessions, Free, Reload, Stop}
+use Rattle.rld_control.specs.declared.command.Command.TheVariants.{Status, Accounts, Sessions, Free, Ask, Reload, Stop}
 use Rattle.rld_control.specs.declared.named.NamedSession.{NamedSession}
 
 abbrev pub IsNasName : NasName → Type 0
@@ -26,6 +26,7 @@ IsCommand (Sessions form account) = AreOctets account
 IsCommand (Free session) = IsNamedSession session
 IsCommand (Status form) = Unit {0}
 IsCommand (Accounts form selection) = Unit {0}
+IsCommand (Ask form) = Unit {0}
 IsCommand Reload = Unit {0}
 IsCommand Stop = Unit {0}
 

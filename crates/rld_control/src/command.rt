@@ -28,6 +28,8 @@ pub enum Command {
     Sessions(Form, Octets),
     /// Free the place of this session.
     Free(NamedSession),
+    /// Ask whether an account that was checked elsewhere has a place, by the form of the ask.
+    Ask(Octets),
     /// Read its accounts again.
     Reload,
     /// Stop.
@@ -36,9 +38,9 @@ pub enum Command {
 
 impl Command {
     /// The command of a line, without its line feed: `status`, `accounts`, `sessions` and a name,
-    /// `free` and the words of a session, `reload`, or `stop`. After the first three may come
-    /// `--json`, and after `accounts` also `--held` or `--full`. `None` for any other line. It
-    /// fails only if memory is refused.
+    /// `free` and the words of a session, `ask` and a form, `reload`, or `stop`. After the first
+    /// three may come `--json`, and after `accounts` also `--held` or `--full`. `None` for any
+    /// other line. It fails only if memory is refused.
     pub fn read(alloc: Global, line: &[u8]) -> Result<Option<Command>, NoMemory>
         ensures { IfOk result (λ command. command ≡ command_of line.now) }
     {
@@ -74,6 +76,8 @@ fn command_with(alloc: Global, word: &[u8], words: &[u8]) -> Result<Option<Comma
         sessions_with(alloc, words)
     } else if word == b"free".as_slice() {
         Ok(NamedSession::read(alloc, words)?.map(Command::Free))
+    } else if word == b"ask".as_slice() {
+        Ok(Some(Command::Ask(Octets::from_slice(alloc, words)?)))
     } else if word == b"status".as_slice() {
         Ok(status_with(words))
     } else if word == b"accounts".as_slice() {

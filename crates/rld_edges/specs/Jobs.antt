@@ -16,6 +16,7 @@ pub data JobSeen : Type 0 where
   Answers : Control → JobSeen
   Reports : JobSeen
   Shows : JobSeen
+  Asks : JobSeen
 
 abbrev pub seen : Job → JobSeen
 seen (jobs.Receive socket port) = Receives socket.now port
@@ -23,6 +24,7 @@ seen jobs.Tick = Ticks
 seen (jobs.Answer control) = Answers control.now
 seen jobs.Report = Reports
 seen jobs.Show = Shows
+seen jobs.Ask = Asks
 
 -- how many receivers each of the two sockets has
 abbrev pub receivers_in : Pair → ℕ
@@ -48,3 +50,4 @@ port_of jobs.Tick = None
 port_of (jobs.Answer control) = None
 port_of jobs.Report = None
 port_of jobs.Show = None
+port_of jobs.Ask = None

@@ -12,9 +12,9 @@ use std::os::unix::fs::{self as unix, DirBuilderExt, FileTypeExt, PermissionsExt
 use std::os::unix::net::{UnixListener, UnixStream};
 use std::time::{Clock, Duration, Instant};
 
-/// The most octets of a request line, with its line feed: `free` and the words of the longest names
-/// have 2,308.
-const LINE_LEN: usize = 2_560;
+/// The most octets of a request line, with its line feed: `ask` and the form of the longest values
+/// have 2,743.
+const LINE_LEN: usize = 2_816;
 
 /// The most octets of an answer written at once.
 const PART_LEN: usize = 4_096;

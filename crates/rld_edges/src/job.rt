@@ -20,6 +20,8 @@ pub enum Job<'a> {
     Report,
     /// Show the server to clients.
     Show,
+    /// It takes asks over HTTP.
+    Ask,
 }
 
 impl Sockets {

@@ -63,6 +63,7 @@ where
             Command::Accounts(form, selection) => self.accounts(form, selection),
             Command::Sessions(form, name) => self.sessions(form, name.as_slice()),
             Command::Free(named) => self.free(&named),
+            Command::Ask(form) => self.ask(form.as_slice()),
             Command::Reload => self.reload(),
             Command::Stop => {
                 self.shutdown.end();

@@ -1,3 +1,4 @@
+use rld_ask::Outcome;
 use rld_control::FreeFault;
 use rsl_wire::NoMemory;
 use std::alloc::{AllocError, AllocFailed};
@@ -13,6 +14,10 @@ pub(crate) enum AskFault {
     Free(FreeFault),
     /// The Stop was not recorded, so nothing was freed.
     Unrecorded,
+    /// The server's file says nothing of asks.
+    NoAsks,
+    /// The ask is not accepted.
+    NotAccepted(Outcome),
     /// Memory was refused.
     NoMemory,
 }
@@ -28,6 +33,12 @@ impl AskFault {
             AskFault::Free(FreeFault::UnknownClient) => "error unknown client\n",
             AskFault::Free(FreeFault::NoSession) => "error no session can be named so\n",
             AskFault::Unrecorded => "error not recorded, and so not freed\n",
+            AskFault::NoAsks => "error no [ask] in the server's file\n",
+            AskFault::NotAccepted(Outcome::LimitReached) => "error session limit reached\n",
+            AskFault::NotAccepted(Outcome::UnknownAccount) => "error unknown account\n",
+            AskFault::NotAccepted(Outcome::Disabled) => "error account disabled\n",
+            AskFault::NotAccepted(Outcome::Accepted | Outcome::Unanswered) =>
+                "error not recorded\n",
             AskFault::NoMemory | AskFault::Free(FreeFault::NoMemory) => "error no memory\n",
         }
     }

@@ -1,9 +1,11 @@
 use crate::accounts::Accounts;
+use crate::asking::Seat;
 use crate::current::Current;
 use crate::reporting::MOST_TOLD;
 use crate::rolling::Rolls;
 use crate::shared_recorder::SharedRecorder;
 use circular_buffer::HeapCircularBuffer;
+use rld_ask::Asks;
 use rld_edges::{
     Control, Job, Readiness, RunFault, Shutdown, Sockets, Start, outcome_of, ports_of,
 };
@@ -17,6 +19,7 @@ use rld_store::Store;
 use rld_turn::{RecordFault, tick};
 use rld_watch::Board;
 use rsl_accounts::Config;
+use rsl_event::Port;
 use rsl_port::{Clock, SystemClock};
 use std::alloc::Global;
 use std::net::{Net, TcpListener, TcpStream};
@@ -63,6 +66,8 @@ pub(crate) struct Server<'a, G, A, R> {
     pub(crate) accounts: &'a A,
     pub(crate) state: Mutex<ServerState<Store<PacedLog<'a, FileLog>>>>,
     pub(crate) board: Board,
+    /// Where asks are counted, if they come in.
+    pub(crate) seat: Option<Seat>,
     pub(crate) refusals: Refusals,
     pub(crate) told: Mutex<HeapCircularBuffer<Told>>,
     pub(crate) history: Mutex<History>,
@@ -76,7 +81,8 @@ pub(crate) struct Server<'a, G, A, R> {
 /// Serves until it is asked to end or cannot go on: receives RADIUS datagrams on the sockets,
 /// answers each once its move is recorded, and makes a tick each second. Each receiver has its own
 /// thread, and so have the worker that makes ticks, the one that answers on the control socket, the
-/// one that writes to standard error, and, if there are `pages`, the one that shows the server.
+/// one that writes to standard error, if there are `pages` the one that shows the server, and if
+/// there are `asks` the one that takes them.
 ///
 /// The next generation begins after 1,000,000 moves or ten minutes, whichever comes first. If it
 /// cannot begin, the present one goes on, and it is tried again a minute later. At the start, and
@@ -105,6 +111,7 @@ pub fn serve<'a, P, G, A, R>(
     sockets: &'a Sockets,
     control: &Control,
     pages: Option<&P>,
+    asks: Option<&Asks>,
     generations: &'a G,
     accounts: &'a A,
     store: Store<PacedLog<'a, FileLog>>,
@@ -124,7 +131,17 @@ where
     if pages.is_some() {
         jobs.push(Job::Show)?;
     }
-    let ports = ports_of(alloc, jobs.as_slice())?;
+    if asks.is_some() {
+        jobs.push(Job::Ask)?;
+    }
+    let mut ports = ports_of(alloc, jobs.as_slice())?;
+    let seat = asks.map(|asks| Seat {
+        client: asks.client(),
+        number: ports.len(),
+    });
+    if seat.is_some() {
+        ports.push(Port::Auth)?;
+    }
     let board = Board::new(alloc, config.clients(), ports.as_slice())?;
     let history = History::new(alloc, plan.start)?;
     let config = Arc::new(alloc, config)?;
@@ -142,6 +159,7 @@ where
         accounts,
         state: Mutex::new(ServerState::new(store, config, plan.header)),
         board,
+        seat,
         refusals: Refusals::new(alloc, ports.len())?,
         told: Mutex::new(HeapCircularBuffer::with_capacity(alloc, MOST_TOLD)?),
         history: Mutex::new(history),
@@ -151,7 +169,7 @@ where
         shutdown: Shutdown::new(jobs.len()),
         current: RwLock::new(current),
     };
-    run_jobs(&server, jobs.as_slice(), pages)
+    run_jobs(&server, jobs.as_slice(), pages, asks)
 }
 
 /// Does each job on its own thread, and gives their results. That nothing more can be recorded is
@@ -160,6 +178,7 @@ fn run_jobs<P, G, A, R>(
     server: &Server<'_, G, A, R>,
     jobs: &[Job<'_>],
     pages: Option<&P>,
+    asks: Option<&Asks>,
 ) -> Result<(), RunFault>
 where
     P: Pages + Sync,
@@ -176,7 +195,7 @@ where
         server.rt,
         server.alloc,
         jobs.len(),
-        &|i| server.work(jobs.get(i), i, pages),
+        &|i| server.work(jobs.get(i), i, pages, asks),
     )?;
     if server.state.lock(server.rt).has_ended() {
         return Err(RunFault::Unsynced);
@@ -197,6 +216,7 @@ where
         job: Option<&Job<'_>>,
         number: usize,
         pages: Option<&P>,
+        asks: Option<&Asks>,
     ) -> Result<(), RunFault> {
         let outcome = match job {
             Some(Job::Receive(socket, port)) => self.receive_all(socket, *port, number),
@@ -205,6 +225,10 @@ where
             Some(Job::Report) => self.report_all(),
             Some(Job::Show) => match pages {
                 Some(pages) => self.show(pages),
+                None => Ok(()),
+            },
+            Some(Job::Ask) => match asks {
+                Some(asks) => self.take_asks(asks),
                 None => Ok(()),
             },
             None => Ok(()),

@@ -4,7 +4,7 @@ use Rattle.rld_look.specs.declared.priority.Priority.TheVariants as priorities
 use Rattle.rld_state.specs.declared.clock.ClockNews.TheVariants.{Behind, CaughtUp}
 use Rattle.rld_state.specs.declared.rolled.Notice.TheVariants.{NotBegun, Begun, NotPutAway, PutAway}
 use Rattle.rld_state.specs.declared.told.Told.{Told}
-use Rattle.rld_state.specs.declared.told.Told.TheVariants.{Recording, Clock, Generations, Accounts}
+use Rattle.rld_state.specs.declared.told.Told.TheVariants.{Recording, Clock, Generations, Accounts, Asks}
 use Rattle.rld_state.specs.declared.trouble.News.TheVariants.{Began, Over}
 
 -- an error where nothing is answered, a warning where something fails beside that or the clock went back, and else a
@@ -19,3 +19,4 @@ priority_of (Generations Begun) = priorities.Notice
 priority_of (Generations (NotPutAway fault)) = priorities.Warning
 priority_of (Generations PutAway) = priorities.Notice
 priority_of (Accounts reloaded) = priorities.Notice
+priority_of (Asks token other) = priorities.Warning

@@ -19,6 +19,8 @@ pub enum Told {
     Generations(Notice),
     /// The result of a reload.
     Accounts(Reloaded),
+    /// How many requests over HTTP were refused that are no asks: without the token, and others.
+    Asks(u64, u64),
 }
 
 impl Told {
@@ -29,7 +31,8 @@ impl Told {
         match self {
             Told::Recording(News::Began) => Priority::Error,
             Told::Clock(ClockNews::Behind(_))
-            | Told::Generations(Notice::NotBegun(_) | Notice::NotPutAway(_)) => Priority::Warning,
+            | Told::Generations(Notice::NotBegun(_) | Notice::NotPutAway(_))
+            | Told::Asks(_, _) => Priority::Warning,
             Told::Recording(News::Over)
             | Told::Clock(ClockNews::CaughtUp)
             | Told::Generations(Notice::Begun | Notice::PutAway)
@@ -55,6 +58,12 @@ impl fmt::Display for ToldLine {
             Told::Clock(news) => news.fmt(f)?,
             Told::Generations(notice) => notice.fmt(f)?,
             Told::Accounts(reloaded) => write!(f, "accounts read anew: {reloaded}")?,
+            Told::Asks(token, other) => {
+                write!(
+                    f,
+                    "requests to ask refused: {token} without the token, {other} others"
+                )?;
+            }
         }
         f.write_str("\n")
     }

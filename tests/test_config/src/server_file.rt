@@ -119,6 +119,17 @@ fn the_first_fault_of_the_tables_is_named(rt: HostRuntime) -> Result<(), Fail> {
         no port | accounts = "a" | state = "s" | [web] | Missing web port
         another name | accounts = "a" | state = "s" | [web] | host = "a" | Unknown web "host"
         no address | accounts = "a" | state = "s" | [web] | address = "a" | BadValue web address
+        asks in a list | accounts = "a" | state = "s" | [[ask]] | BadValue ask
+        asks without a port | accounts = "a" | state = "s" | [ask] | Missing ask port
+        without a token | accounts = "a" | state = "s" | [ask] | port = 1 | client = "192.0.2.1" | Missing ask token_file
+        without a client | accounts = "a" | state = "s" | [ask] | port = 1 | token_file = "t" | Missing ask client
+        with all of it | accounts = "a" | state = "s" | [ask] | port = 1 | token_file = "t" | client = "192.0.2.1" | Ok
+        another name | accounts = "a" | state = "s" | [ask] | token = "t" | Unknown ask "token"
+        an address of IPv6 | accounts = "a" | state = "s" | [ask] | address = "::1" | BadValue ask address
+        an empty token | accounts = "a" | state = "s" | [ask] | port = 1 | token_file = "" | BadValue ask token_file
+        a client by its name | accounts = "a" | state = "s" | [ask] | port = 1 | token_file = "t" | client = "a" | BadValue ask client
+        the page before asks | accounts = "a" | state = "s" | [ask] | [web] | Missing web port
+        asks before trust | accounts = "a" | state = "s" | [trust] | a = 1 | [ask] | Missing ask port
         a page at port 0 | accounts = "a" | state = "s" | [web] | port = 0 | BadValue web port
         a listen before the rest | accounts = "a" | state = "s" | [web] | [control] | [[listen]] | auth = 0 | BadValue listen 1 auth
         a listen before a network | accounts = "a" | state = "s" | [[network]] | [[listen]] | auth = 0 | BadValue listen 1 auth

@@ -2,9 +2,11 @@
 //! after those of the head.
 
 use crate::server_file::text_of;
-use rld_config::{shadowed_client, unknown_client, unsigned_client, warnings};
+use rld_config::{
+    AskSettings, asker_fault, shadowed_client, unknown_client, unsigned_client, warnings,
+};
 use rld_networks::{Network, prefix_of};
-use rsl_accounts::Config;
+use rsl_accounts::{Config, Text};
 use std::alloc::Global;
 use std::test::Fail;
 use test_rows::{Subject, check_rows, printed, shown};
@@ -176,4 +178,48 @@ fn networks_of_version_3_stand_for_clients_that_sign(rt: HostRuntime) -> Result<
         version 1 | 1 | false | \"none\"
     ";
     check_rows(&rt, &Guarded, rows)
+}
+
+/// The fault of the client that asks count as from, whose last number the second field has, of a file whose one
+/// client is 192.0.2.3 and is trusted or not.
+struct Asking;
+
+impl Subject for Asking {
+    fn found(&self, alloc: Global, fields: &[&str]) -> Result<String, Fail> {
+        let [trusted, last] = fields else {
+            return Err("not whether a client is trusted, and a number")?;
+        };
+        let Ok(last) = last.parse::<u8>() else {
+            return Err("no number")?;
+        };
+        let times = HEAD.trim_start_matches("\nversion = 1\n");
+        let client = format!(in alloc;
+            "[[client]]\naddress = '192.0.2.3'\nsecret = '0123456789abcdef'\ntrusted = {trusted}\n"
+        )?;
+        let account = "[[account]]\nname = 'a'\nplaces = 1\nports = 1\n";
+        let text = format!(in alloc; "version = 3\n{times}{client}{account}")?;
+        let Ok(config) = Config::read(alloc, text.as_bytes()) else {
+            return Err("the account file is refused")?;
+        };
+        let ask = AskSettings {
+            address: [127, 0, 0, 1],
+            port: 8613,
+            token_file: Text::from_str(alloc, "t")?,
+            client: [192, 0, 2, last],
+        };
+        match asker_fault(&Some(ask), &config) {
+            Some(fault) => shown(alloc, &fault),
+            None => shown(alloc, &"none"),
+        }
+    }
+}
+
+#[test]
+fn asks_count_as_from_a_trusted_client(rt: HostRuntime) -> Result<(), Fail> {
+    let rows = "
+        a trusted one | true | 3 | none
+        one that is not | false | 3 | UntrustedClient ask client
+        no client | true | 4 | UnknownClient ask client
+    ";
+    check_rows(&rt, &Asking, rows)
 }

@@ -1,0 +1,3 @@
+pub mod ComparisonLemmas
+pub mod Pieces
+pub mod Requests

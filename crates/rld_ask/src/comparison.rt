@@ -1,0 +1,24 @@
+//! Comparison of a token without an early exit: its time is not to tell where two differ. No clause
+//! speaks of time, and a compiler may change it. `rsl_auth` compares digests in the same way.
+ghost use Rattle.std.specs.Prelude.{◌≡◌, ◌↔◌, length};
+ghost use Rattle.std.specs.Str.{bytes_eq};
+
+/// Whether two lists of octets are equal. If they have one length, every octet is compared,
+/// wherever the first difference is.
+pub(crate) fn same_octets(octets: &[u8], others: &[u8]) -> bool
+    ensures { result ≡ bytes_eq octets.now others.now }
+{
+    octets.len() == others.len() && differing_bits(octets, others) == 0
+}
+
+/// The bits in which any octet differs from the one at its index in the other list.
+fn differing_bits(octets: &[u8], others: &[u8]) -> u8
+    requires { length octets.now ≡ length others.now }
+    ensures { (result ≡ 0) ↔ (octets.now ≡ others.now) }
+{
+    let mut bits = 0;
+    for i in 0..octets.len() {
+        bits |= octets[i] ^ others[i];
+    }
+    bits
+}

@@ -1,0 +1,65 @@
+use rld_turn::{End, Ended, MAX_BATCH, Watch};
+use rld_watch::Watcher;
+use rsl_event::Detail;
+use std::alloc::{AllocError, Global};
+use std::sync::Wait;
+use std::time::Clock;
+
+/// How the request of an ask ended.
+#[derive(Clone, Copy)]
+pub(crate) struct Noted {
+    /// How it ended.
+    pub(crate) end: End,
+    /// What was read of it.
+    pub(crate) detail: Option<Detail>,
+}
+
+/// A watcher of asks: it counts as any other, and keeps how each request of a turn ended.
+#[derive(Drop)]
+pub(crate) struct AskWatch<'a, R: Wait + Clock> {
+    watcher: Watcher<'a, R>,
+    noted: Vec<Noted>,
+    is_whole: bool,
+}
+
+impl<'a, R: Wait + Clock> AskWatch<'a, R> {
+    /// A watcher that counts by this one. It fails only where memory is refused.
+    pub(crate) fn new(
+        alloc: Global,
+        watcher: Watcher<'a, R>,
+    ) -> Result<AskWatch<'a, R>, AllocError> {
+        Ok(AskWatch {
+            watcher,
+            noted: Vec::with_capacity(alloc, MAX_BATCH)?,
+            is_whole: true,
+        })
+    }
+
+    /// How each request of the last turn ended, in their order; none where one of them could not be kept.
+    pub(crate) fn noted(&self) -> &[Noted] {
+        if self.is_whole {
+            self.noted.as_slice()
+        } else {
+            &[]
+        }
+    }
+}
+
+impl<R: Wait + Clock> Watch for AskWatch<'_, R> {
+    fn begin(&mut self) {
+        self.noted.clear();
+        self.is_whole = true;
+        self.watcher.begin();
+    }
+
+    fn note(&mut self, ended: Ended<'_>) {
+        let noted = Noted {
+            end: ended.end,
+            detail: ended.detail,
+        };
+        if self.noted.push(noted).is_err() {
+            self.is_whole = false;
+        }
+        self.watcher.note(ended);
+    }
+}
