@@ -24,6 +24,8 @@ pub(crate) struct AccountFile {
     pub(crate) config: Config,
     /// Its mode, as the system gives it.
     pub(crate) mode: u32,
+    /// Its text.
+    pub(crate) text: Vec<u8>,
 }
 
 /// What the server's file of this name says.
@@ -44,8 +46,7 @@ pub(crate) fn server_file<F: Files>(
     }
 }
 
-/// What the account file of this path says, and its mode, where it fits the server's file, which has this
-/// name: it has the client of each network, which signs under a guard, no network takes the address of another client, and nobody
+/// The account file of this path, where it fits the server's file, which has this name: it has the client of each network, which signs under a guard, no network takes the address of another client, and nobody
 /// else may write to it, nor read it where the server's file does not allow that.
 pub(crate) fn accounts_for<F: Files>(
     files: &F,
@@ -72,7 +73,7 @@ pub(crate) fn accounts_for<F: Files>(
     }
 }
 
-/// What the account file of this name says, and its mode.
+/// What the account file of this name says, its mode, and its text.
 pub(crate) fn account_file<F: Files>(
     files: &F,
     alloc: Global,
@@ -92,6 +93,7 @@ pub(crate) fn account_file<F: Files>(
         Ok(found) => Ok(AccountFile {
             config,
             mode: found.permissions().mode(),
+            text,
         }),
         Err(_) => bad_file(alloc, name, None, Wrong::Unreadable),
     }

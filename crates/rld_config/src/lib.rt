@@ -5,8 +5,9 @@
 //! text says, or its first fault, or that memory was refused. The keys of each table, and the
 //! values that they may have, stand in `specs/Key.antt`, and in `specs/Value.antt` what a value of
 //! TOML is under a key. `Paths::of` says where the file's paths lead to (`specs/Paths.antt`),
-//! `break_of` where a text stops being TOML (`specs/Place.antt`), and `warnings` what is worth
-//! knowing of a configuration (`specs/Warning.antt`).
+//! `break_of` where a text stops being TOML (`specs/Place.antt`), `warnings` what is worth knowing
+//! of a configuration (`specs/Warning.antt`), and `passed_over` which key of its text counts for
+//! nothing before version 3 (`specs/Passed.antt`).
 #![tactic(auto)]
 
 mod archive;
@@ -17,6 +18,7 @@ mod key;
 mod listen;
 mod network;
 mod part;
+mod passed;
 mod paths;
 mod place;
 mod server;
@@ -33,6 +35,7 @@ pub use key::Key;
 pub use listen::Listen;
 pub use network::{shadowed_client, unknown_client, unsigned_client};
 pub use part::Part;
+pub use passed::{PassedOver, passed_over};
 pub use paths::Paths;
 pub use place::{Place, break_of};
 pub use server::ServerFile;
