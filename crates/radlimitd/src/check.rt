@@ -1,8 +1,8 @@
 use crate::asks::token_in;
 use crate::fault::Fault;
 use crate::files::{accounts_for, server_file};
-use rld_config::{Paths, warnings};
-use rsl_accounts::Config;
+use rld_config::{Paths, passed_over, warnings};
+use rsl_accounts::{Config, UnsignedRule};
 use std::alloc::Global;
 use std::fs::Files;
 use std::io::Write;
@@ -31,9 +31,21 @@ pub(crate) fn check<F: Files, W: Write>(
     for warning in told.as_slice() {
         writeln!(writer, "{warning}")?;
     }
+    if let UnsignedRule::Trusted = accounts.config.unsigned_rule() {
+        tell_passed_over(alloc, accounts.text.as_slice(), writer)?;
+    }
     tell_short_lives(&accounts.config, writer)?;
     tell_no_login(&accounts.config, writer)?;
     Ok(writer.flush()?)
+}
+
+/// Writes the first key of the text of an account file that counts for nothing before version 3; nothing where
+/// there is none.
+fn tell_passed_over<W: Write>(alloc: Global, text: &[u8], writer: &mut W) -> Result<(), Fault> {
+    if let Some(key) = passed_over(alloc, text)? {
+        writeln!(writer, "version 3 passes over no key, as here {key}")?;
+    }
+    Ok(())
 }
 
 /// Writes the number of accounts whose live time is under two of their interim intervals, and the

@@ -24,6 +24,8 @@ pub(crate) struct AccountFile {
     pub(crate) config: Config,
     /// Its mode, as the system reports it.
     pub(crate) mode: u32,
+    /// Its text.
+    pub(crate) text: Vec<u8>,
 }
 
 /// The contents of the server's file of this name.
@@ -75,7 +77,7 @@ pub(crate) fn accounts_for<F: Files>(
     }
 }
 
-/// The account file of this name.
+/// The account file of this name, with its mode and its text.
 pub(crate) fn account_file<F: Files>(
     files: &F,
     alloc: Global,
@@ -95,6 +97,7 @@ pub(crate) fn account_file<F: Files>(
         Ok(found) => Ok(AccountFile {
             config,
             mode: found.permissions().mode(),
+            text,
         }),
         Err(_) => bad_file(alloc, name, None, Wrong::Unreadable),
     }

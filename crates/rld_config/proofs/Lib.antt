@@ -1,4 +1,5 @@
 pub mod Names
+pub mod PassedNames
 pub mod Tables
 pub mod Taken
 pub mod Parts

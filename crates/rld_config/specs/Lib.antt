@@ -5,3 +5,4 @@ pub mod Place
 pub mod Paths
 pub mod Warning
 pub mod Trust
+pub mod Passed

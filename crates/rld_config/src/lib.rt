@@ -5,8 +5,9 @@
 //! text says, or its first fault, or that memory was refused. The keys of each table, and the
 //! values that they may have, are in `specs/Key.antt`, and what a TOML value is under a key in
 //! `specs/Value.antt`. `Paths::of` resolves the file's paths (`specs/Paths.antt`), `break_of` finds
-//! where a text stops being TOML (`specs/Place.antt`), and `warnings` gives what is worth knowing
-//! of a configuration (`specs/Warning.antt`).
+//! where a text stops being TOML (`specs/Place.antt`), `warnings` gives what is worth knowing of a
+//! configuration (`specs/Warning.antt`), and `passed_over` the first key of its text that counts
+//! for nothing before version 3 (`specs/Passed.antt`).
 #![tactic(auto)]
 
 mod archive;
@@ -18,6 +19,7 @@ mod key;
 mod listen;
 mod network;
 mod part;
+mod passed;
 mod paths;
 mod place;
 mod server;
@@ -35,6 +37,7 @@ pub use key::Key;
 pub use listen::Listen;
 pub use network::{asker_fault, shadowed_client, unknown_client, unsigned_client};
 pub use part::Part;
+pub use passed::{PassedOver, passed_over};
 pub use paths::Paths;
 pub use place::{Place, break_of};
 pub use server::ServerFile;

@@ -132,7 +132,7 @@ impl ServerFile {
 }
 
 /// The text as a TOML table.
-fn parse(alloc: Global, text: &[u8]) -> Result<Value, ServerFault>
+pub(crate) fn parse(alloc: Global, text: &[u8]) -> Result<Value, ServerFault>
     ensures ok { IfOk result (λ file. file_of text.now ≡ Some (view file)) }
     ensures fault { IfErr result (λ fault. fault ≢ ServerFault.NoMemory →
         (fault ≡ ServerFault.NotToml) × (file_of text.now ≡ None)) }

@@ -3,7 +3,7 @@
 
 use crate::server_file::text_of;
 use rld_config::{
-    AskSettings, asker_fault, shadowed_client, unknown_client, unsigned_client, warnings,
+    AskSettings, asker_fault, passed_over, shadowed_client, unknown_client, unsigned_client, warnings,
 };
 use rld_networks::{Network, prefix_of};
 use rsl_accounts::{Config, Text};
@@ -44,13 +44,13 @@ fn an_operator_is_told_what_to_know_of_an_account_file(rt: HostRuntime) -> Resul
           [[account]] | name = 'a' | password = 'p' | places = 1 | ports = 1 | [Memory(1)]
         one that need not | [[client]] | address = '192.0.2.1' | secret = '0123456789abcdef' | \
           [[account]] | name = 'a' | password = 'p' | places = 1 | ports = 1 | \
-          [NotSigned([192, 0, 2, 1]), Memory(1)]
+          [Unsigned(1, [192, 0, 2, 1]), Memory(1)]
         a secret of 15 | [[client]] | address = '192.0.2.1' | secret = '0123456789abcde' | signed = true | \
           [[account]] | name = 'a' | password = 'p' | places = 1 | ports = 1 | \
-          [ShortSecret([192, 0, 2, 1]), Memory(1)]
+          [ShortSecrets(1, [192, 0, 2, 1]), Memory(1)]
         two clients | [[client]] | address = '192.0.2.1' | secret = 's' | [[client]] | address = '192.0.2.2' | secret = 's' | signed = true | \
           [[account]] | name = 'a' | password = 'p' | places = 1 | ports = 1 | \
-          [NotSigned([192, 0, 2, 1]), ShortSecret([192, 0, 2, 1]), ShortSecret([192, 0, 2, 2]), Memory(1)]
+          [Unsigned(1, [192, 0, 2, 1]), ShortSecrets(2, [192, 0, 2, 1]), Memory(1)]
     ";
     check_rows(&rt, &Warned { mode: 0o100640 }, rows)
 }
@@ -70,7 +70,7 @@ fn an_operator_is_told_that_everybody_can_read_the_file(rt: HostRuntime) -> Resu
     check_rows(&rt, &Warned { mode: 0o100604 }, rows)
 }
 
-/// An account file with one client, 192.0.2.1.
+/// Clients and accounts of an account file.
 const ACCOUNTS: &str = "
 [[client]]
 address = '192.0.2.1'
@@ -222,4 +222,84 @@ fn asks_count_as_from_a_trusted_client(rt: HostRuntime) -> Result<(), Fail> {
         no client | true | 4 | UnknownClient ask client
     ";
     check_rows(&rt, &Asking, rows)
+}
+
+/// Clients that need not sign.
+const UNSIGNED: &str = "
+[[client]]
+address = '192.0.2.3'
+secret = '0123456789abcdef'
+signed = false
+[[client]]
+address = '192.0.2.4'
+secret = '0123456789abcdef'
+signed = false
+";
+
+/// What an operator learns of clients that need not sign, one of which has a network, by the version of the
+/// account file.
+struct Advised;
+
+impl Subject for Advised {
+    fn found(&self, alloc: Global, fields: &[&str]) -> Result<String, Fail> {
+        let [version] = fields else {
+            return Err("not a version")?;
+        };
+        let times = HEAD.trim_start_matches("\nversion = 1\n");
+        let text = format!(in alloc; "version = {version}\n{times}{UNSIGNED}{ACCOUNTS}")?;
+        let Ok(config) = Config::read(alloc, text.as_bytes()) else {
+            return Err("the account file is refused")?;
+        };
+        let networks = [
+            network("2001:db8:1::/48", "1")?,
+            network("2001:db8:4::/48", "4")?,
+        ];
+        printed(
+            alloc,
+            &warnings(alloc, &config, &networks, 0o100640)?.as_slice(),
+        )
+    }
+}
+
+#[test]
+fn an_operator_is_told_what_version_3_would_do_better(rt: HostRuntime) -> Result<(), Fail> {
+    let rows = "
+        version 3 | 3 | [NotSigned([192, 0, 2, 3]), NotSigned([192, 0, 2, 4]), \
+          Prefixed(Prefix { address: 2001:db8:1::, len: 48 }), Prefixed(Prefix { address: 2001:db8:4::, len: 48 }), Memory(1)]
+        version 2 | 2 | [Unsigned(2, [192, 0, 2, 3]), UnsignedNetworks(1, Prefix { address: 2001:db8:4::, len: 48 }), \
+          Prefixed(Prefix { address: 2001:db8:1::, len: 48 }), Prefixed(Prefix { address: 2001:db8:4::, len: 48 }), Memory(1)]
+        version 1 | 1 | [Unsigned(2, [192, 0, 2, 3]), UnsignedNetworks(1, Prefix { address: 2001:db8:4::, len: 48 }), \
+          Prefixed(Prefix { address: 2001:db8:1::, len: 48 }), Prefixed(Prefix { address: 2001:db8:4::, len: 48 }), Memory(1)]
+    ";
+    check_rows(&rt, &Advised, rows)
+}
+
+/// The first key of a text that is passed over.
+struct Passed;
+
+impl Subject for Passed {
+    fn found(&self, alloc: Global, fields: &[&str]) -> Result<String, Fail> {
+        let text = text_of(alloc, fields)?;
+        match passed_over(alloc, text.as_bytes())? {
+            Some(key) => shown(alloc, &key),
+            None => shown(alloc, &"none"),
+        }
+    }
+}
+
+#[test]
+fn an_operator_is_told_the_first_key_that_is_passed_over(rt: HostRuntime) -> Result<(), Fail> {
+    let rows = "
+        none | shards = 1 | [[client]] | secret = 's' | [[account]] | ports = 1 | none
+        of the head | client = 1 | account = 2 | vershion = 2 | clients = 1 | \"clients\"
+        the head before tables | shard = 1 | [[client]] | sigend = true | \"shard\"
+        of the second client | [[client]] | signed = true | [[client]] | sigend = true | sign = 1 | [[account]] | x = 1 | \
+          client \"sigend\"
+        of an account | [[client]] | [[account]] | secret = 's' | account \"secret\"
+        what version 3 alone follows | [[account]] | name = 'a' | disabled = false | account \"disabled\"
+        disabled stands elsewhere | [[client]] | disabled = true | client \"disabled\"
+        clients that are no tables | client = [1, 2] | account = {} | none
+        no TOML | = | none
+    ";
+    check_rows(&rt, &Passed, rows)
 }
