@@ -130,9 +130,15 @@ fn is_passed_over(part: Part, name: &str) -> bool
 fn is_of_version_3(name: &str) -> bool
     ensures { result ≡ is_of_version_3 name.now }
 {
-    [Field::Trusted, Field::Disabled, Field::Reply, Field::Profile, Field::PortLimit]
-        .iter()
-        .any(|field| name == field.key())
+    [
+        Field::Trusted,
+        Field::Disabled,
+        Field::Reply,
+        Field::Profile,
+        Field::PortLimit,
+    ]
+    .iter()
+    .any(|field| name == field.key())
 }
 
 /// Whether a table may have a key of this name, in version 3.
