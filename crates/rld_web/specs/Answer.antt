@@ -14,7 +14,7 @@ use Rattle.rld_look.specs.declared.look.AccountsLook.{AccountsLook}
 use Rattle.rld_look.specs.declared.look.Look.{Look}
 use Rattle.rld_text.specs.Metrics.{metrics_text}
 use Rattle.rld_page.specs.Json.{accounts_json}
-use Rattle.rld_page.specs.Page.{IsHtml}
+use Rattle.rld_page.specs.Page.{IsPage}
 use Rattle.rld_web.specs.Path.{media_type_of, path_of, plain}
 use Rattle.rld_web.specs.Place.{host_of, is_asked_for}
 use Rattle.rld_web.specs.declared.path.Path.{Path}
