@@ -1,6 +1,5 @@
 pub mod Chart
 pub mod Figures
-pub mod Health
 pub mod Html
 pub mod Json
 pub mod Page

@@ -1,23 +1,31 @@
 -- The state of the server, and the numbers that are looked at first.
-use Rattle.std.specs.Prelude.{ℕ, List, ◌++◌, codes, option_map, Option, None, Some}
+use Rattle.std.specs.Prelude.{ℕ, ◌==◌, List, [], ◌++◌, codes, option_map, Option, None, Some, if◌then◌else◌}
 use Rattle.std.specs.Fmt.{decimal}
 use Rattle.rld_look.specs.History.{last_of}
 use Rattle.rld_look.specs.Totals.{plus}
 use Rattle.rld_look.specs.declared.look.Look.{Look}
 use Rattle.rld_look.specs.declared.look.Minute.{Minute}
+use Rattle.rld_look.specs.declared.look.Recording.{Recording}
+use Rattle.rld_look.specs.declared.look.Recording.TheVariants.{Recorded, Failing}
 use Rattle.rld_page.specs.Figures.{date_text, grouped, share_of, tenths_of, tenths_text, width_text}
-use Rattle.rld_page.specs.Health.{health_of}
 use Rattle.rld_page.specs.Html.{dash, middle_dot}
-use Rattle.rld_page.specs.declared.health.Health.{Health}
-use Rattle.rld_page.specs.declared.health.Health.TheVariants.{Well, Failing}
 
 -- ---- the state
 
-abbrev pub health_mark : Health → List ℕ
-health_mark Well = codes "<p class=\"state good\">recording</p>"
-health_mark Failing =
+abbrev pub recording_mark : Recording → List ℕ
+recording_mark Recorded = codes "<p class=\"state good\">recording</p>"
+recording_mark Failing =
     codes "<p class=\"state bad\" role=\"alert\">not recording, and so not answering: "
     ++ codes "the disk is full or fails, or memory is refused</p>"
+
+unfoldable pub behind_mark : (behind : ℕ) → List ℕ
+behind_mark behind =
+    codes "<p class=\"state bad\" role=\"alert\">clock behind by "
+    ++ (grouped behind ++ codes " s: no deadline passes until it is there</p>")
+
+-- by how many seconds the clock is behind the books, if it is
+abbrev pub clock_mark : (behind : ℕ) → List ℕ
+clock_mark behind = if behind == 0 then [] else behind_mark behind
 
 unfoldable pub since_text : (dates : ℕ → List ℕ) → (start : ℕ) → List ℕ
 since_text dates start = codes "<p class=\"since\">since <time>" ++ (date_text dates start ++ codes "</time> ")
@@ -33,8 +41,9 @@ written_text era generation moves =
 unfoldable pub state_of : (dates : ℕ → List ℕ) → Look → List ℕ
 state_of dates look =
     codes "<header><h1>radlimitd</h1>"
-    ++ (health_mark (health_of look.recording)
-    ++ (since_text dates look.start ++ written_text look.era look.generation look.moves))
+    ++ (recording_mark look.recording
+    ++ (clock_mark look.clock_behind
+    ++ (since_text dates look.start ++ written_text look.era look.generation look.moves)))
 
 -- ---- the numbers
 
@@ -71,8 +80,15 @@ rates_text minute =
     ++ (rate_text (codes "Rejects") (option_map rejects_in minute)
     ++ rate_text (codes "Accounting") (option_map accounting_in minute))
 
+-- what the archive has
+unfoldable pub archive_row : (logs octets : ℕ) → List ℕ
+archive_row logs octets =
+    codes "<p class=\"soft\">Archive: " ++ (grouped logs
+    ++ (codes " logs, " ++ (grouped octets ++ codes " octets</p>")))
+
 unfoldable pub numbers_of : Look → List ℕ
 numbers_of look =
     codes "<section class=\"numbers\" aria-label=\"Summary\"><dl>\n"
     ++ (places_text look.totals.held look.totals.places
-    ++ (rates_text (last_of look.minutes.items) ++ codes "</dl></section>\n"))
+    ++ (rates_text (last_of look.minutes.items)
+    ++ (codes "</dl>\n" ++ (archive_row look.archive.logs look.archive.octets ++ codes "</section>\n"))))

@@ -16,9 +16,10 @@ use std::alloc::{AllocError, Global};
 /// The page for a browser: one file of HTML, without a script and without anything from elsewhere,
 /// that reloads every ten seconds. It fails only if memory is refused.
 ///
-/// It shows whether the server records, the places held of all, the rates of the last minute, the
-/// last hour, the fullest accounts, how datagrams ended since the start, the last refusals, and the
-/// queues of the sockets. It shows at most 50 accounts.
+/// It shows whether the server records and whether its clock is behind, the places held of all, the
+/// rates of the last minute, what the archive has, the last hour, the fullest accounts, how datagrams
+/// ended since the start, the last refusals, and the queues of the sockets. It shows at most 50
+/// accounts.
 pub fn page(alloc: Global, look: &Look) -> Result<Vec<u8>, AllocError>
     ensures { IfOk result (λ text. IsPage look.entry.now text.items) }
 {

@@ -1,5 +1,5 @@
-//! What a running server shows to a browser and to a monitor, as texts of a `Look`: a page of HTML,
-//! the accounts as JSON, and a line on its health.
+//! What a running server shows to a browser and to a program, as texts of a `Look`: a page of HTML,
+//! and the accounts as JSON.
 //!
 //! The promise: the page is that of `specs/Page.antt`, whole, with its sections in `specs/Summary.antt`,
 //! `specs/Chart.antt` and `specs/Tables.antt`. No name can forge a piece of it, since whatever is no literal of
@@ -13,7 +13,6 @@ mod chart;
 mod document;
 mod ends;
 mod figures;
-mod health;
 mod html;
 mod json;
 mod refused;
@@ -22,5 +21,4 @@ mod style;
 mod summary;
 
 pub use document::page;
-pub use health::Health;
 pub use json::accounts_json;

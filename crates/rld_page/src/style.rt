@@ -25,7 +25,9 @@ section{background:var(--card);border:1px solid var(--line);border-radius:10px;p
 grid-column:1/-1;min-width:0}\
 .numbers{display:grid;grid-template-columns:repeat(4,minmax(0,1fr));padding:0;overflow:hidden}\
 .numbers div{padding:18px 20px;border-left:1px solid var(--line)}.numbers div:first-child{border-left:0}\
-.numbers dl{display:contents}dt{color:var(--soft);font-size:13px}\
+.numbers dl{display:contents}\
+.numbers p{grid-column:1/-1;padding:10px 20px;border-top:1px solid var(--line);font-size:13px}\
+dt{color:var(--soft);font-size:13px}\
 dd{margin:2px 0 0;font-size:32px;font-weight:600;line-height:1.15;letter-spacing:-.02em}\
 dd small{font-size:14px;font-weight:400;letter-spacing:0;color:var(--soft);white-space:nowrap}\
 .top{display:flex;flex-wrap:wrap;justify-content:space-between;gap:2px 16px;margin-bottom:12px}\
@@ -64,6 +66,7 @@ main>.most:last-child{grid-column:1/-1}}\
 @media(max-width:720px){header,main,footer{padding-left:12px;padding-right:12px}main{gap:12px}\
 .since{margin-left:0;width:100%}section{padding:16px}.wide{margin:0 -16px -4px;padding:0 16px}\
 .numbers{grid-template-columns:repeat(2,minmax(0,1fr));padding:0}.numbers div{padding:14px 16px}\
+.numbers p{padding:10px 16px}\
 .numbers div:nth-child(odd){border-left:0}.numbers div:nth-child(n+3){border-top:1px solid var(--line)}\
 dd{font-size:26px}dd small{display:block}svg{height:120px}.more{display:none}\
 .lately thead{position:absolute;width:1px;height:1px;overflow:hidden;clip-path:inset(50%)}\

@@ -2,38 +2,61 @@
 
 ghost use Rattle.std.specs.Prelude.{◌≡◌, ◌++◌, List, OnOk, option_map, ℕ};
 ghost use Rattle.rld_look.specs.History.{last_of};
-ghost use Rattle.rld_page.specs.Summary.{a_second, accepts_in, accounting_in, health_mark, numbers_of, places_text, rate_text, rates_text, rejects_in, since_text, state_of, written_text};
+ghost use Rattle.rld_page.specs.Summary.{a_second, accepts_in, accounting_in, archive_row, behind_mark, clock_mark, numbers_of, places_text, rate_text, rates_text, recording_mark, rejects_in, since_text, state_of, written_text};
 ghost use Rattle.rld_values.specs.Dates.{AreDates};
 
 use crate::figures::{share, tenths, write_tenths, write_width};
-use crate::health::Health;
 use crate::html::Html;
-use rld_look::{Look, Minute};
+use rld_look::{Look, Minute, Recording};
 use std::alloc::AllocError;
 
-/// Writes the state of the server: whether it records, since when it runs, and what it writes.
+/// Writes the state of the server: whether it records, whether its clock is behind, since
+/// when it runs, and what it writes.
 #[tactic(auto, unfolding(crate::specs::Summary::state_of))]
 pub(crate) fn write_state(html: &mut Html, look: &Look) -> Result<(), AllocError>
     ensures { OnOk result ((dates : ℕ → List ℕ) → AreDates dates →
         html.new ≡ html.old ++ state_of dates look.entry.now) }
 {
     html.markup("<header><h1>radlimitd</h1>")?;
-    write_health(html, Health::of(look.recording))?;
+    write_recording(html, look.recording)?;
+    write_clock(html, look.clock_behind)?;
     write_since(html, look.start)?;
     write_written(html, look.era, look.generation, look.moves)?;
     Ok(())
 }
 
 /// Writes whether the server records.
-fn write_health(html: &mut Html, health: Health) -> Result<(), AllocError>
-    ensures { OnOk result (html.new ≡ html.old ++ health_mark health) }
+fn write_recording(html: &mut Html, recording: Recording) -> Result<(), AllocError>
+    ensures { OnOk result (html.new ≡ html.old ++ recording_mark recording) }
 {
-    match health {
-        Health::Well => html.markup("<p class=\"state good\">recording</p>"),
-        Health::Failing => html.markup(
+    match recording {
+        Recording::Recorded => html.markup("<p class=\"state good\">recording</p>"),
+        Recording::Failing => html.markup(
             "<p class=\"state bad\" role=\"alert\">not recording, and so not answering: the disk is full or fails, or memory is refused</p>",
         ),
     }
+}
+
+/// Writes by how many seconds the clock is behind the books, if it is.
+fn write_clock(html: &mut Html, behind: u64) -> Result<(), AllocError>
+    ensures { OnOk result (html.new ≡ html.old ++ clock_mark behind) }
+{
+    if behind == 0 {
+        Ok(())
+    } else {
+        write_behind(html, behind)
+    }
+}
+
+/// Writes by how many seconds the clock is behind.
+#[tactic(auto, unfolding(crate::specs::Summary::behind_mark))]
+fn write_behind(html: &mut Html, behind: u64) -> Result<(), AllocError>
+    ensures { OnOk result (html.new ≡ html.old ++ behind_mark behind) }
+{
+    html.markup("<p class=\"state bad\" role=\"alert\">clock behind by ")?;
+    html.grouped(behind)?;
+    html.markup(" s: no deadline passes until it is there</p>")?;
+    Ok(())
 }
 
 /// Writes since when the server runs.
@@ -72,7 +95,22 @@ pub(crate) fn write_numbers(html: &mut Html, look: &Look) -> Result<(), AllocErr
     html.markup("<section class=\"numbers\" aria-label=\"Summary\"><dl>\n")?;
     write_places(html, look.totals.held, look.totals.places)?;
     write_last_minute(html, look)?;
-    html.markup("</dl></section>\n")?;
+    html.markup("</dl>\n")?;
+    write_archive(html, look.archive.logs, look.archive.octets)?;
+    html.markup("</section>\n")?;
+    Ok(())
+}
+
+/// Writes what the archive has.
+#[tactic(auto, unfolding(crate::specs::Summary::archive_row))]
+fn write_archive(html: &mut Html, logs: u64, octets: u64) -> Result<(), AllocError>
+    ensures { OnOk result (html.new ≡ html.old ++ archive_row logs octets) }
+{
+    html.markup("<p class=\"soft\">Archive: ")?;
+    html.grouped(logs)?;
+    html.markup(" logs, ")?;
+    html.grouped(octets)?;
+    html.markup(" octets</p>")?;
     Ok(())
 }
 

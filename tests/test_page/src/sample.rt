@@ -1,4 +1,4 @@
-//! Looks at two servers.
+//! Looks at three servers.
 
 use rld_counts::{AcctEnd, AuthEnd, Counts, End, Histogram};
 use rld_look::{
@@ -62,6 +62,14 @@ pub(crate) fn idle(alloc: Global) -> Result<Look, NoMemory> {
     })
 }
 
+/// A look at a server that records, and whose clock is behind its books by more than an hour.
+pub(crate) fn late(alloc: Global) -> Result<Look, NoMemory> {
+    let mut look = idle(alloc)?;
+    look.recording = Recording::Recorded;
+    look.clock_behind = 3_725;
+    Ok(look)
+}
+
 /// A look at a server that has run for some hours.
 pub(crate) fn worked(alloc: Global) -> Result<Look, NoMemory> {
     let mut look = idle(alloc)?;
@@ -70,6 +78,10 @@ pub(crate) fn worked(alloc: Global) -> Result<Look, NoMemory> {
     look.generation = 41;
     look.moves = 12_345;
     look.recording = Recording::Recorded;
+    look.archive = ArchiveLook {
+        logs: 38,
+        octets: 1_702_345_678,
+    };
     look.counts = counts();
     look.clients.push(ClientLook {
         address: [192, 0, 2, 7],
