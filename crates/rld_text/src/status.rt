@@ -74,7 +74,8 @@ fn push_behind(out: &mut Vec<u8>, behind: u64) -> Result<(), AllocError>
 {
     push_text(out, "CLOCK BEHIND by ")?;
     push_decimal(out, behind)?;
-    push_text(out, " s: no deadline passes until it is there\n")
+    push_text(out, " s: no deadline passes until it is there\n")?;
+    Ok(())
 }
 
 /// Writes the numbers.
