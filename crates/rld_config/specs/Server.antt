@@ -321,6 +321,7 @@ server_of_file file =
       state = head.state;
       sync = head.sync;
       archive = head.archive;
+      archive_megabytes = head.archive_megabytes;
       listens = listens;
       networks = networks;
       control = control;
