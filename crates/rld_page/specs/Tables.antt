@@ -93,12 +93,12 @@ port_table port counts ends =
     ++ (codes "</tbody><tfoot><tr><td>All</td><td class=\"n\">"
     ++ (grouped (total_of counts ends) ++ codes "</td></tr></tfoot></table>\n"))))))
 
--- the first 20 ends are those of the authentication port
+-- the first 21 ends are those of the authentication port
 unfoldable pub causes_of : (counts : List ℕ) → List ℕ
 causes_of counts =
     codes "<section class=\"rest\"><div class=\"top\"><h2>Datagrams since the start</h2></div>\n<div class=\"wide\">"
-    ++ (port_table (codes "Authentication") counts (take 20 all_ends)
-    ++ (port_table (codes "Accounting") counts (drop 20 all_ends) ++ codes "</div></section>\n"))
+    ++ (port_table (codes "Authentication") counts (take 21 all_ends)
+    ++ (port_table (codes "Accounting") counts (drop 21 all_ends) ++ codes "</div></section>\n"))
 
 -- ---- what was refused lately
 

@@ -27,7 +27,7 @@ pub(crate) fn write_causes(html: &mut Html, counts: &Counts) -> Result<(), Alloc
 /// Writes the table of the authentication port.
 fn write_auth(html: &mut Html, counts: &Counts) -> Result<(), AllocError>
     ensures { OnOk result (html.new
-        ≡ html.old ++ port_table (codes "Authentication") counts.now (take 20 all_ends)) }
+        ≡ html.old ++ port_table (codes "Authentication") counts.now (take 21 all_ends)) }
 {
     let ends = End::all();
     write_port(html, "Authentication", counts, End::of_auth(&ends))
@@ -36,7 +36,7 @@ fn write_auth(html: &mut Html, counts: &Counts) -> Result<(), AllocError>
 /// Writes the table of the accounting port.
 fn write_acct(html: &mut Html, counts: &Counts) -> Result<(), AllocError>
     ensures { OnOk result (html.new
-        ≡ html.old ++ port_table (codes "Accounting") counts.now (drop 20 all_ends)) }
+        ≡ html.old ++ port_table (codes "Accounting") counts.now (drop 21 all_ends)) }
 {
     let ends = End::all();
     write_port(html, "Accounting", counts, End::of_acct(&ends))

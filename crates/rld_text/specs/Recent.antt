@@ -102,7 +102,7 @@ archive_line logs octets =
 unfoldable pub recent_lines : Look → List ℕ
 recent_lines look =
     minute_if_any (last_of look.minutes.items)
-    ++ (port_line (codes "auth:") look.counts (take 20 all_ends)
-    ++ (port_line (codes "acct:") look.counts (drop 20 all_ends)
+    ++ (port_line (codes "auth:") look.counts (take 21 all_ends)
+    ++ (port_line (codes "acct:") look.counts (drop 21 all_ends)
     ++ (full_lines 5 look.fullest.items
     ++ (sockets_if_any look.sockets.items ++ archive_line look.archive.logs look.archive.octets))))
