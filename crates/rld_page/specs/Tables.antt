@@ -93,7 +93,7 @@ port_table port counts ends =
     ++ (codes "</tbody><tfoot><tr><td>All</td><td class=\"n\">"
     ++ (grouped (total_of counts ends) ++ codes "</td></tr></tfoot></table>\n"))))))
 
--- the first 20 ends are those of the authentication port
+-- the first 21 ends are those of the authentication port
 unfoldable pub causes_of : (counts : List ℕ) → List ℕ
 causes_of counts =
     codes "<section class=\"rest\"><div class=\"top\"><h2>Datagrams since the start</h2></div>\n<div class=\"wide\">"
