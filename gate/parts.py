@@ -24,7 +24,7 @@ SHOWN = re.compile(r"\./radlimit replay < (examples/\S+)\n(?:```.*?```\n)?(.*?)`
 REPORT = re.compile(r"^```\n(name +places .*?)```", re.M | re.S)
 REPORTS = {
     "docs/RADLIMIT-SERVE.md": ["example_access_request"],
-    "docs/SESSION-RULE.md": ["example_sessions", "example_of_a_yield", "example_of_the_longest_silence"],
+    "docs/SESSION-RULE.md": ["example_sessions", "example_of_a_yield"],
 }
 ROWS = os.path.join(repository.TESTS, "test_scripts", "data")
 
