@@ -174,20 +174,21 @@ PARTS = {
     "unrecorded": ("an answer that is not recorded", bench, "unrecorded"),
     "radclient": ("radclient", ask_with_radclient),
     "freeradius": ("behind FreeRADIUS", ask_through_freeradius),
+    "split": ("accounts spread over homes", bench, "split"),
     "package": ("the Debian package", install_package),
     "launcher": ("each way of ./radlimit", bench, "launcher"),
 }
 
 # the parts that wait as long as an answer takes, the longest first: they run beside one another. Of the others each looks
 # at how soon something is answered or ends, or has all processors to itself
-PATIENT = ("damaged", "package", "reload", "unrecorded", "freeradius", "killed-server", "copied", "killed-log")
+PATIENT = ("damaged", "package", "reload", "unrecorded", "freeradius", "killed-server", "copied", "killed-log", "split")
 
 # the parts that an unproved run tries, the longest first. There none looks at how soon an answer comes, and all run beside
 # one another. Each other part takes over a minute on builds that are not proved, since these check each access, and a
 # server of 16,384 accounts takes half a minute to start there; or it is about the proofs
 SHORT = (
     "streams", "freeradius", "full-disk", "failing-daemon", "refusals", "failing-sockets", "killed-log", "page", "radclient",
-    "copied", "changed", "examples", "monitoring",
+    "copied", "changed", "split", "examples", "monitoring",
 )
 
 # the UDP ports that they share out, so that a server which is killed and starts again finds its own ports free
