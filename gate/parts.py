@@ -139,6 +139,13 @@ def ask_through_freeradius():
     return int(run.returncode == 0), int(run.returncode != 0)
 
 
+def grow_behind_freeradius():
+    """Four radlimitd, and then eight, behind a FreeRADIUS."""
+    if lacks("freeradius", "bench/growing"):
+        return left_out_everywhere()
+    return bench("growing")
+
+
 def install_package():
     """The Debian package, built and installed."""
     wanted = ("lintian", "mmdebstrap", "systemd-nspawn", "systemd-analyze", "man", "dpkg-deb", "radclient", "curl")
@@ -175,13 +182,17 @@ PARTS = {
     "radclient": ("radclient", ask_with_radclient),
     "freeradius": ("behind FreeRADIUS", ask_through_freeradius),
     "split": ("accounts spread over homes", bench, "split"),
+    "growing": ("homes behind FreeRADIUS", grow_behind_freeradius),
+    "standby": ("a machine that takes over", bench, "standby"),
     "package": ("the Debian package", install_package),
     "launcher": ("each way of ./radlimit", bench, "launcher"),
 }
 
 # the parts that wait as long as an answer takes, the longest first: they run beside one another. Of the others each looks
 # at how soon something is answered or ends, or has all processors to itself
-PATIENT = ("damaged", "package", "reload", "unrecorded", "freeradius", "killed-server", "copied", "killed-log", "split")
+PATIENT = (
+    "damaged", "growing", "package", "reload", "unrecorded", "freeradius", "standby", "killed-server", "copied", "killed-log", "split",
+)
 
 # the parts that an unproved run tries, the longest first. There none looks at how soon an answer comes, and all run beside
 # one another. Each other part takes over a minute on builds that are not proved, since these check each access, and a
