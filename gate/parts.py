@@ -191,7 +191,8 @@ PARTS = {
 # the parts that wait as long as an answer takes, the longest first: they run beside one another. Of the others each looks
 # at how soon something is answered or ends, or has all processors to itself
 PATIENT = (
-    "damaged", "growing", "package", "reload", "unrecorded", "freeradius", "standby", "killed-server", "copied", "killed-log", "split",
+    "damaged", "growing", "package", "reload", "unrecorded", "freeradius", "killed-server", "standby", "copied", "killed-log",
+    "split",
 )
 
 # the parts that an unproved run tries, the longest first. There none looks at how soon an answer comes, and all run beside

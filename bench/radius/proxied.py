@@ -17,7 +17,7 @@ import served
 
 TOP = served.TOP
 EXAMPLES = os.path.join(TOP, "examples", "growing")
-SPLIT = os.path.join(TOP, "packaging", "radlimit-split")
+SPLIT = [sys.executable, "-B", os.path.join(TOP, "packaging", "radlimit-split")]
 RADDB = "/etc/freeradius/3.0"  # Debian's
 SECRET, PASSWORD = b"secret-of-access-server-1", b"password"
 HOME_SECRET = "secret-of-freeradius-here"
@@ -26,7 +26,6 @@ HEAD = served.HEAD.format(shards=2, reserve=7200, live=7200, grace=7200, closed=
 WAIT = 120  # seconds that a start, or an end of all requests, may take
 AGAIN = 1.5  # seconds after which a request is sent again
 LANES = 4  # sockets of an access server to each of both ports
-MODULES = "mods-enabled/radlimit"
 
 Session = collections.namedtuple("Session", "account server name mark")
 
@@ -336,7 +335,7 @@ class Proxy:
 
     def write(self, chart):
         """Has radlimit-split write the files of a map."""
-        subprocess.run([SPLIT, "freeradius", chart, self.raddb], check=True)
+        subprocess.run([*SPLIT, "freeradius", chart, self.raddb], check=True)
 
     def start(self):
         """Starts it: whether it has its sockets."""
