@@ -25,6 +25,8 @@ HOME_SECRET = "secret-of-freeradius-here"
 HEAD = served.HEAD.format(shards=2, reserve=7200, live=7200, grace=7200, closed=7200, keep=20)
 WAIT = 120  # seconds that a start, or an end of all requests, may take
 AGAIN = 1.5  # seconds after which a request is sent again
+# after so many times it rests so many seconds: FreeRADIUS gives up a home only where a request was not sent for six
+TRIES, REST = 4, 8.0
 LANES = 4  # sockets of an access server to each of both ports
 
 Session = collections.namedtuple("Session", "account server name mark")
@@ -35,7 +37,11 @@ class Request:
 
     def __init__(self, work, server, at, make):
         self.work, self.server, self.at, self.make = work, server, at, make
-        self.octets, self.sent, self.first = None, 0.0, time.monotonic()
+        self.octets, self.sent, self.tries, self.first = None, 0.0, 0, time.monotonic()
+
+    def is_due(self, now):
+        """Whether it is sent again."""
+        return now - self.sent > (AGAIN if self.tries % TRIES else REST)
 
 
 class Load:
@@ -124,7 +130,7 @@ class Load:
 
     def send(self, one, request):
         """Sends a request."""
-        request.sent = time.monotonic()
+        request.sent, request.tries = time.monotonic(), request.tries + 1
         try:
             one.sendto(request.octets, self.target[request.at])
         except OSError:
@@ -168,7 +174,7 @@ class Load:
                 self.take(key.fileobj)
             now = time.monotonic()
             for (one, _), request in list(self.pending.items()):
-                if now - request.sent > AGAIN:
+                if request.is_due(now):
                     self.again += 1
                     self.send(one, request)
 
