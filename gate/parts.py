@@ -159,6 +159,15 @@ def ask_from_freeradius():
     words = [os.path.join(TOP, "examples", "freeradius-checks.sh"), programs.path_of("radlimitd")]
     run = subprocess.run(words, check=False)
     return int(run.returncode == 0), int(run.returncode != 0)
+    run = subprocess.run(words, check=False)
+    return int(run.returncode == 0), int(run.returncode != 0)
+
+
+def grow_behind_freeradius():
+    """Four radlimitd, and then eight, behind a FreeRADIUS."""
+    if lacks("freeradius", "bench/growing"):
+        return left_out_everywhere()
+    return bench("growing")
 
 
 def install_package():
@@ -200,20 +209,26 @@ PARTS = {
     "freeradius": ("behind FreeRADIUS", ask_through_freeradius),
     "radsec": ("behind radsecproxy", ask_over_tls),
     "freeradius-checks": ("behind FreeRADIUS that checks logins", ask_from_freeradius),
+    "split": ("accounts spread over homes", bench, "split"),
+    "growing": ("homes behind FreeRADIUS", grow_behind_freeradius),
+    "standby": ("a machine that takes over", bench, "standby"),
     "package": ("the Debian package", install_package),
     "launcher": ("each way of ./radlimit", bench, "launcher"),
 }
 
 # the parts that wait as long as an answer takes, the longest first: they run beside one another. Of the others each looks
 # at how soon something is answered or ends, or has all processors to itself
-PATIENT = ("damaged", "package", "reload", "unrecorded", "freeradius", "freeradius-checks", "killed-server", "copied", "killed-log")
+PATIENT = (
+    "damaged", "growing", "package", "reload", "unrecorded", "freeradius", "freeradius-checks", "killed-server", "standby",
+    "copied", "killed-log", "split",
+)
 
 # the parts that an unproved run tries, the longest first. There none looks at how soon an answer comes, and all run beside
 # one another. Each other part takes over a minute on builds that are not proved, since these check each access, and a
 # server of 16,384 accounts takes half a minute to start there; or it is about the proofs
 SHORT = (
     "streams", "freeradius", "freeradius-checks", "asks", "full-disk", "failing-daemon", "refusals", "failing-sockets",
-    "killed-log", "page", "radclient", "copied", "radsec", "upgraded", "changed", "examples", "monitoring",
+    "killed-log", "page", "radclient", "copied", "radsec", "upgraded", "changed", "split", "examples", "monitoring",
 )
 
 # the UDP ports that they share out, so that a server which is killed and starts again finds its own ports free
