@@ -159,8 +159,6 @@ def ask_from_freeradius():
     words = [os.path.join(TOP, "examples", "freeradius-checks.sh"), programs.path_of("radlimitd")]
     run = subprocess.run(words, check=False)
     return int(run.returncode == 0), int(run.returncode != 0)
-    run = subprocess.run(words, check=False)
-    return int(run.returncode == 0), int(run.returncode != 0)
 
 
 def grow_behind_freeradius():
