@@ -2,6 +2,8 @@
 use Rattle.std.specs.Prelude.{ℕ, ◌==◌, nat_lt, List, [], ◌∷◌, ◌++◌, codes, drop, length, map, sum, take, Option, None, Some, if◌then◌else◌}
 use Rattle.std.specs.Fmt.{decimal}
 use Rattle.std.specs.List.{flat_map}
+use Rattle.std.specs.Net.Text.{ip_text}
+use Rattle.std.specs.declared.net.ip_addr.IpAddr.{IpAddr}
 use Rattle.rld_counts.specs.Counts.{count_in}
 use Rattle.rld_counts.specs.Ends.{all_ends, is_answer, kind_of}
 use Rattle.rld_counts.specs.Tally.{kept}
@@ -10,6 +12,7 @@ use Rattle.rld_look.specs.declared.look.AccountLook.{AccountLook}
 use Rattle.rld_look.specs.declared.look.SocketLook.{SocketLook}
 use Rattle.rld_look.specs.declared.refusal.Refusal.{Refusal}
 use Rattle.rld_values.specs.Values.{dotted, word}
+use Rattle.rsl_event.specs.declared.event.Source.{Source}
 use Rattle.rsl_event.specs.declared.nas.NasName.{NasName}
 use Rattle.rsl_event.specs.declared.nas.NasName.TheVariants.{Identifier, Address, Unnamed}
 use Rattle.rsl_shard.specs.declared.row.Row.{Row}
@@ -116,6 +119,11 @@ nas_text (Identifier name) = word name
 nas_text (Address address) = address_text address
 nas_text Unnamed = soft_dash
 
+-- the client that a peer stands for; of a peer that stands for none, its own address
+abbrev pub client_text : (client : Option ℕ) → Source → (peer : IpAddr) → List ℕ
+client_text (Some client) source peer = dotted source.address
+client_text None source peer = ip_text peer
+
 unfoldable pub refusal_front : (dates : ℕ → List ℕ) → Refusal → List ℕ
 refusal_front dates refusal =
     codes "<tr><td><time>" ++ (moment_text dates refusal.moment
@@ -124,7 +132,7 @@ refusal_front dates refusal =
 unfoldable pub refusal_end : Refusal → List ℕ
 refusal_end refusal =
     codes "</td><td>" ++ (words_of refusal.end
-    ++ (codes "</td><td>" ++ (dotted refusal.source.address
+    ++ (codes "</td><td>" ++ (client_text refusal.client refusal.source refusal.peer
     ++ (codes "</td><td class=\"name\">" ++ (nas_text refusal.nas ++ codes "</td></tr>\n")))))
 
 abbrev pub refusal_row : (dates : ℕ → List ℕ) → Refusal → List ℕ

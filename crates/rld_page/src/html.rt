@@ -3,6 +3,7 @@
 ghost use Rattle.std.specs.Prelude.{◌≡◌, ◌+◌, ◌++◌, ◌∷◌, [], IsTrue, List, OnOk, ℕ};
 ghost use Rattle.std.specs.Fmt.{decimal};
 ghost use Rattle.std.specs.List.{list_all};
+ghost use Rattle.std.specs.Net.Text.{ip_text};
 ghost use Rattle.rld_page.specs.Figures.{comma_before, date_text, grouped, moment_text, day_and_time, whole_date, with_commas};
 ghost use Rattle.rld_page.specs.Html.{html_octet, html_text, is_no_markup};
 ghost use Rattle.rld_values.specs.Dates.{AreDates, clock};
@@ -12,12 +13,14 @@ use itoa::Buffer;
 use rld_values::{http_date, push_clock, push_decimal, push_dotted, push_text, push_word};
 use std::alloc::{AllocError, Global};
 use std::marker::Model;
+use std::net::IpAddr;
 
 /// A text of HTML that is being written. Only four things get into it: markup, which is a literal of
 /// this program; numbers; dates; and octets that are escaped. A contract sees its octets.
 #[derive(Drop)]
 pub(crate) struct Html {
     out: Vec<u8>,
+    alloc: Global,
 }
 
 impl Model for Html {
@@ -35,6 +38,7 @@ impl Html {
     {
         Html {
             out: Vec::new(alloc),
+            alloc,
         }
     }
 
@@ -92,6 +96,14 @@ impl Html {
         ensures { OnOk result (self.new ≡ self.old ++ dotted address) }
     {
         push_dotted(&mut self.out, address)
+    }
+
+    /// Writes an address of IPv4 or IPv6.
+    pub(crate) fn ip(&mut self, address: IpAddr) -> Result<(), AllocError>
+        ensures { OnOk result (self.new ≡ self.old ++ ip_text address) }
+    {
+        let text = format!(in self.alloc; "{address}")?;
+        push_text(&mut self.out, text.as_str())
     }
 
     /// Writes a second since 1970 as a date and a time of the day, as HTTP spells them.

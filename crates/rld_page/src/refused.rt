@@ -2,7 +2,7 @@
 
 ghost use Rattle.std.specs.Prelude.{◌≡◌, ◌++◌, List, OnOk, ℕ};
 ghost use Rattle.rld_page.specs.Html.{soft_dash};
-ghost use Rattle.rld_page.specs.Tables.{address_text, name_or_dash, nas_text, refusal_end, refusal_front, refusal_row, refusal_rows, refused_if_any, refused_of, refused_table, table_end};
+ghost use Rattle.rld_page.specs.Tables.{address_text, client_text, name_or_dash, nas_text, refusal_end, refusal_front, refusal_row, refusal_rows, refused_if_any, refused_of, refused_table, table_end};
 ghost use Rattle.rld_values.specs.Dates.{AreDates};
 
 use crate::ends::words;
@@ -106,11 +106,22 @@ fn write_end(html: &mut Html, refusal: &Refusal) -> Result<(), AllocError>
     html.markup("</td><td>")?;
     html.markup(words(refusal.end))?;
     html.markup("</td><td>")?;
-    html.address(refusal.source.address)?;
+    write_client(html, refusal)?;
     html.markup("</td><td class=\"name\">")?;
     write_nas(html, &refusal.nas)?;
     html.markup("</td></tr>\n")?;
     Ok(())
+}
+
+/// Writes the address of the client that a peer stands for; of a peer that stands for none, its own.
+fn write_client(html: &mut Html, refusal: &Refusal) -> Result<(), AllocError>
+    ensures { OnOk result (html.new ≡ html.old
+        ++ client_text refusal.now.client refusal.now.source refusal.now.peer) }
+{
+    match refusal.client {
+        Some(_) => html.address(refusal.source.address),
+        None => html.ip(refusal.peer),
+    }
 }
 
 /// Writes the name of an account, if there is one.

@@ -6,4 +6,4 @@ pub returns : goal.returns
 unfolding refusal_end
 returns c =
     written_7 _ _ _ _ _ _ _ _ _ _ _ _ _ _ _
-    c.in_ok-markup.ensures (rw c.words.ensures at c.in_ok-markup-2.ensures) c.in_ok-markup-3.ensures c.in_ok-address.ensures c.in_ok-markup-4.ensures c.in_ok-write_nas.ensures c.in_ok-markup-5.ensures
+    c.in_ok-markup.ensures (rw c.words.ensures at c.in_ok-markup-2.ensures) c.in_ok-markup-3.ensures c.in_ok-write_client.ensures c.in_ok-markup-4.ensures c.in_ok-write_nas.ensures c.in_ok-markup-5.ensures
