@@ -4,10 +4,10 @@ use Rattle.rld_store.specs.declared.fault.RecordFault.{RecordFault}
 use Rattle.rld_store.specs.declared.fault.RecordFault.TheVariants.{Ended, Failed}
 use Rattle.rld_look.specs.Totals.{plus}
 use Rattle.rld_folder.specs.declared.name.Generation.{Generation}
-use Rattle.rld_state.specs.declared.rolled.NotBegun.{NotBegun}
-use Rattle.rld_state.specs.declared.rolled.NotBegun.TheVariants.{PassedOver, Ended as NothingMore}
-use Rattle.rld_state.specs.declared.rolled.RollFault.{RollFault}
-use Rattle.rld_state.specs.declared.rolled.RollFault.TheVariants as rolls
+use Rattle.rld_state.specs.declared.roll_fault.NotBegun.{NotBegun}
+use Rattle.rld_state.specs.declared.roll_fault.NotBegun.TheVariants.{PassedOver, Ended as NothingMore}
+use Rattle.rld_state.specs.declared.roll_fault.RollFault.{RollFault}
+use Rattle.rld_state.specs.declared.roll_fault.RollFault.TheVariants as rolls
 
 -- nothing more can be recorded
 abbrev pub is_ended : {T : Type 0} → Result T RecordFault → Bool

@@ -2,9 +2,9 @@
 -- one when that is over.
 use Rattle.std.specs.Prelude.{Bool, true, false, Option, Some, None, Result, Ok, Err}
 use Rattle.rld_folder.specs.declared.fault.FolderFault.{FolderFault}
-use Rattle.rld_state.specs.declared.rolled.Notice.{Notice}
-use Rattle.rld_state.specs.declared.rolled.Notice.TheVariants.{NotBegun, Begun, NotPutAway, PutAway}
-use Rattle.rld_state.specs.declared.rolled.RollFault.{RollFault}
+use Rattle.rld_state.specs.declared.roll_fault.Notice.{Notice}
+use Rattle.rld_state.specs.declared.roll_fault.Notice.TheVariants.{NotBegun, Begun, NotPutAway, PutAway}
+use Rattle.rld_state.specs.declared.roll_fault.RollFault.{RollFault}
 
 abbrev pub roll_notice : {T : Type 0} → (before : Bool) → Result T RollFault → Option Notice
 roll_notice false (Ok value) = None

@@ -2,7 +2,7 @@
 use Rattle.rld_look.specs.declared.priority.Priority.{Priority}
 use Rattle.rld_look.specs.declared.priority.Priority.TheVariants as priorities
 use Rattle.rld_state.specs.declared.clock.ClockNews.TheVariants.{Behind, CaughtUp}
-use Rattle.rld_state.specs.declared.rolled.Notice.TheVariants.{NotBegun, Begun, NotPutAway, PutAway}
+use Rattle.rld_state.specs.declared.roll_fault.Notice.TheVariants.{NotBegun, Begun, NotPutAway, PutAway}
 use Rattle.rld_state.specs.declared.told.Told.{Told}
 use Rattle.rld_state.specs.declared.told.Told.TheVariants.{Recording, Clock, Generations, Accounts, Asks}
 use Rattle.rld_state.specs.declared.trouble.News.TheVariants.{Began, Over}

@@ -10,8 +10,8 @@ ghost use Rattle.rld_start.specs.NextHeaders.{generation_named};
 ghost use Rattle.rld_store.specs.Premises.{Only};
 ghost use Rattle.rld_store.specs.Standing.{StandsFor};
 
-use crate::reloaded::EraChange;
-use crate::rolled::{NotBegun, RollFault};
+use crate::reload_result::EraChange;
+use crate::roll_fault::{NotBegun, RollFault};
 use crate::state::ServerState;
 use rld_books::BlankBooks;
 use rld_folder::Synced;

@@ -14,7 +14,7 @@ ghost use Rattle.rsl_shard.specs.Restep.{BooksSeen};
 ghost use Rattle.rsl_shard.specs.declared.moved.Move.{Move as OneMove};
 
 use crate::changing::Opening;
-use crate::rolled::{NotBegun, RollFault};
+use crate::roll_fault::{NotBegun, RollFault};
 use rld_folder::{FolderFault, Generation, Removed};
 use rld_log::Log;
 use rld_spelling::Header;

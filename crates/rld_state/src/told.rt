@@ -2,8 +2,8 @@ ghost use Rattle.std.specs.Prelude.{◌≡◌};
 ghost use Rattle.rld_state.specs.Told.{priority_of};
 
 use crate::clock::ClockNews;
-use crate::reloaded::Reloaded;
-use crate::rolled::Notice;
+use crate::reload_result::Reloaded;
+use crate::roll_fault::Notice;
 use crate::trouble::News;
 use rld_look::{Priority, Sink};
 use std::fmt;

@@ -1,4 +1,4 @@
-use crate::rolled::{NotBegun, RollFault};
+use crate::roll_fault::{NotBegun, RollFault};
 use std::alloc::{AllocError, AllocFailed};
 use std::fmt;
 use thiserror::Error;

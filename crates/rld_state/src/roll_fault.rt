@@ -1,7 +1,7 @@
 ghost use Rattle.std.specs.Prelude.{◌≡◌, is_err};
 ghost use Rattle.rld_state.specs.Keeping.{fault_of};
 ghost use Rattle.rld_state.specs.Notices.{archive_notice, roll_notice};
-ghost use Rattle.rld_state.specs.declared.rolled.RollFault.TheVariants.{Start as unmade};
+ghost use Rattle.rld_state.specs.declared.roll_fault.RollFault.TheVariants.{Start as unmade};
 ghost use Rattle.rld_start.specs.declared.fault.StartFault.{StartFault as OneStartFault};
 
 use crate::trouble::{News, Trouble};
