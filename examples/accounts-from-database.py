@@ -85,21 +85,22 @@ class Reply(typing.NamedTuple):
             value = value[1:-1]
         return f"{self.attribute} = {value}" if WORD.fullmatch(value) else f'{self.attribute} = "{value}"'
 
-    def fault(self, before):
-        """Why it has no place after others of its list, as far as the server does not say that."""
+    def fault(self, columns):
+        """Why it has no place beside columns of its account, as far as the server does not say that."""
         if self.op not in ("=", ":=", "+="):
             return "its operator is none of =, := and +="
         if not WORD.fullmatch(self.attribute):
             return "unknown name"
         if self.value[:1] == "`" or (self.value[:1] == '"' and "%" in self.value):
             return "FreeRADIUS makes its value at each login"
-        if self.key() in before and self.op != "+=":
-            return "the attribute is there already, and only += adds another one"
+        if self.key() in columns:
+            return "the account has a column for it, which is set"
         return None
 
 
 def merged(own, group):
-    """What FreeRADIUS sends of the rows of an account and, after these, those of its group."""
+    """What FreeRADIUS sends of the rows of an account and, after these, those of its group. An operator looks at what was
+    there before its list, and at no other row of that."""
     keys = {reply.key() for reply in own}
     set_anew = {reply.key() for reply in group if reply.op == ":="}
     added = [reply for reply in group if reply.op != "=" or reply.key() not in keys]
@@ -128,13 +129,9 @@ class Tables:
         found = {}
         for row in one.execute(REPLIES_IN_ORDER.format(table, column)) if table in self.there else ():
             reply = Reply(table, *("" if value is None else str(value) for value in row))
-            rows = found.setdefault(reply.name, [])
-            before = {other.key() for other in rows}
-            if table == "radreply":
-                before |= self.columns(reply.name)
-            if fault := reply.fault(before):
+            found.setdefault(reply.name, []).append(reply)
+            if fault := reply.fault(self.columns(reply.name) if table == "radreply" else ()):
                 self.wrong[reply] = fault
-            rows.append(reply)
         return found
 
     def columns(self, name):
