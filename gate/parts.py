@@ -130,6 +130,13 @@ def ask_with_radclient():
     return runs.count(0), len(runs) - runs.count(0)
 
 
+def read_replies():
+    """What accepts carry, read by radclient and tshark, and the names of attributes beside FreeRADIUS's."""
+    if lacks("radclient", "bench/replies"):
+        return left_out()
+    return bench("replies")
+
+
 def ask_through_freeradius():
     """Two radlimitd, a FreeRADIUS in front of them, and radclient."""
     if any(lacks(program, "examples/behind-freeradius.sh") for program in ("freeradius", "radclient")):
@@ -204,6 +211,7 @@ PARTS = {
     "asks": ("asks over HTTP", bench, "asks"),
     "unrecorded": ("an answer that is not recorded", bench, "unrecorded"),
     "radclient": ("radclient", ask_with_radclient),
+    "replies": ("what accepts carry", read_replies),
     "freeradius": ("behind FreeRADIUS", ask_through_freeradius),
     "radsec": ("behind radsecproxy", ask_over_tls),
     "freeradius-checks": ("behind FreeRADIUS that checks logins", ask_from_freeradius),
@@ -226,7 +234,8 @@ PATIENT = (
 # server of 16,384 accounts takes half a minute to start there; or it is about the proofs
 SHORT = (
     "streams", "freeradius", "freeradius-checks", "asks", "full-disk", "failing-daemon", "refusals", "failing-sockets",
-    "killed-log", "page", "radclient", "copied", "radsec", "upgraded", "changed", "split", "examples", "monitoring",
+    "killed-log", "page", "radclient", "copied", "radsec", "upgraded", "changed", "split", "replies", "examples",
+    "monitoring",
 )
 
 # the UDP ports that they share out, so that a server which is killed and starts again finds its own ports free
