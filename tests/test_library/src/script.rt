@@ -170,10 +170,10 @@ fn told_client(alloc: Global, client: &Client) -> Result<String, Fail> {
 
 /// An account's name, password, places, ports, and own live and grace times.
 fn told_account(alloc: Global, account: &Entry) -> Result<String, Fail> {
-    let (name, password) = (
-        Plain(account.name.as_str()),
-        text(account.password.expose()),
-    );
+    let Some(password) = &account.password else {
+        return Err("an account without a password")?;
+    };
+    let (name, password) = (Plain(account.name.as_str()), text(password.expose()));
     let (places, ports) = (account.rules.places, account.rules.ports);
     let (live, grace) = (account.own_live, account.own_grace);
     printed(alloc, &(name, password, places, ports, live, grace))
