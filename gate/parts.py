@@ -168,13 +168,6 @@ def ask_from_freeradius():
     return int(run.returncode == 0), int(run.returncode != 0)
 
 
-def grow_behind_freeradius():
-    """Four radlimitd, and then eight, behind a FreeRADIUS."""
-    if lacks("freeradius", "bench/growing"):
-        return left_out_everywhere()
-    return bench("growing")
-
-
 def install_package():
     """The Debian package, built and installed."""
     wanted = ("lintian", "mmdebstrap", "systemd-nspawn", "systemd-analyze", "man", "dpkg-deb", "radclient", "curl")
@@ -216,7 +209,6 @@ PARTS = {
     "radsec": ("behind radsecproxy", ask_over_tls),
     "freeradius-checks": ("behind FreeRADIUS that checks logins", ask_from_freeradius),
     "split": ("accounts spread over homes", bench, "split"),
-    "growing": ("homes behind FreeRADIUS", grow_behind_freeradius),
     "standby": ("a machine that takes over", bench, "standby"),
     "package": ("the Debian package", install_package),
     "launcher": ("each way of ./radlimit", bench, "launcher"),
@@ -225,7 +217,7 @@ PARTS = {
 # the parts that wait as long as an answer takes, the longest first: they run beside one another. Of the others each looks
 # at how soon something is answered or ends, or has all processors to itself
 PATIENT = (
-    "damaged", "growing", "package", "reload", "unrecorded", "freeradius", "freeradius-checks", "killed-server", "standby",
+    "damaged", "package", "reload", "unrecorded", "freeradius", "freeradius-checks", "killed-server", "standby",
     "copied", "killed-log", "split",
 )
 
