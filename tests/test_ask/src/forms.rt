@@ -75,7 +75,7 @@ fn a_form_is_an_ask_or_its_first_fault_is_named(rt: HostRuntime) -> Result<(), F
     check_rows(&rt, &Forms, rows)
 }
 
-/// Whether a field of so many octets may stand there.
+/// A form with a field of the given length: taken, or its fault.
 struct Lengths;
 
 impl Subject for Lengths {
