@@ -64,6 +64,10 @@ write_raddb() {
     } | sqlite3 "$folder/users.sqlite"
 }
 
+# what the account of ishmael has for its accepts, as radclient prints it
+attributes=('Cisco-AVPair = "a=b"' 'Cisco-AVPair = "c=d"' 'Filter-Id = "gold"' 'Framed-IP-Address = 192.0.2.7'
+    'Framed-Route = "192.0.2.0/28 192.0.2.7"' 'Framed-Route = "198.51.100.0/28"' 'Tunnel-Type:1 = L2TP' 'Tunnel-Type:2 = VLAN')
+
 # Writes the files of radlimitd.
 write_limit() {
     local name
@@ -71,8 +75,9 @@ write_limit() {
         -e "s,/var/lib/radlimit/state,state," "$files/radlimitd.toml" > "$folder/radlimitd.toml"
     sed '/^\[\[account\]\]/,$d; s/192\.0\.2\.1"/127.0.0.1"/' "$files/accounts.toml" > "$folder/accounts.toml"
     for name in nemo ishmael ahab starbuck queequeg@example.org pip; do
-        printf '[[account]]\nname = "%s"\nplaces = 1\nports = 1\nsession_timeout = 3600\n' "$name" >> "$folder/accounts.toml"
-    done
+        printf '[[account]]\nname = "%s"\nplaces = 1\nports = 1\nsession_timeout = 3600\n' "$name"
+        if [ "$name" = ishmael ]; then echo "reply = [$(printf "'%s', " "${attributes[@]}")]"; fi
+    done >> "$folder/accounts.toml"
     echo token-of-radlimitd-here > "$folder/ask-token"
 }
 
@@ -193,6 +198,8 @@ shows 'records for billing' 1 "$(cat "$folder"/log/radacct/*/detail-* | grep -c 
 
 # ---- MS-CHAP from SQL, with a hash
 login 'MS-CHAP' Access-Accept 'Class = ' ishmael MS-CHAP-Password pequod
+shows 'what its account has' "$(printf '%s\n' "${attributes[@]}")" \
+    "$(sed 's/^[[:space:]]*//' <<< "$received" | grep -E '^(Cisco-AVPair|Filter-Id|Framed-|Tunnel-)' | LC_ALL=C sort)"
 account 'its Start' Start ishmael "$(class)"
 shows 'it binds to its place' '1 0' "$(sessions ishmael)"
 login 'MS-CHAP beside it' Access-Reject 'Session limit reached' ishmael MS-CHAP-Password pequod

@@ -168,6 +168,13 @@ def ask_from_freeradius():
     return int(run.returncode == 0), int(run.returncode != 0)
 
 
+def grow_behind_freeradius():
+    """Homes behind FreeRADIUS, under a load."""
+    if lacks("freeradius", "bench/growing"):
+        return left_out_everywhere()
+    return bench("growing")
+
+
 def install_package():
     """The Debian package, built and installed."""
     wanted = ("lintian", "mmdebstrap", "systemd-nspawn", "systemd-analyze", "man", "dpkg-deb", "radclient", "curl")
@@ -199,6 +206,7 @@ PARTS = {
     "full-disk": ("a full disk", compiled_bench, "full-disk"),
     "copied": ("a folder that is copied", bench, "backup", "3"),
     "upgraded": ("folders of earlier versions", bench, "upgrade"),
+    "export": ("the sessions of logs", bench, "export"),
     "steered": ("what an operator asks", bench, "steering"),
     "page": ("the page", bench, "page"),
     "asks": ("asks over HTTP", bench, "asks"),
@@ -209,6 +217,7 @@ PARTS = {
     "radsec": ("behind radsecproxy", ask_over_tls),
     "freeradius-checks": ("behind FreeRADIUS that checks logins", ask_from_freeradius),
     "split": ("accounts spread over homes", bench, "split"),
+    "growing": ("homes behind FreeRADIUS", grow_behind_freeradius),
     "standby": ("a machine that takes over", bench, "standby"),
     "package": ("the Debian package", install_package),
     "launcher": ("each way of ./radlimit", bench, "launcher"),
@@ -217,7 +226,7 @@ PARTS = {
 # the parts that wait as long as an answer takes, the longest first: they run beside one another. Of the others each looks
 # at how soon something is answered or ends, or has all processors to itself
 PATIENT = (
-    "damaged", "package", "reload", "unrecorded", "freeradius", "freeradius-checks", "killed-server", "standby",
+    "damaged", "growing", "package", "reload", "unrecorded", "freeradius", "freeradius-checks", "killed-server", "standby",
     "copied", "killed-log", "split",
 )
 
@@ -226,7 +235,7 @@ PATIENT = (
 # server of 16,384 accounts takes half a minute to start there; or it is about the proofs
 SHORT = (
     "streams", "freeradius", "freeradius-checks", "asks", "full-disk", "failing-daemon", "refusals", "failing-sockets",
-    "killed-log", "page", "radclient", "copied", "radsec", "upgraded", "changed", "split", "replies", "examples",
+    "export", "killed-log", "page", "radclient", "copied", "radsec", "upgraded", "changed", "split", "replies", "examples",
     "monitoring",
 )
 

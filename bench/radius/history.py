@@ -201,7 +201,7 @@ class Reader:
         """A field with nothing behind it."""
         found = field()
         if self.at != len(self.octets):
-            raise Fault(self.at, "octets behind the end")
+            raise Fault(self.at, "octets after the end")
         return found
 
 

@@ -67,6 +67,8 @@ class Load:
         self.held, self.unknown = set(), set()  # sessions whose Start was answered, and those that may be held or not
         self.accepts = self.starts = self.stops = self.rejects = self.again = self.over = self.count = 0
         self.longest, self.opens, self.closes = 0.0, True, 0.3
+        self.outstanding = 60  # requests under way at once, where there is something to ask
+        self.first = []  # accounts that log in before all others
 
     # works, each a generator that yields what is sent and is given the answer
 
@@ -152,7 +154,11 @@ class Load:
                 self.go_on(request.work, request.server, reply)
 
     def begin_one(self):
-        """Begins a login, or has a session end."""
+        """Begins a login, or has a session end. Accounts that have to be first log in before all others."""
+        if self.first:
+            server = self.rng.choice(self.servers)
+            self.begin(self.opened(self.first.pop(), server), server)
+            return
         if self.held and (not self.opens or self.rng.random() < self.closes):
             session = self.rng.choice(tuple(self.running[self.rng.choice(self.names)] & self.held) or (None,))
             if session or not self.opens:
@@ -163,9 +169,9 @@ class Load:
             server = self.rng.choice(self.servers)
             self.begin(self.opened(self.rng.choice(self.names), server), server)
 
-    def run(self, seconds, outstanding=60, until=lambda: False):
-        """Runs for so many seconds, or until something is so. With none outstanding nothing new begins."""
-        end = time.monotonic() + seconds
+    def run(self, seconds, until=lambda: False, begins=True):
+        """Runs for so many seconds, or until something is so, and begins something new or does not."""
+        end, outstanding = time.monotonic() + seconds, self.outstanding if begins else 0
         while time.monotonic() < end and not until():
             # one at a time, so that answers are taken in between
             if len(self.pending) < outstanding and (self.opens or self.held):
@@ -178,15 +184,17 @@ class Load:
                     self.again += 1
                     self.send(one, request)
 
-    def quiet(self, seconds=WAIT):
+    def quiet(self):
         """Begins nothing new until all is answered: whether that came in time."""
-        self.run(seconds, 0, lambda: not self.pending)
+        self.run(WAIT, lambda: not self.pending, begins=False)
         return not self.pending
 
     def settle(self):
-        """Waits until each request that is under way now is answered, while others come and go."""
+        """Waits until each request that is under way now is answered, while others come and go: whether that came in
+        time."""
         now = set(self.pending.values())
-        self.run(WAIT, until=lambda: not now.intersection(self.pending.values()))
+        self.run(WAIT, lambda: not now.intersection(self.pending.values()))
+        return not now.intersection(self.pending.values())
 
     def restart(self, server):
         """Has an access server lose all that it has, and say so: whether that was answered."""
@@ -255,6 +263,10 @@ class Home:
     def greeting(self):
         """What it said when it began."""
         return next((line for line in reversed(served.text_of(self.said).splitlines()) if re.match("era |busy", line)), None)
+
+    def lines(self, beginning):
+        """The lines that it said which begin so."""
+        return [line for line in served.text_of(self.said).splitlines() if line.startswith(beginning)]
 
     def asked(self, *words):
         """What it answers at its control, and the status."""
@@ -341,16 +353,23 @@ class Proxy:
 
     def write(self, chart):
         """Has radlimit-split write the files of a map."""
-        subprocess.run([*SPLIT, "freeradius", chart, self.raddb], check=True)
+        subprocess.run([*SPLIT, "freeradius", chart, self.raddb], stdout=subprocess.DEVNULL, check=True)
 
-    def start(self):
-        """Starts it: whether it has its sockets."""
+    def start(self, meanwhile=lambda: time.sleep(0.05)):
+        """Starts it, and does something until it has its sockets: whether it has them."""
         with open(os.path.join(self.folder, "proxy-said"), "ab") as said:
             words = ["freeradius", "-d", self.raddb, "-f", "-l", "stdout"]
             self.process = subprocess.Popen(words, stdin=subprocess.DEVNULL, stdout=said, stderr=said)
         while self.process.poll() is None and not served.are_bound(self.ports):
-            time.sleep(0.05)
+            meanwhile()
         return self.process.poll() is None
+
+    def restart(self, meanwhile):
+        """Ends it and starts it, as `systemctl restart` does, and does something meanwhile: whether it has its sockets."""
+        self.process.terminate()
+        while self.process.poll() is None:
+            meanwhile()
+        return self.start(meanwhile)
 
     def kill(self):
         """Kills it."""

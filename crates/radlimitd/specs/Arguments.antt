@@ -14,29 +14,38 @@ topic_of word =
     else if bytes_eq word (codes "init") then Some topics.Init
     else if bytes_eq word (codes "run") then Some topics.Run
     else if bytes_eq word (codes "status") then Some topics.Status
+    else if bytes_eq word (codes "ready") then Some topics.Ready
     else if bytes_eq word (codes "accounts") then Some topics.Accounts
     else if bytes_eq word (codes "sessions") then Some topics.Sessions
     else if bytes_eq word (codes "free") then Some topics.Free
     else if bytes_eq word (codes "ask") then Some topics.Ask
     else if bytes_eq word (codes "reload") then Some topics.Reload
     else if bytes_eq word (codes "stop") then Some topics.Stop
+    else if bytes_eq word (codes "reply") then Some topics.Reply
     else if bytes_eq word (codes "lines") then Some topics.Lines
+    else if bytes_eq word (codes "export") then Some topics.Export
     else if bytes_eq word (codes "rebase") then Some topics.Rebase
     else None
 
+abbrev pub is_between : (least most words : ℕ) → Bool
+is_between least most words = nat_le least words && nat_le words most
+
 -- how many words a command takes: the name of a file or a folder, or of several files; flags before
--- it, or those of a session, as one or more
+-- it and how long to wait, as two words, or those of a session or an account, as one or more
 abbrev pub takes : Topic → (words : ℕ) → Bool
 takes topics.Lines words = nat_le 1 words
-takes topics.Sessions words = words == 2 || words == 3
+takes topics.Export words = is_between 1 6 words
+takes topics.Sessions words = nat_le 1 words
+takes topics.Reply words = words == 2
 takes topics.Free words = nat_le 2 words
 takes topics.Ask words = nat_le 2 words
 takes topics.Check words = words == 1
 takes topics.Init words = words == 1
 takes topics.Run words = words == 1
-takes topics.Status words = words == 1 || words == 2
-takes topics.Accounts words = words == 1 || words == 2 || words == 3
-takes topics.Reload words = words == 1
+takes topics.Status words = is_between 1 4 words
+takes topics.Ready words = words == 1
+takes topics.Accounts words = is_between 1 5 words
+takes topics.Reload words = words == 1 || words == 3
 takes topics.Stop words = words == 1
 takes topics.Rebase words = words == 1
 

@@ -2,3 +2,4 @@ pub mod Arguments
 pub mod Paces
 pub mod Proofs
 pub mod Status
+pub mod Waits

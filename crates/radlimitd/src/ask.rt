@@ -1,78 +1,195 @@
+use crate::answer::Answer;
 use crate::command::Misuse;
 use crate::fault::Fault;
 use crate::files::server_file;
+use crate::patience::Patience;
 use crate::topic::Topic;
 use form_urlencoded::Serializer;
 use rld_config::Paths;
 use rld_control::{Command, Reply};
 use std::alloc::Global;
 use std::fs::Files;
-use std::io::{self, ErrorKind, Read, Write};
+use std::io::{self, ErrorKind, IsTerminal, Write};
 use std::net::Net;
 use std::os::unix::net::UnixStream;
-use std::time::Duration;
+use std::path::PathBuf;
+use std::time::Clock;
 
-/// How long the server may stay silent, in seconds.
-const SILENCE_SECS: u64 = 5;
-
-/// The most octets of an answer.
-const ANSWER_LEN: u64 = 16_777_216;
+/// The flag before the number of seconds that an answer is waited for.
+const TIMEOUT: &str = "--timeout";
 
 /// Sends the other words as a line to the running server of the file that the last word names, and
-/// writes the lines of its answer.
+/// writes the lines of its answer. `--timeout` and its seconds, which may come first, are not sent.
 ///
 /// `Usage` comes if they are no such command, before anything is read. `Silent` comes if no server
-/// answers in full on the control socket of the file, and `Refused` with the server's reason.
-pub(crate) fn ask<R: Files + Net, W: Write>(
+/// answers in full on the control socket of the file, `Late` if it takes longer than it may, and
+/// `Refused` with the server's reason; `NotReady` comes in place of these for `ready`. On `stderr`
+/// is said that the server works on it, if it is a terminal.
+pub(crate) fn ask<R: Files + Net + Clock, W: Write, S: Write + IsTerminal>(
     rt: &R,
     alloc: Global,
     topic: Topic,
     words: &[String],
     writer: &mut W,
+    stderr: &mut S,
 ) -> Result<(), Fault> {
     let Some((name, words)) = words.split_last() else {
+        return Err(Fault::Usage(Misuse::Words(topic)));
+    };
+    let [command, words @ ..] = words else {
         return Err(Fault::Usage(Misuse::Words(topic)));
     };
     if name.as_str().starts_with("--") {
         return Err(Fault::Usage(Misuse::Words(topic)));
     }
+    let (patience, words) = waiting(topic, words)?;
     let line = match topic {
-        Topic::Ask => ask_line(alloc, words)?,
-        _ => line_of(alloc, words)?,
+        Topic::Ask => ask_line(alloc, command, words)?,
+        _ => line_of(alloc, command, words)?,
     };
     if Command::read(alloc, line.as_bytes())?.is_none() {
         return Err(Fault::Usage(Misuse::Unreadable(topic)));
     }
-    let name = name.as_str();
-    let server = server_file(rt, alloc, name)?;
-    let Paths { control, .. } = Paths::of(alloc, name, &server)?;
-    let octets = match answer_to(rt, alloc, control.as_str(), line.as_str()) {
-        Ok(octets) => octets,
-        Err(error) if error.kind() == ErrorKind::OutOfMemory => return Err(Fault::NoMemory),
-        Err(_) => return silent(alloc, control.as_str()),
+    let control = control_of(rt, alloc, name.as_str())?;
+    let asked = Asked {
+        topic,
+        path: control.as_str(),
+        patience,
     };
-    match Reply::of(octets.as_slice()) {
-        Reply::Done(lines) => {
-            writer.write_all(lines)?;
-            Ok(writer.flush()?)
+    let lines = asked.lines(rt, alloc, line.as_str(), stderr)?;
+    writer.write_all(lines.as_slice())?;
+    Ok(writer.flush()?)
+}
+
+/// The path of the control socket of the server's file of this name.
+pub(crate) fn control_of<F: Files>(files: &F, alloc: Global, name: &str) -> Result<PathBuf, Fault> {
+    let server = server_file(files, alloc, name)?;
+    let Paths { control, .. } = Paths::of(alloc, name, &server)?;
+    Ok(control)
+}
+
+/// How long the answer to a command with these words is waited for, and the words without what says
+/// it. `Usage` comes for what is no number of seconds.
+pub(crate) fn waiting(topic: Topic, words: &[String]) -> Result<(Patience, &[String]), Fault> {
+    let patience = Patience::of(topic);
+    match words {
+        [flag, secs, rest @ ..] if patience.takes_timeout() && flag.as_str() == TIMEOUT => {
+            match Patience::of_word(secs.as_str()) {
+                Some(patience) => Ok((patience, rest)),
+                None => Err(Fault::Usage(Misuse::Unreadable(topic))),
+            }
         }
-        Reply::Refused(text) => Err(Fault::Refused(String::from_utf8_lossy(alloc, text)?)),
-        Reply::Broken => silent(alloc, control.as_str()),
+        words => Ok((patience, words)),
     }
 }
 
-/// The fault of a control socket at which no server answers.
-fn silent(alloc: Global, path: &str) -> Result<(), Fault> {
-    Err(Fault::Silent(String::from_str(alloc, path)?))
+/// A running server that is asked on its control socket.
+#[derive(Clone, Copy)]
+pub(crate) struct Asked<'a> {
+    /// What it is asked for.
+    pub(crate) topic: Topic,
+    /// The path of the socket.
+    pub(crate) path: &'a str,
+    /// How long each answer is waited for.
+    pub(crate) patience: Patience,
+}
+
+impl Asked<'_> {
+    /// The lines that it answers to a line. `Silent` comes if it does not answer in full, `Late` if it
+    /// takes longer than it may, and `Refused` with its reason; `NotReady` comes in place of these for
+    /// `ready`.
+    pub(crate) fn lines<R: Net + Clock, S: Write + IsTerminal>(
+        &self,
+        rt: &R,
+        alloc: Global,
+        line: &str,
+        stderr: &mut S,
+    ) -> Result<Vec<u8>, Fault> {
+        let mut octets = self.answer(rt, alloc, line, stderr)?;
+        let len = match Reply::of(octets.as_slice()) {
+            Reply::Done(lines) => lines.len(),
+            Reply::Refused(text) => {
+                return Err(self.refused(String::from_utf8_lossy(alloc, text)?));
+            }
+            Reply::Broken => return Err(self.silent(alloc)?),
+        };
+        octets.truncate(len);
+        Ok(octets)
+    }
+
+    /// The whole answer to a line, or why there is none.
+    fn answer<R: Net + Clock, S: Write + IsTerminal>(
+        &self,
+        rt: &R,
+        alloc: Global,
+        line: &str,
+        stderr: &mut S,
+    ) -> Result<Vec<u8>, Fault> {
+        match self.answer_to(rt, alloc, line, stderr) {
+            Ok(octets) => Ok(octets),
+            Err(error) if error.kind() == ErrorKind::OutOfMemory => Err(Fault::NoMemory),
+            Err(error) if error.kind() == ErrorKind::WouldBlock => Err(self.late(alloc)?),
+            Err(_) => Err(self.silent(alloc)?),
+        }
+    }
+
+    /// Sends the line, and reads the whole answer. The error is the system's, or `WouldBlock` if the
+    /// patience is over.
+    fn answer_to<R: Net + Clock, S: Write + IsTerminal>(
+        &self,
+        rt: &R,
+        alloc: Global,
+        line: &str,
+        stderr: &mut S,
+    ) -> io::Result<Vec<u8>> {
+        let stream = UnixStream::connect(rt, self.path)?;
+        let mut to = &stream;
+        to.write_all(line.as_bytes())?;
+        to.write_all(b"\n")?;
+        let terminal = if stderr.is_terminal() {
+            Some(stderr)
+        } else {
+            None
+        };
+        let mut octets = Vec::new(alloc);
+        Answer::begun(rt, &stream, self.patience, terminal)?.whole(&mut octets)?;
+        Ok(octets)
+    }
+
+    /// The fault of a server that does not do it, for this reason.
+    fn refused(&self, why: String) -> Fault {
+        match self.topic {
+            Topic::Ready => Fault::NotReady(why),
+            _ => Fault::Refused(why),
+        }
+    }
+
+    /// The fault of a control socket at which no server answers.
+    pub(crate) fn silent(&self, alloc: Global) -> Result<Fault, Fault> {
+        Ok(match self.topic {
+            Topic::Ready => Fault::NotReady(format!(in alloc; "{}: no server answers", self.path)?),
+            _ => Fault::Silent(String::from_str(alloc, self.path)?),
+        })
+    }
+
+    /// The fault of an answer that has not come in time: no server answers, unless the words said
+    /// the time.
+    fn late(&self, alloc: Global) -> Result<Fault, Fault> {
+        match self.patience {
+            Patience::Seconds(secs) if Patience::of(self.topic).takes_timeout() => Ok(Fault::Late(
+                String::from_str(alloc, self.path)?,
+                secs,
+            )),
+            _ => self.silent(alloc),
+        }
+    }
 }
 
 /// Words as one line, without its line feed.
-fn line_of(alloc: Global, words: &[String]) -> Result<String, Fault> {
-    let mut line = String::new(alloc);
+fn line_of(alloc: Global, command: &String, words: &[String]) -> Result<String, Fault> {
+    let mut line = String::from_str(alloc, command.as_str())?;
     for word in words {
-        if !line.is_empty() {
-            line.push_str(" ")?;
-        }
+        line.push_str(" ")?;
         line.push_str(word.as_str())?;
     }
     Ok(line)
@@ -80,8 +197,8 @@ fn line_of(alloc: Global, words: &[String]) -> Result<String, Fault> {
 
 /// The line of an ask: the first word after the command's name is the account's, and each other one a field of
 /// the form, `=` and its value.
-fn ask_line(alloc: Global, words: &[String]) -> Result<String, Fault> {
-    let [command, name, fields @ ..] = words else {
+fn ask_line(alloc: Global, command: &String, words: &[String]) -> Result<String, Fault> {
+    let [name, fields @ ..] = words else {
         return Err(Fault::Usage(Misuse::Words(Topic::Ask)));
     };
     let mut form = Serializer::new(String::new(alloc));
@@ -96,17 +213,4 @@ fn ask_line(alloc: Global, words: &[String]) -> Result<String, Fault> {
     line.push_str(" ")?;
     line.push_str(form.finish().as_str())?;
     Ok(line)
-}
-
-/// The whole answer of a server to a line, on the control socket of this path.
-fn answer_to<R: Net>(rt: &R, alloc: Global, path: &str, line: &str) -> io::Result<Vec<u8>> {
-    let stream = UnixStream::connect(rt, path)?;
-    stream.set_read_timeout(Some(Duration::from_secs(SILENCE_SECS)))?;
-    let mut to = &stream;
-    to.write_all(line.as_bytes())?;
-    to.write_all(b"\n")?;
-    let mut octets = Vec::new(alloc);
-    let from = &stream;
-    from.take(ANSWER_LEN).read_to_end(&mut octets)?;
-    Ok(octets)
 }

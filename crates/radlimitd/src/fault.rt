@@ -34,6 +34,12 @@ pub(crate) enum Fault {
     /// No server answers on the control socket of this path.
     #[error("{0}: no server answers")]
     Silent(String),
+    /// The running server answers no packets, or records none, for this reason.
+    #[error("not ready: {0}")]
+    NotReady(String),
+    /// The server has not answered on the control socket of this path within this number of seconds.
+    #[error("{0}: no answer within {1} s")]
+    Late(String, u32),
     /// A file that was to be created exists.
     #[error("{0}: is there already, and nothing is written over")]
     Taken(String),
@@ -43,6 +49,9 @@ pub(crate) enum Fault {
     /// The server does not do the request.
     #[error("{0}")]
     Refused(String),
+    /// Nobody can be asked whether to free all sessions of an access server.
+    #[error("standard input is no terminal: say --yes")]
+    NoTerminal,
     /// A write failed, or the clock could not be read.
     #[error("input or output fault")]
     InputOutput,
@@ -59,7 +68,9 @@ impl Fault {
         ensures { result ≡ fault_status self.now }
     {
         match self {
-            Fault::Usage(_) | Fault::BadFile(_) | Fault::BadLog(_) => EndStatus::WrongInput,
+            Fault::Usage(_) | Fault::BadFile(_) | Fault::BadLog(_) | Fault::NoTerminal => {
+                EndStatus::WrongInput
+            }
             Fault::Start(fault) => fault.status(),
             Fault::Run(fault) => fault.status(),
             Fault::Control(_)
@@ -69,6 +80,8 @@ impl Fault {
             | Fault::Refused(_)
             | Fault::InputOutput => EndStatus::InputOutput,
             Fault::NoMemory => EndStatus::NoMemory,
+            Fault::NotReady(_) => EndStatus::NotReady,
+            Fault::Late(_, _) => EndStatus::TimedOut,
         }
     }
 }

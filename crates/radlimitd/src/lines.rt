@@ -88,7 +88,7 @@ fn era_beside<F: Files>(files: &F, alloc: Global, name: &str, era: u64) -> Resul
 }
 
 /// The octets of a file.
-fn octets_of<F: Files>(files: &F, alloc: Global, name: &str) -> Result<Vec<u8>, Fault> {
+pub(crate) fn octets_of<F: Files>(files: &F, alloc: Global, name: &str) -> Result<Vec<u8>, Fault> {
     match read_file(files, alloc, name, u32::MAX) {
         Ok(octets) => Ok(octets),
         Err(TextFault::NoMemory) => Err(Fault::NoMemory),
@@ -107,7 +107,7 @@ fn bad_file<T>(alloc: Global, name: &str, wrong: Wrong) -> Result<T, Fault> {
 }
 
 /// The fault of a damaged file of the folder.
-fn bad_log<T>(alloc: Global, name: &str, wrong: start::Wrong) -> Result<T, Fault> {
+pub(crate) fn bad_log<T>(alloc: Global, name: &str, wrong: start::Wrong) -> Result<T, Fault> {
     Err(Fault::BadLog(BadLog {
         name: String::from_str(alloc, name)?,
         wrong,

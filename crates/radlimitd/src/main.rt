@@ -1,7 +1,8 @@
 //! The program `radlimitd`, the operator's server. `radlimitd run FILE` is the server, `radlimitd
 //! init FOLDER` writes the files for one, `radlimitd check FILE` says what is wrong with its file,
-//! or with the account file that it names, `radlimitd lines FILE..` prints the moves of logs of a
-//! state folder, and `radlimitd rebase FILE` cuts its books to the present, if a clock that was
+//! or with the account file that it names, `radlimitd reply NAME FILE` what an accept of an account
+//! has, `radlimitd lines FILE..` prints the moves of logs of a state folder, `radlimitd export FILE`
+//! their sessions, and `radlimitd rebase FILE` cuts its books to the present, if a clock that was
 //! ahead has led them past it.
 //!
 //! This crate has the edges of the process: its arguments, its files, what it prints and the exit
@@ -9,21 +10,28 @@
 #![tactic(auto)]
 
 mod accounts;
+mod answer;
 mod ask;
 mod asks;
 mod bad_file;
 mod check;
 mod command;
 mod exit;
+mod export;
 mod fault;
 mod files;
+mod flags;
+mod free;
 mod group;
 mod init;
 mod lines;
 mod pace;
+mod patience;
 mod proof;
 mod rebase;
+mod reply;
 mod run;
+mod sessions;
 mod sink;
 mod topic;
 
@@ -31,15 +39,19 @@ use ask::ask;
 use check::check;
 use command::{Command, Misuse};
 use exit::exit_code;
+use export::export;
 use fault::Fault;
+use free::free;
 use init::init;
 use lines::lines;
 use rebase::rebase;
+use reply::reply;
 use run::run;
+use sessions::sessions;
 use std::alloc::Global;
 use std::env::{self, Env};
 use std::fs::{File, Files};
-use std::io::{self, ErrorKind, Write};
+use std::io::{self, ErrorKind, IsTerminal, Read, Write};
 use std::net::{Net, TcpListener, TcpStream};
 use std::process::ExitCode;
 use std::sync::Wait;
@@ -56,23 +68,29 @@ radlimitd keeps how many sessions each account has, and answers RADIUS by it.
 
     radlimitd init FOLDER      writes a server's file and an account file, with a random secret
     radlimitd check FILE       says what is wrong with a server's file, or with its account file
+    radlimitd reply NAME FILE  prints what an accept of an account has
     radlimitd run FILE         runs the server of this file, until it is killed
     radlimitd lines FILE..     prints the changes that logs of a state folder have, each with its decision
+    radlimitd export [--csv] [--since MOMENT] [--until MOMENT] FILE
+                               prints the sessions that logs have, with their ends
     radlimitd rebase FILE      cuts a state folder to the present, after a clock was ahead
 
 What a running server is asked:
 
-    radlimitd status [--json] FILE
+    radlimitd ready FILE       whether it answers packets and records: for checks
+    radlimitd status [--timeout SECONDS] [--json] FILE
                                what it is and does
-    radlimitd accounts [--json] [--held | --full] FILE
+    radlimitd accounts [--timeout SECONDS] [--json] [--held | --full] FILE
                                what each of its accounts holds, or of those that hold a place or are full
-    radlimitd sessions [--json] NAME FILE
-                               the links of an account, each as `free` wants it
+    radlimitd sessions [--timeout SECONDS] [--json] [NAME | FLAG WORD ..] FILE
+                               the links of an account, or of all, each as `free` wants it
     radlimitd free NAME CLIENT NAS SESSION FILE
-                               to free the place of a session that its access server has forgotten
+                               to free the place of a session that its access server has forgotten, or with
+                               --nas NAS CLIENT those of all its sessions
     radlimitd ask NAME FIELD=VALUE.. FILE
                                for a place of an account that was checked elsewhere
-    radlimitd reload FILE      to read its accounts anew, and go on by them
+    radlimitd reload [--timeout SECONDS] FILE
+                               to read its accounts anew, and go on by them
     radlimitd stop FILE        to end
 
     radlimitd help COMMAND     says more of one, with an example and its exit statuses; so does COMMAND --help
@@ -82,14 +100,21 @@ FILE is the server's file: radlimitd.conf(5). It names the account file: radlimi
 ";
 
 fn main(rt: HostRuntime) -> ExitCode {
-    let outcome = work(&rt, &rt, &mut rt.stdout(), &mut rt.stderr());
+    let outcome = work(
+        &rt,
+        &rt,
+        &mut rt.stdin(),
+        &mut rt.stdout(),
+        &mut rt.stderr(),
+    );
     exit_code(&mut rt.stderr(), outcome)
 }
 
 /// Does what the arguments ask for, and writes the result.
-fn work<R, W: Write, S: Write>(
+fn work<R, I: Read + IsTerminal, W: Write, S: Write + IsTerminal>(
     rt: &R,
     files: &HostRuntime,
+    stdin: &mut I,
     stdout: &mut W,
     stderr: &mut S,
 ) -> Result<(), Fault>
@@ -124,9 +149,13 @@ where
         (Topic::Check, [_, file]) => check(rt, alloc, file.as_str(), stdout),
         (Topic::Init, [_, folder]) => init(rt, alloc, folder.as_str(), stdout),
         (Topic::Lines, [_, names @ ..]) => lines(rt, alloc, names, stdout, stderr),
+        (Topic::Export, [_, words @ ..]) => export(rt, alloc, words, stdout, stderr),
         (Topic::Run, [_, file]) => run(rt, files, alloc, file.as_str()),
+        (Topic::Reply, [_, name, file]) => reply(rt, alloc, name.as_str(), file.as_str(), stdout),
         (Topic::Rebase, [_, file]) => rebase(rt, alloc, file.as_str(), stdout),
-        (_, words) => ask(rt, alloc, topic, words, stdout),
+        (Topic::Sessions, words) => sessions(rt, alloc, words, stdout, stderr),
+        (Topic::Free, words) => free(rt, alloc, words, stdin, stdout, stderr),
+        (_, words) => ask(rt, alloc, topic, words, stdout, stderr),
     }
 }
 

@@ -8,12 +8,11 @@ use crate::group::group_number;
 use crate::pace::pace_of;
 use crate::proof::proof_in;
 use crate::sink::sink_of;
-use rld_config::{ControlSocket, Key, Part, Paths, ServerFault, Warning};
-use rld_folder::{Folder, FolderFault};
+use rld_config::{ControlSocket, Key, NewHistory, Part, Paths, ServerFault, Warning};
 use rld_log::{Pacing, Ticks};
 use rld_look::Build;
 use rld_serve::{Access, Control, Plan, RunFault, Sockets, serve};
-use rld_start::{FolderGenerations, Found, StartFault, Started, start};
+use rld_start::{FolderGenerations, Found, StartFault, Started, open_folder, start};
 use rld_web::Web;
 use rsl_accounts::{Config, UnsignedRule};
 use rsl_event::Source;
@@ -32,8 +31,9 @@ use std::time::Clock;
 ///
 /// What keeps it from starting comes in this order: the clock, the server's file, the account file;
 /// a network whose client is not in the account file, whose client need not sign under a guard, or
-/// that takes another client's address; an account file that others may write to or read; `busy`,
-/// if another process has the state folder, or what is wrong with the folder itself; a socket that
+/// that takes another client's address; an account file that others may write to or read; a state
+/// folder that is not there, if it must have a history; `busy`, if another process has it, or what
+/// is wrong with the folder itself; a socket that
 /// cannot be bound, those of RADIUS before that of the page and that of asks, before which the file
 /// with their token is read; a group that the system does not know;
 /// a control socket that cannot be made; and last what is wrong with the files of the folder. So if
@@ -67,7 +67,7 @@ where
     let path = paths.accounts.as_str();
     let AccountFile { config, .. } = accounts_for(rt, alloc, name, &server, path)?;
     let state = paths.state.as_str();
-    check_free(rt, alloc, state)?;
+    check_free(rt, alloc, state, server.new_history)?;
     let sockets = Sockets::bind(rt, alloc, server.listens.as_slice())?;
     let web = web_of(rt, files, alloc, server.web)?;
     let asks = asks_of(rt, alloc, &server, token_path(&paths))?;
@@ -82,7 +82,7 @@ where
         pace: pace_of(server.sync),
         ticks: &ticks,
     };
-    let started = start(rt, alloc, &config, state, now, pacing)?;
+    let started = start(rt, alloc, &config, state, server.new_history, now, pacing)?;
     let greeting = greeting_of(alloc, &started.found, &config)?;
     let Started {
         folder,
@@ -205,10 +205,8 @@ fn check_free<F: Files<File = File>>(
     files: &F,
     alloc: Global,
     path: &str,
+    new_history: NewHistory,
 ) -> Result<(), StartFault> {
-    match Folder::open(files, alloc, path) {
-        Ok(_folder) => Ok(()),
-        Err(FolderFault::NoMemory) => Err(StartFault::NoMemory),
-        Err(fault) => Err(StartFault::Folder(fault)),
-    }
+    let _folder = open_folder(files, alloc, path, new_history)?;
+    Ok(())
 }

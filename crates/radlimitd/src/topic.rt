@@ -14,11 +14,13 @@ pub(crate) enum Topic {
     Run,
     /// Show the status of a running server.
     Status,
+    /// Say whether it answers packets and records.
+    Ready,
     /// Show what its accounts hold.
     Accounts,
-    /// Show the links of an account.
+    /// Show the links of an account, or of all.
     Sessions,
-    /// Free the place of a session.
+    /// Free the place of a session, or those of an access server's.
     Free,
     /// Ask it whether an account that was checked elsewhere has a place.
     Ask,
@@ -26,8 +28,12 @@ pub(crate) enum Topic {
     Reload,
     /// Stop it.
     Stop,
+    /// Show what an accept of an account has.
+    Reply,
     /// Print the moves of logs.
     Lines,
+    /// Print the sessions of the logs of a state folder.
+    Export,
     /// Cut the books of a state folder to the present.
     Rebase,
 }
@@ -42,13 +48,16 @@ impl Topic {
             "init" => Some(Topic::Init),
             "run" => Some(Topic::Run),
             "status" => Some(Topic::Status),
+            "ready" => Some(Topic::Ready),
             "accounts" => Some(Topic::Accounts),
             "sessions" => Some(Topic::Sessions),
             "free" => Some(Topic::Free),
             "ask" => Some(Topic::Ask),
             "reload" => Some(Topic::Reload),
             "stop" => Some(Topic::Stop),
+            "reply" => Some(Topic::Reply),
             "lines" => Some(Topic::Lines),
+            "export" => Some(Topic::Export),
             "rebase" => Some(Topic::Rebase),
             _ => None,
         }
@@ -56,17 +65,19 @@ impl Topic {
 
     /// Whether it takes this number of words after its name. The last word is the name of a file,
     /// and of `init` that of a folder; `lines` takes the names of several files. `free` takes what
-    /// `sessions` prints as one word or as four. Flags are words of their own.
+    /// `sessions` prints as one word or as four. Flags and their values are words of their own.
     pub(crate) fn takes(self, words: usize) -> bool
         ensures { result ≡ takes self words }
     {
         match self {
-            Topic::Lines => words >= 1,
-            Topic::Status => words == 1 || words == 2,
-            Topic::Accounts => words == 1 || words == 2 || words == 3,
-            Topic::Sessions => words == 2 || words == 3,
+            Topic::Lines | Topic::Sessions => words >= 1,
+            Topic::Status => 1 <= words && words <= 4,
+            Topic::Accounts => 1 <= words && words <= 5,
+            Topic::Reply => words == 2,
+            Topic::Reload => words == 1 || words == 3,
             Topic::Free | Topic::Ask => words >= 2,
-            Topic::Check | Topic::Init | Topic::Run | Topic::Reload | Topic::Stop | Topic::Rebase =>
+            Topic::Export => 1 <= words && words <= 6,
+            Topic::Check | Topic::Init | Topic::Run | Topic::Ready | Topic::Stop | Topic::Rebase =>
                 words == 1,
         }
     }
@@ -77,14 +88,19 @@ impl Topic {
             Topic::Check => "radlimitd check FILE",
             Topic::Init => "radlimitd init FOLDER",
             Topic::Run => "radlimitd run FILE",
-            Topic::Status => "radlimitd status [--json] FILE",
-            Topic::Accounts => "radlimitd accounts [--json] [--held | --full] FILE",
-            Topic::Sessions => "radlimitd sessions [--json] NAME FILE",
+            Topic::Status => "radlimitd status [--timeout SECONDS] [--json] FILE",
+            Topic::Ready => "radlimitd ready FILE",
+            Topic::Accounts =>
+                "radlimitd accounts [--timeout SECONDS] [--json] [--held | --full] FILE",
+            Topic::Sessions =>
+                "radlimitd sessions [--timeout SECONDS] [--json] [NAME | FLAG WORD ..] FILE",
             Topic::Free => "radlimitd free NAME CLIENT NAS SESSION FILE",
             Topic::Ask => "radlimitd ask NAME FIELD=VALUE.. FILE",
-            Topic::Reload => "radlimitd reload FILE",
+            Topic::Reload => "radlimitd reload [--timeout SECONDS] FILE",
             Topic::Stop => "radlimitd stop FILE",
+            Topic::Reply => "radlimitd reply NAME FILE",
             Topic::Lines => "radlimitd lines FILE..",
+            Topic::Export => "radlimitd export [--csv] [--since MOMENT] [--until MOMENT] FILE",
             Topic::Rebase => "radlimitd rebase FILE",
         }
     }
@@ -93,13 +109,21 @@ impl Topic {
     pub(crate) fn form(self) -> &'static str {
         match self {
             Topic::Free =>
-                "; NAS is nas=NAME, nas-address=DIGITS or unnamed, as `sessions` prints it",
-            Topic::Sessions => "; NAME is written as `accounts` prints it",
+                "; NAS is nas=NAME, nas-address=DIGITS or unnamed, as `sessions` prints it; all of \
+                 an access server: radlimitd free [--yes] --nas NAS CLIENT FILE",
+            Topic::Sessions =>
+                "; NAME is written as `accounts` prints it; FLAG WORD is --nas NAS, --client \
+                 CLIENT, --state STATE or --older SECONDS",
+            Topic::Reply => "; NAME is written as `accounts` prints it",
+            Topic::Export =>
+                "; MOMENT is 2026-11-26, '2026-11-26 18:20:00' or seconds since 1970, and the \
+                 first is the lower",
             Topic::Ask => "; FIELD is key, nas_identifier, nas_ip_address or calling_station_id",
             Topic::Check
             | Topic::Init
             | Topic::Run
             | Topic::Status
+            | Topic::Ready
             | Topic::Accounts
             | Topic::Reload
             | Topic::Stop
@@ -115,13 +139,16 @@ impl Topic {
             Topic::Init => INIT,
             Topic::Run => RUN,
             Topic::Status => STATUS,
+            Topic::Ready => READY,
             Topic::Accounts => ACCOUNTS,
             Topic::Sessions => SESSIONS,
             Topic::Free => FREE,
             Topic::Ask => ASK,
             Topic::Reload => RELOAD,
             Topic::Stop => STOP,
+            Topic::Reply => REPLY,
             Topic::Lines => LINES,
+            Topic::Export => EXPORT,
             Topic::Rebase => REBASE,
         }
     }
@@ -171,37 +198,57 @@ failed; 3 no memory; 4 the disk took a write and could not say that it has it.
 ";
 
 const STATUS: &str = "\
-radlimitd status [--json] FILE
+radlimitd status [--timeout SECONDS] [--json] FILE
 
 Prints what the running server of the file FILE is and does: its version, whether it is proved, since when it runs and
 whether it records; then numbers, a line each; then what it answered lately, how all requests ended, and the fullest
-accounts. --json prints one object of JSON for scripts.
+accounts. --json prints one object of JSON for scripts. It waits as long as the server works on it, or SECONDS.
 
     radlimitd status --json /etc/radlimit/radlimitd.toml
 
-Exit status: 0; 1 FILE is wrong; 2 no server answers; 3 no memory.
+Exit status: 0; 1 FILE is wrong; 2 no server answers; 3 no memory; 5 no answer within SECONDS.
+";
+
+const READY: &str = "\
+radlimitd ready FILE
+
+Says within a second whether the running server of the file FILE answers packets and records: for checks. It prints `ok`,
+or `clock behind` where no deadline passes, or says on standard error why not.
+
+    radlimitd ready /etc/radlimit/radlimitd.toml
+
+Exit status: 0 it does both; 1 it does not, or FILE is wrong; 3 no memory.
 ";
 
 const ACCOUNTS: &str = "\
-radlimitd accounts [--json] [--held | --full] FILE
+radlimitd accounts [--timeout SECONDS] [--json] [--held | --full] FILE
 
 Prints what each account of the running server of the file FILE holds, a line each, in the order of the account file:
 with --held those that hold a place, with --full those that have no free place. --json prints an object of JSON a line.
+It waits as long as the server works on it, or SECONDS.
 
     radlimitd accounts --full /etc/radlimit/radlimitd.toml
 
-Exit status: 0; 1 FILE is wrong; 2 no server answers; 3 no memory.
+Exit status: 0; 1 FILE is wrong; 2 no server answers; 3 no memory; 5 no answer within SECONDS.
 ";
 
 const SESSIONS: &str = "\
-radlimitd sessions [--json] NAME FILE
+radlimitd sessions [--timeout SECONDS] [--json] [NAME | FLAG WORD ..] FILE
 
 Prints the links of the account NAME, a line each, in the order in which they opened. The first four words of a line
-name the session: `free` takes them. --json prints an object of JSON a line, in which `free` has these words.
+name the session: `free` takes them. --json prints an object of JSON a line, in which `free` has these words. It waits as
+long as the server works on it, or SECONDS.
+
+Without NAME it prints those of all accounts, in the order of the account file, each account as it is when its turn
+comes. These narrow it: `--nas NAS`, as `free` takes it; `--client CLIENT`, an IPv4 address; `--state STATE`, which is
+`reserved`, `live` or `stale`; `--older SECONDS`, for those last touched that long ago or longer. A NAME that begins
+with -- has \\x2d for its first octet.
 
     radlimitd sessions nemo /etc/radlimit/radlimitd.toml
+    radlimitd sessions --client 192.0.2.7 --state stale /etc/radlimit/radlimitd.toml
 
-Exit status: 0; 1 FILE is wrong; 2 no server answers, or it has no such account; 3 no memory.
+Exit status: 0; 1 a word or FILE is wrong; 2 no server answers, it has no such account, or its accounts change meanwhile;
+3 no memory; 5 no answer within SECONDS.
 ";
 
 const FREE: &str = "\
@@ -212,9 +259,14 @@ account; CLIENT the client's IPv4 address; NAS what the access server calls itse
 `nas-address=` and the hexadecimal digits of its NAS-IP-Address, or `unnamed`; SESSION the Acct-Session-Id. They are the
 first four words of a line of `sessions`. It prints `freed`, or `no such session`.
 
-    radlimitd free nemo 192.0.2.7 nas=pop1 0000A1F3 /etc/radlimit/radlimitd.toml
+`radlimitd free [--yes] --nas NAS CLIENT FILE` frees those of all sessions and reservations of an access server, by the
+Accounting-Off that it would have sent. It lists them first, and asks at the terminal for `yes`, unless --yes says it.
 
-Exit status: 0; 1 the words name no session, or FILE is wrong; 2 no server answers, or it refuses; 3 no memory.
+    radlimitd free nemo 192.0.2.7 nas=pop1 0000A1F3 /etc/radlimit/radlimitd.toml
+    radlimitd free --nas nas=pop1 192.0.2.7 /etc/radlimit/radlimitd.toml
+
+Exit status: 0; 1 the words name no session, FILE is wrong, or nobody can say yes; 2 no server answers, or it refuses; 3
+no memory.
 ";
 
 const ASK: &str = "\
@@ -232,15 +284,16 @@ Exit status: 0 there is a place; 1 a word is wrong, or FILE is; 2 there is none,
 ";
 
 const RELOAD: &str = "\
-radlimitd reload FILE
+radlimitd reload [--timeout SECONDS] FILE
 
 Has the running server of the file FILE read its account file anew, and go on by what it says. Sessions go on by the
 names of accounts and the addresses of clients. A wrong account file is refused, and the server goes on as before. Look at
-it first with `radlimitd check`.
+it first with `radlimitd check`. It waits as long as the server works on it, or SECONDS; the server goes on with it then.
 
     radlimitd reload /etc/radlimit/radlimitd.toml
 
-Exit status: 0; 1 FILE is wrong; 2 no server answers, or it refuses the account file; 3 no memory.
+Exit status: 0; 1 FILE is wrong; 2 no server answers, or it refuses the account file; 3 no memory; 5 no answer within
+SECONDS.
 ";
 
 const STOP: &str = "\
@@ -253,6 +306,19 @@ Ends the running server of the file FILE.
 Exit status: 0; 1 FILE is wrong; 2 no server answers; 3 no memory.
 ";
 
+const REPLY: &str = "\
+radlimitd reply NAME FILE
+
+Prints what an accept of the account NAME has, by the account file that the server's file FILE names: a line an attribute,
+as a list `reply` of the account file has it, and after a tab its octets in hexadecimal digits. What the server sets comes
+first, but without Class and Message-Authenticator, whose values are of each login; then what the account's profile has,
+and then the account's own. No server needs to run.
+
+    radlimitd reply nemo /etc/radlimit/radlimitd.toml
+
+Exit status: 0; 1 NAME is no name, or a file is wrong; 2 there is no such account; 3 no memory.
+";
+
 const LINES: &str = "\
 radlimitd lines FILE..
 
@@ -262,6 +328,21 @@ run beside the server.
     radlimitd lines /var/lib/radlimit/log-1-1
 
 Exit status: 0; 1 a log is damaged, whose first wrong place is named; 2 a file cannot be read; 3 no memory.
+";
+
+const EXPORT: &str = "\
+radlimitd export [--csv] [--since MOMENT] [--until MOMENT] FILE
+
+Prints each session that the logs of the server of the file FILE have, with those of the archive, as an object of JSON a
+line: its account and access server, when it began, was last seen and ended, in seconds since 1970, and why: `stop`, `off`,
+`silent`, `yielded`, or `changed` if the account file went on without it. A session that is still held has no end; one that
+began before the first log has no beginning. --csv prints a record of CSV a line, with dates of UTC. --since and --until
+leave what was held at some moment from the one on and before the other: MOMENT is a date of UTC, as 2026-11-26 or
+'2026-11-26 18:20:00', or seconds since 1970. It only reads, and may run beside the server.
+
+    radlimitd export --csv --since 2026-11-01 --until 2026-12-01 /etc/radlimit/radlimitd.toml
+
+Exit status: 0; 1 a log is damaged, whose first wrong place is named, or FILE is wrong; 2 a write failed; 3 no memory.
 ";
 
 const REBASE: &str = "\

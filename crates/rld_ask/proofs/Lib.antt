@@ -1,3 +1,2 @@
-pub mod ComparisonLemmas
-pub mod Pieces
+pub mod Fronts
 pub mod Requests

@@ -71,7 +71,7 @@ with_pairs fields (pair ∷ pairs) = and_then (with_pair fields pair) (λ next. 
 abbrev pub is_empty : List ℕ → Bool
 is_empty octets = length octets == 0
 
--- a value that has to be there, of at most so many octets
+-- a required value: 1 to `most` octets
 abbrev pub needed : Field → (most : ℕ) → Option (List ℕ) → Result (List ℕ) FormFault
 needed field most None = Err (Missing field)
 needed field most (Some octets) =

@@ -75,7 +75,7 @@ impl AskForm {
     }
 }
 
-/// The value of a field that has to be there, with at least one octet and at most so many.
+/// The value of a required field: 1 to `most` octets. `Missing`: it is not there, or empty. `Wrong`: it is longer.
 fn needed(field: Field, most: usize, value: Option<Octets>) -> Result<Octets, FormFault>
     ensures value { result ≡ needed field most value }
     ensures short { IfOk result (λ octets. length octets ≤ most) }
@@ -87,7 +87,7 @@ fn needed(field: Field, most: usize, value: Option<Octets>) -> Result<Octets, Fo
     }
 }
 
-/// The value of a field that may be left out, with at most 253 octets.
+/// The value of a field that may be left out, or empty: at most 253 octets. `Wrong`: it is longer.
 fn optional(field: Field, value: Option<Octets>) -> Result<Option<Octets>, FormFault>
     ensures value { result ≡ optional field value }
     ensures short { IfOk result (λ found. IfSome found (λ octets. length octets ≤ 253)) }

@@ -11,7 +11,6 @@ mod ask_connection;
 mod ask_connections;
 mod asked;
 mod asks;
-mod comparison;
 mod fault;
 mod field;
 mod fields;

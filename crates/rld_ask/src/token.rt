@@ -1,7 +1,7 @@
 ghost use Rattle.std.specs.Prelude.{◌≡◌, ◌++◌, codes, IfOk, bytes_eq};
 ghost use Rattle.rld_ask.specs.Token.{credentials};
 
-use crate::comparison::same_octets;
+use rsl_auth::same_octets;
 use std::alloc::{AllocError, Global};
 
 /// What whoever asks has to show (RFC 6750 section 2.1).

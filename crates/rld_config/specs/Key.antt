@@ -2,7 +2,7 @@
 use Rattle.std.specs.Prelude.{ℕ, List, [], ◌∷◌, Bool, false, not, ◌==◌, ◌&&◌, ◌||◌, nat_le, length, codes, bytes_eq}
 use Rattle.std.specs.List.{list_all, list_any}
 use Rattle.rld_config.specs.declared.key.Key.{Key}
-use Rattle.rld_config.specs.declared.key.Key.TheVariants.{Accounts, State, Sync, Archive, ArchiveMegabytes, Listen, Network, Control, Web, Ask, Trust, Address, Auth, Acct, Receivers, StatusServer, Prefix, Client, Socket, Mode, Group, Port, TokenFile, ReadableAccounts}
+use Rattle.rld_config.specs.declared.key.Key.TheVariants.{Accounts, State, StateMustExist, Sync, Archive, ArchiveMegabytes, Listen, Network, Control, Web, Ask, Trust, Address, Auth, Acct, Receivers, StatusServer, Prefix, Client, Socket, Mode, Group, Port, TokenFile, ReadableAccounts}
 use Rattle.rld_config.specs.declared.part.Part.{Part}
 use Rattle.rld_config.specs.declared.part.Part.TheVariants.{Head, Listen as OfListen, Network as OfNetwork, Control as OfControl, Web as OfWeb, Ask as OfAsk, Trust as OfTrust}
 
@@ -10,6 +10,7 @@ use Rattle.rld_config.specs.declared.part.Part.TheVariants.{Head, Listen as OfLi
 abbrev pub key_name : Key → List ℕ
 key_name Accounts = codes "accounts"
 key_name State = codes "state"
+key_name StateMustExist = codes "state_must_exist"
 key_name Sync = codes "sync"
 key_name Archive = codes "archive"
 key_name ArchiveMegabytes = codes "archive_megabytes"
@@ -35,7 +36,7 @@ key_name ReadableAccounts = codes "readable_accounts"
 
 -- the keys that a table may have
 abbrev pub keys_of : Part → List Key
-keys_of Head = Accounts ∷ State ∷ Sync ∷ Archive ∷ ArchiveMegabytes ∷ Listen ∷ Network ∷ Control ∷ Web ∷ Ask ∷ Trust ∷ []
+keys_of Head = Accounts ∷ State ∷ StateMustExist ∷ Sync ∷ Archive ∷ ArchiveMegabytes ∷ Listen ∷ Network ∷ Control ∷ Web ∷ Ask ∷ Trust ∷ []
 keys_of (OfListen number) = Address ∷ Auth ∷ Acct ∷ Receivers ∷ StatusServer ∷ []
 keys_of (OfNetwork number) = Prefix ∷ Client ∷ []
 keys_of OfControl = Socket ∷ Mode ∷ Group ∷ []

@@ -17,6 +17,8 @@ use Rattle.rld_config.specs.declared.head.Head.{Head}
 use Rattle.rld_config.specs.declared.key.Key.{Key}
 use Rattle.rld_config.specs.declared.key.Key.TheVariants as key
 use Rattle.rld_config.specs.declared.listen.Listen.{Listen}
+use Rattle.rld_config.specs.declared.new_history.NewHistory.{NewHistory}
+use Rattle.rld_config.specs.declared.new_history.NewHistory.TheVariants.{Begins}
 use Rattle.rld_config.specs.declared.part.Part.{Part}
 use Rattle.rld_config.specs.declared.part.Part.TheVariants as part
 use Rattle.rld_config.specs.declared.server.ServerFile.{ServerFile}
@@ -33,12 +35,13 @@ use Rattle.rsl_accounts.specs.File.{file_of}
 use Rattle.rsl_accounts.specs.Configuration.{Configuration, client_number, same_octets}
 use Rattle.rsl_accounts.specs.Version.{is_strict}
 use Rattle.rsl_accounts.specs.declared.client.Client.{Client}
-use Rattle.rld_config.specs.Value.{member_in, number_of, path_of, address_value, ip_address_value, prefix_value, flag_value, sync_value, archive_value, tables_of, required, or_default, optional, group_of, unknown_in, and_then, fault_or}
+use Rattle.rld_config.specs.Value.{member_in, number_of, path_of, address_value, ip_address_value, prefix_value, flag_value, new_history_value, sync_value, archive_value, tables_of, required, or_default, optional, group_of, unknown_in, and_then, fault_or}
 
 -- the contents of a server's file
 pub record Server : Type 0 where
   pub accounts : List ℕ
   pub state : List ℕ
+  pub new_history : NewHistory
   pub sync : SyncPolicy
   pub archive : Archive
   pub archive_megabytes : Option ℕ
@@ -53,6 +56,7 @@ abbrev pub server_in : ServerFile → Server
 server_in file = record {
   accounts = file.accounts;
   state = file.state;
+  new_history = file.new_history;
   sync = file.sync;
   archive = file.archive;
   archive_megabytes = file.archive_megabytes;
@@ -115,6 +119,11 @@ prefix_in part value = required part key.Prefix prefix_value (member_in value ke
 unfoldable pub client_in : Part → Data → Result (List ℕ) ServerFault
 client_in part value = required part key.Client address_value (member_in value key.Client)
 
+-- a start that finds no history begins one by default
+unfoldable pub new_history_in : Data → Result NewHistory ServerFault
+new_history_in file =
+    or_default part.Head key.StateMustExist new_history_value Begins (member_in file key.StateMustExist)
+
 -- each answer is synced by default
 unfoldable pub sync_in : Data → Result SyncPolicy ServerFault
 sync_in file = or_default part.Head key.Sync sync_value Always (member_in file key.Sync)
@@ -134,16 +143,18 @@ head_in file =
     fault_or (unknown_in part.Head file)
     (and_then (path_in part.Head file key.Accounts) (λ accounts.
     and_then (path_in part.Head file key.State) (λ state.
+    and_then (new_history_in file) (λ new_history.
     and_then (sync_in file) (λ sync.
     and_then (archive_in file) (λ archive.
     and_then (megabytes_in file) (λ megabytes.
     Ok (record {
       accounts = accounts;
       state = state;
+      new_history = new_history;
       sync = sync;
       archive = archive;
       archive_megabytes = megabytes;
-    })))))))
+    }))))))))
 
 unfoldable pub listen_in : (number : ℕ) → Data → Result Listen ServerFault
 listen_in number value =
@@ -319,6 +330,7 @@ server_of_file file =
     Ok (record {
       accounts = head.accounts;
       state = head.state;
+      new_history = head.new_history;
       sync = head.sync;
       archive = head.archive;
       archive_megabytes = head.archive_megabytes;

@@ -13,6 +13,8 @@ use Rattle.rld_config.specs.declared.fault.ServerFault.{ServerFault}
 use Rattle.rld_config.specs.declared.fault.ServerFault.TheVariants.{Unknown, Missing, BadValue}
 use Rattle.rld_config.specs.declared.key.Key.{Key}
 use Rattle.rld_config.specs.declared.key.Key.TheVariants as key
+use Rattle.rld_config.specs.declared.new_history.NewHistory.{NewHistory}
+use Rattle.rld_config.specs.declared.new_history.NewHistory.TheVariants.{Begins, Refused}
 use Rattle.rld_config.specs.declared.part.Part.{Part}
 use Rattle.rld_config.specs.declared.sync.SyncPolicy.{SyncPolicy}
 use Rattle.rld_config.specs.declared.sync.SyncPolicy.TheVariants.{Always, Second, Never}
@@ -52,6 +54,13 @@ prefix_value _ = None
 abbrev pub flag_value : Data → Option Bool
 flag_value (boolean flag) = Some flag
 flag_value _ = None
+
+-- what comes of a start that finds no history, where one must exist
+abbrev pub new_history_of : (must_exist : Bool) → NewHistory
+new_history_of must_exist = if must_exist then Refused else Begins
+
+abbrev pub new_history_value : Data → Option NewHistory
+new_history_value value = option_map new_history_of (flag_value value)
 
 abbrev pub sync_word : List ℕ → Option SyncPolicy
 sync_word text =

@@ -28,6 +28,8 @@ pub enum Key {
     Accounts,
     /// The path of the folder where the server keeps its history.
     State,
+    /// Whether the folder must have a history at a start.
+    StateMustExist,
     /// When what was recorded is synced to the disk.
     Sync,
     /// How long files that no start needs any more are kept.
@@ -82,6 +84,7 @@ impl Key {
         match self {
             Key::Accounts => "accounts",
             Key::State => "state",
+            Key::StateMustExist => "state_must_exist",
             Key::Sync => "sync",
             Key::Archive => "archive",
             Key::ArchiveMegabytes => "archive_megabytes",

@@ -35,6 +35,7 @@ impl Part {
             Part::Head => &[
                 Key::Accounts,
                 Key::State,
+                Key::StateMustExist,
                 Key::Sync,
                 Key::Archive,
                 Key::ArchiveMegabytes,

@@ -2,7 +2,7 @@
 ghost use Rattle.std.specs.Prelude.{◌≡◌, IfOk, Some, map, option_copied};
 ghost use Rattle.toml.specs.View.{view};
 ghost use Rattle.rsl_accounts.specs.File.{member_in};
-ghost use Rattle.rsl_accounts.specs.Part.{fields_of, knows};
+ghost use Rattle.rsl_accounts.specs.Part.{knows};
 ghost use Rattle.rld_config.specs.Passed.{
   is_of_version_3,
   is_passed_over,
@@ -123,7 +123,7 @@ fn name_in(part: Part, table: &Value) -> Option<&str>
 fn is_passed_over(part: Part, name: &str) -> bool
     ensures { result ≡ is_passed_over part name.now }
 {
-    !knows(part, name) || is_of_version_3(name)
+    !part.knows(name) || is_of_version_3(name)
 }
 
 /// Whether version 3 alone follows a key of this name.
@@ -139,52 +139,4 @@ fn is_of_version_3(name: &str) -> bool
     ]
     .iter()
     .any(|field| name == field.key())
-}
-
-/// Whether a table may have a key of this name, in version 3.
-fn knows(part: Part, name: &str) -> bool
-    ensures { result ≡ knows part name.now }
-{
-    fields_of(part).iter().any(|field| name == field.key())
-}
-
-/// The fields whose keys a table may have.
-fn fields_of(part: Part) -> &'static [Field]
-    ensures { result.now ≡ fields_of part }
-{
-    match part {
-        Part::Head => &[
-            Field::Version,
-            Field::Shards,
-            Field::ReserveSecs,
-            Field::LiveSecs,
-            Field::GraceSecs,
-            Field::ClosedSecs,
-            Field::KeepSecs,
-            Field::InterimSecs,
-            Field::Client,
-            Field::Account,
-            Field::Profile,
-            Field::PortLimit,
-        ],
-        Part::Client => &[Field::Address, Field::Secret, Field::Signed, Field::Trusted],
-        Part::Account => &[
-            Field::Name,
-            Field::Password,
-            Field::Places,
-            Field::Ports,
-            Field::ServiceType,
-            Field::FramedProtocol,
-            Field::SessionTimeout,
-            Field::IdleTimeout,
-            Field::OwnLive,
-            Field::OwnGrace,
-            Field::InterimSecs,
-            Field::Disabled,
-            Field::Reply,
-            Field::Profile,
-            Field::PortLimit,
-        ],
-        Part::Profile => &[Field::Reply],
-    }
 }

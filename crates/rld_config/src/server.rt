@@ -33,12 +33,13 @@ use crate::head::Head;
 use crate::key::Key;
 use crate::listen::{ACCT_PORT, AUTH_PORT, Listen, first_taken_port};
 use crate::network::first_taken_prefix;
+use crate::new_history::NewHistory;
 use crate::part::Part;
 use crate::sync::SyncPolicy;
 use crate::trust::Trust;
 use crate::value::{
     address, archive, archive_megabytes, check_names, client, flag, group, ip_address, member,
-    needed_number, number, path, path_or_none, prefix, sync, tables_of,
+    needed_number, new_history, number, path, path_or_none, prefix, sync, tables_of,
 };
 use crate::web::Web;
 use rld_networks::Network;
@@ -65,6 +66,8 @@ pub struct ServerFile {
     pub accounts: Text,
     /// The path of the state folder.
     pub state: Text,
+    /// What comes of a start that finds no history.
+    pub new_history: NewHistory,
     /// When what was recorded is synced to the disk.
     pub sync: SyncPolicy,
     /// How long files that no start needs any more are kept.
@@ -118,6 +121,7 @@ impl ServerFile {
         Ok(ServerFile {
             accounts: head.accounts,
             state: head.state,
+            new_history: head.new_history,
             sync: head.sync,
             archive: head.archive,
             archive_megabytes: head.archive_megabytes,
@@ -155,6 +159,7 @@ fn head(alloc: Global, file: &Value) -> Result<Head, ServerFault>
     Ok(Head {
         accounts: path(alloc, Part::Head, file, Key::Accounts)?,
         state: path(alloc, Part::Head, file, Key::State)?,
+        new_history: new_history(file)?,
         sync: sync(file)?,
         archive: archive(file)?,
         archive_megabytes: archive_megabytes(file)?,

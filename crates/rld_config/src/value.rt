@@ -25,6 +25,7 @@ ghost use Rattle.rld_config.specs.Value.{
   flag_value,
   group_of,
   ip_address_value,
+  new_history_value,
   prefix_value,
   member_in,
   number_of,
@@ -41,6 +42,7 @@ ghost use Rattle.rld_config.specs.Server.{
   group_in,
   ip_address_in,
   megabytes_in,
+  new_history_in,
   prefix_in,
   flag_in,
   needed_port_in,
@@ -53,6 +55,7 @@ ghost use Rattle.rld_config.specs.Server.{
 use crate::archive::Archive;
 use crate::fault::ServerFault;
 use crate::key::{Key, is_between, is_group, is_path};
+use crate::new_history::NewHistory;
 use crate::part::Part;
 use crate::sync::SyncPolicy;
 use rld_networks::{Prefix, canonical, ip_address_of, prefix_of};
@@ -286,6 +289,27 @@ pub(crate) fn client(part: Part, table: &Value) -> Result<[u8; 4], ServerFault>
     match address_value(present(part, table, Key::Client)?) {
         Some(address) => Ok(address),
         None => Err(ServerFault::BadValue(part, Key::Client)),
+    }
+}
+
+/// The value as what comes of a start that finds no history.
+fn new_history_value(value: &Value) -> Option<NewHistory>
+    ensures { result ≡ new_history_value (view value.now) }
+{
+    Some(NewHistory::of_flag(flag_value(value)?))
+}
+
+/// What comes of a start that finds no history: a new one by default.
+#[tactic(auto, unfolding(crate::specs::Server::new_history_in))]
+pub(crate) fn new_history(file: &Value) -> Result<NewHistory, ServerFault>
+    ensures { result ≡ new_history_in (view file.now) }
+{
+    match member(file, Key::StateMustExist) {
+        Some(value) => match new_history_value(value) {
+            Some(new_history) => Ok(new_history),
+            None => Err(ServerFault::BadValue(Part::Head, Key::StateMustExist)),
+        },
+        None => Ok(NewHistory::Begins),
     }
 }
 

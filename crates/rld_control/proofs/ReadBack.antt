@@ -1,7 +1,11 @@
 -- The line of a command asks for it.
-use Rattle.std.proofs.Common.{◌≡◌, ℕ, suc, ◌+◌, ◌%◌, ◌^◌, ◌<◌, ◌≤◌, ◌==◌, cond, List, [], ◌∷◌, ◌++◌, length, drop, Bool, true, false, ◌&&◌, not, Option, Some, None, refl, ap, ◌∙◌, arith, append_assoc, lit≤}
+use Rattle.std.proofs.Common.{◌≡◌, ℕ, zero, suc, ◌+◌, ◌%◌, ◌^◌, ◌<◌, ◌≤◌, ◌==◌, cond, List, [], ◌∷◌, ◌++◌, length, drop, Bool, true, false, ◌&&◌, not, Option, Some, None, get_or, bytes_eq, refl, sym, ap, ◌∙◌, arith, append_assoc, lit≤}
 use Rattle.std.proofs.lemmas.Bool.{agree_below_at, false≢true}
 use Rattle.std.proofs.lemmas.Bool.Decides.{nat_tests}
+use Rattle.std.proofs.lemmas.Nat.{from_be_bytes-to_be_bytes_8, mod_below}
+use Rattle.std.proofs.lemmas.Option.{none-some}
+use Rattle.std.proofs.lemmas.Slice.Eq.{bytes_eq-Decides}
+use Rattle.std.specs.Int.{byte_at, bytes_high_first, to_be_bytes, w64}
 use Rattle.std.proofs.lemmas.Fmt.{decimal_by_steps}
 use Rattle.std.proofs.lemmas.List.{append-nil, length-append}
 use Rattle.std.proofs.Math.Seq.{take-append_seam}
@@ -9,23 +13,31 @@ use Rattle.std.proofs.NetLemmas.Ipv4.{read_ipv4_complete}
 use Rattle.std.specs.Fmt.{decimal}
 use Rattle.std.specs.List.{position, position_or_len}
 use Rattle.std.specs.Net.Grammar.{IsDotted}
-use Rattle.std.specs.Net.Reader.{read_ipv4}
-use Rattle.std.specs.Option.{option_map}
+use Rattle.std.specs.Net.Reader.{read_ipv4, read_number, read_octet}
+use Rattle.std.specs.Option.{option_and_then, option_map}
 use Rattle.std.specs.Prelude.{codes}
 use Rattle.rsl_accounts.specs.Address.{address_of}
 use Rattle.rsl_event.specs.declared.nas.NasName.{NasName}
 use Rattle.rsl_event.specs.declared.nas.NasName.TheVariants.{Identifier, Address, Unnamed}
 use Rattle.rld_values.specs.Laws.{AreOctets, ReadsBack, ReadsBackBehindKeys, ReadsHexBack}
+use Rattle.rld_values.specs.Read.{octets_of_word, unescaped}
 use Rattle.rld_values.specs.Values.{dotted, escaped, escaped_octet, hex, hex_octet, word}
 use Rattle.rld_control.specs.Command.{command_of, command_with, flagged_sessions, line_of, sessions_of}
-use Rattle.rld_control.specs.Laws.{IsCommand, IsNamedSession, IsNasName}
-use Rattle.rld_control.specs.Named.{named_by, named_session_of, nas_of_word, nas_word, session_words, with_account, with_client}
+use Rattle.rld_control.specs.Laws.{IfGiven, IsAddress, IsCommand, IsListing, IsNamedServer, IsNamedSession, IsNasName}
+use Rattle.rld_control.specs.Listing.{form_of_word, form_word, listing_of, listing_words, optional, optional_word, seconds_of, seconds_of_word, state_of_word, state_word, with_names, with_older, with_state}
+use Rattle.rld_control.specs.Listing as listings
+use Rattle.rld_control.specs.Named.{named_by, named_server_of, named_server_words, named_session_of, nas_of_word, nas_word, server_by, session_words, with_account, with_client}
 use Rattle.rld_control.specs.Words.{by_first_word, by_parts, is_space, parted}
 use Rattle.rld_control.specs.declared.command.Command.{Command}
-use Rattle.rld_control.specs.declared.command.Command.TheVariants.{Status, Accounts, Sessions, Free, Ask, Reload, Stop}
+use Rattle.rld_control.specs.declared.command.Command.TheVariants.{Status, Ready, Accounts, Sessions, Links, Free, FreeServer, Ask, Reload, Stop}
+use Rattle.rld_control.specs.declared.form.Form.{Form}
 use Rattle.rld_control.specs.declared.form.Form.TheVariants.{Lines, Json}
 use Rattle.rld_control.specs.declared.form.Selection.TheVariants.{All, Held, Full}
+use Rattle.rld_control.specs.declared.listing.Listing.{Listing}
+use Rattle.rld_control.specs.declared.named.NamedServer.{NamedServer}
 use Rattle.rld_control.specs.declared.named.NamedSession.{NamedSession}
+use Rattle.rld_control.specs.declared.wanted.LinkState.{LinkState}
+use Rattle.rld_control.specs.declared.wanted.LinkState.TheVariants as states
 
 -- ---- words without a space
 
@@ -191,6 +203,137 @@ session_read words values digits session is =
     ∙ (at_word (named_by (word session.account) (dotted session.client)) None (nas_word session.nas) (word session.session) (nas_free session.nas is.nas)
     ∙ rw (client_read session.client is.four is.client, words session.account is.account, nas_read values digits session.nas is.nas, words session.session is.session) refl)))
 
+-- ---- a listing
+
+-- what is read of other words is not read of `\-`
+no_nothing : {A : Type 0} → (read : List ℕ → Option A) (word : List ℕ) (value : A) → read word ≡ Some value
+    → read (codes "\\-") ≡ None → bytes_eq word (codes "\\-") ≡ false
+no_nothing {A} read word value is none = by (bytes_eq word (codes "\\-")) refl
+  where
+    by : (test : Bool) → bytes_eq word (codes "\\-") ≡ test → bytes_eq word (codes "\\-") ≡ false
+    by false same = same
+    by true same =
+        absurd (none-some value (sym none ∙ (sym (ap read ((bytes_eq-Decides word (codes "\\-")).0 same)) ∙ is)))
+
+optional_read : {A : Type 0} → (read : List ℕ → Option A) (spelled : A → List ℕ) (Is : A → Type 0) (given : Option A)
+    → ((value : A) → Is value → read (spelled value) ≡ Some value) → read (codes "\\-") ≡ None → IfGiven Is given
+    → optional read (optional_word spelled given) ≡ Some given
+optional_read read spelled Is None reads none is = refl
+optional_read read spelled Is (Some value) reads none is =
+    rw (no_nothing read (spelled value) value (reads value is) none, reads value is) refl
+
+optional_free : {A : Type 0} → (spelled : A → List ℕ) (Is : A → Type 0) (given : Option A)
+    → ((value : A) → Is value → no_space (spelled value) ≡ true) → IfGiven Is given
+    → no_space (optional_word spelled given) ≡ true
+optional_free spelled Is None frees is = refl
+optional_free spelled Is (Some value) frees is = frees value is
+
+form_read : (form : Form) → form_of_word (form_word form) ≡ Some form
+form_read Lines = refl
+form_read Json = refl
+
+form_free : (form : Form) → no_space (form_word form) ≡ true
+form_free Lines = refl
+form_free Json = refl
+
+abbrev IsState : LinkState → Type 0
+IsState _ = Unit {0}
+
+state_read : (state : LinkState) → IsState state → state_of_word (state_word state) ≡ Some state
+state_read states.Reserved is = refl
+state_read states.Live is = refl
+state_read states.Stale is = refl
+
+state_free : (state : LinkState) → IsState state → no_space (state_word state) ≡ true
+state_free states.Reserved is = refl
+state_free states.Live is = refl
+state_free states.Stale is = refl
+
+any_state : (given : Option LinkState) → IfGiven IsState given
+any_state None = tt
+any_state (Some one) = tt
+
+one_more : (octet : ℕ) (octets : List ℕ) → octet < 256 → AreOctets octets → (k : ℕ) (d : ℕ)
+    → k < length (octet ∷ octets) → get_or (octet ∷ octets) k d < 256
+one_more octet octets below are zero d within = below
+one_more octet octets below are (suc k) d within = are k d (omega (arith, within))
+
+octet_at : (k n : ℕ) → byte_at k n < 256
+octet_at zero n = mod_below n 256 (omega arith)
+octet_at (suc k) n = mod_below _ 256 (omega arith)
+
+number_octets : (k n : ℕ) → AreOctets (bytes_high_first k n)
+number_octets zero n = λ k d within. absurd (omega (arith, within))
+number_octets (suc k) n = one_more (byte_at k n) (bytes_high_first k n) (octet_at k n) (number_octets k n)
+
+seconds_read : ReadsHexBack → (seconds : ℕ) → seconds < 2 ^ 64 → seconds_of_word (hex (to_be_bytes w64 seconds)) ≡ Some seconds
+seconds_read digits seconds fits =
+    ap (option_and_then seconds_of) (digits (to_be_bytes w64 seconds) (number_octets 8 seconds))
+    ∙ ap (λ (number : ℕ). Some number) (from_be_bytes-to_be_bytes_8 seconds fits)
+
+client_word_read : (client : List ℕ) → IsAddress client → address_of (dotted client) ≡ Some client
+client_word_read client is = client_read client is.0 is.1
+
+client_word_free : (client : List ℕ) → IsAddress client → no_space (dotted client) ≡ true
+client_word_free client is = dotted_free client is.0 is.1
+
+no_address : address_of (codes "\\-") ≡ None
+unfolding address_of read_ipv4 read_octet read_number
+no_address = refl
+
+no_account : octets_of_word (codes "\\-") ≡ None
+unfolding unescaped
+no_account = refl
+
+-- a word that is read, and those after it
+next_word : {A : Type 0} → (read : List ℕ → Option A) (with : A → List ℕ → List ℕ → Option Listing) (one rest : List ℕ) (value : A)
+    → no_space one ≡ true → read one ≡ Some value
+    → by_first_word (λ (first others : List ℕ). option_and_then (λ (value : A). by_first_word (with value) None others) (read first)) None (one ++ 32 ∷ rest)
+    ≡ by_first_word (with value) None rest
+next_word {A} read with one rest value free is =
+    at_word (λ (first others : List ℕ). option_and_then (λ (value : A). by_first_word (with value) None others) (read first)) None one rest free
+    ∙ ap (option_and_then (λ (value : A). by_first_word (with value) None rest)) is
+
+last_words : ReadsBack → ReadsBackBehindKeys → ReadsHexBack → (listing : Listing) → IsListing listing
+    → by_first_word (with_names listing.form listing.wanted.client listing.wanted.state listing.wanted.older) None
+    (optional_word nas_word listing.wanted.nas ++ 32 ∷ optional_word word listing.from)
+    ≡ Some listing
+last_words words values digits listing is =
+    at_word (with_names listing.form listing.wanted.client listing.wanted.state listing.wanted.older) None
+    (optional_word nas_word listing.wanted.nas) (optional_word word listing.from)
+    (optional_free nas_word IsNasName listing.wanted.nas nas_free is.nas)
+    ∙ rw (
+      optional_read nas_of_word nas_word IsNasName listing.wanted.nas (nas_read values digits) refl is.nas,
+      optional_read octets_of_word word AreOctets listing.from words no_account is.from,
+    ) refl
+
+listing_read : ReadsBack → ReadsBackBehindKeys → ReadsHexBack → (listing : Listing) → IsListing listing
+    → listing_of (listing_words listing) ≡ Some listing
+unfolding listing_words
+listing_read words values digits listing is =
+    let names : List ℕ = optional_word nas_word listing.wanted.nas ++ 32 ∷ optional_word word listing.from in
+    let older : List ℕ = hex (to_be_bytes w64 listing.wanted.older) ++ 32 ∷ names in
+    let state : List ℕ = optional_word state_word listing.wanted.state ++ 32 ∷ older in
+    let client : List ℕ = optional_word dotted listing.wanted.client ++ 32 ∷ state in
+    next_word form_of_word listings.with_client (form_word listing.form) client listing.form (form_free listing.form) (form_read listing.form)
+    ∙ (next_word (optional address_of) (with_state listing.form) (optional_word dotted listing.wanted.client) state listing.wanted.client
+    (optional_free dotted IsAddress listing.wanted.client client_word_free is.client)
+    (optional_read address_of dotted IsAddress listing.wanted.client client_word_read no_address is.client)
+    ∙ (next_word (optional state_of_word) (with_older listing.form listing.wanted.client) (optional_word state_word listing.wanted.state) older listing.wanted.state
+    (optional_free state_word IsState listing.wanted.state state_free (any_state listing.wanted.state))
+    (optional_read state_of_word state_word IsState listing.wanted.state state_read refl (any_state listing.wanted.state))
+    ∙ (next_word seconds_of_word (with_names listing.form listing.wanted.client listing.wanted.state) (hex (to_be_bytes w64 listing.wanted.older)) names listing.wanted.older
+    (hex_free (to_be_bytes w64 listing.wanted.older) (number_octets 8 listing.wanted.older))
+    (seconds_read digits listing.wanted.older is.older)
+    ∙ last_words words values digits listing is)))
+
+server_read : ReadsBackBehindKeys → ReadsHexBack → (server : NamedServer) → IsNamedServer server
+    → named_server_of (named_server_words server) ≡ Some server
+unfolding named_server_words
+server_read values digits server is =
+    at_word server_by None (dotted server.client) (nas_word server.nas) (client_word_free server.client is.client)
+    ∙ rw (client_word_read server.client is.client, nas_read values digits server.nas is.nas) refl
+
 pub line_read : ReadsBack → ReadsBackBehindKeys → ReadsHexBack → (command : Command) → IsCommand command
     → command_of (line_of command) ≡ Some command
 line_read words values digits (Status Lines) is = refl
@@ -201,6 +344,7 @@ line_read words values digits (Accounts Lines Full) is = refl
 line_read words values digits (Accounts Json All) is = refl
 line_read words values digits (Accounts Json Held) is = refl
 line_read words values digits (Accounts Json Full) is = refl
+line_read words values digits Ready is = refl
 line_read words values digits Reload is = refl
 line_read words values digits Stop is = refl
 line_read words values digits (Sessions Lines account) is =
@@ -214,4 +358,10 @@ line_read words values digits (Sessions Json account) is =
 line_read words values digits (Free session) is =
     at_word command_with _ (codes "free") (session_words session) refl
     ∙ ap (option_map (λ (session : NamedSession). Free session)) (session_read words values digits session is)
+line_read words values digits (Links listing) is =
+    at_word command_with _ (codes "links") (listing_words listing) refl
+    ∙ ap (option_map (λ (listing : Listing). Links listing)) (listing_read words values digits listing is)
+line_read words values digits (FreeServer server) is =
+    at_word command_with _ (codes "free-server") (named_server_words server) refl
+    ∙ ap (option_map (λ (server : NamedServer). FreeServer server)) (server_read values digits server is)
 line_read words values digits (Ask form) is = at_word command_with _ (codes "ask") form refl

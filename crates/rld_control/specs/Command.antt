@@ -4,10 +4,11 @@ use Rattle.std.specs.Prelude.{ℕ, List, [], ◌++◌, codes, Option, Some, None
 use Rattle.std.specs.Option.{option_map}
 use Rattle.rld_values.specs.Read.{octets_of_word}
 use Rattle.rld_values.specs.Values.{word}
-use Rattle.rld_control.specs.Named.{named_session_of, session_words}
+use Rattle.rld_control.specs.Listing.{listing_of, listing_words}
+use Rattle.rld_control.specs.Named.{named_server_of, named_server_words, named_session_of, session_words}
 use Rattle.rld_control.specs.Words.{by_first_word}
 use Rattle.rld_control.specs.declared.command.Command.{Command}
-use Rattle.rld_control.specs.declared.command.Command.TheVariants.{Status, Accounts, Sessions, Free, Ask, Reload, Stop}
+use Rattle.rld_control.specs.declared.command.Command.TheVariants.{Status, Ready, Accounts, Sessions, Links, Free, FreeServer, Ask, Reload, Stop}
 use Rattle.rld_control.specs.declared.form.Form.{Form}
 use Rattle.rld_control.specs.declared.form.Form.TheVariants.{Lines, Json}
 use Rattle.rld_control.specs.declared.form.Selection.{Selection}
@@ -30,8 +31,11 @@ line_of (Status form) = codes "status" ++ form_flag form
 line_of (Accounts form selection) = codes "accounts" ++ form_flag form ++ selection_flag selection
 line_of (Sessions Lines account) = codes "sessions " ++ word account
 line_of (Sessions Json account) = codes "sessions --json " ++ word account
+line_of (Links listing) = codes "links " ++ listing_words listing
 line_of (Free session) = codes "free " ++ session_words session
+line_of (FreeServer server) = codes "free-server " ++ named_server_words server
 line_of (Ask form) = codes "ask " ++ form
+line_of Ready = codes "ready"
 line_of Reload = codes "reload"
 line_of Stop = codes "stop"
 
@@ -42,6 +46,7 @@ abbrev pub command_alone : (word : List ℕ) → Option Command
 command_alone word =
     if bytes_eq word (codes "status") then Some (Status Lines)
     else if bytes_eq word (codes "accounts") then Some (Accounts Lines All)
+    else if bytes_eq word (codes "ready") then Some Ready
     else if bytes_eq word (codes "reload") then Some Reload
     else if bytes_eq word (codes "stop") then Some Stop
     else None
@@ -76,6 +81,8 @@ abbrev pub command_with : (word words : List ℕ) → Option Command
 command_with word words =
     if bytes_eq word (codes "sessions") then sessions_with words
     else if bytes_eq word (codes "free") then option_map Free (named_session_of words)
+    else if bytes_eq word (codes "links") then option_map Links (listing_of words)
+    else if bytes_eq word (codes "free-server") then option_map FreeServer (named_server_of words)
     else if bytes_eq word (codes "ask") then Some (Ask words)
     else if bytes_eq word (codes "status") then status_with words
     else if bytes_eq word (codes "accounts") then accounts_with words

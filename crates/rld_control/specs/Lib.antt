@@ -1,6 +1,9 @@
 pub mod Command
 pub mod Laws
+pub mod Listing
 pub mod Named
+pub mod Offs
 pub mod Reply
 pub mod Stops
+pub mod Wanted
 pub mod Words

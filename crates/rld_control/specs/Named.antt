@@ -8,6 +8,7 @@ use Rattle.rsl_event.specs.declared.nas.NasName.TheVariants.{Identifier, Address
 use Rattle.rld_values.specs.Read.{octets_of_hex, octets_of_word, unescaped}
 use Rattle.rld_values.specs.Values.{dotted, escaped, hex, word}
 use Rattle.rld_control.specs.Words.{by_first_word}
+use Rattle.rld_control.specs.declared.named.NamedServer.{NamedServer}
 use Rattle.rld_control.specs.declared.named.NamedSession.{NamedSession}
 
 -- ---- writing
@@ -21,6 +22,10 @@ nas_word Unnamed = codes "unnamed"
 -- the words before the session's
 abbrev pub server_words : (account client : List ℕ) → NasName → List ℕ
 server_words account client nas = word account ++ (32 ∷ (dotted client ++ (32 ∷ nas_word nas)))
+
+-- the words of an access server at a client
+unfoldable pub named_server_words : NamedServer → List ℕ
+named_server_words named = dotted named.client ++ (32 ∷ nas_word named.nas)
 
 unfoldable pub session_words : NamedSession → List ℕ
 session_words named = server_words named.account named.client named.nas ++ (32 ∷ word named.session)
@@ -56,3 +61,15 @@ with_account account words = by_first_word (with_client account) None words
 -- the session of four words
 abbrev pub named_session_of : (words : List ℕ) → Option NamedSession
 named_session_of words = by_first_word with_account None words
+
+abbrev pub named_server : (client : Option (List ℕ)) → Option NasName → Option NamedServer
+named_server None nas = None
+named_server (Some client) None = None
+named_server (Some client) (Some nas) = Some (record { client = client; nas = nas })
+
+abbrev pub server_by : (client nas : List ℕ) → Option NamedServer
+server_by client nas = named_server (address_of client) (nas_of_word nas)
+
+-- the access server of two words
+abbrev pub named_server_of : (words : List ℕ) → Option NamedServer
+named_server_of words = by_first_word server_by None words

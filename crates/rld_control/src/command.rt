@@ -11,7 +11,8 @@ ghost use Rattle.rld_control.specs.Command.{
 };
 
 use crate::form::{Form, Selection};
-use crate::named::NamedSession;
+use crate::listing::Listing;
+use crate::named::{NamedServer, NamedSession};
 use crate::words::parted;
 use rld_values::read_word;
 use rsl_wire::{NoMemory, Octets};
@@ -22,12 +23,18 @@ use std::alloc::Global;
 pub enum Command {
     /// Show its status.
     Status(Form),
+    /// Say whether it answers packets and records.
+    Ready,
     /// Show what each of these accounts holds.
     Accounts(Form, Selection),
     /// Show the links of the account with this name.
     Sessions(Form, Octets),
+    /// Show a page of the links of all accounts.
+    Links(Listing),
     /// Free the place of this session.
     Free(NamedSession),
+    /// Free the places of all sessions of this access server.
+    FreeServer(NamedServer),
     /// Ask whether an account that was checked elsewhere has a place, by the form of the ask.
     Ask(Octets),
     /// Read its accounts again.
@@ -38,9 +45,10 @@ pub enum Command {
 
 impl Command {
     /// The command of a line, without its line feed: `status`, `accounts`, `sessions` and a name,
-    /// `free` and the words of a session, `ask` and a form, `reload`, or `stop`. After the first
-    /// three may come `--json`, and after `accounts` also `--held` or `--full`. `None` for any
-    /// other line. It fails only if memory is refused.
+    /// `links` and the words of a listing, `free` and the words of a session, `free-server` and the
+    /// words of an access server, `ask` and a form, `ready`, `reload`, or `stop`. After the first
+    /// three may come `--json`, and after `accounts` also `--held` or `--full`. `None` for any other
+    /// line. It fails only if memory is refused.
     pub fn read(alloc: Global, line: &[u8]) -> Result<Option<Command>, NoMemory>
         ensures { IfOk result (λ command. command ≡ command_of line.now) }
     {
@@ -59,6 +67,8 @@ fn command_alone(word: &[u8]) -> Option<Command>
         Some(Command::Status(Form::Lines))
     } else if word == b"accounts".as_slice() {
         Some(Command::Accounts(Form::Lines, Selection::All))
+    } else if word == b"ready".as_slice() {
+        Some(Command::Ready)
     } else if word == b"reload".as_slice() {
         Some(Command::Reload)
     } else if word == b"stop".as_slice() {
@@ -76,6 +86,10 @@ fn command_with(alloc: Global, word: &[u8], words: &[u8]) -> Result<Option<Comma
         sessions_with(alloc, words)
     } else if word == b"free".as_slice() {
         Ok(NamedSession::read(alloc, words)?.map(Command::Free))
+    } else if word == b"links".as_slice() {
+        Ok(Listing::read(alloc, words)?.map(Command::Links))
+    } else if word == b"free-server".as_slice() {
+        Ok(NamedServer::read(alloc, words)?.map(Command::FreeServer))
     } else if word == b"ask".as_slice() {
         Ok(Some(Command::Ask(Octets::from_slice(alloc, words)?)))
     } else if word == b"status".as_slice() {

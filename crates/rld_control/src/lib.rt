@@ -1,13 +1,15 @@
 //! The requests of an operator to a running server by its unix socket, a line at a time, and the
 //! end of an answer: lines, of which the last is `ok`, or `error` and why. And freeing the place of
 //! a session that its access server has forgotten, by the Stop that the access server would have
-//! sent.
+//! sent, or of all its sessions, by its Accounting-Off.
 //!
 //! The promise: a line is the command that `specs/Command.antt` says, or none; the line of a
 //! command is read as that command, and no name or id in it can be taken for another word
 //! (`specs/Laws.antt`); and an answer says what `specs/Reply.antt` says. The Stop is of exactly the
 //! session that is named, its octets are an Accounting-Request of RFC 2866 sealed with the client's
-//! secret, and its meaning to the server is that Stop and nothing else (`specs/Stops.antt`).
+//! secret, and its meaning to the server is that Stop and nothing else (`specs/Stops.antt`). The
+//! same holds of the Accounting-Off of an access server (`specs/Offs.antt`). A link is wanted in a
+//! list exactly where it has all that is given (`specs/Wanted.antt`).
 #![tactic(auto)]
 
 mod command;
@@ -15,15 +17,21 @@ mod fault;
 mod form;
 pub mod laws;
 mod line;
+mod listing;
 mod named;
+mod off;
 mod reply;
 mod stop;
+mod wanted;
 mod words;
 
 pub use command::Command;
 pub use fault::FreeFault;
 pub use form::{Form, Selection};
 pub use line::read_line;
-pub use named::{NamedSession, push_server};
+pub use listing::{AccountLinks, Listing};
+pub use named::{NamedServer, NamedSession, push_server};
+pub use off::Off;
 pub use reply::Reply;
 pub use stop::Stop;
+pub use wanted::{LinkState, Wanted};

@@ -2,9 +2,11 @@ ghost use Rattle.std.specs.Prelude.{◌≡◌, ◌++◌, Some, IfOk, OnOk};
 ghost use Rattle.rld_control.specs.Named.{
   named,
   named_by,
+  named_server_of,
   named_session_of,
   nas_of_word,
   nas_word,
+  server_by,
   server_words,
   with_account,
   with_client,
@@ -19,6 +21,42 @@ use rsl_accounts::address_of;
 use rsl_event::NasName;
 use rsl_wire::{NoMemory, Octets};
 use std::alloc::{AllocError, Global};
+
+/// An access server, as an operator names it.
+#[derive(Drop)]
+pub struct NamedServer {
+    /// The address of the client that its packets come from.
+    pub client: [u8; 4],
+    /// Its name.
+    pub nas: NasName,
+}
+
+impl NamedServer {
+    /// The access server of these words: the client's address and the name, as those of a session,
+    /// separated by a single space. `None` for any other words. It fails only if memory is refused.
+    pub fn read(alloc: Global, words: &[u8]) -> Result<Option<NamedServer>, NoMemory>
+        ensures { IfOk result (λ found. found ≡ named_server_of words.now) }
+    {
+        match parted(words) {
+            Some((client, nas)) => server_by(alloc, client, nas),
+            None => Ok(None),
+        }
+    }
+}
+
+/// The access server of these words.
+fn server_by(alloc: Global, client: &[u8], nas: &[u8]) -> Result<Option<NamedServer>, NoMemory>
+    ensures { IfOk result (λ found. found ≡ server_by client.now nas.now) }
+{
+    let Some(client) = address_of(client) else {
+        return Ok(None);
+    };
+    match nas_of_word(alloc, nas) {
+        Ok(Some(nas)) => Ok(Some(NamedServer { client, nas })),
+        Ok(None) => Ok(None),
+        Err(fault) => Err(fault),
+    }
+}
 
 /// A session, as an operator names it.
 #[derive(Drop)]
@@ -174,7 +212,7 @@ fn push_nas(out: &mut Vec<u8>, nas: &NasName) -> Result<(), AllocError>
 }
 
 /// The name of an access server from its word.
-fn nas_of_word(alloc: Global, word: &[u8]) -> Result<Option<NasName>, NoMemory>
+pub(crate) fn nas_of_word(alloc: Global, word: &[u8]) -> Result<Option<NasName>, NoMemory>
     ensures { IfOk result (λ found. found ≡ nas_of_word word.now) }
 {
     if word == b"unnamed".as_slice() {

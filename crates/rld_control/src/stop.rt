@@ -21,11 +21,11 @@ use rsl_shard::Move;
 use rsl_wire::{Attr, BuildFault, NoMemory, Octets, build};
 use std::alloc::Global;
 
-/// The Identifier of each Stop.
+/// The Identifier of what is made here.
 const IDENTIFIER: u8 = 0;
 
-/// The source port of each Stop, on which no answer depends.
-const SOURCE_PORT: u16 = 0;
+/// The source port of what is made here, on which no answer depends.
+pub(crate) const SOURCE_PORT: u16 = 0;
 
 /// A Stop of a session, as its access server would have sent it.
 #[derive(Drop)]
@@ -187,10 +187,15 @@ fn stop_octets(alloc: Global, named: &NamedSession, secret: &[u8]) -> Result<Vec
 
 /// An Accounting-Request with these attributes, for a server that shares this secret.
 #[tactic(auto, unfolding(crate::specs::Stops::request_octets))]
-fn sealed_with(alloc: Global, attributes: &[Attr<'_>], secret: &[u8]) -> Result<Vec<u8>, FreeFault>
+pub(crate) fn sealed_with(
+    alloc: Global,
+    attributes: &[Attr<'_>],
+    secret: &[u8],
+) -> Result<Vec<u8>, FreeFault>
     ensures octets { IfOk result (λ octets.
         octets.items ≡ request_octets (map seen attributes.now) secret.now) }
     ensures known { IsErrOf result FreeFault.UnknownAccount → ⊥ }
+    ensures client { IsErrOf result FreeFault.UnknownClient → ⊥ }
 {
     match build(alloc, ACCOUNTING_REQUEST, IDENTIFIER, &[0; 16], attributes) {
         Ok(octets) => Ok(sealed(octets, &[0; 16], secret)),

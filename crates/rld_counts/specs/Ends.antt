@@ -1,12 +1,14 @@
--- The ends of datagrams at each port: the number of each end, in the order of the enums, its kind,
+-- The ends of datagrams at each port, and of asks: the number of each end, in the order of the enums, its kind,
 -- its port and its name.
 use Rattle.std.specs.Prelude.{ℕ, ◌+◌, Bool, true, false, List, [], ◌∷◌, codes}
 use Rattle.rld_counts.specs.declared.acct_end.AcctEnd.{AcctEnd}
 use Rattle.rld_counts.specs.declared.acct_end.AcctEnd.TheVariants as acct
+use Rattle.rld_counts.specs.declared.ask_end.AskEnd.{AskEnd}
+use Rattle.rld_counts.specs.declared.ask_end.AskEnd.TheVariants as ask
 use Rattle.rld_counts.specs.declared.auth_end.AuthEnd.{AuthEnd}
 use Rattle.rld_counts.specs.declared.auth_end.AuthEnd.TheVariants as auth
 use Rattle.rld_counts.specs.declared.end.End.{End}
-use Rattle.rld_counts.specs.declared.end.End.TheVariants.{Auth, Acct}
+use Rattle.rld_counts.specs.declared.end.End.TheVariants.{Auth, Acct, Ask}
 use Rattle.rld_counts.specs.declared.kind.Kind.{Kind}
 use Rattle.rld_counts.specs.declared.kind.Kind.TheVariants as kinds
 
@@ -52,11 +54,27 @@ acct_number acct.InterimUpdate = 14
 acct_number acct.AccountingOn = 15
 acct_number acct.AccountingOff = 16
 acct_number acct.OtherStatus = 17
+acct_number acct.StartUnknown = 18
+acct_number acct.StopUnknown = 19
+acct_number acct.InterimUpdateUnknown = 20
 
--- the ends of the accounting port follow those of the authentication port
+abbrev pub ask_number : AskEnd → ℕ
+ask_number ask.Unauthorized = 0
+ask_number ask.BadRequest = 1
+ask_number ask.Refused = 2
+ask_number ask.Unrecorded = 3
+ask_number ask.Unsent = 4
+ask_number ask.Unserved = 5
+ask_number ask.Accept = 6
+ask_number ask.LimitReject = 7
+ask_number ask.UnknownAccount = 8
+ask_number ask.DisabledAccount = 9
+
+-- the ends of the accounting port follow those of the authentication port, and those of asks come last
 abbrev pub number_of : End → ℕ
 number_of (Auth end) = auth_number end
 number_of (Acct end) = 21 + acct_number end
+number_of (Ask end) = 42 + ask_number end
 
 -- all ends, by their numbers
 unfoldable pub all_ends : List End
@@ -70,7 +88,10 @@ all_ends =
     ∷ Acct acct.WrongCode ∷ Acct acct.BadAuthenticator ∷ Acct acct.Malformed ∷ Acct acct.ProxyTooLong
     ∷ Acct acct.NoStatus ∷ Acct acct.NoSession ∷ Acct acct.Refused ∷ Acct acct.Unrecorded ∷ Acct acct.Unsent
     ∷ Acct acct.Start ∷ Acct acct.Stop ∷ Acct acct.InterimUpdate ∷ Acct acct.AccountingOn
-    ∷ Acct acct.AccountingOff ∷ Acct acct.OtherStatus ∷ []
+    ∷ Acct acct.AccountingOff ∷ Acct acct.OtherStatus ∷ Acct acct.StartUnknown ∷ Acct acct.StopUnknown
+    ∷ Acct acct.InterimUpdateUnknown ∷ Ask ask.Unauthorized ∷ Ask ask.BadRequest ∷ Ask ask.Refused
+    ∷ Ask ask.Unrecorded ∷ Ask ask.Unsent ∷ Ask ask.Unserved ∷ Ask ask.Accept ∷ Ask ask.LimitReject
+    ∷ Ask ask.UnknownAccount ∷ Ask ask.DisabledAccount ∷ []
 
 -- the word for an end: all drops begin with `drop_`, and all rejects with `reject_`
 abbrev pub auth_name : AuthEnd → List ℕ
@@ -115,15 +136,32 @@ acct_name acct.InterimUpdate = codes "interim_update"
 acct_name acct.AccountingOn = codes "accounting_on"
 acct_name acct.AccountingOff = codes "accounting_off"
 acct_name acct.OtherStatus = codes "other_status"
+acct_name acct.StartUnknown = codes "start_unknown"
+acct_name acct.StopUnknown = codes "stop_unknown"
+acct_name acct.InterimUpdateUnknown = codes "interim_update_unknown"
+
+abbrev pub ask_name : AskEnd → List ℕ
+ask_name ask.Unauthorized = codes "unauthorized"
+ask_name ask.BadRequest = codes "bad_request"
+ask_name ask.Refused = codes "refused"
+ask_name ask.Unrecorded = codes "unrecorded"
+ask_name ask.Unsent = codes "unsent"
+ask_name ask.Unserved = codes "unserved"
+ask_name ask.Accept = codes "accept"
+ask_name ask.LimitReject = codes "reject_limit"
+ask_name ask.UnknownAccount = codes "reject_unknown_account"
+ask_name ask.DisabledAccount = codes "reject_disabled_account"
 
 abbrev pub name_of : End → List ℕ
 name_of (Auth end) = auth_name end
 name_of (Acct end) = acct_name end
+name_of (Ask end) = ask_name end
 
 -- the word for the port of a datagram
 abbrev pub port_of : End → List ℕ
 port_of (Auth end) = codes "auth"
 port_of (Acct end) = codes "acct"
+port_of (Ask end) = codes "ask_http"
 
 -- what became of a datagram
 abbrev pub kind_of : End → Kind
@@ -147,10 +185,23 @@ kind_of (Acct acct.InterimUpdate) = kinds.Accounted
 kind_of (Acct acct.AccountingOn) = kinds.Accounted
 kind_of (Acct acct.AccountingOff) = kinds.Accounted
 kind_of (Acct acct.OtherStatus) = kinds.Accounted
+kind_of (Acct acct.StartUnknown) = kinds.NoAccount
+kind_of (Acct acct.StopUnknown) = kinds.NoAccount
+kind_of (Acct acct.InterimUpdateUnknown) = kinds.NoAccount
 kind_of (Acct acct.Refused) = kinds.Failed
 kind_of (Acct acct.Unrecorded) = kinds.Failed
 kind_of (Acct acct.Unsent) = kinds.Failed
 kind_of (Acct end) = kinds.Dropped
+kind_of (Ask ask.Accept) = kinds.Accepted
+kind_of (Ask ask.LimitReject) = kinds.LimitRejected
+kind_of (Ask ask.UnknownAccount) = kinds.Rejected
+kind_of (Ask ask.DisabledAccount) = kinds.Rejected
+kind_of (Ask ask.Refused) = kinds.Failed
+kind_of (Ask ask.Unrecorded) = kinds.Failed
+kind_of (Ask ask.Unsent) = kinds.Failed
+kind_of (Ask ask.Unserved) = kinds.Failed
+kind_of (Ask ask.Unauthorized) = kinds.Dropped
+kind_of (Ask ask.BadRequest) = kinds.Dropped
 
 -- whether an answer was sent
 abbrev pub is_answer : Kind → Bool
@@ -158,5 +209,6 @@ is_answer kinds.Accepted = true
 is_answer kinds.LimitRejected = true
 is_answer kinds.Rejected = true
 is_answer kinds.Accounted = true
+is_answer kinds.NoAccount = true
 is_answer kinds.Dropped = false
 is_answer kinds.Failed = false

@@ -40,13 +40,19 @@ pub enum AcctEnd {
     AccountingOff,
     /// An Accounting-Response was sent, to a request of any other status.
     OtherStatus,
+    /// An Accounting-Response was sent, to a Start whose User-Name no account has.
+    StartUnknown,
+    /// An Accounting-Response was sent, to a Stop whose User-Name no account has.
+    StopUnknown,
+    /// An Accounting-Response was sent, to an Interim-Update whose User-Name no account has.
+    InterimUpdateUnknown,
 }
 
 impl AcctEnd {
     /// Its number, in the order above.
     pub(crate) fn number(self) -> usize
         ensures number { result ≡ acct_number self }
-        ensures below { result < 18 }
+        ensures below { result < 21 }
     {
         match self {
             AcctEnd::Short => 0,
@@ -67,6 +73,9 @@ impl AcctEnd {
             AcctEnd::AccountingOn => 15,
             AcctEnd::AccountingOff => 16,
             AcctEnd::OtherStatus => 17,
+            AcctEnd::StartUnknown => 18,
+            AcctEnd::StopUnknown => 19,
+            AcctEnd::InterimUpdateUnknown => 20,
         }
     }
 
@@ -93,6 +102,9 @@ impl AcctEnd {
             AcctEnd::AccountingOn => "accounting_on",
             AcctEnd::AccountingOff => "accounting_off",
             AcctEnd::OtherStatus => "other_status",
+            AcctEnd::StartUnknown => "start_unknown",
+            AcctEnd::StopUnknown => "stop_unknown",
+            AcctEnd::InterimUpdateUnknown => "interim_update_unknown",
         }
     }
 }

@@ -1,5 +1,5 @@
 ghost use Rattle.std.specs.Prelude.{◌≡◌, ◌≢◌, ◌+◌, ◌∷◌, ◌++◌, [], List, length, sum};
-ghost use Rattle.rld_counts.specs.Counts.{count_in, counts_of};
+ghost use Rattle.rld_counts.specs.Counts.{count_in, counts_of, total_of};
 ghost use Rattle.rld_counts.specs.Tally.{kept};
 ghost use Rattle.rld_counts.specs.declared.end.End.{End as OneEnd};
 
@@ -21,7 +21,7 @@ impl Model for Counts {
 
     ghost view = { λ counts. counts.counters };
 
-    ghost invariant = { λ counts. length counts.counters ≡ 39 };
+    ghost invariant = { λ counts. length counts.counters ≡ 52 };
 
     ghost inverse = { λ counters. record { counters = counters } };
 }
@@ -62,6 +62,17 @@ impl Counts {
             result ≡ kept (length ends) }
     {
         tally::sum(&self.counters)
+    }
+
+    /// The number of datagrams that ended in one of these ways.
+    pub fn total(&self, ends: &[End]) -> u64
+        ensures { result ≡ total_of self.now ends.now }
+    {
+        let mut sum = 0u64;
+        for end in ends {
+            sum = sum.saturating_add(self.count(*end));
+        }
+        sum
     }
 
     /// Adds the counts of other datagrams.

@@ -3,33 +3,41 @@ ghost use Rattle.rld_counts.specs.Ends.{all_ends, kind_of, name_of, number_of, p
 ghost use Rattle.rld_counts.specs.declared.end.End.{End as OneEnd};
 
 use crate::acct_end::AcctEnd;
+use crate::ask_end::AskEnd;
 use crate::auth_end::AuthEnd;
 use crate::kind::Kind;
 
-/// How many ends there are, of both ports.
-pub const ENDS: usize = 39;
+/// How many ends there are, of both ports and of asks.
+pub const ENDS: usize = 52;
 
 /// How many of them are of the authentication port: the first ones.
 const AUTH_ENDS: usize = 21;
 
-/// How a datagram ended, with the port that it came to.
+/// How many are of both ports: those of asks follow.
+const PORT_ENDS: usize = 42;
+
+/// How a datagram ended, with the port that it came to; or how an ask did, which counts as one.
 #[derive(Clone, Copy)]
 pub enum End {
     /// It came to the authentication port.
     Auth(AuthEnd),
     /// It came to the accounting port.
     Acct(AcctEnd),
+    /// It is an ask.
+    Ask(AskEnd),
 }
 
 impl End {
-    /// Its number: those of the accounting port follow those of the authentication port.
+    /// Its number: those of the accounting port follow those of the authentication port, and those of
+    /// asks come last.
     pub(crate) fn number(self) -> usize
         ensures number { result ≡ number_of self }
-        ensures below { result < 39 }
+        ensures below { result < 52 }
     {
         match self {
             End::Auth(end) => end.number(),
             End::Acct(end) => AUTH_ENDS + end.number(),
+            End::Ask(end) => PORT_ENDS + end.number(),
         }
     }
 
@@ -79,6 +87,19 @@ impl End {
             End::Acct(AcctEnd::AccountingOn),
             End::Acct(AcctEnd::AccountingOff),
             End::Acct(AcctEnd::OtherStatus),
+            End::Acct(AcctEnd::StartUnknown),
+            End::Acct(AcctEnd::StopUnknown),
+            End::Acct(AcctEnd::InterimUpdateUnknown),
+            End::Ask(AskEnd::Unauthorized),
+            End::Ask(AskEnd::BadRequest),
+            End::Ask(AskEnd::Refused),
+            End::Ask(AskEnd::Unrecorded),
+            End::Ask(AskEnd::Unsent),
+            End::Ask(AskEnd::Unserved),
+            End::Ask(AskEnd::Accept),
+            End::Ask(AskEnd::LimitReject),
+            End::Ask(AskEnd::UnknownAccount),
+            End::Ask(AskEnd::DisabledAccount),
         ]
     }
 
@@ -91,9 +112,16 @@ impl End {
 
     /// The ends of the accounting port among all ends.
     pub fn of_acct(all: &[End; ENDS]) -> &[End]
-        ensures { result.now ≡ drop 21 all.now }
+        ensures { result.now ≡ take 21 (drop 21 all.now) }
     {
-        &all[AUTH_ENDS..]
+        &all[AUTH_ENDS..PORT_ENDS]
+    }
+
+    /// The ends of asks among all ends.
+    pub fn of_ask(all: &[End; ENDS]) -> &[End]
+        ensures { result.now ≡ drop 42 all.now }
+    {
+        &all[PORT_ENDS..]
     }
 
     /// What became of the datagram.
@@ -101,8 +129,8 @@ impl End {
         ensures { result ≡ kind_of self }
     {
         match self {
-            End::Auth(AuthEnd::Accept) => Kind::Accepted,
-            End::Auth(AuthEnd::LimitReject) => Kind::LimitRejected,
+            End::Auth(AuthEnd::Accept) | End::Ask(AskEnd::Accept) => Kind::Accepted,
+            End::Auth(AuthEnd::LimitReject) | End::Ask(AskEnd::LimitReject) => Kind::LimitRejected,
             End::Auth(
                 AuthEnd::Malformed
                 | AuthEnd::NotOneName
@@ -112,7 +140,8 @@ impl End {
                 | AuthEnd::WrongPassword
                 | AuthEnd::DisabledAccount
                 | AuthEnd::NoPassword,
-            ) => Kind::Rejected,
+            )
+            | End::Ask(AskEnd::UnknownAccount | AskEnd::DisabledAccount) => Kind::Rejected,
             End::Acct(
                 AcctEnd::Start
                 | AcctEnd::Stop
@@ -121,19 +150,25 @@ impl End {
                 | AcctEnd::AccountingOff
                 | AcctEnd::OtherStatus,
             ) => Kind::Accounted,
+            End::Acct(
+                AcctEnd::StartUnknown | AcctEnd::StopUnknown | AcctEnd::InterimUpdateUnknown,
+            ) => Kind::NoAccount,
             End::Auth(AuthEnd::Refused | AuthEnd::Unrecorded | AuthEnd::Unsent)
-            | End::Acct(AcctEnd::Refused | AcctEnd::Unrecorded | AcctEnd::Unsent) => Kind::Failed,
-            End::Auth(_) | End::Acct(_) => Kind::Dropped,
+            | End::Acct(AcctEnd::Refused | AcctEnd::Unrecorded | AcctEnd::Unsent)
+            | End::Ask(AskEnd::Refused | AskEnd::Unrecorded | AskEnd::Unsent | AskEnd::Unserved) =>
+                Kind::Failed,
+            End::Auth(_) | End::Acct(_) | End::Ask(_) => Kind::Dropped,
         }
     }
 
-    /// The word for the port: `auth` or `acct`.
+    /// The word for the port: `auth`, `acct`, or for asks `ask_http`.
     pub fn port(self) -> &'static str
         ensures { result.now ≡ port_of self }
     {
         match self {
             End::Auth(_) => "auth",
             End::Acct(_) => "acct",
+            End::Ask(_) => "ask_http",
         }
     }
 
@@ -144,6 +179,7 @@ impl End {
         match self {
             End::Auth(end) => end.name(),
             End::Acct(end) => end.name(),
+            End::Ask(end) => end.name(),
         }
     }
 }

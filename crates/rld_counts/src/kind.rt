@@ -12,7 +12,10 @@ pub enum Kind {
     Rejected,
     /// An Accounting-Response was sent.
     Accounted,
-    /// It was dropped: such datagrams are not answered.
+    /// An Accounting-Response was sent, to a request of a session whose User-Name no account has: it
+    /// changes nothing.
+    NoAccount,
+    /// It was dropped: such datagrams are not answered, and such asks are refused unread.
     Dropped,
     /// It was not answered: memory was refused, its batch was not recorded, or the send failed.
     Failed,
@@ -24,7 +27,11 @@ impl Kind {
         ensures { result ≡ is_answer self }
     {
         match self {
-            Kind::Accepted | Kind::LimitRejected | Kind::Rejected | Kind::Accounted => true,
+            Kind::Accepted
+            | Kind::LimitRejected
+            | Kind::Rejected
+            | Kind::Accounted
+            | Kind::NoAccount => true,
             Kind::Dropped | Kind::Failed => false,
         }
     }

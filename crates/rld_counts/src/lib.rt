@@ -1,4 +1,4 @@
-//! How the datagrams of each port ended, and how long answers took: counts that a receiver keeps,
+//! How the datagrams of each port ended, and asks, and how long answers took: counts that a receiver keeps,
 //! and that can be added up.
 //!
 //! The promise: for whatever datagrams were noted, a count is the number that ended in its way, the
@@ -9,6 +9,7 @@
 #![tactic(auto)]
 
 mod acct_end;
+mod ask_end;
 mod auth_end;
 mod cell;
 mod client_counts;
@@ -20,6 +21,7 @@ mod kind;
 mod tally;
 
 pub use acct_end::AcctEnd;
+pub use ask_end::AskEnd;
 pub use auth_end::AuthEnd;
 pub use cell::Cell;
 pub use client_counts::ClientCounts;

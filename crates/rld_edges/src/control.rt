@@ -19,7 +19,7 @@ const LINE_LEN: usize = 2_816;
 /// The most octets of an answer written at once.
 const PART_LEN: usize = 4_096;
 
-/// How long an operator may take to send a line and read the answer, in seconds.
+/// How long an operator may take to send a line, and then to read the answer, in seconds.
 const PATIENCE_SECS: u64 = 5;
 
 /// How long a read or a write may wait, in seconds.
@@ -119,12 +119,11 @@ fn is_left<R: Files<File = File> + Net>(rt: &R, path: &str) -> bool {
     }
 }
 
-/// An operator who has connected, with `PATIENCE_SECS` seconds from then on.
+/// An operator who has connected. The server's own work on his request is none of his time.
 #[derive(Drop)]
 pub struct Operator<'a, C> {
     stream: &'a UnixStream,
     clock: &'a C,
-    start: Instant,
 }
 
 impl<'a, C: Clock> Operator<'a, C> {
@@ -132,18 +131,17 @@ impl<'a, C: Clock> Operator<'a, C> {
     pub fn new(clock: &'a C, stream: &'a UnixStream) -> io::Result<Operator<'a, C>> {
         stream.set_read_timeout(Some(Duration::from_secs(SILENCE_SECS)))?;
         stream.set_write_timeout(Some(Duration::from_secs(SILENCE_SECS)))?;
-        Ok(Operator {
-            stream,
-            clock,
-            start: Instant::now(clock)?,
-        })
+        Ok(Operator { stream, clock })
     }
 
     /// The command of the operator, or `None` if the line is no command. The error is the system's,
     /// or comes if the operator takes too long or memory is refused.
     pub fn asked(&self, alloc: Global) -> io::Result<Option<Command>> {
         let mut room = [0u8; LINE_LEN];
-        let mut line = Line { operator: self };
+        let mut line = Line {
+            stream: self.stream,
+            time: Time::begun(self.clock)?,
+        };
         match read_line(&mut line, &mut room)? {
             Some(len) => match Command::read(alloc, &room[..len]) {
                 Ok(command) => Ok(command),
@@ -155,16 +153,36 @@ impl<'a, C: Clock> Operator<'a, C> {
 
     /// Sends an answer. An operator who does not read it in time gets only a part.
     pub fn answer(&self, text: &[u8]) {
+        let Ok(time) = Time::begun(self.clock) else {
+            return;
+        };
         let mut to = self.stream;
         for part in text.chunks(PART_LEN) {
-            if self.has_taken_long() || to.write_all(part).is_err() {
+            if time.is_over() || to.write_all(part).is_err() {
                 return;
             }
         }
     }
+}
 
-    /// Whether the operator's time is over.
-    fn has_taken_long(&self) -> bool {
+/// The `PATIENCE_SECS` seconds that an operator has.
+#[derive(Drop)]
+struct Time<'a, C> {
+    clock: &'a C,
+    start: Instant,
+}
+
+impl<'a, C: Clock> Time<'a, C> {
+    /// The time from now on. The error is the system's.
+    fn begun(clock: &'a C) -> io::Result<Time<'a, C>> {
+        Ok(Time {
+            clock,
+            start: Instant::now(clock)?,
+        })
+    }
+
+    /// Whether it is over.
+    fn is_over(&self) -> bool {
         match self.start.elapsed(self.clock) {
             Ok(passed) => passed.as_secs() >= PATIENCE_SECS,
             Err(_) => true,
@@ -175,15 +193,16 @@ impl<'a, C: Clock> Operator<'a, C> {
 /// The line of an operator.
 #[derive(Drop)]
 struct Line<'a, C> {
-    operator: &'a Operator<'a, C>,
+    stream: &'a UnixStream,
+    time: Time<'a, C>,
 }
 
 impl<C: Clock> Read for Line<'_, C> {
     fn read(&mut self, buf: &mut [u8]) -> io::Result<usize> {
-        if self.operator.has_taken_long() {
+        if self.time.is_over() {
             return Err(io::Error::from(ErrorKind::TimedOut));
         }
-        let mut from = self.operator.stream;
+        let mut from = self.stream;
         from.read(buf)
     }
 }

@@ -41,7 +41,7 @@ pub enum Cause {
     #[error("an unknown tag")]
     UnknownTag,
     /// There are octets after the last value.
-    #[error("octets behind the end")]
+    #[error("octets after the end")]
     Trailing,
 }
 

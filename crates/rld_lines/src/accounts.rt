@@ -10,9 +10,9 @@ use rld_start::{Cause, Wrong};
 use rsl_accounts::Config;
 use std::alloc::Global;
 
-/// A configuration of an era with this file. It is refused if the octets spell no table, or if no
-/// configuration has that table.
-pub(crate) fn config_of(alloc: Global, file: &[u8]) -> Result<Config, LinesFault>
+/// A configuration of an era with this file. `Table` comes if the octets spell no table, or if no
+/// configuration has that table, and `NoMemory` if memory is refused.
+pub fn config_of(alloc: Global, file: &[u8]) -> Result<Config, LinesFault>
     ensures { IfOk result (λ config.
         (boot : ℕ) × (file.now ≡ era_octets (table_of boot config))) }
 {

@@ -1,4 +1,5 @@
-use rld_start::Wrong;
+use rld_log::Damage;
+use rld_start::{Cause, Wrong};
 use rld_store::StoreFault;
 use rsl_wire::NoMemory;
 use std::alloc::AllocError;
@@ -20,6 +21,15 @@ pub enum LinesFault {
 impl From<Wrong> for LinesFault {
     fn from(wrong: Wrong) -> LinesFault {
         LinesFault::Log(wrong)
+    }
+}
+
+impl From<Damage> for LinesFault {
+    fn from(damage: Damage) -> LinesFault {
+        LinesFault::Log(Wrong {
+            offset: damage.offset,
+            cause: Cause::Damaged,
+        })
     }
 }
 

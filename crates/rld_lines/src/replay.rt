@@ -9,13 +9,12 @@ ghost use Rattle.rld_store.specs.Generations.{counts_of};
 use crate::accounts::config_of;
 use crate::fault::LinesFault;
 use crate::line::{push_end, push_front};
+use crate::reading::{Begun, frames_of, front_of};
 use rld_books::ServerBooks;
 use rld_fields as fields;
 use rld_folder::Generation;
-use rld_log::Frames;
-use rld_spelling::Header;
-use rld_start::{Cause, First, Wrong, check_header, check_torn};
-use rld_store::{Part, Parts, StoreFault, counts_in};
+use rld_start::{Cause, Wrong};
+use rld_store::{Part, counts_in};
 use rsl_accounts::Config;
 use rsl_shard::Move;
 use std::alloc::Global;
@@ -144,16 +143,15 @@ impl<'a> Replay<'a> {
     }
 }
 
-/// Writes the lines of a generation with this header and these payloads, and gives their number.
+/// Writes the lines of a generation, and gives their number.
 fn write_moves<W: Write>(
     alloc: Global,
     config: &Config,
     file: &str,
-    header: Header,
-    payloads: &[&[u8]],
+    begun: Begun<'_>,
     writer: &mut W,
 ) -> Result<u64, LinesFault> {
-    let parts = Parts::of(payloads)?;
+    let Begun { header, parts } = begun;
     let mut replay = Replay {
         config,
         file,
@@ -162,13 +160,6 @@ fn write_moves<W: Write>(
     };
     replay.write(alloc, parts.snapshot.end, parts.batches, writer)?;
     Ok(replay.number.saturating_sub(header.lines))
-}
-
-/// The frames of a log with these octets, unless one is spoilt.
-fn frames_of(octets: Vec<u8>) -> Result<Frames, StoreFault> {
-    let frames = Frames::of(octets)?;
-    check_torn(&frames)?;
-    Ok(frames)
 }
 
 /// Writes the lines of a log, of an era whose file is `table`.
@@ -187,12 +178,9 @@ pub fn write_lines<W: Write>(
     let config = config_of(alloc, table)?;
     let frames = frames_of(log.octets)?;
     let payloads = frames.payloads(alloc)?;
-    let moves = match First::of(&payloads)? {
-        First::Begun(header) => {
-            check_header(&header, log.generation, table)?;
-            write_moves(alloc, &config, log.name, header, &payloads, writer)?
-        }
-        First::Unbegun => 0,
+    let moves = match front_of(&payloads, log.generation, table)? {
+        Some(begun) => write_moves(alloc, &config, log.name, begun, writer)?,
+        None => 0,
     };
     Ok(Printed {
         moves,

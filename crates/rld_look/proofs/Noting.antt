@@ -3,35 +3,42 @@ use Rattle.std.proofs.Common.{◌≡◌, ℕ, ◌+◌, ◌<◌, ◌≤◌, Bool,
 use Rattle.std.proofs.lemmas.Bool.{cases_eq, eq-eqb, ne_eqb, ltb-true}
 use Rattle.std.proofs.lemmas.List.Sums.{sum_by-append, sum_by_push}
 use Rattle.rld_counts.specs.Counts.{count_in, counts_of}
-use Rattle.rld_counts.specs.Ends.{acct_number, auth_number, number_of}
+use Rattle.rld_counts.specs.Ends.{acct_number, ask_number, auth_number, number_of}
 use Rattle.rld_counts.specs.Tally.{how_many, kept}
 use Rattle.rld_counts.specs.declared.acct_end.AcctEnd.{AcctEnd}
 use Rattle.rld_counts.specs.declared.acct_end.AcctEnd.TheVariants as acct
+use Rattle.rld_counts.specs.declared.ask_end.AskEnd.{AskEnd}
+use Rattle.rld_counts.specs.declared.ask_end.AskEnd.TheVariants as ask
 use Rattle.rld_counts.specs.declared.auth_end.AuthEnd.{AuthEnd}
 use Rattle.rld_counts.specs.declared.auth_end.AuthEnd.TheVariants as auth
 use Rattle.rld_counts.specs.declared.end.End.{End}
-use Rattle.rld_counts.specs.declared.end.End.TheVariants.{Auth, Acct}
+use Rattle.rld_counts.specs.declared.end.End.TheVariants.{Auth, Acct, Ask}
 use Rattle.rld_counts.proofs.Callers.{counter_of, mapped_append}
 use Rattle.rld_look.specs.Backlog.{BacklogSeen, HasNoted, IsCounted, IsLeftOut, empty_backlog, ends_of, lines_of, of_cause}
 use Rattle.rld_look.specs.declared.refusal.Refusal.{Refusal}
 
 -- ---- the count of a cause
 
-auth_below : (end : AuthEnd) → ltb (auth_number end) 39 ≡ true
+auth_below : (end : AuthEnd) → ltb (auth_number end) 52 ≡ true
 auth_below auth.Short = refl
 auth_below _ = refl
 
-acct_below : (end : AcctEnd) → ltb (21 + acct_number end) 39 ≡ true
+acct_below : (end : AcctEnd) → ltb (21 + acct_number end) 52 ≡ true
 acct_below acct.Short = refl
 acct_below _ = refl
 
-number_below : (end : End) → number_of end < 39
+ask_below : (end : AskEnd) → ltb (42 + ask_number end) 52 ≡ true
+ask_below ask.Unauthorized = refl
+ask_below _ = refl
+
+number_below : (end : End) → number_of end < 52
 number_below (Auth end) = ltb-true _ _ (auth_below end)
 number_below (Acct end) = ltb-true _ _ (acct_below end)
+number_below (Ask end) = ltb-true _ _ (ask_below end)
 
 count_is : (end : End) (ends : List End) (counts : List ℕ) → counts ≡ counts_of ends → count_in counts end ≡ kept (of_cause end ends)
 count_is end ends counts was =
-    ap (λ (l : List ℕ). get_or l (number_of end) 0) was ∙ counter_of 39 (number_of end) (map number_of ends) (number_below end)
+    ap (λ (l : List ℕ). get_or l (number_of end) 0) was ∙ counter_of 52 (number_of end) (map number_of ends) (number_below end)
 
 of_cause_more : (end one : End) (ends : List End) → of_cause end (ends ++ one ∷ []) ≡ of_cause end ends + cond (eqb (number_of one) (number_of end)) 1 0
 unfolding how_many

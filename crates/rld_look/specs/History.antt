@@ -1,12 +1,13 @@
 -- What came in each of the last minutes.
-use Rattle.std.specs.Prelude.{ℕ, ◌-◌, ◌*◌, ◌/◌, ◌^◌, min, Bool, true, false, List, [], ◌∷◌, ◌++◌, drop, length, slice_get, Option}
+use Rattle.std.specs.Prelude.{ℕ, ◌-◌, ◌*◌, ◌/◌, ◌^◌, ◌==◌, min, Bool, true, false, List, [], ◌∷◌, ◌++◌, codes, drop, length, slice_get, Option, Some, None, if◌then◌else◌}
 use Rattle.rld_counts.specs.Counts.{count_in}
 use Rattle.rld_counts.specs.Ends.{all_ends, kind_of}
 use Rattle.rld_counts.specs.declared.end.End.{End}
 use Rattle.rld_counts.specs.declared.kind.Kind.{Kind}
-use Rattle.rld_counts.specs.declared.kind.Kind.TheVariants.{Accepted, LimitRejected, Rejected, Accounted, Dropped, Failed}
+use Rattle.rld_counts.specs.declared.kind.Kind.TheVariants.{Accepted, LimitRejected, Rejected, Accounted, NoAccount, Dropped, Failed}
 use Rattle.rld_look.specs.Totals.{plus}
 use Rattle.rld_look.specs.declared.history.Came.{Came}
+use Rattle.rld_look.specs.declared.look.Look.{Look}
 use Rattle.rld_look.specs.declared.look.Minute.{Minute}
 
 -- the whole minutes that are kept, oldest first; the number of the present one, since 1970, and
@@ -35,6 +36,7 @@ with_came came Accepted number = record { accepts = plus came.accepts number; li
 with_came came LimitRejected number = record { accepts = came.accepts; limit_rejects = plus came.limit_rejects number; rejects = came.rejects; accounting = came.accounting }
 with_came came Rejected number = record { accepts = came.accepts; limit_rejects = came.limit_rejects; rejects = plus came.rejects number; accounting = came.accounting }
 with_came came Accounted number = record { accepts = came.accepts; limit_rejects = came.limit_rejects; rejects = came.rejects; accounting = plus came.accounting number }
+with_came came NoAccount number = record { accepts = came.accepts; limit_rejects = came.limit_rejects; rejects = came.rejects; accounting = plus came.accounting number }
 with_came came Dropped number = came
 with_came came Failed number = came
 
@@ -78,3 +80,32 @@ with_minute history next came held = record {
 
 abbrev pub last_of : List Minute → Option Minute
 last_of minutes = slice_get minutes (length minutes - 1)
+
+-- ---- the latest numbers
+
+-- a number that came in `seconds` seconds, scaled to a minute; no seconds count as one
+abbrev pub a_minute : (number seconds : ℕ) → ℕ
+a_minute number seconds = min (number * 60) (2 ^ 64 - 1) / (if seconds == 0 then 1 else seconds)
+
+-- the minute that began at `start`, with what came in `seconds` seconds scaled to a minute
+abbrev pub minute_at : Came → (start seconds held : ℕ) → Minute
+minute_at came start seconds held = record {
+  start = start;
+  accepts = a_minute came.accepts seconds;
+  limit_rejects = a_minute came.limit_rejects seconds;
+  rejects = a_minute came.rejects seconds;
+  accounting = a_minute came.accounting seconds;
+  held = held;
+}
+
+abbrev pub latest_by : Option Minute → Look → Minute
+latest_by (Some minute) look = minute
+latest_by None look = minute_at (came_in look.counts) look.start (look.now - look.start) look.totals.held
+
+-- the last whole minute; before one is over, a minute at the rate since the start
+abbrev pub latest_of : Look → Minute
+latest_of look = latest_by (last_of look.minutes.items) look
+
+-- in which time the latest numbers came
+abbrev pub span_of : Look → List ℕ
+span_of look = if length look.minutes.items == 0 then codes "since the start" else codes "last minute"

@@ -34,6 +34,7 @@ priority_of kinds.LimitRejected = Notice
 priority_of kinds.Rejected = Notice
 priority_of kinds.Accepted = Warning
 priority_of kinds.Accounted = Warning
+priority_of kinds.NoAccount = Warning
 priority_of kinds.Dropped = Warning
 priority_of kinds.Failed = Warning
 

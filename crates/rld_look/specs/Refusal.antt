@@ -12,12 +12,13 @@ use Rattle.rsl_wire.specs.declared.packet.WireFault.{WireFault}
 use Rattle.rld_look.specs.declared.refusal.Refusal.{Refusal}
 use Rattle.rld_look.specs.declared.refusal.Refused.{Refused}
 
--- neither an accept nor an answer of the accounting port
+-- neither an accept nor an answer of the accounting port to what concerns an account
 abbrev pub is_refused : Kind → Bool
 is_refused kinds.Accepted = false
 is_refused kinds.Accounted = false
 is_refused kinds.LimitRejected = true
 is_refused kinds.Rejected = true
+is_refused kinds.NoAccount = true
 is_refused kinds.Dropped = true
 is_refused kinds.Failed = true
 

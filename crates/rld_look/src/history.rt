@@ -1,7 +1,9 @@
 ghost use Rattle.std.specs.Prelude.{◌≡◌, ◌≢◌, ◌/◌, ◌↔◌, IsTrue, IfOk, OnOk, OnErr};
 ghost use Rattle.rld_look.specs.History.{
+  a_minute,
   came_in,
   kept_minutes,
+  minute_at,
   minute_of,
   no_came,
   nothing_yet,
@@ -149,10 +151,41 @@ impl Came {
             Kind::Accepted => self.accepts = self.accepts.saturating_add(number),
             Kind::LimitRejected => self.limit_rejects = self.limit_rejects.saturating_add(number),
             Kind::Rejected => self.rejects = self.rejects.saturating_add(number),
-            Kind::Accounted => self.accounting = self.accounting.saturating_add(number),
+            Kind::Accounted | Kind::NoAccount => {
+                self.accounting = self.accounting.saturating_add(number);
+            }
             Kind::Dropped | Kind::Failed => {}
         }
         self
+    }
+}
+
+impl Minute {
+    /// The minute that began at second `start`, with what came in `seconds` seconds scaled to a minute.
+    pub(crate) fn at_rate(counts: &Counts, start: u64, seconds: u64, held: u64) -> Minute
+        ensures { result ≡ minute_at (came_in counts.now) start seconds held }
+    {
+        let came = Came::of(counts);
+        Minute {
+            start,
+            accepts: a_minute(came.accepts, seconds),
+            limit_rejects: a_minute(came.limit_rejects, seconds),
+            rejects: a_minute(came.rejects, seconds),
+            accounting: a_minute(came.accounting, seconds),
+            held,
+        }
+    }
+}
+
+/// A number that came in `seconds` seconds, scaled to a minute. No seconds count as one.
+fn a_minute(number: u64, seconds: u64) -> u64
+    ensures { result ≡ a_minute number seconds }
+{
+    let number = number.saturating_mul(MINUTE_SECS);
+    if seconds == 0 {
+        number
+    } else {
+        number / seconds
     }
 }
 

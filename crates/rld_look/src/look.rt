@@ -1,5 +1,5 @@
 ghost use Rattle.std.specs.Prelude.{◌≡◌};
-ghost use Rattle.rld_look.specs.History.{last_of};
+ghost use Rattle.rld_look.specs.History.{last_of, latest_of, span_of};
 
 use crate::build::Build;
 use crate::refusal::Refusal;
@@ -32,7 +32,7 @@ pub struct Look {
     pub clock_behind: u64,
     /// What the archive had when logs were last put away.
     pub archive: ArchiveLook,
-    /// How the datagrams of both ports ended.
+    /// How the datagrams of both ports ended, and the asks.
     pub counts: Counts,
     /// How the datagrams of each client ended, in file order.
     pub clients: Vec<ClientLook>,
@@ -40,6 +40,8 @@ pub struct Look {
     pub auth_times: Histogram,
     /// How long the answers of the accounting port took.
     pub acct_times: Histogram,
+    /// How long the answers to asks took.
+    pub ask_times: Histogram,
     /// What all accounts hold.
     pub totals: Totals,
     /// The accounts that hold most of their places, fullest first: at most `MOST_FULLEST`.
@@ -51,6 +53,35 @@ pub struct Look {
     /// The queue of each socket, in the order of the server's file. A socket of which the system
     /// says nothing is left out.
     pub sockets: Vec<SocketLook>,
+}
+
+impl Look {
+    /// What came in the last whole minute; before one is over, what a minute has at the rate since
+    /// the start.
+    pub fn latest(&self) -> Minute
+        ensures { result ≡ latest_of self.entry.now }
+    {
+        match Minute::last_of(self.minutes.as_slice()) {
+            Some(minute) => minute,
+            None => Minute::at_rate(
+                &self.counts,
+                self.start,
+                self.now.saturating_sub(self.start),
+                self.totals.held,
+            ),
+        }
+    }
+
+    /// In which time the latest numbers came, in words.
+    pub fn span(&self) -> &'static str
+        ensures { result.now ≡ span_of self.entry.now }
+    {
+        if self.minutes.is_empty() {
+            "since the start"
+        } else {
+            "last minute"
+        }
+    }
 }
 
 /// What the accounts of a running server hold at a moment.

@@ -43,7 +43,8 @@ impl Priority {
     {
         match kind {
             Kind::LimitRejected | Kind::Rejected => Priority::Notice,
-            Kind::Accepted | Kind::Accounted | Kind::Dropped | Kind::Failed => Priority::Warning,
+            Kind::Accepted | Kind::Accounted | Kind::NoAccount | Kind::Dropped | Kind::Failed =>
+                Priority::Warning,
         }
     }
 }

@@ -10,7 +10,7 @@ use rsl_wire::{Attrs, NoMemory, Octets, read};
 use std::alloc::Global;
 use std::net::IpAddr;
 
-/// A datagram that has ended, as a receiver sees it.
+/// A datagram that has ended, as a receiver sees it, or the request of an ask.
 #[derive(Clone, Copy)]
 pub struct Refused<'a> {
     /// When it ended, in seconds since 1970.
@@ -79,13 +79,14 @@ impl Refusal {
 }
 
 /// Whether a datagram that ended so was refused: on the authentication port it got no accept, or on
-/// the accounting port no answer.
+/// the accounting port no answer, or one that says nothing, since no account has its User-Name.
 pub fn is_refusal(end: End) -> bool
     ensures { result ≡ is_refusal end }
 {
     match end.kind() {
         Kind::Accepted | Kind::Accounted => false,
-        Kind::LimitRejected | Kind::Rejected | Kind::Dropped | Kind::Failed => true,
+        Kind::LimitRejected | Kind::Rejected | Kind::NoAccount | Kind::Dropped | Kind::Failed =>
+            true,
     }
 }
 

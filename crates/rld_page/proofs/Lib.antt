@@ -1,2 +1,1 @@
-pub mod Pieces
 mod Plain

@@ -1,14 +1,14 @@
 -- The state of the server, and the numbers that are looked at first.
-use Rattle.std.specs.Prelude.{ℕ, ◌==◌, List, [], ◌++◌, codes, option_map, Option, None, Some, if◌then◌else◌}
+use Rattle.std.specs.Prelude.{ℕ, ◌==◌, List, [], ◌++◌, codes, if◌then◌else◌}
 use Rattle.std.specs.Fmt.{decimal}
-use Rattle.rld_look.specs.History.{last_of}
+use Rattle.rld_look.specs.History.{latest_of, span_of}
 use Rattle.rld_look.specs.Totals.{plus}
 use Rattle.rld_look.specs.declared.look.Look.{Look}
 use Rattle.rld_look.specs.declared.look.Minute.{Minute}
 use Rattle.rld_look.specs.declared.look.Recording.{Recording}
 use Rattle.rld_look.specs.declared.look.Recording.TheVariants.{Recorded, Failing}
 use Rattle.rld_page.specs.Figures.{date_text, grouped, share_of, tenths_of, tenths_text, width_text}
-use Rattle.rld_page.specs.Html.{dash, middle_dot}
+use Rattle.rld_page.specs.Html.{middle_dot}
 
 -- ---- the state
 
@@ -54,31 +54,21 @@ places_text held places =
     ++ (codes "</small></dd><span class=\"bar\"><i style=\"width:"
     ++ (width_text (share_of held places) ++ codes "\"></i></span></div>\n")))))
 
--- how many came a second, of those that came in a minute: nothing before the first minute is over
-abbrev pub a_second : Option ℕ → List ℕ
-a_second None = dash
-a_second (Some number) = tenths_text (tenths_of number)
-
-unfoldable pub rate_text : (name : List ℕ) → Option ℕ → List ℕ
-rate_text name number =
+-- how many came a second, of those that came in a minute, with words for the time of it
+unfoldable pub rate_text : (name : List ℕ) → (a_minute : ℕ) → (span : List ℕ) → List ℕ
+rate_text name a_minute span =
     codes "<div><dt>" ++ (name
-    ++ (codes "</dt><dd>" ++ (a_second number ++ codes " <small>a second, last minute</small></dd></div>\n")))
-
-abbrev pub accepts_in : Minute → ℕ
-accepts_in minute = minute.accepts
+    ++ (codes "</dt><dd>" ++ (tenths_text (tenths_of a_minute)
+    ++ (codes " <small>a second, " ++ (span ++ codes "</small></dd></div>\n")))))
 
 abbrev pub rejects_in : Minute → ℕ
 rejects_in minute = plus minute.limit_rejects minute.rejects
 
-abbrev pub accounting_in : Minute → ℕ
-accounting_in minute = minute.accounting
-
--- of the last whole minute
-unfoldable pub rates_text : Option Minute → List ℕ
-rates_text minute =
-    rate_text (codes "Logins") (option_map accepts_in minute)
-    ++ (rate_text (codes "Rejects") (option_map rejects_in minute)
-    ++ rate_text (codes "Accounting") (option_map accounting_in minute))
+unfoldable pub rates_text : Minute → (span : List ℕ) → List ℕ
+rates_text minute span =
+    rate_text (codes "Logins") minute.accepts span
+    ++ (rate_text (codes "Rejects") (rejects_in minute) span
+    ++ rate_text (codes "Accounting") minute.accounting span)
 
 -- what the archive has
 unfoldable pub archive_row : (logs octets : ℕ) → List ℕ
@@ -90,5 +80,5 @@ unfoldable pub numbers_of : Look → List ℕ
 numbers_of look =
     codes "<section class=\"numbers\" aria-label=\"Summary\"><dl>\n"
     ++ (places_text look.totals.held look.totals.places
-    ++ (rates_text (last_of look.minutes.items)
+    ++ (rates_text (latest_of look) (span_of look)
     ++ (codes "</dl>\n" ++ (archive_row look.archive.logs look.archive.octets ++ codes "</section>\n"))))

@@ -1,12 +1,11 @@
 -- The tables of the page: the fullest accounts, how datagrams ended, what was refused lately, and the sockets.
-use Rattle.std.specs.Prelude.{ℕ, ◌==◌, nat_lt, List, [], ◌∷◌, ◌++◌, codes, drop, length, map, sum, take, Option, None, Some, if◌then◌else◌}
+use Rattle.std.specs.Prelude.{ℕ, ◌==◌, nat_lt, List, [], ◌∷◌, ◌++◌, codes, drop, length, take, Option, None, Some, if◌then◌else◌}
 use Rattle.std.specs.Fmt.{decimal}
 use Rattle.std.specs.List.{flat_map}
 use Rattle.std.specs.Net.Text.{ip_text}
 use Rattle.std.specs.declared.net.ip_addr.IpAddr.{IpAddr}
-use Rattle.rld_counts.specs.Counts.{count_in}
+use Rattle.rld_counts.specs.Counts.{count_in, total_of}
 use Rattle.rld_counts.specs.Ends.{all_ends, is_answer, kind_of}
-use Rattle.rld_counts.specs.Tally.{kept}
 use Rattle.rld_counts.specs.declared.end.End.{End}
 use Rattle.rld_look.specs.declared.look.AccountLook.{AccountLook}
 use Rattle.rld_look.specs.declared.look.SocketLook.{SocketLook}
@@ -36,9 +35,10 @@ accounts_front number =
     ++ (codes "<th scope=\"col\" class=\"n more\">Reserved</th><th scope=\"col\" class=\"n more\">Over</th>"
     ++ codes "</tr></thead><tbody>\n"))))))
 
+-- the row of an account is an anchor, by its name
 abbrev pub account_front : Row → List ℕ
 account_front row =
-    if nat_lt row.held row.places then codes "<tr><td class=\"name\">" else codes "<tr class=\"full\"><td class=\"name\">"
+    if nat_lt row.held row.places then codes "<tr id=\"account-" else codes "<tr class=\"full\" id=\"account-"
 
 unfoldable pub share_cell : (held places : ℕ) → List ℕ
 share_cell held places =
@@ -60,9 +60,12 @@ row_cells row =
 
 unfoldable pub account_row : AccountLook → List ℕ
 account_row account =
-    account_front account.row ++ (html_text account.name ++ (row_cells account.row ++ codes "</tr>\n"))
+    account_front account.row
+    ++ (html_text account.name
+    ++ (codes "\"><td class=\"name\">"
+    ++ (html_text account.name ++ (row_cells account.row ++ codes "</tr>\n"))))
 
--- of so many accounts in all the fullest ones, in their order
+-- the fullest accounts in their order, and how many accounts there are
 unfoldable pub accounts_of : (number : ℕ) → List AccountLook → List ℕ
 accounts_of number fullest =
     accounts_front number ++ (flat_map account_row fullest ++ table_end)
@@ -83,10 +86,6 @@ answer_row counts end = if is_answer (kind_of end) then row_if_any end (count_in
 abbrev pub other_row : (counts : List ℕ) → End → List ℕ
 other_row counts end = if is_answer (kind_of end) then [] else row_if_any end (count_in counts end)
 
--- how many datagrams ended in one of these ways
-abbrev pub total_of : (counts : List ℕ) → List End → ℕ
-total_of counts ends = kept (sum (map (count_in counts) ends))
-
 -- the ends of a port: the answers, then all others, and their sum
 unfoldable pub port_table : (port counts : List ℕ) → List End → List ℕ
 port_table port counts ends =
@@ -96,12 +95,17 @@ port_table port counts ends =
     ++ (codes "</tbody><tfoot><tr><td>All</td><td class=\"n\">"
     ++ (grouped (total_of counts ends) ++ codes "</td></tr></tfoot></table>\n"))))))
 
--- the first 21 ends are those of the authentication port
+-- the table of asks, if any came
+abbrev pub asks_if_any : (counts : List ℕ) → List End → List ℕ
+asks_if_any counts ends = if total_of counts ends == 0 then [] else port_table (codes "Asks") counts ends
+
+-- the first 21 ends are those of the authentication port, then 21 of the accounting port
 unfoldable pub causes_of : (counts : List ℕ) → List ℕ
 causes_of counts =
     codes "<section class=\"rest\"><div class=\"top\"><h2>Datagrams since the start</h2></div>\n<div class=\"wide\">"
     ++ (port_table (codes "Authentication") counts (take 21 all_ends)
-    ++ (port_table (codes "Accounting") counts (drop 21 all_ends) ++ codes "</div></section>\n"))
+    ++ (port_table (codes "Accounting") counts (take 21 (drop 21 all_ends))
+    ++ (asks_if_any counts (drop 42 all_ends) ++ codes "</div></section>\n")))
 
 -- ---- what was refused lately
 

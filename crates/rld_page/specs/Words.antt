@@ -2,10 +2,12 @@
 use Rattle.std.specs.Prelude.{ℕ, List, codes}
 use Rattle.rld_counts.specs.declared.acct_end.AcctEnd.{AcctEnd}
 use Rattle.rld_counts.specs.declared.acct_end.AcctEnd.TheVariants as acct
+use Rattle.rld_counts.specs.declared.ask_end.AskEnd.{AskEnd}
+use Rattle.rld_counts.specs.declared.ask_end.AskEnd.TheVariants as ask
 use Rattle.rld_counts.specs.declared.auth_end.AuthEnd.{AuthEnd}
 use Rattle.rld_counts.specs.declared.auth_end.AuthEnd.TheVariants as auth
 use Rattle.rld_counts.specs.declared.end.End.{End}
-use Rattle.rld_counts.specs.declared.end.End.TheVariants.{Auth, Acct}
+use Rattle.rld_counts.specs.declared.end.End.TheVariants.{Auth, Acct, Ask}
 
 abbrev pub auth_words : AuthEnd → List ℕ
 auth_words auth.Short = codes "Dropped: too short"
@@ -49,7 +51,23 @@ acct_words acct.InterimUpdate = codes "Interim-Update"
 acct_words acct.AccountingOn = codes "Accounting-On"
 acct_words acct.AccountingOff = codes "Accounting-Off"
 acct_words acct.OtherStatus = codes "Other status"
+acct_words acct.StartUnknown = codes "Start: unknown account"
+acct_words acct.StopUnknown = codes "Stop: unknown account"
+acct_words acct.InterimUpdateUnknown = codes "Interim-Update: unknown account"
+
+abbrev pub ask_words : AskEnd → List ℕ
+ask_words ask.Unauthorized = codes "Refused: wrong token"
+ask_words ask.BadRequest = codes "Refused: no ask"
+ask_words ask.Refused = codes "No memory"
+ask_words ask.Unrecorded = codes "Not recorded"
+ask_words ask.Unsent = codes "Answer not sent"
+ask_words ask.Unserved = codes "Not served"
+ask_words ask.Accept = codes "Accepted"
+ask_words ask.LimitReject = codes "Rejected: no free place"
+ask_words ask.UnknownAccount = codes "Rejected: unknown account"
+ask_words ask.DisabledAccount = codes "Rejected: disabled account"
 
 abbrev pub words_of : End → List ℕ
 words_of (Auth end) = auth_words end
 words_of (Acct end) = acct_words end
+words_of (Ask end) = ask_words end

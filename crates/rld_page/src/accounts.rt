@@ -20,7 +20,7 @@ pub(crate) fn write_accounts(html: &mut Html, look: &Look) -> Result<(), AllocEr
     write_fullest(html, look.totals.accounts, look.fullest.as_slice())
 }
 
-/// Writes the fullest accounts, of so many in all.
+/// Writes the fullest accounts, and how many accounts there are.
 #[tactic(auto, unfolding(crate::specs::Tables::accounts_of))]
 fn write_fullest(html: &mut Html, number: u64, fullest: &[AccountLook]) -> Result<(), AllocError>
     ensures { OnOk result (html.new ≡ html.old ++ accounts_of number fullest.now) }
@@ -67,12 +67,14 @@ fn write_rows(html: &mut Html, accounts: &[AccountLook]) -> Result<(), AllocErro
     Ok(())
 }
 
-/// Writes the row of an account.
+/// Writes the row of an account. It is an anchor, `account-NAME`, in the text of the page.
 #[tactic(auto, unfolding(crate::specs::Tables::account_row))]
 fn write_account(html: &mut Html, account: &AccountLook) -> Result<(), AllocError>
     ensures { OnOk result (html.new ≡ html.old ++ account_row account.now) }
 {
     write_account_front(html, &account.row)?;
+    write_name(html, &account.name)?;
+    html.markup("\"><td class=\"name\">")?;
     write_name(html, &account.name)?;
     write_cells(html, &account.row)?;
     html.markup("</tr>\n")?;
@@ -84,9 +86,9 @@ fn write_account_front(html: &mut Html, row: &Row) -> Result<(), AllocError>
     ensures { OnOk result (html.new ≡ html.old ++ account_front row.now) }
 {
     if row.held < row.places {
-        html.markup("<tr><td class=\"name\">")
+        html.markup("<tr id=\"account-")
     } else {
-        html.markup("<tr class=\"full\"><td class=\"name\">")
+        html.markup("<tr class=\"full\" id=\"account-")
     }
 }
 

@@ -1,9 +1,9 @@
-//! How the datagrams of each port ended, by cause.
+//! How the datagrams of each port and the asks ended, by cause.
 
 ghost use Rattle.std.specs.Prelude.{◌≡◌, ◌++◌, OnOk, codes, drop, take};
 ghost use Rattle.std.specs.List.{flat_map};
 ghost use Rattle.rld_counts.specs.Ends.{all_ends};
-ghost use Rattle.rld_page.specs.Tables.{answer_row, causes_of, count_row, other_row, port_table, row_if_any, total_of};
+ghost use Rattle.rld_page.specs.Tables.{answer_row, asks_if_any, causes_of, count_row, other_row, port_table, row_if_any};
 
 use crate::ends::words;
 use crate::html::Html;
@@ -20,6 +20,7 @@ pub(crate) fn write_causes(html: &mut Html, counts: &Counts) -> Result<(), Alloc
     )?;
     write_auth(html, counts)?;
     write_acct(html, counts)?;
+    write_asks(html, counts)?;
     html.markup("</div></section>\n")?;
     Ok(())
 }
@@ -36,10 +37,28 @@ fn write_auth(html: &mut Html, counts: &Counts) -> Result<(), AllocError>
 /// Writes the table of the accounting port.
 fn write_acct(html: &mut Html, counts: &Counts) -> Result<(), AllocError>
     ensures { OnOk result (html.new
-        ≡ html.old ++ port_table (codes "Accounting") counts.now (drop 21 all_ends)) }
+        ≡ html.old ++ port_table (codes "Accounting") counts.now (take 21 (drop 21 all_ends))) }
 {
     let ends = End::all();
     write_port(html, "Accounting", counts, End::of_acct(&ends))
+}
+
+/// Writes the table of asks, if any came.
+fn write_asks(html: &mut Html, counts: &Counts) -> Result<(), AllocError>
+    ensures { OnOk result (html.new ≡ html.old ++ asks_if_any counts.now (drop 42 all_ends)) }
+{
+    let ends = End::all();
+    write_asks_if_any(html, counts, End::of_ask(&ends))
+}
+
+/// Writes the table of asks that ended in one of these ways, if any did.
+fn write_asks_if_any(html: &mut Html, counts: &Counts, ends: &[End]) -> Result<(), AllocError>
+    ensures { OnOk result (html.new ≡ html.old ++ asks_if_any counts.now ends.now) }
+{
+    if counts.total(ends) == 0 {
+        return Ok(());
+    }
+    write_port(html, "Asks", counts, ends)
 }
 
 /// Writes the table of a port by all its ends: the answers that came, then all else that did.
@@ -58,7 +77,7 @@ fn write_port(
     write_answers(html, counts, ends)?;
     write_others(html, counts, ends)?;
     html.markup("</tbody><tfoot><tr><td>All</td><td class=\"n\">")?;
-    html.grouped(total(counts, ends))?;
+    html.grouped(counts.total(ends))?;
     html.markup("</td></tr></tfoot></table>\n")?;
     Ok(())
 }
@@ -103,17 +122,6 @@ fn write_unless_answer(html: &mut Html, counts: &Counts, end: End) -> Result<(),
     } else {
         write_if_any(html, end, counts.count(end))
     }
-}
-
-/// How many datagrams ended in one of these ways, at most 2^64 - 1.
-fn total(counts: &Counts, ends: &[End]) -> u64
-    ensures { result ≡ total_of counts.now ends.now }
-{
-    let mut sum = 0u64;
-    for end in ends {
-        sum = sum.saturating_add(counts.count(*end));
-    }
-    sum
 }
 
 /// Writes how many datagrams ended so, if any did.

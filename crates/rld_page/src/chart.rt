@@ -85,7 +85,7 @@ fn most_held(minutes: &[Minute]) -> u64
     most
 }
 
-/// Where the first of so many minutes begins, so that the last one ends at the right.
+/// Where the first minute begins, so that the last one of `number` ends at the right.
 fn left_of(number: usize) -> u64
     ensures left { result ≡ left_of number }
     ensures most { result ≤ 600 }
@@ -207,7 +207,7 @@ fn write_touches(html: &mut Html, minutes: &[Minute]) -> Result<(), AllocError>
     Ok(())
 }
 
-/// Writes the lines behind a chart: at its foot, in the middle and at the most.
+/// Writes the grid lines of a chart: at its foot, in the middle and at the most.
 fn write_rules(html: &mut Html) -> Result<(), AllocError>
     ensures { OnOk result (html.new ≡ html.old ++ chart_rules) }
 {

@@ -1,9 +1,9 @@
 //! The ends of datagrams in words.
 
 ghost use Rattle.std.specs.Prelude.{◌≡◌};
-ghost use Rattle.rld_page.specs.Words.{acct_words, auth_words, words_of};
+ghost use Rattle.rld_page.specs.Words.{acct_words, ask_words, auth_words, words_of};
 
-use rld_counts::{AcctEnd, AuthEnd, End};
+use rld_counts::{AcctEnd, AskEnd, AuthEnd, End};
 
 /// What the page says of an end.
 pub(crate) fn words(end: End) -> &'static str
@@ -12,6 +12,7 @@ pub(crate) fn words(end: End) -> &'static str
     match end {
         End::Auth(end) => auth_words(end),
         End::Acct(end) => acct_words(end),
+        End::Ask(end) => ask_words(end),
     }
 }
 
@@ -67,5 +68,26 @@ fn acct_words(end: AcctEnd) -> &'static str
         AcctEnd::AccountingOn => "Accounting-On",
         AcctEnd::AccountingOff => "Accounting-Off",
         AcctEnd::OtherStatus => "Other status",
+        AcctEnd::StartUnknown => "Start: unknown account",
+        AcctEnd::StopUnknown => "Stop: unknown account",
+        AcctEnd::InterimUpdateUnknown => "Interim-Update: unknown account",
+    }
+}
+
+/// What the page says of how an ask ended.
+fn ask_words(end: AskEnd) -> &'static str
+    ensures { result.now ≡ ask_words end }
+{
+    match end {
+        AskEnd::Unauthorized => "Refused: wrong token",
+        AskEnd::BadRequest => "Refused: no ask",
+        AskEnd::Refused => "No memory",
+        AskEnd::Unrecorded => "Not recorded",
+        AskEnd::Unsent => "Answer not sent",
+        AskEnd::Unserved => "Not served",
+        AskEnd::Accept => "Accepted",
+        AskEnd::LimitReject => "Rejected: no free place",
+        AskEnd::UnknownAccount => "Rejected: unknown account",
+        AskEnd::DisabledAccount => "Rejected: disabled account",
     }
 }

@@ -182,7 +182,7 @@ impl Html {
         Ok(())
     }
 
-    /// Writes a digit that has `left` digits behind it, and the comma before them.
+    /// Writes a digit that has `left` digits after it, and the comma before them.
     fn digit(&mut self, digit: u8, left: usize) -> Result<(), AllocError>
         ensures { OnOk result (self.new ≡ self.old ++ digit ∷ comma_before left) }
     {

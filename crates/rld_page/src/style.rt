@@ -48,6 +48,7 @@ caption{text-align:left;color:var(--soft);font-size:13px;padding-bottom:6px}\
 th{font-weight:500;font-size:12px;color:var(--soft);text-align:left;padding:0 14px 6px 0;white-space:nowrap}\
 td{border-top:1px solid var(--line);padding:6px 14px 6px 0;vertical-align:top}\
 td.name{overflow-wrap:anywhere;min-width:8em}\
+tr:target td{background:var(--line)}\
 .n{text-align:right;white-space:nowrap}th:last-child,td:last-child{padding-right:0}\
 .share{width:24%;vertical-align:middle}\
 .bar{display:block;height:8px;border-radius:4px;background:var(--line);overflow:hidden;min-width:60px}\

@@ -1,8 +1,8 @@
 //! The head of the page: the state of the server, and its main numbers.
 
-ghost use Rattle.std.specs.Prelude.{◌≡◌, ◌++◌, List, OnOk, option_map, ℕ};
-ghost use Rattle.rld_look.specs.History.{last_of};
-ghost use Rattle.rld_page.specs.Summary.{a_second, accepts_in, accounting_in, archive_row, behind_mark, clock_mark, numbers_of, places_text, rate_text, rates_text, recording_mark, rejects_in, since_text, state_of, written_text};
+ghost use Rattle.std.specs.Prelude.{◌≡◌, ◌++◌, List, OnOk, ℕ};
+ghost use Rattle.rld_look.specs.History.{latest_of, span_of};
+ghost use Rattle.rld_page.specs.Summary.{archive_row, behind_mark, clock_mark, numbers_of, places_text, rate_text, rates_text, recording_mark, rejects_in, since_text, state_of, written_text};
 ghost use Rattle.rld_values.specs.Dates.{AreDates};
 
 use crate::figures::{share, tenths, write_tenths, write_width};
@@ -94,7 +94,7 @@ pub(crate) fn write_numbers(html: &mut Html, look: &Look) -> Result<(), AllocErr
 {
     html.markup("<section class=\"numbers\" aria-label=\"Summary\"><dl>\n")?;
     write_places(html, look.totals.held, look.totals.places)?;
-    write_last_minute(html, look)?;
+    write_latest(html, look)?;
     html.markup("</dl>\n")?;
     write_archive(html, look.archive.logs, look.archive.octets)?;
     html.markup("</section>\n")?;
@@ -114,53 +114,30 @@ fn write_archive(html: &mut Html, logs: u64, octets: u64) -> Result<(), AllocErr
     Ok(())
 }
 
-/// Writes the rates of the last whole minute of a look.
-fn write_last_minute(html: &mut Html, look: &Look) -> Result<(), AllocError>
+/// Writes the latest rates of a look.
+fn write_latest(html: &mut Html, look: &Look) -> Result<(), AllocError>
     ensures { OnOk result (html.new
-        ≡ html.old ++ rates_text (last_of look.entry.now.minutes.items)) }
+        ≡ html.old ++ rates_text (latest_of look.entry.now) (span_of look.entry.now)) }
 {
-    write_rates(html, Minute::last_of(look.minutes.as_slice()))
+    write_rates(html, look.latest(), look.span())
 }
 
-/// Writes the rates of the last whole minute, if one is over.
+/// Writes the rates of a minute, with words for the time of it.
 #[tactic(auto, unfolding(crate::specs::Summary::rates_text))]
-fn write_rates(html: &mut Html, minute: Option<Minute>) -> Result<(), AllocError>
-    ensures { OnOk result (html.new ≡ html.old ++ rates_text minute) }
+fn write_rates(html: &mut Html, minute: Minute, span: &'static str) -> Result<(), AllocError>
+    ensures { OnOk result (html.new ≡ html.old ++ rates_text minute span.now) }
 {
-    write_rate(html, "Logins", accepts(minute))?;
-    write_rate(html, "Rejects", rejects(minute))?;
-    write_rate(html, "Accounting", accounting(minute))?;
+    write_rate(html, "Logins", minute.accepts, span)?;
+    write_rate(html, "Rejects", rejects(minute), span)?;
+    write_rate(html, "Accounting", minute.accounting, span)?;
     Ok(())
 }
 
-/// How many Access-Accepts were sent in a minute.
-fn accepts(minute: Option<Minute>) -> Option<u64>
-    ensures { result ≡ option_map accepts_in minute }
-{
-    match minute {
-        Some(minute) => Some(minute.accepts),
-        None => None,
-    }
-}
-
 /// How many Access-Rejects were sent in a minute.
-fn rejects(minute: Option<Minute>) -> Option<u64>
-    ensures { result ≡ option_map rejects_in minute }
+fn rejects(minute: Minute) -> u64
+    ensures { result ≡ rejects_in minute }
 {
-    match minute {
-        Some(minute) => Some(minute.limit_rejects.saturating_add(minute.rejects)),
-        None => None,
-    }
-}
-
-/// How many Accounting-Responses were sent in a minute.
-fn accounting(minute: Option<Minute>) -> Option<u64>
-    ensures { result ≡ option_map accounting_in minute }
-{
-    match minute {
-        Some(minute) => Some(minute.accounting),
-        None => None,
-    }
+    minute.limit_rejects.saturating_add(minute.rejects)
 }
 
 /// Writes the places that are held of all.
@@ -178,25 +155,22 @@ fn write_places(html: &mut Html, held: u64, places: u64) -> Result<(), AllocErro
     Ok(())
 }
 
-/// Writes how many came a second in the last whole minute.
+/// Writes how many came a second, of those of a minute, with words for the time of it.
 #[tactic(auto, unfolding(crate::specs::Summary::rate_text))]
-fn write_rate(html: &mut Html, name: &'static str, a_minute: Option<u64>) -> Result<(), AllocError>
-    ensures { OnOk result (html.new ≡ html.old ++ rate_text name.now a_minute) }
+fn write_rate(
+    html: &mut Html,
+    name: &'static str,
+    a_minute: u64,
+    span: &'static str,
+) -> Result<(), AllocError>
+    ensures { OnOk result (html.new ≡ html.old ++ rate_text name.now a_minute span.now) }
 {
     html.markup("<div><dt>")?;
     html.markup(name)?;
     html.markup("</dt><dd>")?;
-    write_a_second(html, a_minute)?;
-    html.markup(" <small>a second, last minute</small></dd></div>\n")?;
+    write_tenths(html, tenths(a_minute))?;
+    html.markup(" <small>a second, ")?;
+    html.markup(span)?;
+    html.markup("</small></dd></div>\n")?;
     Ok(())
-}
-
-/// Writes how many came a second, of those that came in a minute.
-fn write_a_second(html: &mut Html, a_minute: Option<u64>) -> Result<(), AllocError>
-    ensures { OnOk result (html.new ≡ html.old ++ a_second a_minute) }
-{
-    match a_minute {
-        Some(number) => write_tenths(html, tenths(number)),
-        None => html.markup("–"),
-    }
 }

@@ -6,16 +6,21 @@ ghost use Rattle.std.specs.Arc.{arc_value};
 use crate::accounts::Accounts;
 use crate::ask_fault::AskFault;
 use crate::server::Server;
-use rld_control::{Command, Form, NamedSession, Reply, Selection};
+use rld_control::{Command, Form, Listing, NamedServer, NamedSession, Reply, Selection};
 use rld_edges::Operator;
+use rld_look::Health;
 use rld_start::Generations;
-use rld_state::Freed;
-use rld_text::{Holder, accounts_text, links_text, status_json, status_text};
+use rld_state::{Freed, LinksPage};
+use rld_text::{
+    Holder, Shown, accounts_text, links_text, page_text, ready_text, status_json, status_text,
+};
 use rsl_accounts::Config;
 use rsl_port::{Clock, SystemClock};
 use rsl_session::SavedLink;
+use rsl_wire::Octets;
 use std::io::ErrorKind;
 use std::os::unix::net::UnixStream;
+use std::sync::atomic::Ordering;
 use std::sync::{Arc, Wait};
 use std::time;
 
@@ -25,6 +30,13 @@ struct Held {
     config: Arc<Config>,
     account: u32,
     links: Vec<SavedLink>,
+}
+
+/// A page of what all accounts hold.
+#[derive(Drop)]
+struct HeldPage {
+    config: Arc<Config>,
+    page: LinksPage,
 }
 
 impl<'a, G, A, R> Server<'a, G, A, R>
@@ -60,9 +72,12 @@ where
     fn answer_to(&self, command: Command) -> Result<Vec<u8>, AskFault> {
         match command {
             Command::Status(form) => self.status(form),
+            Command::Ready => self.ready(),
             Command::Accounts(form, selection) => self.accounts(form, selection),
             Command::Sessions(form, name) => self.sessions(form, name.as_slice()),
+            Command::Links(listing) => self.links(&listing),
             Command::Free(named) => self.free(&named),
+            Command::FreeServer(named) => self.free_server(&named),
             Command::Ask(form) => self.ask(form.as_slice()),
             Command::Reload => self.reload(),
             Command::Stop => {
@@ -86,6 +101,13 @@ where
             Form::Lines => Ok(status_text(self.alloc, &look)?),
             Form::Json => Ok(status_json(self.alloc, &look)?),
         }
+    }
+
+    /// The answer to `ready`. No lock is taken for it.
+    fn ready(&self) -> Result<Vec<u8>, AskFault> {
+        let behind = self.clock_behind.load(Ordering::SeqCst);
+        let health = Health::of(self.recording(), behind);
+        Ok(ready_text(self.alloc, health)?)
     }
 
     /// The answer to `accounts`.
@@ -136,6 +158,35 @@ where
         }
     }
 
+    /// The answer to `links`: a page of the links of all accounts, made of a copy. The accounts have
+    /// changed where no account has the name with which the page begins: an earlier page had it.
+    fn links(&self, listing: &Listing) -> Result<Vec<u8>, AskFault> {
+        let HeldPage { config, page } = self.page_from(&listing.from)?;
+        let shown = Shown {
+            config: &*config,
+            form: listing.form,
+            wanted: &listing.wanted,
+            moment: self.moment(),
+        };
+        Ok(page_text(self.alloc, &shown, page.held.as_slice(), page.next)?)
+    }
+
+    /// A page of what all accounts hold that begins with the account of this name, or with the
+    /// first one. The lock is held while the page is copied, and no longer.
+    fn page_from(&self, from: &Option<Octets>) -> Result<HeldPage, AskFault> {
+        let state = self.state.lock(self.rt);
+        let config = state.config()?;
+        let first = match from {
+            None => 0,
+            Some(name) => match config.account(name.as_slice()) {
+                Some(account) => account,
+                None => return Err(AskFault::Changed),
+            },
+        };
+        let page = state.links_from(self.alloc, first)?;
+        Ok(HeldPage { config, page })
+    }
+
     /// Frees the place of a session by the Stop that its access server would have sent. If no link
     /// is bound to the session, nothing is recorded.
     fn free(&self, named: &NamedSession) -> Result<Vec<u8>, AskFault> {
@@ -144,6 +195,21 @@ where
             Freed::NotHeld => self.told(Reply::Done(b"no such session\n")),
             Freed::Unrecorded => Err(AskFault::Unrecorded),
         }
+    }
+
+    /// Frees the places of all sessions of an access server by the Accounting-Off that it would have
+    /// sent.
+    fn free_server(&self, named: &NamedServer) -> Result<Vec<u8>, AskFault> {
+        match self.server_freed(named)? {
+            Freed::Done(_recorded) => self.told(Reply::Done(b"freed\n")),
+            Freed::NotHeld | Freed::Unrecorded => Err(AskFault::Unrecorded),
+        }
+    }
+
+    /// What comes of an access server whose sessions are to be freed.
+    fn server_freed(&self, named: &NamedServer) -> Result<Freed, AskFault> {
+        let mut state = self.state.lock(self.rt);
+        Ok(state.free_server(self.alloc, self.plan.boot, named, self.moment())?)
     }
 
     /// What comes of a session that is to be freed. The lock is held from the look at the accounts and the

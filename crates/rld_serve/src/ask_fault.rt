@@ -10,9 +10,11 @@ pub(crate) enum AskFault {
     UnknownCommand,
     /// No account has the name.
     UnknownAccount,
-    /// The named session has no Stop.
+    /// No account has the name with which a page begins.
+    Changed,
+    /// The named session has no Stop, or the access server no Accounting-Off.
     Free(FreeFault),
-    /// The Stop was not recorded, so nothing was freed.
+    /// The Stop or the restart was not recorded, so nothing was freed.
     Unrecorded,
     /// The server's file says nothing of asks.
     NoAsks,
@@ -30,6 +32,7 @@ impl AskFault {
             AskFault::UnknownAccount | AskFault::Free(FreeFault::UnknownAccount) => {
                 "error unknown account\n"
             }
+            AskFault::Changed => "error the accounts have changed: ask again\n",
             AskFault::Free(FreeFault::UnknownClient) => "error unknown client\n",
             AskFault::Free(FreeFault::NoSession) => "error no session can be named so\n",
             AskFault::Unrecorded => "error not recorded, and so not freed\n",

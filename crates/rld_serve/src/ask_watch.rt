@@ -1,3 +1,5 @@
+use rld_ask::Refused;
+use rld_counts::{AskEnd, End as CountedEnd};
 use rld_turn::{End, Ended, MAX_BATCH, Watch};
 use rld_watch::Watcher;
 use rsl_event::Detail;
@@ -14,7 +16,7 @@ pub(crate) struct Noted {
     pub(crate) detail: Option<Detail>,
 }
 
-/// A watcher of asks: it counts as any other, and keeps how each request of a turn ended.
+/// A watcher of asks: it counts each by its end, and keeps how each request of a turn ended.
 #[derive(Drop)]
 pub(crate) struct AskWatch<'a, R: Wait + Clock> {
     watcher: Watcher<'a, R>,
@@ -33,6 +35,15 @@ impl<'a, R: Wait + Clock> AskWatch<'a, R> {
             noted: Vec::with_capacity(alloc, MAX_BATCH)?,
             is_whole: true,
         })
+    }
+
+    /// Counts requests over HTTP that were refused unread.
+    pub(crate) fn count_refused(&self, refused: Refused) {
+        let Refused { token, other } = refused;
+        self.watcher
+            .count_unread(CountedEnd::Ask(AskEnd::Unauthorized), token);
+        self.watcher
+            .count_unread(CountedEnd::Ask(AskEnd::BadRequest), other);
     }
 
     /// How each request of the last turn ended, in their order; none where one of them could not be kept.

@@ -69,6 +69,7 @@ where
     }
 
     fn note(&mut self, refused: Refused) {
+        self.place.watch.count_refused(refused);
         self.refused.add(refused);
         let moment = self.place.clock.now();
         if moment.saturating_sub(self.told) >= TOLD_SECS {

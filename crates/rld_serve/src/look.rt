@@ -2,16 +2,15 @@
 
 use crate::server::Server;
 use rld_config::books_octets;
-use rld_counts::{Cell, Counts};
+use rld_counts::{Cell, Counts, Histogram};
 use rld_look::{
     AccountsLook, Look, Minute, Places, Recording, SocketLook, Totals, client_looks, fullest_looks,
     held_in, socket_in,
 };
 use rld_spelling::Header;
 use rld_state::places_in;
-use rld_watch::{cell_of, counts_of};
+use rld_watch::{Gate, cell_of, counts_of};
 use rsl_accounts::{Config, read_file};
-use rsl_event::Port;
 use rsl_port::{Clock, SystemClock};
 use rsl_shard::Row;
 use rsl_wire::NoMemory;
@@ -28,6 +27,19 @@ const IPV6_TABLE: &str = "/proc/self/net/udp6";
 
 /// The most octets of a table that are read; a socket has up to 180.
 const MAX_TABLE_LEN: u32 = 1_048_576;
+
+/// What the receivers have counted.
+#[derive(Drop)]
+struct Counted {
+    /// At the authentication port, and of asks.
+    logins: Cell,
+    /// At the accounting port.
+    acct: Cell,
+    /// How long the answers of the authentication port took.
+    auth_times: Histogram,
+    /// How long the answers to asks took.
+    ask_times: Histogram,
+}
 
 /// What the store shows of itself, and its accounts.
 #[derive(Drop)]
@@ -50,9 +62,15 @@ impl<'a, G, A, R: time::Clock + Wait> Server<'a, G, A, R> {
     /// them: each lock is held only while the data under it is copied. It fails only if memory is
     /// refused.
     pub(crate) fn look(&self) -> Result<Look, NoMemory> {
-        let (auth, acct, holdings) = self.gather()?;
+        let (counted, holdings) = self.gather()?;
+        let Counted {
+            logins,
+            acct,
+            auth_times,
+            ask_times,
+        } = counted;
         let mut counts = Counts::new();
-        counts.add(&auth.counts());
+        counts.add(&logins.counts());
         counts.add(&acct.counts());
         let Holdings {
             config,
@@ -72,9 +90,10 @@ impl<'a, G, A, R: time::Clock + Wait> Server<'a, G, A, R> {
             clock_behind: self.clock_behind.load(Ordering::SeqCst),
             archive: *self.archive.lock(self.rt),
             counts,
-            clients: client_looks(self.alloc, &*config, &auth, &acct)?,
-            auth_times: auth.times(),
+            clients: client_looks(self.alloc, &*config, &logins, &acct)?,
+            auth_times,
             acct_times: acct.times(),
+            ask_times,
             totals: Totals::of(&*config, rows.as_slice()),
             fullest: fullest_looks(self.alloc, &*config, rows)?,
             minutes: self.minutes()?,
@@ -91,15 +110,23 @@ impl<'a, G, A, R: time::Clock + Wait> Server<'a, G, A, R> {
         AccountsLook::of(self.alloc, now, &*holdings.config, holdings.rows.as_slice())
     }
 
-    /// The counts of the receivers of each port, and what the store shows, all of the same
-    /// accounts.
-    fn gather(&self) -> Result<(Cell, Cell, Holdings), NoMemory> {
+    /// The counts of the receivers, and what the store shows, all of the same accounts.
+    fn gather(&self) -> Result<(Counted, Holdings), NoMemory> {
         let current = self.current.read(self.rt);
         let clients = current.config.clients();
         let readings = self.board.read(self.rt, self.alloc, clients)?;
-        let auth = cell_of(self.alloc, readings.as_slice(), Port::Auth, clients)?;
-        let acct = cell_of(self.alloc, readings.as_slice(), Port::Acct, clients)?;
-        Ok((auth, acct, self.holdings()?))
+        let mut logins = cell_of(self.alloc, readings.as_slice(), Gate::Auth, clients)?;
+        let acct = cell_of(self.alloc, readings.as_slice(), Gate::Acct, clients)?;
+        let asks = cell_of(self.alloc, readings.as_slice(), Gate::Ask, clients)?;
+        let auth_times = logins.times();
+        logins.add(&asks);
+        let counted = Counted {
+            logins,
+            acct,
+            auth_times,
+            ask_times: asks.times(),
+        };
+        Ok((counted, self.holdings()?))
     }
 
     /// Ends the present minute, if another has begun at this second. If memory for that is refused,
@@ -133,7 +160,7 @@ impl<'a, G, A, R: time::Clock + Wait> Server<'a, G, A, R> {
     }
 
     /// Whether batches are being recorded, as far as the worker that makes ticks has seen.
-    fn recording(&self) -> Recording {
+    pub(crate) fn recording(&self) -> Recording {
         if self.is_failing.load(Ordering::SeqCst) {
             Recording::Failing
         } else {

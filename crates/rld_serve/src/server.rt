@@ -17,11 +17,11 @@ use rld_start::Generations;
 use rld_state::{ServerState, Told, Trouble, news_of_clock, seconds_behind};
 use rld_store::Store;
 use rld_turn::{RecordFault, tick};
-use rld_watch::Board;
+use rld_watch::{Board, Gate};
 use rsl_accounts::Config;
 use rsl_event::Port;
 use rsl_port::{Clock, SystemClock};
-use std::alloc::Global;
+use std::alloc::{AllocError, Global};
 use std::net::{Net, TcpListener, TcpStream};
 use std::sync::atomic::{AtomicBool, AtomicU64, Ordering};
 use std::sync::{Arc, Mutex, RwLock, Wait};
@@ -134,15 +134,16 @@ where
     if asks.is_some() {
         jobs.push(Job::Ask)?;
     }
-    let mut ports = ports_of(alloc, jobs.as_slice())?;
+    let ports = ports_of(alloc, jobs.as_slice())?;
+    let mut gates = gates_of(alloc, ports.as_slice())?;
     let seat = asks.map(|asks| Seat {
         client: asks.client(),
-        number: ports.len(),
+        number: gates.len(),
     });
     if seat.is_some() {
-        ports.push(Port::Auth)?;
+        gates.push(Gate::Ask)?;
     }
-    let board = Board::new(alloc, config.clients(), ports.as_slice())?;
+    let board = Board::new(alloc, config.clients(), gates.as_slice())?;
     let history = History::new(alloc, plan.start)?;
     let config = Arc::new(alloc, config)?;
     let current = Current {
@@ -160,7 +161,7 @@ where
         state: Mutex::new(ServerState::new(store, config, plan.header)),
         board,
         seat,
-        refusals: Refusals::new(alloc, ports.len())?,
+        refusals: Refusals::new(alloc, gates.len())?,
         told: Mutex::new(HeapCircularBuffer::with_capacity(alloc, MOST_TOLD)?),
         history: Mutex::new(history),
         is_failing: AtomicBool::new(false),
@@ -170,6 +171,15 @@ where
         current: RwLock::new(current),
     };
     run_jobs(&server, jobs.as_slice(), pages, asks)
+}
+
+/// Where the receivers of these ports take what they count.
+fn gates_of(alloc: Global, ports: &[Port]) -> Result<Vec<Gate>, AllocError> {
+    let mut gates = Vec::new(alloc);
+    for port in ports {
+        gates.push(Gate::of(*port))?;
+    }
+    Ok(gates)
 }
 
 /// Does each job on its own thread, and gives their results. That nothing more can be recorded is

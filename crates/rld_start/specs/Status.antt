@@ -7,7 +7,7 @@ use Rattle.rld_log.specs.declared.fault.LogFault.TheVariants as logs
 use Rattle.rld_start.specs.declared.fault.StartFault.{StartFault}
 use Rattle.rld_start.specs.declared.fault.StartFault.TheVariants as faults
 use Rattle.rld_start.specs.declared.status.EndStatus.{EndStatus}
-use Rattle.rld_start.specs.declared.status.EndStatus.TheVariants.{Done, WrongInput, InputOutput, NoMemory, Unsynced}
+use Rattle.rld_start.specs.declared.status.EndStatus.TheVariants.{Done, WrongInput, InputOutput, NoMemory, Unsynced, NotReady, TimedOut}
 
 -- the exit status of the process
 abbrev pub number_of : EndStatus → ℕ
@@ -16,6 +16,8 @@ number_of WrongInput = 1
 number_of InputOutput = 2
 number_of NoMemory = 3
 number_of Unsynced = 4
+number_of NotReady = 1
+number_of TimedOut = 5
 
 -- the operator has to mend a folder of the wrong kind or with the wrong mode
 abbrev pub status_of_folder : FolderFault → EndStatus
@@ -52,3 +54,4 @@ status_of (faults.OtherAccounts era) = WrongInput
 status_of (faults.Unwritable file) = InputOutput
 status_of faults.NoNumber = WrongInput
 status_of faults.NoHistory = WrongInput
+status_of faults.NoNewHistory = WrongInput

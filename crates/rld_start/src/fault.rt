@@ -34,6 +34,8 @@ pub enum StartFault {
     NoNumber,
     /// No generation was begun, so there is no history.
     NoHistory,
+    /// No generation was begun, or the folder is not there, and a new history is refused.
+    NoNewHistory,
 }
 
 impl StartFault {
@@ -55,7 +57,8 @@ impl StartFault {
             StartFault::BadLog(_)
             | StartFault::OtherAccounts(_)
             | StartFault::NoNumber
-            | StartFault::NoHistory => EndStatus::WrongInput,
+            | StartFault::NoHistory
+            | StartFault::NoNewHistory => EndStatus::WrongInput,
             StartFault::Unwritable(_) => EndStatus::InputOutput,
         }
     }
@@ -114,6 +117,9 @@ impl fmt::Display for StartFault {
             }
             StartFault::NoNumber => f.write_str("no number is left for a new file"),
             StartFault::NoHistory => f.write_str("no history"),
+            StartFault::NoNewHistory => f.write_str(
+                "no history, and state_must_exist begins none: is its volume mounted?",
+            ),
         }
     }
 }

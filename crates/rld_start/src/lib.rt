@@ -5,10 +5,12 @@
 //! with the books admitted from the old one. If a clock that was ahead has led the books past the
 //! present, `rebase` begins a new era with the books cut to it. `specs/Numbers.antt` says which
 //! numbers follow, `specs/Firsts.antt` when a generation was begun, `specs/Founds.antt` which one
-//! counts, and `specs/Status.antt` the exit status of a server that does not start. No clause
-//! speaks of what the system's files give; `newest.rt` and `starting.rt` are written to be read.
+//! counts, `specs/Beginnings.antt` when a new history begins, and `specs/Status.antt` the exit
+//! status of a server that does not start. No clause speaks of what the system's files give;
+//! `newest.rt` and `starting.rt` are written to be read.
 #![tactic(auto)]
 
+mod beginning;
 mod behind;
 mod changing;
 mod count;
@@ -31,6 +33,7 @@ mod table;
 mod words;
 mod wrong;
 
+pub use beginning::open_folder;
 pub use changing::{admitted_books, has_same_clients, is_same_era};
 pub use count::{Admitted, Found, sessions_in};
 pub use fault::StartFault;

@@ -1,15 +1,17 @@
 //! Starting a server from its folder.
 
-ghost use Rattle.std.specs.Prelude.{◌≡◌, ◌+◌, All, IfNone, IfOk, None, OnOk, Some};
+ghost use Rattle.std.specs.Prelude.{◌≡◌, ◌+◌, All, IfNone, IfOk, IsTrue, None, OnOk, Some};
 ghost use Rattle.rld_books.specs.Saved.{IsServerOf};
 ghost use Rattle.rld_books.specs.Server.{new_server};
 ghost use Rattle.rld_spelling.specs.Eras.{era_octets};
 ghost use Rattle.rld_spelling.specs.Tables.{table_of};
+ghost use Rattle.rld_start.specs.Beginnings.{HasHistory, may_start};
 ghost use Rattle.rld_start.specs.Founds.{IsFrom, generation_in};
 ghost use Rattle.rld_start.specs.Gaps.{IsEarlier};
 ghost use Rattle.rld_start.specs.NextHeaders.{header_after};
 ghost use Rattle.rld_start.specs.Numbers.{era_of, generation_of, greatest_by};
 
+use crate::beginning::{check_history, open_folder};
 use crate::behind::behind_books;
 use crate::changing::change;
 use crate::count::{Found, sessions_in};
@@ -24,6 +26,7 @@ use crate::refused::log_refused;
 use crate::reopening::{EraTable, Former, read_table, reopen};
 use rld_admit::{era_file, is_era_file};
 use rld_books::ServerBooks;
+use rld_config::NewHistory;
 use rld_folder::{FileName, Folder, Generation};
 use rld_log::{FileLog, PacedLog, Pacing};
 use rld_spelling::Header;
@@ -51,13 +54,14 @@ pub struct Started<'a> {
 /// was begun. If the era of that one has the configuration's table, it goes on in a new generation
 /// of it; else in a new era, which begins with the admitted books (`rld_admit::admit`) under the
 /// same boot number. If no generation was begun, a new era begins, whose boot number is `now`, in
-/// seconds since 1970. Its logs are synced to the disk as the pacing says. If the books' greatest
+/// seconds since 1970, unless a new history is refused. Its logs are synced to the disk as the pacing says. If the books' greatest
 /// clock is 60 seconds or more after `now`, `found` says so.
 ///
-/// The faults come in this order. Those of the folder: `busy` if another process has it. `BadLog`
+/// The faults come in this order. Those of `open_folder`: `busy` if another process has it. `BadLog`
 /// if a log that is looked at, from the newest to the one that counts, has a spoilt frame before a
 /// whole one, or if none counts and one is not the first of its era; and if a log of the archive is
-/// not before the one that counts, or exists while none counts. Of the one that counts: `BadLog` if
+/// not before the one that counts, or exists while none counts. `NoNewHistory` if none counts and a
+/// new history is refused. Of the one that counts: `BadLog` if
 /// the era's table has no spelling, and if the header or anything after it is of another generation
 /// or another table, or has no spelling. Until then nothing has changed in the folder but an empty
 /// `lock` and a torn end, which is cut off. Then come `NoNumber` and the faults of making, writing
@@ -68,12 +72,14 @@ pub fn start<'a, R: Files<File = File> + Alloc<A = Global> + Clone + Drop>(
     alloc: Global,
     config: &Config,
     path: &str,
+    new_history: NewHistory,
     now: u64,
     pacing: Pacing<'a>,
 ) -> Result<Started<'a>, StartFault>
     ensures server { IfOk result (λ started. IsServerOf config.now started.store.books) }
+    ensures history { IfOk result (λ started. HasHistory new_history started.found) }
 {
-    let folder = Folder::open(rt, alloc, path)?;
+    let folder = open_folder(rt, alloc, path, new_history)?;
     let files = folder.files(rt)?;
     let files = files.as_slice();
     let Newest { begun, .. } = newest_begun(rt, alloc, &folder, files)?;
@@ -86,13 +92,15 @@ pub fn start<'a, R: Files<File = File> + Alloc<A = Global> + Clone + Drop>(
         files,
         archived.as_slice(),
         begun,
+        new_history,
         now,
         pacing,
     )
 }
 
 /// Starts a server in a folder with these files: from the generation that counts, if there is one,
-/// and else in a new era. `Gap` comes if a log of the archive is not before that generation.
+/// and else in a new era. `Gap` comes if a log of the archive is not before that generation, and
+/// then `NoNewHistory` if there is none and a new history is refused.
 fn take_up<'a, R: Files<File = File>>(
     files: &R,
     alloc: Global,
@@ -101,15 +109,20 @@ fn take_up<'a, R: Files<File = File>>(
     names: &[FileName],
     archived: &[FileName],
     begun: Option<Begun>,
+    new_history: NewHistory,
     now: u64,
     pacing: Pacing<'a>,
 ) -> Result<Started<'a>, StartFault>
     ensures server { IfOk result (λ started. IsServerOf config.now started.store.books) }
     ensures earlier { OnOk result (All (IsEarlier (generation_in begun)) archived.now) }
+    ensures may { OnOk result (IsTrue (may_start new_history (generation_in begun))) }
     ensures from { IfOk result (λ started. IsFrom (generation_in begun) started.found) }
+    ensures history { IfOk result (λ started. HasHistory new_history started.found) }
     ensures new { IfOk result (λ started. IfNone begun (started.store.books ≡ new_server config.now)) }
 {
-    check_archive(archived, generation_in(&begun))?;
+    let generation = generation_in(&begun);
+    check_archive(archived, generation)?;
+    check_history(generation, new_history)?;
     match begun {
         Some(begun) => follow(files, alloc, config, folder, names, begun, now, pacing),
         None => begin(files, alloc, config, folder, names, now, pacing),

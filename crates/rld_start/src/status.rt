@@ -14,20 +14,26 @@ pub enum EndStatus {
     NoMemory,
     /// The disk could not be synced.
     Unsynced,
+    /// A running server answers no packets, or records none.
+    NotReady,
+    /// A running server has not answered in time.
+    TimedOut,
 }
 
 impl EndStatus {
-    /// The exit status of the process: 0 if all was done, 1 for wrong input, 2 if a system call
-    /// failed, 3 if memory was refused, and 4 for a disk that cannot be synced.
+    /// The exit status of the process: 0 if all was done, 1 for wrong input and a server that is not
+    /// ready, 2 if a system call failed, 3 if memory was refused, 4 for a disk that cannot be
+    /// synced, and 5 for an answer that has not come in time.
     pub fn number(self) -> u8
         ensures { result ≡ number_of self }
     {
         match self {
             EndStatus::Done => 0,
-            EndStatus::WrongInput => 1,
+            EndStatus::WrongInput | EndStatus::NotReady => 1,
             EndStatus::InputOutput => 2,
             EndStatus::NoMemory => 3,
             EndStatus::Unsynced => 4,
+            EndStatus::TimedOut => 5,
         }
     }
 }

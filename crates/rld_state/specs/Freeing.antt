@@ -1,4 +1,4 @@
--- What comes of a session that is to be freed.
+-- What comes of a session that is to be freed, or of all those of an access server.
 use Rattle.std.specs.Prelude.{◌≡◌, ⊤, ℕ, Bool, true, false, ◌||◌, List, [], ◌∷◌, ◌++◌}
 use Rattle.std.specs.Option.{option_map_or}
 use Rattle.rsl_accounts.specs.Configuration.{Configuration}
@@ -6,8 +6,11 @@ use Rattle.rsl_shard.specs.Restep.{BooksSeen}
 use Rattle.rsl_shard.specs.declared.moved.Move.{Move}
 use Rattle.rld_books.specs.Saved.{links_in}
 use Rattle.rld_books.specs.Server.{replay}
+use Rattle.rld_control.specs.Offs.{IsOffOf, sweep_of}
 use Rattle.rld_control.specs.Stops.{IsStopOf, is_held, move_of}
+use Rattle.rld_control.specs.declared.named.NamedServer.{NamedServer}
 use Rattle.rld_control.specs.declared.named.NamedSession.{NamedSession}
+use Rattle.rld_control.specs.declared.off.Off.{Off}
 use Rattle.rld_control.specs.declared.stop.Stop.{Stop}
 use Rattle.rld_look.specs.Totals.{plus}
 use Rattle.rld_state.specs.declared.freeing.Freed.{Freed}
@@ -32,6 +35,21 @@ pub record IsFreed (config : Configuration) (books : List BooksSeen) (named : Na
   pub stop : Stop
   pub named_is : IsStopOf config named stop
   pub freed_is : IsFreedBy books stop moment freed
+
+-- Those of an access server are freed only where what was recorded after the books is its restart,
+-- and nothing else.
+abbrev pub AreFreedBy : List BooksSeen → Off → (moment : ℕ) → Freed → Type 0
+AreFreedBy books off moment (Done recorded) =
+    (recorded.before ≡ books) × (recorded.batch ≡ sweep_of off moment ∷ [])
+AreFreedBy books off moment NotHeld = ⊥
+AreFreedBy books off moment Unrecorded = ⊤
+
+-- by the Accounting-Off of the access server that was named
+pub record AreFreed (config : Configuration) (books : List BooksSeen) (named : NamedServer)
+    (moment : ℕ) (freed : Freed) : Type 0 where
+  pub off : Off
+  pub named_is : IsOffOf config named off
+  pub freed_are : AreFreedBy books off moment freed
 
 -- the books after it: they have made what was recorded
 abbrev pub books_after_it : List BooksSeen → Freed → List BooksSeen

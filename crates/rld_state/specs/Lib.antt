@@ -2,6 +2,7 @@ pub mod Clock
 pub mod Due
 pub mod Freeing
 pub mod Keeping
+pub mod Listing
 pub mod Notices
 pub mod Places
 pub mod Told

@@ -1,29 +1,30 @@
-//! How the place of a session is freed that its access server has forgotten: by its Stop.
+//! How the place of a session is freed that its access server has forgotten, by its Stop, or those
+//! of all its sessions, by its Accounting-Off.
 
 ghost use Rattle.std.specs.Prelude.{◌≡◌, ◌∷◌, [], List, IfOk, IsTrue, OnErr};
 ghost use Rattle.std.specs.Arc.{arc_value};
-ghost use Rattle.rld_state.specs.Freeing.{IsFreed, IsFreedBy, IsNoted, StaysUnheld, books_after_it, history_after_it, is_held_in, moves_after_it};
+ghost use Rattle.rld_state.specs.Freeing.{AreFreed, AreFreedBy, IsFreed, IsFreedBy, IsNoted, StaysUnheld, books_after_it, history_after_it, is_held_in, moves_after_it};
 ghost use Rattle.rld_store.specs.Stored.{HasRecorded};
 ghost use Rattle.rsl_accounts.specs.Configuration.{Configuration};
 ghost use Rattle.rsl_shard.specs.Restep.{BooksSeen};
 ghost use Rattle.rsl_shard.specs.declared.moved.Move.{Move as OneMove};
 
 use crate::state::ServerState;
-use rld_control::{FreeFault, NamedSession, Stop};
+use rld_control::{FreeFault, NamedServer, NamedSession, Off, Stop};
 use rld_log::Log;
 use rld_store::{Recorded, Store};
 use rsl_shard::Move;
 use rsl_wire::NoMemory;
 use std::alloc::Global;
 
-/// What came of a session that was to be freed.
+/// What came of a session that was to be freed, or of those of an access server.
 #[derive(Drop)]
 pub enum Freed {
-    /// A link was bound to it, and its Stop is recorded.
+    /// A link was bound to it, and its Stop is recorded; or the restart of the access server is.
     Done(Recorded),
     /// No link is bound to it, so nothing was recorded.
     NotHeld,
-    /// A link is bound to it, and its Stop was not recorded.
+    /// A link is bound to it, and its Stop was not recorded; or the restart was not.
     Unrecorded,
 }
 
@@ -97,6 +98,73 @@ impl<L: Log + Drop> ServerState<Store<L>> {
         match self.record(alloc, era, batch) {
             Ok(recorded) => Ok(Freed::Done(recorded)),
             Err(_) => Ok(Freed::Unrecorded),
+        }
+    }
+
+    /// Frees the places of all sessions of an access server that an operator names: records the
+    /// restart that its Accounting-Off means to the server with this boot number, at a moment in
+    /// seconds since 1970, whether or not it has a session.
+    ///
+    /// The faults are those of `Off::of`. With each of them all is as it was.
+    pub fn free_server(
+        &mut self,
+        alloc: Global,
+        boot: u64,
+        named: &NamedServer,
+        moment: u64,
+    ) -> Result<Freed, FreeFault>
+        ensures freed { IfOk result
+            (AreFreed (arc_value self.old.config) self.old.recorder.books named.now moment) }
+        ensures books { IfOk result (λ freed.
+            self.new.recorder.books ≡ books_after_it self.old.recorder.books freed) }
+        ensures moves { IfOk result (λ freed. self.new.moves ≡ moves_after_it self.old.moves freed) }
+        ensures header { self.new.header ≡ self.old.header }
+        ensures config { self.new.config ≡ self.old.config }
+        ensures unrecorded { IfOk result (IsNoted self.new.has_failed self.new.has_ended) }
+        ensures err { OnErr result (self.new ≡ self.old) }
+
+        // The store has recorded what it had before, and that restart.
+        ensures stands { IsTrue (L.tells self.new.recorder.log) →
+            (config : Configuration) (opening : List BooksSeen) (history : List OneMove) →
+            (IsTrue (L.tells self.old.recorder.log) →
+            HasRecorded config opening self.old.recorder.counts L.tears self.old.recorder.end
+            (L.seen self.old.recorder.log) (L.may_leave self.old.recorder.log) self.old.recorder.whole
+            self.old.recorder.books history) → IfOk result (λ freed.
+            HasRecorded config opening self.new.recorder.counts L.tears self.new.recorder.end
+            (L.seen self.new.recorder.log) (L.may_leave self.new.recorder.log) self.new.recorder.whole
+            self.new.recorder.books (history_after_it history freed)) }
+    {
+        let off = Off::of(alloc, self.accounts(), boot, named)?;
+        Ok(self.record_off(alloc, off, moment)?)
+    }
+
+    /// Records the restart that an Accounting-Off means.
+    fn record_off(&mut self, alloc: Global, off: Off, moment: u64) -> Result<Freed, NoMemory>
+        ensures freed { IfOk result (AreFreedBy self.old.recorder.books off moment) }
+        ensures books { IfOk result (λ freed.
+            self.new.recorder.books ≡ books_after_it self.old.recorder.books freed) }
+        ensures moves { IfOk result (λ freed. self.new.moves ≡ moves_after_it self.old.moves freed) }
+        ensures header { self.new.header ≡ self.old.header }
+        ensures config { self.new.config ≡ self.old.config }
+        ensures unrecorded { IfOk result (IsNoted self.new.has_failed self.new.has_ended) }
+        ensures err { OnErr result (self.new ≡ self.old) }
+
+        // The store has recorded what it had before, and that restart.
+        ensures stands { IsTrue (L.tells self.new.recorder.log) →
+            (config : Configuration) (opening : List BooksSeen) (history : List OneMove) →
+            (IsTrue (L.tells self.old.recorder.log) →
+            HasRecorded config opening self.old.recorder.counts L.tears self.old.recorder.end
+            (L.seen self.old.recorder.log) (L.may_leave self.old.recorder.log) self.old.recorder.whole
+            self.old.recorder.books history) → IfOk result (λ freed.
+            HasRecorded config opening self.new.recorder.counts L.tears self.new.recorder.end
+            (L.seen self.new.recorder.log) (L.may_leave self.new.recorder.log) self.new.recorder.whole
+            self.new.recorder.books (history_after_it history freed)) }
+    {
+        let batch = batch_of(alloc, off.into_move(moment))?;
+        let era = self.header().era;
+        match self.record(alloc, era, batch) {
+            Ok(recorded) => Ok(Freed::Done(recorded)),
+            Err(_fault) => Ok(Freed::Unrecorded),
         }
     }
 

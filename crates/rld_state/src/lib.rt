@@ -8,13 +8,16 @@
 //! is not called again, and a batch of another era is refused whole (`specs/Keeping.antt`); a
 //! generation or an era that does not begin leaves the present one as it was, and an era begins
 //! with what is admitted of the books, once its log is on the disk (`changing.rt`); and a session is
-//! called freed only where a link was bound to it and its Stop is recorded (`specs/Freeing.antt`).
+//! called freed only where a link was bound to it and its Stop is recorded, and all of an access
+//! server once its restart is (`specs/Freeing.antt`). A page of links has all of some accounts, one
+//! after the other (`specs/Listing.antt`).
 #![tactic(auto)]
 
 mod archived;
 mod changing;
 mod clock;
 mod freeing;
+mod listing;
 mod places;
 mod reload_result;
 mod roll_fault;
@@ -27,6 +30,7 @@ pub use archived::archive_look;
 pub use changing::Entered;
 pub use clock::{ClockNews, news_of_clock, seconds_behind};
 pub use freeing::Freed;
+pub use listing::LinksPage;
 pub use places::places_in;
 pub use reload_result::{EraChange, ReloadFault, Reloaded};
 pub use roll_fault::{NotBegun, Notice, RollFault, notice_of_archive, notice_of_roll};

@@ -2,7 +2,9 @@ pub mod Accounts
 pub mod Build
 pub mod Json
 pub mod Links
+pub mod Listing
 pub mod Metrics
+pub mod Ready
 pub mod Recent
 pub mod Status
 pub mod Text

@@ -97,10 +97,12 @@ times_lines port times =
     ++ (bucket_line port (codes "+Inf") (kept (sum times.buckets))
     ++ times_end port times.micros (kept (sum times.buckets)))
 
--- the histograms of both ports
+-- the histograms of both ports, and of asks
 unfoldable pub times_text : Look → List ℕ
 times_text look =
-    times_head ++ (times_lines (codes "auth") look.auth_times ++ times_lines (codes "acct") look.acct_times)
+    times_head
+    ++ (times_lines (codes "auth") look.auth_times
+    ++ (times_lines (codes "acct") look.acct_times ++ times_lines (codes "ask_http") look.ask_times))
 
 -- ---- numbers of the whole server
 

@@ -1,11 +1,11 @@
 -- The part of a status that is for people alone: the start of the server, and what has happened
 -- recently, in lines of at most 80 columns, except for long names.
-use Rattle.std.specs.Prelude.{ℕ, ◌-◌, ◌/◌, ◌%◌, ◌==◌, nat_lt, Bool, ◌&&◌, List, [], ◌∷◌, ◌++◌, codes, drop, length, take, Option, Some, None, if◌then◌else◌}
+use Rattle.std.specs.Prelude.{ℕ, ◌-◌, ◌/◌, ◌%◌, ◌==◌, nat_lt, Bool, ◌&&◌, List, [], ◌∷◌, ◌++◌, codes, drop, length, take, if◌then◌else◌}
 use Rattle.std.specs.Fmt.{decimal}
-use Rattle.rld_counts.specs.Counts.{count_in}
+use Rattle.rld_counts.specs.Counts.{count_in, total_of}
 use Rattle.rld_counts.specs.Ends.{all_ends, name_of}
 use Rattle.rld_counts.specs.declared.end.End.{End}
-use Rattle.rld_look.specs.History.{last_of}
+use Rattle.rld_look.specs.History.{latest_of, span_of}
 use Rattle.rld_look.specs.Totals.{plus}
 use Rattle.rld_look.specs.declared.look.AccountLook.{AccountLook}
 use Rattle.rld_look.specs.declared.look.Look.{Look}
@@ -20,21 +20,20 @@ start_line dates start now =
     codes "started " ++ (date_or_number (http_date dates start) start
     ++ (codes " UTC, " ++ (age (now - start) ++ codes " ago\n")))
 
--- ---- the rates of the last whole minute, by the second
+-- ---- the latest rates, by the second
 
 unfoldable pub rate : (count : ℕ) → List ℕ
 rate count = decimal (count / 60) ++ (codes "." ++ decimal (count % 60 / 6))
 
-unfoldable pub minute_line : Minute → List ℕ
-minute_line minute =
-    codes "last minute: " ++ (rate minute.accepts
+abbrev pub span_front : (span : List ℕ) → List ℕ
+span_front span = span ++ codes ": "
+
+unfoldable pub minute_line : Minute → (span : List ℕ) → List ℕ
+minute_line minute span =
+    span_front span ++ (rate minute.accepts
     ++ (codes " accepts/s, " ++ (rate minute.limit_rejects
     ++ (codes " limit rejects/s, " ++ (rate minute.rejects
     ++ (codes " rejects/s, " ++ (rate minute.accounting ++ codes " accounting/s\n")))))))
-
-abbrev pub minute_if_any : Option Minute → List ℕ
-minute_if_any None = []
-minute_if_any (Some minute) = minute_line minute
 
 -- ---- the ends that occurred
 
@@ -69,6 +68,10 @@ counts_from column counts (end ∷ ends) =
 unfoldable pub port_line : (port counts : List ℕ) → List End → List ℕ
 port_line port counts ends = port ++ (counts_from (length port) counts ends ++ codes "\n")
 
+-- the line of asks, if any came
+abbrev pub asks_if_any : (counts : List ℕ) → List End → List ℕ
+asks_if_any counts ends = if total_of counts ends == 0 then [] else port_line (codes "ask_http:") counts ends
+
 -- ---- the fullest accounts, and the sockets
 
 abbrev pub is_shown : AccountLook → Bool
@@ -101,8 +104,9 @@ archive_line logs octets =
 
 unfoldable pub recent_lines : Look → List ℕ
 recent_lines look =
-    minute_if_any (last_of look.minutes.items)
+    minute_line (latest_of look) (span_of look)
     ++ (port_line (codes "auth:") look.counts (take 21 all_ends)
-    ++ (port_line (codes "acct:") look.counts (drop 21 all_ends)
+    ++ (port_line (codes "acct:") look.counts (take 21 (drop 21 all_ends))
+    ++ (asks_if_any look.counts (drop 42 all_ends)
     ++ (full_lines 5 look.fullest.items
-    ++ (sockets_if_any look.sockets.items ++ archive_line look.archive.logs look.archive.octets))))
+    ++ (sockets_if_any look.sockets.items ++ archive_line look.archive.logs look.archive.octets)))))

@@ -52,9 +52,10 @@ pub(crate) fn push_text_string(out: &mut Vec<u8>, text: &str) -> Result<(), Allo
     push_string(out, text.as_bytes())
 }
 
-/// Writes the start of a member after another one.
+/// Writes the start of a member after another one: a comma, its name and a colon. It fails only if
+/// memory is refused.
 #[tactic(auto, unfolding(crate::specs::Json::member_front))]
-pub(crate) fn push_member_front(out: &mut Vec<u8>, name: &str) -> Result<(), AllocError>
+pub fn push_member_front(out: &mut Vec<u8>, name: &str) -> Result<(), AllocError>
     ensures { OnOk result (out.new.items ≡ out.old.items ++ member_front name.now) }
 {
     push_text(out, ",\"")?;
@@ -75,13 +76,9 @@ pub(crate) fn push_number_member(
     push_decimal(out, number)
 }
 
-/// Writes a member that is a string.
+/// Writes a member that is a string, after another one. It fails only if memory is refused.
 #[tactic(auto, unfolding(crate::specs::Json::string_member))]
-pub(crate) fn push_string_member(
-    out: &mut Vec<u8>,
-    name: &str,
-    octets: &[u8],
-) -> Result<(), AllocError>
+pub fn push_string_member(out: &mut Vec<u8>, name: &str, octets: &[u8]) -> Result<(), AllocError>
     ensures { OnOk result (out.new.items ≡ out.old.items ++ string_member name.now octets.now) }
 {
     push_member_front(out, name)?;

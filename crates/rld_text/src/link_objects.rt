@@ -37,9 +37,10 @@ pub(crate) fn push_link_object(
     push_text(out, "}\n")
 }
 
-/// Writes the account and the access server of a link.
+/// Writes the start of an object: the account and the access server of a link. It fails only if
+/// memory is refused.
 #[tactic(auto, unfolding(crate::specs::Links::server_members))]
-fn push_server_members(
+pub fn push_server_members(
     out: &mut Vec<u8>,
     account: &[u8],
     client: [u8; 4],

@@ -60,7 +60,7 @@ fn push_if_known(
 }
 
 /// Writes a link.
-fn push_link(
+pub(crate) fn push_link(
     alloc: Global,
     out: &mut Vec<u8>,
     form: Form,

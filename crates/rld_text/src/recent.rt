@@ -3,8 +3,8 @@
 
 ghost use Rattle.std.specs.Prelude.{◌≡◌, ◌++◌, List, IfOk, OnOk, codes, drop, take, ℕ};
 ghost use Rattle.rld_counts.specs.Ends.{all_ends};
-ghost use Rattle.rld_look.specs.History.{last_of};
-ghost use Rattle.rld_text.specs.Recent.{archive_line, break_before, column_after, column_at, count_at, count_words, counts_from, full_line, full_lines, is_shown, len_of, minute_if_any, minute_line, port_line, rate, recent_lines, sockets_if_any, sockets_line, start_line};
+ghost use Rattle.rld_look.specs.History.{latest_of, span_of};
+ghost use Rattle.rld_text.specs.Recent.{archive_line, asks_if_any, break_before, column_after, column_at, count_at, count_words, counts_from, full_line, full_lines, is_shown, len_of, minute_line, port_line, rate, recent_lines, sockets_if_any, sockets_line, span_front, start_line};
 ghost use Rattle.rld_values.specs.Dates.{AreDates};
 
 use crate::sums::{dropped, waiting};
@@ -39,9 +39,10 @@ pub(crate) fn push_start(out: &mut Vec<u8>, start: u64, now: u64) -> Result<(), 
 pub(crate) fn push_recent(alloc: Global, out: &mut Vec<u8>, look: &Look) -> Result<(), AllocError>
     ensures { OnOk result (out.new.items ≡ out.old.items ++ recent_lines look.entry.now) }
 {
-    push_last_minute(out, look)?;
+    push_latest(out, look)?;
     push_auth(alloc, out, &look.counts)?;
     push_acct(alloc, out, &look.counts)?;
+    push_asks(alloc, out, &look.counts)?;
     push_full(out, look)?;
     push_waiting(out, look)?;
     push_archive(out, look.archive)?;
@@ -61,12 +62,12 @@ fn push_archive(out: &mut Vec<u8>, archive: ArchiveLook) -> Result<(), AllocErro
     push_text(out, " octets\n")
 }
 
-/// Writes what came in the last whole minute of a look.
-fn push_last_minute(out: &mut Vec<u8>, look: &Look) -> Result<(), AllocError>
-    ensures { OnOk result (out.new.items
-        ≡ out.old.items ++ minute_if_any (last_of look.entry.now.minutes.items)) }
+/// Writes the latest rates of a look.
+fn push_latest(out: &mut Vec<u8>, look: &Look) -> Result<(), AllocError>
+    ensures { OnOk result (out.new.items ≡ out.old.items
+        ++ minute_line (latest_of look.entry.now) (span_of look.entry.now)) }
 {
-    push_minute_if_any(out, Minute::last_of(look.minutes.as_slice()))
+    push_minute(out, &look.latest(), look.span())
 }
 
 /// Writes the fullest accounts of a look.
@@ -85,22 +86,12 @@ fn push_waiting(out: &mut Vec<u8>, look: &Look) -> Result<(), AllocError>
     push_sockets(out, look.sockets.as_slice())
 }
 
-/// Writes what came in the last whole minute, if one is over.
-fn push_minute_if_any(out: &mut Vec<u8>, minute: Option<Minute>) -> Result<(), AllocError>
-    ensures { OnOk result (out.new.items ≡ out.old.items ++ minute_if_any minute) }
-{
-    match minute {
-        Some(minute) => push_minute(out, &minute),
-        None => Ok(()),
-    }
-}
-
-/// Writes the rates of a minute, by the second.
+/// Writes the rates of a minute, by the second, with words for the time of it.
 #[tactic(auto, unfolding(crate::specs::Recent::minute_line))]
-fn push_minute(out: &mut Vec<u8>, minute: &Minute) -> Result<(), AllocError>
-    ensures { OnOk result (out.new.items ≡ out.old.items ++ minute_line minute.now) }
+fn push_minute(out: &mut Vec<u8>, minute: &Minute, span: &str) -> Result<(), AllocError>
+    ensures { OnOk result (out.new.items ≡ out.old.items ++ minute_line minute.now span.now) }
 {
-    push_text(out, "last minute: ")?;
+    push_span(out, span)?;
     push_rate(out, minute.accepts)?;
     push_text(out, " accepts/s, ")?;
     push_rate(out, minute.limit_rejects)?;
@@ -110,6 +101,14 @@ fn push_minute(out: &mut Vec<u8>, minute: &Minute) -> Result<(), AllocError>
     push_rate(out, minute.accounting)?;
     push_text(out, " accounting/s\n")?;
     Ok(())
+}
+
+/// Writes the words for a time, before the rates of it.
+fn push_span(out: &mut Vec<u8>, span: &str) -> Result<(), AllocError>
+    ensures { OnOk result (out.new.items ≡ out.old.items ++ span_front span.now) }
+{
+    push_text(out, span)?;
+    push_text(out, ": ")
 }
 
 /// Writes the count of a minute as a rate by the second, with one decimal.
@@ -134,10 +133,34 @@ fn push_auth(alloc: Global, out: &mut Vec<u8>, counts: &Counts) -> Result<(), Al
 /// Writes the line of the accounting port.
 fn push_acct(alloc: Global, out: &mut Vec<u8>, counts: &Counts) -> Result<(), AllocError>
     ensures { OnOk result (out.new.items
-        ≡ out.old.items ++ port_line (codes "acct:") counts.now (drop 21 all_ends)) }
+        ≡ out.old.items ++ port_line (codes "acct:") counts.now (take 21 (drop 21 all_ends))) }
 {
     let ends = End::all();
     push_port(alloc, out, "acct:", counts, End::of_acct(&ends))
+}
+
+/// Writes the line of asks, if any came.
+fn push_asks(alloc: Global, out: &mut Vec<u8>, counts: &Counts) -> Result<(), AllocError>
+    ensures { OnOk result (out.new.items
+        ≡ out.old.items ++ asks_if_any counts.now (drop 42 all_ends)) }
+{
+    let ends = End::all();
+    push_asks_if_any(alloc, out, counts, End::of_ask(&ends))
+}
+
+/// Writes the line of asks that ended in one of these ways, if any did.
+fn push_asks_if_any(
+    alloc: Global,
+    out: &mut Vec<u8>,
+    counts: &Counts,
+    ends: &[End],
+) -> Result<(), AllocError>
+    ensures { OnOk result (out.new.items ≡ out.old.items ++ asks_if_any counts.now ends.now) }
+{
+    if counts.total(ends) == 0 {
+        return Ok(());
+    }
+    push_port(alloc, out, "ask_http:", counts, ends)
 }
 
 /// Writes the number of datagrams of a port that ended in each of these ways, if any did.

@@ -8,14 +8,15 @@ use rld_look::Look;
 use rld_values::{push_decimal, push_text};
 use std::alloc::AllocError;
 
-/// Writes the histograms of both ports.
+/// Writes the histograms of both ports, and of asks.
 #[tactic(auto, unfolding(crate::specs::Metrics::times_text))]
 pub(crate) fn push_times_text(out: &mut Vec<u8>, look: &Look) -> Result<(), AllocError>
     ensures { OnOk result (out.new.items ≡ out.old.items ++ times_text look.entry.now) }
 {
     push_times_head(out)?;
     push_times(out, "auth", &look.auth_times)?;
-    push_times(out, "acct", &look.acct_times)
+    push_times(out, "acct", &look.acct_times)?;
+    push_times(out, "ask_http", &look.ask_times)
 }
 
 /// Writes the head of the histograms.

@@ -173,6 +173,7 @@ is_request service port moment origin peer datagram detailed request moved from 
       kind = held.kind;
       detail = ap (λ s. detail_of service.config port s datagram) (sym source) ∙ detail
           ∙ ap (λ (d : Detail). Some d) (sym held.detail);
+      subject = held.subject;
       move = move;
       answer = record {
         fields = fields_of detailed.prepared.packet;

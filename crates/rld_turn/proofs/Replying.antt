@@ -23,13 +23,15 @@ use Rattle.rld_turn.specs.Entered.{AreEntered, IsEntered, IsRequest}
 use Rattle.rld_turn.specs.Moves.{decided}
 use Rattle.rld_turn.specs.Recorded.{HasDecided, is_recorded}
 use Rattle.rsl_wire.specs.Packet.{packet_of}
+use Rattle.rld_turn.specs.Subject.{subject_in, subject_of}
 use Rattle.rld_turn.specs.Told.{AreNumbersOf, HasTold, IsSentAs, Told, told_of}
-use Rattle.rld_turn.specs.Present.{ServiceSeen, origin_of, source_of}
+use Rattle.rld_turn.specs.Present.{ServiceSeen, meaning_of, origin_of, source_of}
 use Rattle.rld_turn.specs.Turned.{IsAnsweredBy, Turned, bare_told, request_told, NoneYet, ThenDropped, ThenRefused, ThenUnrecorded, ThenBare, ThenAnswered}
 use Rattle.rld_turn.specs.declared.ends.End.{End}
 use Rattle.rld_turn.specs.declared.ends.End.TheVariants as ends
 use Rattle.rld_turn.specs.declared.ends.Ends.{Ends}
 use Rattle.rld_turn.specs.declared.origin.Origin.{Origin}
+use Rattle.rld_turn.specs.declared.subject.Subject.{Subject}
 use Rattle.rld_turn.specs.declared.request.Entry.{Entry}
 use Rattle.rld_turn.specs.declared.request.Entry.TheVariants.{Dropped, Refused, Bare, Moved}
 use Rattle.rld_turn.specs.declared.request.Request.{Request}
@@ -93,8 +95,10 @@ told_of_request : (service : ServiceSeen) (port : Port) (moment : ℕ) (told : L
     ≡ told ++ request_told service port one other ∷ []
 told_of_request service port moment told one moved request end other waits is =
     same_told service.config told request.origin (origin_of service one.peer) request.octets.items one.octets
-    (Some request.detail) (detail_of service.config port (source_of service one.peer) one.octets) end other
-    waits.origin (sym (ap (λ (d : PeerDatagram). d.octets) waits.is)) (sym waits.detail) is
+    (Some request.detail) (detail_of service.config port (source_of service one.peer) one.octets)
+    (Some request.subject) (subject_in (meaning_of service port one)) end other
+    waits.origin (sym (ap (λ (d : PeerDatagram). d.octets) waits.is)) (sym waits.detail)
+    (ap (λ (s : Subject). Some s) waits.subject ∙ sym (ap subject_in waits.understood)) is
 
 -- the decision on the move of an entry is that of the books at that point
 decided_by : (service : ServiceSeen) (port : Port) (moment : ℕ) (begun : List BooksSeen)
@@ -121,12 +125,12 @@ turned_more : (service : ServiceSeen) (port : Port) (moment : ℕ) (decisions : 
     → Turned service port moment (is_recorded decisions) begun told done batch sent
     → Turned service port moment (is_recorded decisions) begun (told ++ told_by service.config entry end ∷ []) (done ++ one ∷ []) next (sent ++ sent_by service decisions entry)
 turned_more service port moment decisions begun told done rest batch next moves sent one (Dropped origin cause) others end decides ended (from, named, left_so) left turned =
-    lists service port moment (is_recorded decisions) begun (told ++ bare_told service one (ends.Dropped cause) ∷ []) (told ++ told_of service.config origin [] None end ∷ []) (done ++ one ∷ []) batch next sent (sent ++ [])
-    (same_told service.config told origin (origin_of service one.peer) [] [] None None end (ends.Dropped cause) from refl refl ended) left_so (append-nil sent)
+    lists service port moment (is_recorded decisions) begun (told ++ bare_told service one (ends.Dropped cause) ∷ []) (told ++ told_of service.config origin [] None None end ∷ []) (done ++ one ∷ []) batch next sent (sent ++ [])
+    (same_told service.config told origin (origin_of service one.peer) [] [] None None None None end (ends.Dropped cause) from refl refl refl ended) left_so (append-nil sent)
     (ThenDropped turned one cause named)
 turned_more service port moment decisions begun told done rest batch next moves sent one (Refused origin) others end decides ended (from, refused, left_so) left turned =
-    lists service port moment (is_recorded decisions) begun (told ++ bare_told service one ends.Refused ∷ []) (told ++ told_of service.config origin [] None end ∷ []) (done ++ one ∷ []) batch next sent (sent ++ [])
-    (same_told service.config told origin (origin_of service one.peer) [] [] None None end ends.Refused from refl refl ended) left_so (append-nil sent)
+    lists service port moment (is_recorded decisions) begun (told ++ bare_told service one ends.Refused ∷ []) (told ++ told_of service.config origin [] None None end ∷ []) (done ++ one ∷ []) batch next sent (sent ++ [])
+    (same_told service.config told origin (origin_of service one.peer) [] [] None None None None end ends.Refused from refl refl refl ended) left_so (append-nil sent)
     (ThenRefused turned one refused)
 turned_more service port moment decisions begun told done rest batch next moves sent one (Bare request) others end decides ended (waits, left_so) left turned =
     let reply : PeerDatagram = reply_of service request Done in
@@ -155,8 +159,8 @@ entry_told : (config : Configuration) (entry : Entry) (end : End) (told : List T
     → AreNumbersOf (told ++ told_by config entry end ∷ [])
     (counted_end end e).dropped (counted_end end e).refused (counted_end end e).unrecorded
     (counted_end end e).answered (counted_end end e).unsent
-entry_told config (Dropped origin cause) end told e so = one_told (told_of config origin [] None end) told e so
-entry_told config (Refused origin) end told e so = one_told (told_of config origin [] None end) told e so
+entry_told config (Dropped origin cause) end told e so = one_told (told_of config origin [] None None end) told e so
+entry_told config (Refused origin) end told e so = one_told (told_of config origin [] None None end) told e so
 entry_told config (Bare request) end told e so = one_told (told_by_request config request end) told e so
 entry_told config (Moved request place) end told e so = one_told (told_by_request config request end) told e so
 

@@ -9,6 +9,7 @@ use Rattle.rld_turn.specs.declared.ends.End.{End}
 use Rattle.rld_turn.specs.declared.ends.End.TheVariants as ends
 use Rattle.rld_turn.specs.declared.ends.Ends.{Ends}
 use Rattle.rld_turn.specs.declared.origin.Origin.{Origin}
+use Rattle.rld_turn.specs.declared.subject.Subject.{Subject}
 use Rattle.rld_turn.specs.declared.watch.Ended.{Ended}
 
 -- a watcher that was not called was told nothing
@@ -29,20 +30,21 @@ more_told first then (Some start) (Some told) (Some now) before after =
 pub known_told : (config : Configuration) (ended : Ended) (old new : Option (List Told))
     → client_number config ended.origin.source.address ≡ ended.client
     → HasTold (told_as ended ∷ []) old new
-    → HasTold (told_of config ended.origin ended.octets.now ended.detail ended.end ∷ []) old new
+    → HasTold (told_of config ended.origin ended.octets.now ended.detail ended.subject ended.end ∷ []) old new
 known_told config ended old new is told =
-    subst (λ (c : Option ℕ). HasTold (record { origin = ended.origin; client = c; octets = ended.octets.now; detail = ended.detail; end = ended.end } ∷ []) old new) (sym is) told
+    subst (λ (c : Option ℕ). HasTold (record { origin = ended.origin; client = c; octets = ended.octets.now; detail = ended.detail; subject = ended.subject; end = ended.end } ∷ []) old new) (sym is) told
 
--- a datagram is told of by equal origins, octets, details and ends
+-- a datagram is told of by equal origins, octets, details, subjects and ends
 pub same_told : (config : Configuration) (told : List Told) (from origin : Origin) (octets bytes : List ℕ)
-    (detail particular : Option Detail) (end other : End)
-    → from ≡ origin → octets ≡ bytes → detail ≡ particular → end ≡ other
-    → told ++ told_of config from octets detail end ∷ [] ≡ told ++ told_of config origin bytes particular other ∷ []
-same_told config told from origin octets bytes detail particular end other i j k l =
-    ap (λ (o : Origin). told ++ told_of config o octets detail end ∷ []) i
-    ∙ ap (λ (o : List ℕ). told ++ told_of config origin o detail end ∷ []) j
-    ∙ ap (λ (d : Option Detail). told ++ told_of config origin bytes d end ∷ []) k
-    ∙ ap (λ (e : End). told ++ told_of config origin bytes particular e ∷ []) l
+    (detail particular : Option Detail) (subject whom : Option Subject) (end other : End)
+    → from ≡ origin → octets ≡ bytes → detail ≡ particular → subject ≡ whom → end ≡ other
+    → told ++ told_of config from octets detail subject end ∷ [] ≡ told ++ told_of config origin bytes particular whom other ∷ []
+same_told config told from origin octets bytes detail particular subject whom end other i j k m l =
+    ap (λ (o : Origin). told ++ told_of config o octets detail subject end ∷ []) i
+    ∙ ap (λ (o : List ℕ). told ++ told_of config origin o detail subject end ∷ []) j
+    ∙ ap (λ (d : Option Detail). told ++ told_of config origin bytes d subject end ∷ []) k
+    ∙ ap (λ (s : Option Subject). told ++ told_of config origin bytes particular s end ∷ []) m
+    ∙ ap (λ (e : End). told ++ told_of config origin bytes particular whom e ∷ []) l
 
 -- ---- numbers
 

@@ -56,12 +56,12 @@ IsEndOf (Some decisions) (Moved request place) end =
 -- what a watcher learns of a request with this end
 abbrev pub told_by_request : Configuration → Request → End → Told
 told_by_request config request end =
-    told_of config request.origin request.octets.items (Some request.detail) end
+    told_of config request.origin request.octets.items (Some request.detail) (Some request.subject) end
 
 -- what a watcher learns of an entry with this end
 abbrev pub told_by : Configuration → Entry → End → Told
-told_by config (Dropped origin cause) end = told_of config origin [] None end
-told_by config (Refused origin) end = told_of config origin [] None end
+told_by config (Dropped origin cause) end = told_of config origin [] None None end
+told_by config (Refused origin) end = told_of config origin [] None None end
 told_by config (Bare request) end = told_by_request config request end
 told_by config (Moved request place) end = told_by_request config request end
 

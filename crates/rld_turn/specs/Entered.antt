@@ -11,6 +11,7 @@ use Rattle.rsl_shard.specs.declared.moved.Move.{Move}
 use Rattle.rsl_wire.specs.Packet.{Fields, packet_of}
 use Rattle.rld_turn.specs.Moves.{move_of}
 use Rattle.rld_turn.specs.Present.{ServiceSeen, meaning_of, origin_of, peer_datagram, source_of}
+use Rattle.rld_turn.specs.Subject.{subject_of}
 use Rattle.rld_turn.specs.Turned.{IsRefused}
 use Rattle.rld_turn.specs.declared.origin.Origin.{Origin}
 use Rattle.rld_turn.specs.declared.peer_port.PeerDatagram.{PeerDatagram}
@@ -26,6 +27,7 @@ pub record IsMadeOf (origin : Origin) (octets : List ℕ) (detailed : Detailed) 
   pub client : request.client ≡ detailed.prepared.client
   pub kind : request.kind ≡ kind_of detailed.prepared.meaning
   pub detail : request.detail ≡ detailed.detail
+  pub subject : request.subject ≡ subject_of detailed.prepared.meaning
   pub draft : request.draft ≡ record { id = detailed.prepared.packet.id; attributes = [] }
 
 -- an answer can be made to a request: to its client's packet, with the kind of its meaning
@@ -46,6 +48,7 @@ pub record IsRequest (service : ServiceSeen) (port : Port) (moment : ℕ) (taken
   pub kind : request.kind ≡ kind_of meant
   pub detail : detail_of service.config port (source_of service taken.peer) taken.octets
       ≡ Some request.detail
+  pub subject : request.subject ≡ subject_of meant
   pub move : move_of service.config moment meant ≡ moved
   pub answer : CanAnswer service.config request
 

@@ -3,6 +3,7 @@ pub mod Received
 pub mod Moves
 pub mod Recorded
 pub mod Counted
+pub mod Subject
 pub mod Told
 pub mod Turned
 pub mod Served

@@ -6,15 +6,17 @@ use Rattle.rsl_event.specs.declared.words.Said.{Said}
 use Rattle.rld_turn.specs.declared.ends.End.{End}
 use Rattle.rld_turn.specs.declared.ends.End.TheVariants.{Dropped, Refused, Unrecorded, Answered, Unsent}
 use Rattle.rld_turn.specs.declared.origin.Origin.{Origin}
+use Rattle.rld_turn.specs.declared.subject.Subject.{Subject}
 use Rattle.rld_turn.specs.declared.watch.Ended.{Ended}
 
--- the origin of a datagram, the client that has its source's address, its octets and its detail, or
--- none of either, and its end
+-- the origin of a datagram, the client that has its source's address, its octets, its detail and its
+-- subject, or none of these, and its end
 pub record Told : Type 0 where
   pub origin : Origin
   pub client : Option ℕ
   pub octets : List ℕ
   pub detail : Option Detail
+  pub subject : Option Subject
   pub end : End
 
 -- what a watcher learns, without the address of the octets
@@ -24,16 +26,18 @@ told_as ended = record {
   client = ended.client;
   octets = ended.octets.now;
   detail = ended.detail;
+  subject = ended.subject;
   end = ended.end;
 }
 
 -- what a watcher learns of a datagram of this origin
-abbrev pub told_of : Configuration → Origin → (octets : List ℕ) → Option Detail → End → Told
-told_of config origin octets detail end = record {
+abbrev pub told_of : Configuration → Origin → (octets : List ℕ) → Option Detail → Option Subject → End → Told
+told_of config origin octets detail subject end = record {
   origin = origin;
   client = client_number config origin.source.address;
   octets = octets;
   detail = detail;
+  subject = subject;
   end = end;
 }
 

@@ -16,6 +16,7 @@ use Rattle.rld_store.specs.Recorded.{RecordedSeen}
 use Rattle.rld_turn.specs.Moves.{decided, move_of}
 use Rattle.rld_turn.specs.Present.{ServiceSeen, meaning_of, origin_of, source_of}
 use Rattle.rld_turn.specs.Recorded.{IsOf, books_before, is_recorded, made}
+use Rattle.rld_turn.specs.Subject.{subject_in}
 use Rattle.rld_turn.specs.Told.{AreNumbersOf, HasTold, IsSentAs, Told, told_of}
 use Rattle.rld_turn.specs.declared.ends.End.{End}
 use Rattle.rld_turn.specs.declared.ends.End.TheVariants as ends
@@ -24,13 +25,14 @@ use Rattle.rld_turn.specs.declared.peer_port.PeerDatagram.{PeerDatagram}
 
 -- what a watcher learns of a datagram of which nothing but its origin is kept
 abbrev pub bare_told : ServiceSeen → PeerDatagram → End → Told
-bare_told service one end = told_of service.config (origin_of service one.peer) [] None end
+bare_told service one end = told_of service.config (origin_of service one.peer) [] None None end
 
 -- what a watcher learns of a request
 abbrev pub request_told : ServiceSeen → Port → PeerDatagram → End → Told
 request_told service port one end =
     told_of service.config (origin_of service one.peer) one.octets
-    (detail_of service.config port (source_of service one.peer) one.octets) end
+    (detail_of service.config port (source_of service one.peer) one.octets)
+    (subject_in (meaning_of service port one)) end
 
 -- a datagram has a meaning, but was refused memory: nothing of it is recorded or sent
 pub record IsRefused (service : ServiceSeen) (port : Port) (taken : PeerDatagram) : Type 0 where

@@ -126,7 +126,7 @@ impl Turner<'_> {
 
     /// Notes the end of a datagram of which nothing but its origin was kept.
     fn tell_bare<W: Watch>(&self, origin: Origin, end: End, watch: &mut W)
-        ensures { HasTold (told_of self.now.present.config.now origin [] None end ∷ [])
+        ensures { HasTold (told_of self.now.present.config.now origin [] None None end ∷ [])
             (W.told watch.old) (W.told watch.new) }
     {
         let ended = Ended {
@@ -134,6 +134,7 @@ impl Turner<'_> {
             client: self.present.config.client(origin.source.address),
             octets: &[],
             detail: None,
+            subject: None,
             end,
         };
         self.tell(ended, watch);
@@ -150,6 +151,7 @@ impl Turner<'_> {
             client: Some(request.client),
             octets: request.octets.as_slice(),
             detail: Some(request.detail),
+            subject: Some(request.subject),
             end,
         };
         self.tell(ended, watch);
@@ -160,7 +162,7 @@ impl Turner<'_> {
         requires { client_number self.now.present.config.now ended.origin.source.address
             ≡ ended.client }
         ensures { HasTold (told_of self.now.present.config.now ended.entry.origin
-            ended.entry.octets.now ended.entry.detail ended.entry.end ∷ [])
+            ended.entry.octets.now ended.entry.detail ended.entry.subject ended.entry.end ∷ [])
             (W.told watch.old) (W.told watch.new) }
     {
         watch.note(ended);
@@ -195,6 +197,7 @@ impl Turner<'_> {
             client,
             kind,
             detail,
+            subject,
             draft,
         } = request;
         let reply = match read(octets.as_slice()) {
@@ -220,6 +223,7 @@ impl Turner<'_> {
             client: Some(client),
             octets: octets.as_slice(),
             detail: Some(detail),
+            subject: Some(subject),
             end,
         };
         self.tell(ended, watch);

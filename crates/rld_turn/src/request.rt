@@ -3,6 +3,7 @@ ghost use Rattle.rld_turn.specs.Entered.{IsMadeOf};
 
 use crate::origin::Origin;
 use crate::room::Room;
+use crate::subject::Subject;
 use rsl_event::{Detail, Detailed, Dropped, MeaningKind, room_in};
 use rsl_wire::{Draft, NoMemory};
 
@@ -19,6 +20,8 @@ pub(crate) struct Request {
     pub(crate) kind: MeaningKind,
     /// What counters and log lines say of it besides.
     pub(crate) detail: Detail,
+    /// Whom it concerns.
+    pub(crate) subject: Subject,
     /// The draft of the answer.
     pub(crate) draft: Draft,
 }
@@ -68,6 +71,7 @@ impl Request {
             client: detailed.prepared.client,
             kind: detailed.prepared.meaning.kind(),
             detail: detailed.detail,
+            subject: Subject::of(&detailed.prepared.meaning),
             draft,
         })
     }

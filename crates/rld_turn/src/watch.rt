@@ -2,6 +2,7 @@
 
 use crate::ends::End;
 use crate::origin::Origin;
+use crate::subject::Subject;
 use rsl_event::Detail;
 
 /// What a watcher learns of a datagram.
@@ -15,6 +16,8 @@ pub struct Ended<'a> {
     pub octets: &'a [u8],
     /// What else was read of it. A datagram that was dropped or refused memory has none here.
     pub detail: Option<Detail>,
+    /// Whom it concerns. A datagram that was dropped or refused memory has none here.
+    pub subject: Option<Subject>,
     /// How it ended.
     pub end: End,
 }

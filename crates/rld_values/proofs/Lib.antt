@@ -1,2 +1,4 @@
+pub mod Callers
 mod Fronts
+pub mod Pieces
 mod ReadingBack

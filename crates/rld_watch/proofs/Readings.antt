@@ -5,13 +5,13 @@ use Rattle.std.proofs.lemmas.List.Concat.{flat_map-append}
 use Rattle.std.proofs.lemmas.List.Elements.{All-from_recursion}
 use Rattle.std.specs.List.{flat_map}
 use Rattle.std.specs.Prelude.{if◌then◌else◌}
-use Rattle.rsl_event.specs.declared.meaning.Port.{Port}
+use Rattle.rld_watch.specs.declared.gate.Gate.{Gate}
 use Rattle.rld_counts.specs.Cell.{CellSeen, HasCounted}
 use Rattle.rld_counts.specs.Counts.{counts_of}
 use Rattle.rld_counts.specs.declared.end.End.{End}
 use Rattle.rld_counts.specs.declared.ended.Ended.{Ended}
 use Rattle.rld_watch.specs.Counted.{for_clients}
-use Rattle.rld_watch.specs.Reading.{HaveCounted, all_ends, all_of, is_same_port, shown}
+use Rattle.rld_watch.specs.Reading.{HaveCounted, all_ends, all_of, is_same_gate, shown}
 use Rattle.rld_watch.specs.declared.reading.Reading.{Reading}
 
 -- the lists of the first elements, and that of one more
@@ -30,41 +30,41 @@ had_counted had readings i reading within is have =
     subst (λ (one : Reading). HasCounted (had one) one.counted.cell) (sym is)
     (All-from_recursion (λ (one : Reading). HasCounted (had one) one.counted.cell) readings have i reading within)
 
--- one that is not of the port adds nothing
-pub not_shown : (port : Port) (clients : ℕ) (reading : Reading) (before had : List Ended) (cell : CellSeen)
-    → is_same_port reading.port port ≡ false
-    → HasCounted before cell → HasCounted (before ++ shown port clients reading had) cell
-not_shown port clients reading before had cell other counted =
+-- one that is not of the gate adds nothing
+pub not_shown : (gate : Gate) (clients : ℕ) (reading : Reading) (before had : List Ended) (cell : CellSeen)
+    → is_same_gate reading.gate gate ≡ false
+    → HasCounted before cell → HasCounted (before ++ shown gate clients reading had) cell
+not_shown gate clients reading before had cell other counted =
     subst (λ (is : Bool). HasCounted (before ++ (if is then for_clients clients reading.counted.cell had else [])) cell)
     (sym other)
     (subst (λ (all : List Ended). HasCounted all cell) (sym (append-nil before)) counted)
 
-pub is_shown : (port : Port) (clients : ℕ) (reading : Reading) (before had : List Ended) (cell : CellSeen)
-    → is_same_port reading.port port ≡ true
+pub is_shown : (gate : Gate) (clients : ℕ) (reading : Reading) (before had : List Ended) (cell : CellSeen)
+    → is_same_gate reading.gate gate ≡ true
     → HasCounted (before ++ for_clients clients reading.counted.cell had) cell
-    → HasCounted (before ++ shown port clients reading had) cell
-is_shown port clients reading before had cell same counted =
+    → HasCounted (before ++ shown gate clients reading had) cell
+is_shown gate clients reading before had cell same counted =
     subst (λ (is : Bool). HasCounted (before ++ (if is then for_clients clients reading.counted.cell had else [])) cell)
     (sym same) counted
 
 pub ruleset shown_steps = (not_shown, is_shown)
 
--- one more of the receivers of a port
-pub next_cell : (port : Port) (clients : ℕ) (readings : List Reading) (i : ℕ) (reading : Reading) (old new : CellSeen)
+-- one more of the receivers of a gate
+pub next_cell : (gate : Gate) (clients : ℕ) (readings : List Reading) (i : ℕ) (reading : Reading) (old new : CellSeen)
     → i < length readings → reading ≡ get_or readings i reading → length old.clients ≡ clients
     → ((before had : List Ended) → HasCounted before old → HasCounted had reading.counted.cell
-    → HasCounted (before ++ shown port (length old.clients) reading had) new)
+    → HasCounted (before ++ shown gate (length old.clients) reading had) new)
     → ((had : Reading → List Ended) → HaveCounted had readings
-    → HasCounted (all_of port clients had (take i readings)) old)
+    → HasCounted (all_of gate clients had (take i readings)) old)
     → (had : Reading → List Ended) → HaveCounted had readings
-    → HasCounted (all_of port clients had (take (i + 1) readings)) new
-next_cell port clients readings i reading old new within is as_many added so_far had have =
+    → HasCounted (all_of gate clients had (take (i + 1) readings)) new
+next_cell gate clients readings i reading old new within is as_many added so_far had have =
     subst (λ (all : List Ended). HasCounted all new)
-    (sym (flat_map_next (λ (one : Reading). shown port clients one (had one)) readings i reading within is))
+    (sym (flat_map_next (λ (one : Reading). shown gate clients one (had one)) readings i reading within is))
     (subst
-    (λ (n : ℕ). HasCounted (all_of port clients had (take i readings) ++ shown port n reading (had reading)) new)
+    (λ (n : ℕ). HasCounted (all_of gate clients had (take i readings) ++ shown gate n reading (had reading)) new)
     as_many
-    (added (all_of port clients had (take i readings)) (had reading) (so_far had have) (had_counted had readings i reading within is have)))
+    (added (all_of gate clients had (take i readings)) (had reading) (so_far had have) (had_counted had readings i reading within is have)))
 
 pub ruleset cell_steps = next_cell
 

@@ -1,25 +1,25 @@
 -- What is counted of a datagram, and what a look finds.
 use Rattle.std.specs.Prelude.{ℕ, ◌==◌, Bool, true, false, List, length, option_map, Option, None, if◌then◌else◌}
-use Rattle.rsl_event.specs.declared.meaning.Port.{Port}
 use Rattle.rld_counts.specs.Cell.{CellSeen, HasCounted, without_clients}
 use Rattle.rld_counts.specs.declared.ended.Ended.{Ended}
 use Rattle.rld_turn.specs.Told.{Told, is_answered}
 use Rattle.rld_watch.specs.Ending.{end_at}
+use Rattle.rld_watch.specs.declared.gate.Gate.{Gate}
 
 -- an answer's time counts if the answer was sent
 abbrev pub time_if : (is_answered : Bool) → (micros : Option ℕ) → Option ℕ
 time_if true micros = micros
 time_if false micros = None
 
--- what is counted of a datagram on a port, from what a watcher learns of it: its end there, its
+-- what is counted of a datagram at a gate, from what a watcher learns of it: its end there, its
 -- client, and the time of its answer
-abbrev pub count_of : Port → Told → (micros : Option ℕ) → Option Ended
-count_of port told micros =
+abbrev pub count_of : Gate → Told → (micros : Option ℕ) → Option Ended
+count_of gate told micros =
     option_map (λ end. record {
       end = end;
       client = told.client;
       micros = time_if (is_answered told.end) micros;
-    }) (end_at port told)
+    }) (end_at gate told)
 
 -- a cell has counted some datagrams, and nothing else
 pub record IsCount (cell : CellSeen) : Type 0 where

@@ -1,16 +1,17 @@
 -- What a count says of the datagrams counted there, by their meaning.
-use Rattle.std.specs.Prelude.{◌≡◌, ℕ, ⊤, Bool, List, [], ◌∷◌, Option, Some, None, IsSomeAnd, Ok, Err}
+use Rattle.std.specs.Prelude.{◌≡◌, ℕ, ⊤, Bool, false, List, [], ◌∷◌, Option, Some, None, IsSomeAnd, Ok, Err}
 use Rattle.rsl_event.specs.Detail.{detail_of}
 use Rattle.rsl_event.specs.Laws.{cause_in}
 use Rattle.rsl_event.specs.declared.detail.Detail.{Detail}
 use Rattle.rsl_event.specs.declared.detail.RejectCause.{RejectCause}
 use Rattle.rsl_event.specs.declared.detail.RejectCause.TheVariants as causes
-use Rattle.rsl_event.specs.declared.event.Act.TheVariants.{Ask}
+use Rattle.rsl_event.specs.declared.event.Act.TheVariants as acts
 use Rattle.rsl_event.specs.declared.event.Key.{Key}
 use Rattle.rsl_event.specs.declared.meaning.Dropped.{Dropped}
 use Rattle.rsl_event.specs.declared.meaning.Dropped.TheVariants as drops
 use Rattle.rsl_event.specs.declared.meaning.Meaning.{Meaning}
-use Rattle.rsl_event.specs.declared.meaning.Meaning.TheVariants.{Bare, Reject, Own}
+use Rattle.rsl_event.specs.declared.meaning.Meaning.TheVariants.{Bare, Reject, Own, Stray}
+use Rattle.rsl_event.specs.declared.meaning.Note.{Note}
 use Rattle.rsl_event.specs.declared.meaning.Port.{Port}
 use Rattle.rsl_event.specs.declared.meaning.Port.TheVariants as ports
 use Rattle.rsl_event.specs.declared.nas.Nas.{Nas}
@@ -20,15 +21,20 @@ use Rattle.rsl_shard.specs.Restep.{BooksSeen}
 use Rattle.rsl_shard.specs.declared.moved.Move.{Move}
 use Rattle.rld_counts.specs.declared.acct_end.AcctEnd.{AcctEnd}
 use Rattle.rld_counts.specs.declared.acct_end.AcctEnd.TheVariants as acct
+use Rattle.rld_counts.specs.declared.ask_end.AskEnd.{AskEnd}
+use Rattle.rld_counts.specs.declared.ask_end.AskEnd.TheVariants as ask
 use Rattle.rld_counts.specs.declared.auth_end.AuthEnd.{AuthEnd}
 use Rattle.rld_counts.specs.declared.auth_end.AuthEnd.TheVariants as auth
 use Rattle.rld_counts.specs.declared.end.End.{End}
-use Rattle.rld_counts.specs.declared.end.End.TheVariants.{Auth, Acct}
+use Rattle.rld_counts.specs.declared.end.End.TheVariants.{Auth, Acct, Ask}
 use Rattle.rld_turn.specs.Told.{Told}
 use Rattle.rld_turn.specs.Present.{ServiceSeen, meaning_of, source_of}
+use Rattle.rld_turn.specs.Subject.{subject_in}
 use Rattle.rld_turn.specs.Turned.{Turned}
 use Rattle.rld_turn.specs.declared.peer_port.PeerDatagram.{PeerDatagram}
-use Rattle.rld_watch.specs.Ending.{end_at, status_in}
+use Rattle.rld_watch.specs.Ending.{end_at, is_nobody, port_of, status_in}
+use Rattle.rld_watch.specs.declared.gate.Gate.{Gate}
+use Rattle.rld_watch.specs.declared.gate.Gate.TheVariants as gates
 
 -- a datagram has no meaning at a port, for this cause
 abbrev pub IsDroppedBy : ServiceSeen → Port → PeerDatagram → Dropped → Type 0
@@ -53,7 +59,7 @@ pub record Asks (service : ServiceSeen) (one : PeerDatagram) : Type 0 where
   pub account : ℕ
   pub key : Key
   pub nas : Nas
-  pub means : Means service ports.Auth one (Own account (Ask key nas))
+  pub means : Means service ports.Auth one (Own account (acts.Ask key nas))
 
 -- a datagram is well formed, and rejected for this cause
 pub record IsRejectedFor (service : ServiceSeen) (one : PeerDatagram) (cause : RejectCause) : Type 0 where
@@ -64,6 +70,17 @@ pub record IsRejectedFor (service : ServiceSeen) (one : PeerDatagram) (cause : R
 pub record HasStatus (service : ServiceSeen) (one : PeerDatagram) (status : Option Status) : Type 0 where
   pub meaning : HasMeaning service ports.Acct one
   pub is_status : status_in (detail_at service ports.Acct one) ≡ status
+
+-- it is of this status, and stands for somebody
+pub record IsOfSome (service : ServiceSeen) (one : PeerDatagram) (status : Status) : Type 0 where
+  pub has_status : HasStatus service one (Some status)
+  pub is_known : is_nobody (subject_in (meaning_of service ports.Acct one)) ≡ false
+
+-- it is of this status, and stray: no account has its User-Name
+pub record IsOfNone (service : ServiceSeen) (one : PeerDatagram) (status : Status) : Type 0 where
+  pub note : Note
+  pub means : Means service ports.Acct one (Stray note)
+  pub is_status : status_in (detail_at service ports.Acct one) ≡ Some status
 
 -- what an end at the authentication port says of a datagram
 abbrev pub AuthSays : ServiceSeen → PeerDatagram → AuthEnd → Type 0
@@ -103,31 +120,48 @@ AcctSays service one acct.NoSession = IsDroppedBy service ports.Acct one drops.N
 AcctSays service one acct.Refused = HasMeaning service ports.Acct one
 AcctSays service one acct.Unrecorded = HasMeaning service ports.Acct one
 AcctSays service one acct.Unsent = HasMeaning service ports.Acct one
-AcctSays service one acct.Start = HasStatus service one (Some statuses.Start)
-AcctSays service one acct.Stop = HasStatus service one (Some statuses.Stop)
-AcctSays service one acct.InterimUpdate = HasStatus service one (Some statuses.InterimUpdate)
+AcctSays service one acct.Start = IsOfSome service one statuses.Start
+AcctSays service one acct.Stop = IsOfSome service one statuses.Stop
+AcctSays service one acct.InterimUpdate = IsOfSome service one statuses.InterimUpdate
 AcctSays service one acct.AccountingOn = HasStatus service one (Some statuses.AccountingOn)
 AcctSays service one acct.AccountingOff = HasStatus service one (Some statuses.AccountingOff)
 AcctSays service one acct.OtherStatus = HasStatus service one None
+AcctSays service one acct.StartUnknown = IsOfNone service one statuses.Start
+AcctSays service one acct.StopUnknown = IsOfNone service one statuses.Stop
+AcctSays service one acct.InterimUpdateUnknown = IsOfNone service one statuses.InterimUpdate
 
--- what an end says of a datagram on a port: it is an end of that port
-abbrev pub Says : ServiceSeen → Port → PeerDatagram → End → Type 0
-Says service ports.Auth one (Auth end) = AuthSays service one end
-Says service ports.Acct one (Acct end) = AcctSays service one end
+-- what an end of an ask says of its request; no request ends as one that was refused unread
+abbrev pub AskSays : ServiceSeen → PeerDatagram → AskEnd → Type 0
+AskSays service one ask.Unauthorized = ⊥
+AskSays service one ask.BadRequest = ⊥
+AskSays service one ask.Refused = HasMeaning service ports.Auth one
+AskSays service one ask.Unrecorded = HasMeaning service ports.Auth one
+AskSays service one ask.Unsent = HasMeaning service ports.Auth one
+AskSays service one ask.Unserved = ⊤
+AskSays service one ask.Accept = Asks service one
+AskSays service one ask.LimitReject = Asks service one
+AskSays service one ask.UnknownAccount = IsRejectedFor service one causes.UnknownAccount
+AskSays service one ask.DisabledAccount = IsRejectedFor service one causes.DisabledAccount
+
+-- what an end says of a datagram at a gate: it is an end of that gate
+abbrev pub Says : ServiceSeen → Gate → PeerDatagram → End → Type 0
+Says service gates.Auth one (Auth end) = AuthSays service one end
+Says service gates.Acct one (Acct end) = AcctSays service one end
+Says service gates.Ask one (Ask end) = AskSays service one end
 Says service _ one _ = ⊥
 
 -- each of these datagrams has an end, from what a watcher learns of it, which is true of it
-abbrev pub HaveEnds : ServiceSeen → Port → (told : List Told) → (taken : List PeerDatagram) → Type 0
-HaveEnds service port [] [] = ⊤
-HaveEnds service port (told ∷ more) (one ∷ taken) =
-    IsSomeAnd (end_at port told) (Says service port one)
-    × HaveEnds service port more taken
-HaveEnds service port _ _ = ⊥
+abbrev pub HaveEnds : ServiceSeen → Gate → (told : List Told) → (taken : List PeerDatagram) → Type 0
+HaveEnds service gate [] [] = ⊤
+HaveEnds service gate (told ∷ more) (one ∷ taken) =
+    IsSomeAnd (end_at gate told) (Says service gate one)
+    × HaveEnds service gate more taken
+HaveEnds service gate _ _ = ⊥
 
 -- that holds for the datagrams of each turn
 abbrev pub EndsAreTrue : Type 0
 EndsAreTrue =
-    (service : ServiceSeen) (port : Port) (moment : ℕ) (recorded : Bool) (begun : List BooksSeen)
+    (service : ServiceSeen) (gate : Gate) (moment : ℕ) (recorded : Bool) (begun : List BooksSeen)
     (told : List Told) (taken : List PeerDatagram) (batch : List Move) (sent : List PeerDatagram)
-    → Turned service port moment recorded begun told taken batch sent
-    → HaveEnds service port told taken
+    → Turned service (port_of gate) moment recorded begun told taken batch sent
+    → HaveEnds service gate told taken

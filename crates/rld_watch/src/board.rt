@@ -1,16 +1,16 @@
 ghost use Rattle.std.specs.Prelude.{◌≡◌, All, IfOk, length, map};
 
 use crate::counted::Counted;
+use crate::gate::Gate;
 use crate::reading::Reading;
 use rld_counts::{ClientCounts, Ended};
-use rsl_event::Port;
 use std::alloc::{AllocError, Global};
 use std::sync::{Mutex, Wait};
 
 /// The counts of a receiver, under a lock.
 #[derive(Drop)]
 pub(crate) struct Place {
-    pub(crate) port: Port,
+    pub(crate) gate: Gate,
     counted: Mutex<Counted>,
 }
 
@@ -29,16 +29,16 @@ pub struct Board {
 }
 
 impl Board {
-    /// A place for each receiver, one for each of these ports, with counts of 0 for each of
+    /// A place for each receiver, one for each of these gates, with counts of 0 for each of
     /// `clients` clients. It fails only if memory is refused.
-    pub fn new(alloc: Global, clients: u32, ports: &[Port]) -> Result<Board, AllocError>
-        ensures { IfOk result (λ board. map (λ place. place.port) board.places.items ≡ ports.now) }
+    pub fn new(alloc: Global, clients: u32, gates: &[Gate]) -> Result<Board, AllocError>
+        ensures { IfOk result (λ board. map (λ place. place.gate) board.places.items ≡ gates.now) }
     {
         let mut places = Vec::new(alloc);
-        for port in ports {
+        for gate in gates {
             let counted = Counted::new(alloc, clients)?;
             places.push(Place {
-                port: *port,
+                gate: *gate,
                 counted: Mutex::new(counted),
             })?;
         }
@@ -75,8 +75,8 @@ impl Board {
         alloc: Global,
         clients: u32,
     ) -> Result<Vec<Reading>, AllocError>
-        ensures { IfOk result (λ readings. map (λ reading. reading.port) readings.items
-            ≡ map (λ place. place.port) self.now.places.items) }
+        ensures { IfOk result (λ readings. map (λ reading. reading.gate) readings.items
+            ≡ map (λ place. place.gate) self.now.places.items) }
     {
         let mut readings = Vec::new(alloc);
         for place in self.places.as_slice() {
@@ -95,12 +95,12 @@ impl Place {
     /// The counts of the receiver so far. If they are for another number of clients, the counts of
     /// each client are 0.
     fn read<R: Wait>(&self, rt: &R, alloc: Global, clients: u32) -> Result<Reading, AllocError>
-        ensures { IfOk result (λ reading. reading.port ≡ self.now.port) }
+        ensures { IfOk result (λ reading. reading.gate ≡ self.now.gate) }
     {
         let mut counted = Counted::new(alloc, clients)?;
         counted.add(&*self.counted.lock(rt));
         Ok(Reading {
-            port: self.port,
+            gate: self.gate,
             counted,
         })
     }

@@ -3,18 +3,20 @@ ghost use Rattle.rsl_event.specs.Laws.{cause_in};
 ghost use Rattle.rld_turn.specs.Told.{told_as};
 ghost use Rattle.rld_watch.specs.Ending as ending;
 
-use rld_counts::{AcctEnd, AuthEnd, End};
-use rld_turn::{End as TurnEnd, Ended};
-use rsl_event::{Detail, Dropped, Port, RejectCause, Said, Status};
+use crate::gate::Gate;
+use rld_counts::{AcctEnd, AskEnd, AuthEnd, End};
+use rld_turn::{End as TurnEnd, Ended, Subject};
+use rsl_event::{Detail, Dropped, RejectCause, Said, Status};
 
-/// How a datagram on this port is counted, from what a watcher learns of it. `None` if no datagram
-/// ends so at the port, which a receiver of the port never reports (`laws`).
-pub fn end_at(port: Port, ended: &Ended<'_>) -> Option<End>
-    ensures { result ≡ ending.end_at port (told_as ended.now) }
+/// How a datagram at this gate is counted, from what a watcher learns of it. `None` if no datagram
+/// ends so there, which a receiver of the gate never reports (`laws`).
+pub fn end_at(gate: Gate, ended: &Ended<'_>) -> Option<End>
+    ensures { result ≡ ending.end_at gate (told_as ended.now) }
 {
-    match port {
-        Port::Auth => Some(End::Auth(auth_end(cause_in(ended.detail), ended.end)?)),
-        Port::Acct => Some(End::Acct(acct_end(status_in(ended.detail), ended.end)?)),
+    match gate {
+        Gate::Auth => Some(End::Auth(auth_end(cause_in(ended.detail), ended.end)?)),
+        Gate::Acct => Some(End::Acct(acct_end(status_in(ended.detail), ended.subject, ended.end)?)),
+        Gate::Ask => Some(End::Ask(ask_end(cause_in(ended.detail), ended.end))),
     }
 }
 
@@ -102,15 +104,15 @@ fn reject_end(cause: RejectCause) -> AuthEnd
 }
 
 /// How a datagram that ended so at the accounting port is counted. `status` is that of the request,
-/// if it is known.
-fn acct_end(status: Option<Status>, end: TurnEnd) -> Option<AcctEnd>
-    ensures { result ≡ ending.acct_end status end }
+/// if it is known, and `subject` whom it concerns.
+fn acct_end(status: Option<Status>, subject: Option<Subject>, end: TurnEnd) -> Option<AcctEnd>
+    ensures { result ≡ ending.acct_end status subject end }
 {
     match end {
         TurnEnd::Dropped(dropped) => acct_drop(dropped),
         TurnEnd::Refused => Some(AcctEnd::Refused),
         TurnEnd::Unrecorded => Some(AcctEnd::Unrecorded),
-        TurnEnd::Answered(Said::Account) => Some(status_end(status)),
+        TurnEnd::Answered(Said::Account) => Some(status_end(status, subject)),
         TurnEnd::Answered(Said::Accept(_) | Said::LimitReject | Said::Reject) => None,
         TurnEnd::Unsent(_) => Some(AcctEnd::Unsent),
     }
@@ -135,16 +137,55 @@ fn acct_drop(cause: Dropped) -> Option<AcctEnd>
     }
 }
 
-/// How an answer to a request of this status is counted, or of an unknown one.
-fn status_end(status: Option<Status>) -> AcctEnd
-    ensures { result ≡ ending.status_end status }
+/// How an answer to a request of this status is counted, or of an unknown one, by whom it concerns.
+fn status_end(status: Option<Status>, subject: Option<Subject>) -> AcctEnd
+    ensures { result ≡ ending.status_end status subject }
 {
-    match status {
-        Some(Status::Start) => AcctEnd::Start,
-        Some(Status::Stop) => AcctEnd::Stop,
-        Some(Status::InterimUpdate) => AcctEnd::InterimUpdate,
-        Some(Status::AccountingOn) => AcctEnd::AccountingOn,
-        Some(Status::AccountingOff) => AcctEnd::AccountingOff,
-        None => AcctEnd::OtherStatus,
+    match (status, subject) {
+        (Some(Status::Start), Some(Subject::Nobody)) => AcctEnd::StartUnknown,
+        (Some(Status::Start), _) => AcctEnd::Start,
+        (Some(Status::Stop), Some(Subject::Nobody)) => AcctEnd::StopUnknown,
+        (Some(Status::Stop), _) => AcctEnd::Stop,
+        (Some(Status::InterimUpdate), Some(Subject::Nobody)) => AcctEnd::InterimUpdateUnknown,
+        (Some(Status::InterimUpdate), _) => AcctEnd::InterimUpdate,
+        (Some(Status::AccountingOn), _) => AcctEnd::AccountingOn,
+        (Some(Status::AccountingOff), _) => AcctEnd::AccountingOff,
+        (None, _) => AcctEnd::OtherStatus,
+    }
+}
+
+/// How an ask whose request ended so is counted. `cause` is why the request is rejected, if it is.
+fn ask_end(cause: Option<RejectCause>, end: TurnEnd) -> AskEnd
+    ensures { result ≡ ending.ask_end cause end }
+{
+    match end {
+        TurnEnd::Dropped(_) => AskEnd::Unserved,
+        TurnEnd::Refused => AskEnd::Refused,
+        TurnEnd::Unrecorded => AskEnd::Unrecorded,
+        TurnEnd::Answered(said) => ask_answer(cause, said),
+        TurnEnd::Unsent(_) => AskEnd::Unsent,
+    }
+}
+
+/// How an ask whose request was answered so is counted.
+fn ask_answer(cause: Option<RejectCause>, said: Said) -> AskEnd
+    ensures { result ≡ ending.ask_answer cause said }
+{
+    match said {
+        Said::Accept(_) => AskEnd::Accept,
+        Said::LimitReject => AskEnd::LimitReject,
+        Said::Reject => ask_reject(cause),
+        Said::Account => AskEnd::Unserved,
+    }
+}
+
+/// How an ask is counted whose request is rejected for another cause than places.
+fn ask_reject(cause: Option<RejectCause>) -> AskEnd
+    ensures { result ≡ ending.ask_reject cause }
+{
+    match cause {
+        Some(RejectCause::UnknownAccount) => AskEnd::UnknownAccount,
+        Some(RejectCause::DisabledAccount) => AskEnd::DisabledAccount,
+        _ => AskEnd::Unserved,
     }
 }

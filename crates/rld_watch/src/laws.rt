@@ -7,7 +7,8 @@ use rsl_event::laws::causes_are_of_rejects;
 /// Each datagram of a turn has an end, from what a watcher learns of it. One that is dropped is
 /// counted under the cause why it has no meaning; one that is rejected under the cause of its
 /// reject; an accepted one, and one that found no place, asks for an account with the right
-/// password; an accounting request is counted under its Acct-Status-Type.
+/// password; an accounting request is counted under its Acct-Status-Type, and apart if it is of a
+/// session whose User-Name no account has.
 pub fn ends_are_true()
     ensures { EndsAreTrue }
 {

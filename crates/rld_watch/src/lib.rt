@@ -10,11 +10,13 @@
 mod board;
 mod counted;
 mod ending;
+mod gate;
 pub mod laws;
 mod reading;
 mod watcher;
 
 pub use board::Board;
 pub use ending::end_at;
+pub use gate::Gate;
 pub use reading::{Reading, cell_of, counts_of};
 pub use watcher::{WatchContext, Watcher};

@@ -3,30 +3,30 @@
 ghost use Rattle.std.specs.Prelude.{◌≡◌, ◌++◌, IfOk, List, length};
 ghost use Rattle.rld_counts.specs.Cell.{HasCounted};
 ghost use Rattle.rld_counts.specs.declared.ended.Ended.{Ended as OneEnded};
-ghost use Rattle.rld_watch.specs.Reading.{HaveCounted, all_ends, all_of, is_same_port, shown};
+ghost use Rattle.rld_watch.specs.Reading.{HaveCounted, all_ends, all_of, is_same_gate, shown};
 ghost use Rattle.rld_watch.specs.declared.reading.Reading.{Reading as OneReading};
 
 use crate::counted::Counted;
+use crate::gate::Gate;
 use rld_counts::{Cell, Counts};
-use rsl_event::Port;
 use std::alloc::{AllocError, Global};
 
-/// The counts of a receiver at a look, and its port.
+/// The counts of a receiver at a look, and its gate.
 #[derive(Drop)]
 pub struct Reading {
-    pub(crate) port: Port,
+    pub(crate) gate: Gate,
     pub(crate) counted: Counted,
 }
 
 impl Reading {
-    /// Adds its counts, if the receiver is of this port.
-    fn add_to(&self, port: Port, all: &mut Counted)
+    /// Adds its counts, if the receiver is of this gate.
+    fn add_to(&self, gate: Gate, all: &mut Counted)
         ensures added { (before had : List OneEnded) →
             HasCounted before all.old.cell → HasCounted had self.now.counted.cell →
-            HasCounted (before ++ shown port (length all.old.cell.clients) self.now had) all.new.cell }
+            HasCounted (before ++ shown gate (length all.old.cell.clients) self.now had) all.new.cell }
         ensures clients { length all.new.cell.clients ≡ length all.old.cell.clients }
     {
-        if is_same_port(self.port, port) {
+        if is_same_gate(self.gate, gate) {
             all.add(&self.counted);
         }
     }
@@ -45,33 +45,33 @@ pub fn counts_of(readings: &[Reading]) -> Counts
     all
 }
 
-/// The sum of the counts of a port's receivers: in total, for each of `clients` clients, and of
+/// The sum of the counts of a gate's receivers: in total, for each of `clients` clients, and of
 /// times. A receiver that counts for another number of clients is only in the total counts and the
 /// times. It fails only if memory is refused.
 #[tactic(auto, using(crate::proofs::Readings::cell_steps))]
 pub fn cell_of(
     alloc: Global,
     readings: &[Reading],
-    port: Port,
+    gate: Gate,
     clients: u32,
 ) -> Result<Cell, AllocError>
     ensures counted { IfOk result (λ cell. (had : OneReading → List OneEnded) →
-        HaveCounted had readings.now → HasCounted (all_of port clients had readings.now) cell) }
+        HaveCounted had readings.now → HasCounted (all_of gate clients had readings.now) cell) }
     ensures clients { IfOk result (λ cell. length cell.clients ≡ clients) }
 {
     let mut all = Counted::new(alloc, clients)?;
     for reading in readings {
-        reading.add_to(port, &mut all);
+        reading.add_to(gate, &mut all);
     }
     Ok(all.into_cell())
 }
 
-/// Whether these are the same port.
-fn is_same_port(one: Port, other: Port) -> bool
-    ensures { result ≡ is_same_port one other }
+/// Whether these are the same gate.
+fn is_same_gate(one: Gate, other: Gate) -> bool
+    ensures { result ≡ is_same_gate one other }
 {
     match (one, other) {
-        (Port::Auth, Port::Auth) | (Port::Acct, Port::Acct) => true,
-        (Port::Auth, Port::Acct) | (Port::Acct, Port::Auth) => false,
+        (Gate::Auth, Gate::Auth) | (Gate::Acct, Gate::Acct) | (Gate::Ask, Gate::Ask) => true,
+        (Gate::Auth | Gate::Acct | Gate::Ask, _) => false,
     }
 }

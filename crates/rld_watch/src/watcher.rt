@@ -5,11 +5,11 @@ ghost use Rattle.rld_watch.specs.Noted.{IsNotedAs};
 
 use crate::board::{Board, Place};
 use crate::ending::end_at;
+use crate::gate::Gate;
 use rld_counts::{End as CountedEnd, Ended as CountedEnded};
 use rld_look::{Refusals, Refused, is_refusal};
 use rld_networks::canonical;
 use rld_turn::{End, Ended, Watch};
-use rsl_event::Port;
 use std::alloc::Global;
 use std::sync::Wait;
 use std::time::{Clock, Duration, Instant};
@@ -57,6 +57,21 @@ impl<'a, R: Wait + Clock> Watcher<'a, R> {
         })
     }
 
+    /// Counts requests that were refused before they came to a turn: `number` of them, with this end
+    /// and of no client. They get no lines.
+    pub fn count_unread(&self, end: CountedEnd, number: u64) {
+        for _ in 0..number {
+            self.place.note(
+                self.rt,
+                CountedEnded {
+                    end,
+                    client: None,
+                    micros: None,
+                },
+            );
+        }
+    }
+
     /// The time of the turn so far in microseconds, if the clock can be read.
     fn micros(&self) -> Option<u64> {
         let begun = self.begun?;
@@ -92,7 +107,7 @@ impl<R: Wait + Clock> Watch for Watcher<'_, R> {
 
     fn note(&mut self, ended: Ended<'_>) {
         let micros = self.micros();
-        if let Some(counted) = count_of(self.place.port, &ended, micros) {
+        if let Some(counted) = count_of(self.place.gate, &ended, micros) {
             self.place.note(self.rt, counted);
             self.note_refusal(&ended, counted.end);
         }
@@ -113,12 +128,12 @@ fn refused_as<'b>(moment: u64, ended: &Ended<'b>, end: CountedEnd) -> Refused<'b
     }
 }
 
-/// What is counted of a datagram that came to this port, by what a watcher learns of it, if its
+/// What is counted of a datagram that came to this gate, by what a watcher learns of it, if its
 /// answer took `micros` microseconds. There is always something, as `laws` says.
-fn count_of(port: Port, ended: &Ended<'_>, micros: Option<u64>) -> Option<CountedEnded>
-    ensures { result ≡ count_of port (told_as ended.now) micros }
+fn count_of(gate: Gate, ended: &Ended<'_>, micros: Option<u64>) -> Option<CountedEnded>
+    ensures { result ≡ count_of gate (told_as ended.now) micros }
 {
-    let end = end_at(port, ended)?;
+    let end = end_at(gate, ended)?;
     Some(CountedEnded {
         end,
         client: ended.client,

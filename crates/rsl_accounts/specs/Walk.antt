@@ -47,7 +47,7 @@ secret_len_fault version length = fault_unless (nat_le (least_secret version) le
 abbrev pub trust_fault : (signed trusted : Bool) → Option ConfigFault
 trust_fault signed trusted = fault_unless (signed || not trusted) field.Trusted
 
--- the fault of reply attributes of so many octets
+-- the fault of reply attributes whose length is `len`
 abbrev pub reply_len_fault : (version length : ℕ) → Option ConfigFault
 reply_len_fault version length = fault_unless (nat_le length (reply_room version)) field.Reply
 

@@ -60,8 +60,8 @@ impl Part {
         }
     }
 
-    /// Whether the table may have this key.
-    pub(crate) fn knows(self, name: &str) -> bool
+    /// Whether the table may have a key of this name, in version 3.
+    pub fn knows(self, name: &str) -> bool
         ensures { result ≡ knows self name.now }
     {
         self.fields().iter().any(|field| name == field.key())

@@ -164,7 +164,7 @@ pub(crate) fn check_secret_len(version: u64, len: usize) -> Result<(), ConfigFau
     Ok(())
 }
 
-/// `BadValue` of reply attributes of so many octets that the version has no room for them.
+/// Checks the length of an account's reply attributes. `BadValue`: the version has no room for them.
 pub(crate) fn check_reply_len(version: u64, len: usize) -> Result<(), ConfigFault>
     ensures { result_err result ≡ reply_len_fault version len }
 {

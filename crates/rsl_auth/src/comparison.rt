@@ -1,11 +1,11 @@
-//! Comparison of digests and passwords without an early exit: its time is not to tell where they
+//! Comparison of digests, passwords and tokens without an early exit: its time is not to tell where they
 //! differ. No clause speaks of time, and a compiler may change it.
 ghost use Rattle.std.specs.Prelude.{◌≡◌, ◌↔◌, length};
 ghost use Rattle.std.specs.Str.{bytes_eq};
 
 /// Whether two lists of octets are equal. If they have one length, every octet is compared,
 /// wherever the first difference is.
-pub(crate) fn same_octets(octets: &[u8], others: &[u8]) -> bool
+pub fn same_octets(octets: &[u8], others: &[u8]) -> bool
     ensures { result ≡ bytes_eq octets.now others.now }
 {
     octets.len() == others.len() && differing_bits(octets, others) == 0

@@ -14,6 +14,7 @@ mod signature;
 
 pub use authenticator::{accounting_ok, seal, sealed};
 pub use chap::{CHAP_PASSWORD_LEN, chap_ok, chap_response};
+pub use comparison::same_octets;
 pub use hmac::{HmacKey, hmac_md5};
 pub use password::{MAX_PASSWORD_LEN, hide, pap_ok};
 pub use signature::{SIGNATURE_LEN, sign, signature_ok};

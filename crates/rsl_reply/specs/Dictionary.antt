@@ -35,3 +35,29 @@ value_in (row ∷ rows) number name =
 -- the number that this name stands for in an attribute of this Type
 unfoldable pub value_named : (number : ℕ) → (name : List ℕ) → Option ℕ
 value_named = value_in (map (λ row. (row.0, row.1.now, row.2)) VALUE_NAMES)
+
+-- ---- the way back
+
+-- the name and the form of the first row with these numbers
+abbrev pub name_in : List Row → (vendor number : ℕ) → Option (List ℕ × Form)
+name_in [] vendor number = None
+name_in (row ∷ rows) vendor number =
+    if row.1 == vendor && row.2 == number
+    then Some (row.0, row.3)
+    else name_in rows vendor number
+
+-- the name of the attribute with these numbers, and how its values are written
+unfoldable pub name_of : (vendor number : ℕ) → Option (List ℕ × Form)
+name_of = name_in (map (λ row. (row.0.now, row.1, row.2, row.3)) DICTIONARY)
+
+-- the name of the first row with this Type and this number
+abbrev pub value_name_in : List ValueRow → (number value : ℕ) → Option (List ℕ)
+value_name_in [] number value = None
+value_name_in (row ∷ rows) number value =
+    if row.0 == number && row.2 == value
+    then Some row.1
+    else value_name_in rows number value
+
+-- the name of this number in an attribute of this Type
+unfoldable pub name_of_value : (number value : ℕ) → Option (List ℕ)
+name_of_value = value_name_in (map (λ row. (row.0, row.1.now, row.2)) VALUE_NAMES)

@@ -2,7 +2,8 @@
 //!
 //! The promise: `read_attribute` gives exactly the octets that `specs/Reading.antt` has for a text, or
 //! its fault. Names are those of `src/dictionary.rt`, which is the one table of them, or `Attr-N` and
-//! `Attr-26.VENDOR.TYPE`; what a value is for each form stands in `specs/Value.antt`.
+//! `Attr-26.VENDOR.TYPE`; what a value is for each form stands in `specs/Value.antt`. `name_of` and
+//! `name_of_value` find the names that the same table has for numbers.
 #![tactic(auto)]
 
 mod dictionary;
@@ -17,4 +18,5 @@ mod words;
 
 pub use fault::ReplyFault;
 pub use form::Form;
+pub use lookup::{name_of, name_of_value};
 pub use reading::read_attribute;

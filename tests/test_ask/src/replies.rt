@@ -10,8 +10,15 @@ use test_rows::{Subject, check_rows, octets_of, printed};
 const ACCEPT: &str = "0201005f00000000000000000000000000000000501200000000000000000000000000000000\
 1912000102030405060708090a0b0c0d0e0f3e06000000010606000000020706000000011b0600000e101c060000025855060000012c210370";
 
-/// An accept with others: a short Class, a Filter-Id and a Port-Limit of two octets.
-const OTHERS: &str = "02010021000000000000000000000000000000001903ab0b06676f6c643e040001";
+/// An accept with others: a short Class, a Filter-Id, a Port-Limit of two octets, and an address.
+const OTHERS: &str =
+    "02010027000000000000000000000000000000001903ab0b06676f6c643e0400010806c0000207";
+
+/// An accept with names that come twice: Cisco-AVPair `a=b`, Framed-Route `192.0.2.0/24`, Cisco-AVPair `c`,
+/// Session-Timeout 1, Framed-Route `x`, Session-Timeout 2, Tunnel-Type 3 with the tags 1 and 2.
+const TWICE: &str =
+    "02010051000000000000000000000000000000001a0b000000090105613d62160e3139322e302e322e302f32341a09000000090103631b\
+06000000011603781b0600000002400601000003400602000003";
 
 /// A reject without attributes.
 const REJECT: &str = "0301001400000000000000000000000000000000";
@@ -34,13 +41,22 @@ fn an_accept_is_read_as_json(rt: HostRuntime) -> Result<(), Fail> {
     let alloc = rt.alloc();
     let rows = format!(in alloc;
         "
-        what the server gives | {ACCEPT} | {{\"reply:Class\":{{\"op\":\"+=\",\"do_xlat\":false,\"value\":\"0x000102030405060708090a0b0c0d0e0f\"}},\
-          \"reply:Port-Limit\":{{\"do_xlat\":false,\"value\":1}},\"reply:Service-Type\":{{\"do_xlat\":false,\"value\":2}},\
-          \"reply:Framed-Protocol\":{{\"do_xlat\":false,\"value\":1}},\"reply:Session-Timeout\":{{\"do_xlat\":false,\"value\":3600}},\
-          \"reply:Idle-Timeout\":{{\"do_xlat\":false,\"value\":600}},\"reply:Acct-Interim-Interval\":{{\"do_xlat\":false,\"value\":300}}}}
-        others | {OTHERS} | {{\"reply:Class\":{{\"op\":\"+=\",\"do_xlat\":false,\"value\":\"0xab\"}},\
-          \"reply:Attr-11\":{{\"op\":\"+=\",\"do_xlat\":false,\"value\":\"0x676f6c64\"}},\
-          \"reply:Port-Limit\":{{\"op\":\"+=\",\"do_xlat\":false,\"value\":\"0x0001\"}}}}
+        what the server gives | {ACCEPT} | {{\"reply:Class\":{{\"op\":\"+=\",\"do_xlat\":false,\"value\":[\"0x000102030405060708090a0b0c0d0e0f\"]}},\
+          \"reply:Port-Limit\":{{\"do_xlat\":false,\"value\":[\"1\"]}},\
+          \"reply:Service-Type\":{{\"do_xlat\":false,\"value\":[\"Framed-User\"]}},\
+          \"reply:Framed-Protocol\":{{\"do_xlat\":false,\"value\":[\"PPP\"]}},\
+          \"reply:Session-Timeout\":{{\"do_xlat\":false,\"value\":[\"3600\"]}},\
+          \"reply:Idle-Timeout\":{{\"do_xlat\":false,\"value\":[\"600\"]}},\
+          \"reply:Acct-Interim-Interval\":{{\"do_xlat\":false,\"value\":[\"300\"]}}}}
+        others | {OTHERS} | {{\"reply:Class\":{{\"op\":\"+=\",\"do_xlat\":false,\"value\":[\"0xab\"]}},\
+          \"reply:Filter-Id\":{{\"op\":\"+=\",\"do_xlat\":false,\"value\":[\"gold\"]}},\
+          \"reply:Attr-62\":{{\"do_xlat\":false,\"value\":[\"0x0001\"]}},\
+          \"reply:Framed-IP-Address\":{{\"do_xlat\":false,\"value\":[\"192.0.2.7\"]}}}}
+        names that come twice | {TWICE} | {{\"reply:Cisco-AVPair\":{{\"op\":\"+=\",\"do_xlat\":false,\"value\":[\"a=b\",\"c\"]}},\
+          \"reply:Framed-Route\":{{\"op\":\"+=\",\"do_xlat\":false,\"value\":[\"192.0.2.0/24\",\"x\"]}},\
+          \"reply:Session-Timeout\":{{\"do_xlat\":false,\"value\":[\"1\",\"2\"]}},\
+          \"reply:Tunnel-Type:1\":{{\"op\":\"+=\",\"do_xlat\":false,\"value\":[\"L2TP\"]}},\
+          \"reply:Tunnel-Type:2\":{{\"op\":\"+=\",\"do_xlat\":false,\"value\":[\"L2TP\"]}}}}
         none | {REJECT} | {{}}
         no packet | 02 | {{}}
     "
@@ -67,9 +83,13 @@ fn an_accept_is_told_in_lines(rt: HostRuntime) -> Result<(), Fail> {
     let alloc = rt.alloc();
     let rows = format!(in alloc;
         "
-        what the server gives | {ACCEPT} | Class 0x000102030405060708090a0b0c0d0e0f;Port-Limit 1;Service-Type 2;\
-          Framed-Protocol 1;Session-Timeout 3600;Idle-Timeout 600;Acct-Interim-Interval 300;
-        others | {OTHERS} | Class 0xab;Attr-11 0x676f6c64;Port-Limit 0x0001;
+        what the server gives | {ACCEPT} | Class = 0x000102030405060708090a0b0c0d0e0f;Port-Limit = 1;\
+          Service-Type = Framed-User;Framed-Protocol = PPP;Session-Timeout = 3600;Idle-Timeout = 600;\
+          Acct-Interim-Interval = 300;
+        others | {OTHERS} | Class = 0xab;Filter-Id = \"gold\";Attr-62 = 0x0001;Framed-IP-Address = 192.0.2.7;
+        names that come twice | {TWICE} | Cisco-AVPair = \"a=b\";Framed-Route = \"192.0.2.0/24\";\
+          Cisco-AVPair = \"c\";Session-Timeout = 1;Framed-Route = \"x\";Session-Timeout = 2;\
+          Tunnel-Type:1 = L2TP;Tunnel-Type:2 = L2TP;
         none | {REJECT} |
     "
     )?;

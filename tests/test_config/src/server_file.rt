@@ -51,6 +51,10 @@ fn the_first_fault_of_the_head_is_named(rt: HostRuntime) -> Result<(), Fail> {
         a number for a path | accounts = 1 | state = "s" | BadValue accounts
         an empty path | accounts = "a" | state = "" | BadValue state
         a path with a zero octet | accounts = "a\u0000" | state = "s" | BadValue accounts
+        a word for what must exist | accounts = "a" | state = "s" | state_must_exist = "true" | BadValue state_must_exist
+        it before a policy | accounts = "a" | state = "s" | sync = "often" | state_must_exist = 1 | BadValue state_must_exist
+        it after a path | accounts = "a" | state = 1 | state_must_exist = 1 | BadValue state
+        what must exist of a listen | accounts = "a" | state = "s" | [[listen]] | state_must_exist = true | Unknown listen 1 "state_must_exist"
         another policy | accounts = "a" | state = "s" | sync = "often" | BadValue sync
         true for a policy | accounts = "a" | state = "s" | sync = true | BadValue sync
         another word | accounts = "a" | state = "s" | archive = "week" | BadValue archive
@@ -195,6 +199,25 @@ fn a_head_says_what_stands_in_it(rt: HostRuntime) -> Result<(), Fail> {
         at most 65,535 MB | accounts = "a" | state = "s" | archive = "keep" | archive_megabytes = 65535 | (a, s, Always, Keep, Some(65535))
     "#;
     check_rows(&rt, &Heads, rows)
+}
+
+/// What a file says of a start that finds no history.
+struct Beginnings;
+
+impl Subject for Beginnings {
+    fn found(&self, alloc: Global, fields: &[&str]) -> Result<String, Fail> {
+        printed(alloc, &read(alloc, fields)?.new_history)
+    }
+}
+
+#[test]
+fn a_file_says_whether_a_history_begins(rt: HostRuntime) -> Result<(), Fail> {
+    let rows = "
+        nothing said | accounts = 'a' | state = 's' | Begins
+        one must exist | accounts = 'a' | state = 's' | state_must_exist = true | Refused
+        none need exist | accounts = 'a' | state = 's' | state_must_exist = false | Begins
+    ";
+    check_rows(&rt, &Beginnings, rows)
 }
 
 /// What the tables of a file say: where it listens, its control's socket, its page.

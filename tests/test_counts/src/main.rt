@@ -1,10 +1,13 @@
 //! The program `test_counts`: counts what two receivers took, adds it up, and prints it: a line for
-//! each client, lines of cells that begin to count by client anew, and the metrics.
+//! each client, lines of cells that begin to count by client anew, the metrics, and whether a
+//! server is ready.
 #![tactic(auto)]
 
 use rld_counts::{AcctEnd, AuthEnd, Cell, ClientCounts, Counts, End, Ended, Histogram};
-use rld_look::{ArchiveLook, Build, ClientLook, Look, Proof, Recording, SocketLook, Totals};
-use rld_text::push_metrics;
+use rld_look::{
+    ArchiveLook, Build, ClientLook, Health, Look, Proof, Recording, SocketLook, Totals,
+};
+use rld_text::{push_metrics, ready_text};
 use std::io::{self, Write};
 
 /// How many clients there are.
@@ -29,7 +32,17 @@ fn main(rt: HostRuntime) -> io::Result<()> {
     for clients in [1, 3, 0, CLIENTS] {
         print_renewed(&rt, clients)?;
     }
-    print_metrics(&rt, &all, auth.times(), acct.times())
+    print_metrics(&rt, &all, auth.times(), acct.times())?;
+    print_ready(&rt)
+}
+
+/// Prints whether a server is ready, of each health.
+fn print_ready(rt: &HostRuntime) -> io::Result<()> {
+    for health in [Health::Well, Health::ClockBehind, Health::NotRecording] {
+        let text = ready_text(rt.alloc(), health)?;
+        rt.stdout().write_all(text.as_slice())?;
+    }
+    Ok(())
 }
 
 /// Adds what another receiver has counted: by client if it is for as many.
@@ -150,6 +163,7 @@ fn print_metrics(
         ]?,
         auth_times,
         acct_times,
+        ask_times: Histogram::new(),
         totals: Totals {
             accounts: 3,
             places: 4_002,

@@ -54,6 +54,7 @@ pub(crate) fn idle(alloc: Global) -> Result<Look, NoMemory> {
         clients: Vec::new(alloc),
         auth_times: Histogram::new(),
         acct_times: Histogram::new(),
+        ask_times: Histogram::new(),
         totals: Totals::new(),
         fullest: Vec::new(alloc),
         minutes: Vec::new(alloc),

@@ -6,6 +6,7 @@
 //! `flopsy` holds the session `f1` at 10.0.0.2.
 
 use crate::server::{alive, ask, commit, pacing, stop_of};
+use rld_config::NewHistory;
 use rld_log::Ticks;
 use rld_start::{Started, start};
 use rsl_accounts::Config;
@@ -60,7 +61,16 @@ pub fn started<'a>(
     now: u64,
     ticks: &'a Ticks,
 ) -> io::Result<Started<'a>> {
-    match start(rt, rt.alloc(), config, folder, now, pacing(ticks)) {
+    let pacing = pacing(ticks);
+    match start(
+        rt,
+        rt.alloc(),
+        config,
+        folder,
+        NewHistory::Begins,
+        now,
+        pacing,
+    ) {
         Ok(started) => Ok(started),
         Err(_) => Err(io::Error::from(io::ErrorKind::InvalidData)),
     }

@@ -19,7 +19,7 @@ use rld_folder::Folder;
 use rolls::rolls;
 use server::{
     OTHERS, OURS, cut_books, each_kind, frame_as_id, late_login, login, record, record_both, say,
-    tick,
+    say_if_there, tick,
 };
 use std::{fs, io};
 
@@ -38,6 +38,7 @@ fn main(rt: HostRuntime) -> io::Result<()> {
     changes(&rt)?;
     reloads(&rt)?;
     comes_back_to_the_present(&rt)?;
+    wants_a_history(&rt)?;
     keeps_others_out(&rt)
 }
 
@@ -151,6 +152,28 @@ fn comes_back_to_the_present(rt: &HostRuntime) -> io::Result<()> {
     record(rt, "ahead", tick(rt, 7800)?, 7800)?;
     say(rt, "after it", "ahead", OURS, 7800)?;
     cut_books(rt, "new", OURS, 6000)
+}
+
+/// A history that must exist: in no folder, which is not made, in an empty one, in one whose first start
+/// has crashed, and in one that has it, with these accounts and with others.
+fn wants_a_history(rt: &HostRuntime) -> io::Result<()> {
+    say_if_there(rt, "no folder, and a history must exist", "wanted", 8000)?;
+    match fs::create_dir(rt, "wanted") {
+        Ok(()) => println!(rt; "no folder was made")?,
+        Err(error) => return Err(error),
+    }
+    say_if_there(rt, "no history, and one must exist", "wanted", 8001)?;
+    empty(rt, "wanted/log-1-1")?;
+    say_if_there(
+        rt,
+        "half a generation, and a history must exist",
+        "wanted",
+        8002,
+    )?;
+    say(rt, "none need exist", "wanted", OURS, 8003)?;
+    say_if_there(rt, "it exists", "wanted", 8004)?;
+    say(rt, "other accounts", "wanted", OTHERS, 8005)?;
+    say_if_there(rt, "it exists for others", "wanted", 8006)
 }
 
 /// A second server.

@@ -1,5 +1,6 @@
 //! A server that is started and answers a request.
 
+use rld_config::NewHistory;
 use rld_log::{Pace, Pacing, Ticks, frame_of};
 use rld_start::{StartFault, Started, rebase, start};
 use rsl_accounts::Config;
@@ -22,7 +23,7 @@ grace_secs = 900\nclosed_secs = 3600\nkeep_secs = 10\n\
 [[account]]\nname = \"nemo\"\npassword = \"arctangent\"\nplaces = 3\nports = 1\n\
 [[account]]\nname = \"flopsy\"\npassword = \"arctangent\"\nplaces = 1\nports = 1\n";
 
-/// A server that is started with these accounts.
+/// A server that is started with these accounts, and begins a history if it finds none.
 pub fn started<'a>(
     rt: &HostRuntime,
     folder: &str,
@@ -30,10 +31,23 @@ pub fn started<'a>(
     now: u64,
     ticks: &'a Ticks,
 ) -> Result<Started<'a>, StartFault> {
+    started_with(rt, folder, accounts, NewHistory::Begins, now, ticks)
+}
+
+/// The same where a history begins or is refused.
+fn started_with<'a>(
+    rt: &HostRuntime,
+    folder: &str,
+    accounts: &str,
+    new_history: NewHistory,
+    now: u64,
+    ticks: &'a Ticks,
+) -> Result<Started<'a>, StartFault> {
     let Ok(config) = Config::read(rt.alloc(), accounts.as_bytes()) else {
         return Err(StartFault::NoMemory);
     };
-    start(rt, rt.alloc(), &config, folder, now, pacing(ticks))
+    let pacing = pacing(ticks);
+    start(rt, rt.alloc(), &config, folder, new_history, now, pacing)
 }
 
 /// Each sync reaches the disk.
@@ -46,8 +60,25 @@ pub fn pacing(ticks: &Ticks) -> Pacing<'_> {
 
 /// Starts a server and says what it found, and in which generation it goes on; or its fault.
 pub fn say(rt: &HostRuntime, when: &str, folder: &str, accounts: &str, now: u64) -> io::Result<()> {
+    say_with(rt, when, folder, accounts, NewHistory::Begins, now)
+}
+
+/// The same where a history must exist.
+pub fn say_if_there(rt: &HostRuntime, when: &str, folder: &str, now: u64) -> io::Result<()> {
+    say_with(rt, when, folder, OURS, NewHistory::Refused, now)
+}
+
+/// The same where a history begins or is refused.
+fn say_with(
+    rt: &HostRuntime,
+    when: &str,
+    folder: &str,
+    accounts: &str,
+    new_history: NewHistory,
+    now: u64,
+) -> io::Result<()> {
     let ticks = Ticks::new();
-    match started(rt, folder, accounts, now, &ticks) {
+    match started_with(rt, folder, accounts, new_history, now, &ticks) {
         Ok(
             Started {
                 found,

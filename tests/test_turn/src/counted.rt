@@ -6,7 +6,7 @@ use rld_counts::{Cell, End};
 use rld_log::MemoryLog;
 use rld_look::Refusals;
 use rld_store::Store;
-use rld_watch::{Board, WatchContext, Watcher, cell_of};
+use rld_watch::{Board, Gate, WatchContext, Watcher, cell_of};
 use rsl_accounts::Config;
 use rsl_event::Port;
 use std::alloc::Global;
@@ -16,10 +16,11 @@ use std::time::Clock;
 use test_rows::{Subject, check_rows, short_number};
 use test_timelines::config_of;
 
-/// The counts of the turns of rows.
+/// The counts of the turns of rows, at this gate, or else at that of the row's port.
 #[derive(Clone, Copy)]
 struct Counted<'a, R: Wait + Clock> {
     rt: &'a R,
+    gate: Option<Gate>,
 }
 
 impl<R: Wait + Clock> Subject for Counted<'_, R> {
@@ -27,8 +28,8 @@ impl<R: Wait + Clock> Subject for Counted<'_, R> {
         let scene = scene_of(fields)?;
         let config = config_of(alloc, scene.shards)?;
         let mut store = store_of(alloc, &config, scene.disk)?;
-        let port = port_of(scene.port)?;
-        let board = Board::new(alloc, config.clients(), &[port])?;
+        let gate = self.gate.unwrap_or(Gate::of(port_of(scene.port)?));
+        let board = Board::new(alloc, config.clients(), &[gate])?;
         let refusals = Refusals::new(alloc, 1)?;
         let context = WatchContext {
             board: &board,
@@ -41,7 +42,7 @@ impl<R: Wait + Clock> Subject for Counted<'_, R> {
         served(alloc, &config, scene, &mut store, &mut watcher, &mut counts)?;
         let clients = config.clients();
         let readings = board.read(self.rt, alloc, clients)?;
-        let cell = cell_of(alloc, readings.as_slice(), port, clients)?;
+        let cell = cell_of(alloc, readings.as_slice(), gate, clients)?;
         let mut text = String::new(alloc);
         push_cell(&mut text, &cell)?;
         Ok(text)
@@ -63,8 +64,8 @@ impl<R: Wait + Clock> Subject for Renewed<'_, R> {
         let scene = scene_of(scene)?;
         let config = config_of(alloc, scene.shards)?;
         let mut store = store_of(alloc, &config, scene.disk)?;
-        let port = port_of(scene.port)?;
-        let board = Board::new(alloc, config.clients(), &[port, port])?;
+        let gate = Gate::of(port_of(scene.port)?);
+        let board = Board::new(alloc, config.clients(), &[gate, gate])?;
         let refusals = Refusals::new(alloc, 2)?;
         let context = WatchContext {
             board: &board,
@@ -76,7 +77,7 @@ impl<R: Wait + Clock> Subject for Renewed<'_, R> {
         served_by_two(self.rt, alloc, &config, context, scene, &mut store)?;
         let looked = short_number(looked)?;
         let readings = board.read(self.rt, alloc, looked)?;
-        let cell = cell_of(alloc, readings.as_slice(), port, looked)?;
+        let cell = cell_of(alloc, readings.as_slice(), gate, looked)?;
         let mut text = String::new(alloc);
         push_cell(&mut text, &cell)?;
         Ok(text)
@@ -135,13 +136,35 @@ answers that could not be sent | 1 | auth | 1 | ask wrong | 0 1 | 5 1 | | unsent
 a batch that is not recorded | 1 | auth | 1 | ask wrong short | | 5 1 | append 0 \
     | drop_short=1 unrecorded=1 reject_wrong_password=1 client=3 timed=1
 accounting by its status | 1 | acct | 1 | start stop on stray forged short | | 5 1 | \
-    | drop_short=1 drop_bad_authenticator=1 start=2 stop=1 accounting_on=1 client=6 timed=4
+    | drop_short=1 drop_bad_authenticator=1 start=1 stop=1 accounting_on=1 start_unknown=1 client=6 timed=4
 a request at the other port | 1 | acct | 1 | ask | | 5 1 | | drop_wrong_code=1 client=1 timed=0
 ";
 
 #[test]
 fn datagrams_are_counted_by_their_ends(rt: HostRuntime) -> Result<(), Fail> {
-    check_rows(&rt, &Counted { rt: &rt }, COUNTED)
+    let rows = Counted {
+        rt: &rt,
+        gate: None,
+    };
+    check_rows(&rt, &rows, COUNTED)
+}
+
+/// The same of asks: each request ends as an ask.
+const ASKED: &str = "
+requests by their ends | 1 | auth | 1 | ask short:1025 wrong:1026 half bare:1027 ask:1028 | | 5 1 | \
+    | unserved=4 accept=1 reject_limit=1 client=6 timed=4
+answers that could not be sent | 1 | auth | 1 | ask wrong | 0 1 | 5 1 | | unsent=2 client=2 timed=0
+a batch that is not recorded | 1 | auth | 1 | ask wrong short | | 5 1 | append 0 \
+    | unrecorded=1 unserved=2 client=3 timed=1
+";
+
+#[test]
+fn asks_are_counted_by_their_ends(rt: HostRuntime) -> Result<(), Fail> {
+    let rows = Counted {
+        rt: &rt,
+        gate: Some(Gate::Ask),
+    };
+    check_rows(&rt, &rows, ASKED)
 }
 
 /// What was counted of the one client before is counted of none; what is counted of it afterwards is, if

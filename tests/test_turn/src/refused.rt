@@ -3,7 +3,7 @@
 use crate::disk::store_of;
 use crate::turns::{port_of, scene_of, served};
 use rld_look::{Refusals, Sink};
-use rld_watch::{Board, WatchContext, Watcher};
+use rld_watch::{Board, Gate, WatchContext, Watcher};
 use std::alloc::Global;
 use std::sync::Wait;
 use std::test::Fail;
@@ -22,7 +22,7 @@ impl<R: Wait + Clock> Subject for Lines<'_, R> {
         let scene = scene_of(fields)?;
         let config = config_of(alloc, scene.shards)?;
         let mut store = store_of(alloc, &config, scene.disk)?;
-        let board = Board::new(alloc, config.clients(), &[port_of(scene.port)?])?;
+        let board = Board::new(alloc, config.clients(), &[Gate::of(port_of(scene.port)?)])?;
         let refusals = Refusals::new(alloc, 1)?;
         let context = WatchContext {
             board: &board,
@@ -60,6 +60,8 @@ peers of no client | 1 | auth | 1 | ask@2001:db8:8::5 ask@198.51.100.1 ask@::fff
     refused port=auth client=0.0.0.0:1024 cause=drop_unknown_client,
 one at the accounting port | 1 | acct | 1 | start@2001:db8::1 | | 5 1 | \
     | refused port=acct client=[2001:db8::1]:1024 cause=drop_unknown_client,
+accounting of nobody | 1 | acct | 1 | start stray stop | | 5 1 | \
+    | refused port=acct client=192.168.1.16:1024 nas=n account=ghost cause=start_unknown,
 ";
 
 #[test]

@@ -1,6 +1,6 @@
 use Rattle.std.proofs.Common.{◌≡◌}
 use Rattle.rld_page.specs.Tables.{row_cells}
-use Rattle.rld_page.proofs.Pieces.{written_7}
+use Rattle.rld_values.proofs.Callers.{written_7}
 use Rattle.rld_page.proofs.accounts.write_cells.Goals as goal
 
 pub returns : goal.returns

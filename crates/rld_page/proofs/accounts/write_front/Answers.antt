@@ -1,5 +1,5 @@
 use Rattle.rld_page.specs.Tables.{accounts_front}
-use Rattle.rld_page.proofs.Pieces.{written_8}
+use Rattle.rld_values.proofs.Callers.{written_8}
 use Rattle.rld_page.proofs.accounts.write_front.Goals as goal
 
 pub returns : goal.returns

@@ -1,5 +1,5 @@
 use Rattle.rld_page.specs.Tables.{accounts_of}
-use Rattle.rld_page.proofs.Pieces.{written_3}
+use Rattle.rld_values.proofs.Callers.{written_3}
 use Rattle.rld_page.proofs.accounts.write_fullest.Goals as goal
 
 pub returns : goal.returns

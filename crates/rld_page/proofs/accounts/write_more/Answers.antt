@@ -1,5 +1,5 @@
 use Rattle.rld_page.specs.Tables.{more_cell}
-use Rattle.rld_page.proofs.Pieces.{written_3}
+use Rattle.rld_values.proofs.Callers.{written_3}
 use Rattle.rld_page.proofs.accounts.write_more.Goals as goal
 
 pub returns : goal.returns

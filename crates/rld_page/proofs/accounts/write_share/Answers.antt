@@ -1,5 +1,5 @@
 use Rattle.rld_page.specs.Tables.{share_cell}
-use Rattle.rld_page.proofs.Pieces.{written_3}
+use Rattle.rld_values.proofs.Callers.{written_3}
 use Rattle.rld_page.proofs.accounts.write_share.Goals as goal
 
 pub returns : goal.returns

@@ -1,5 +1,5 @@
 use Rattle.rld_page.specs.Tables.{count_row}
-use Rattle.rld_page.proofs.Pieces.{written_5}
+use Rattle.rld_values.proofs.Callers.{written_5}
 use Rattle.rld_page.proofs.causes.write_end.Goals as goal
 
 pub returns : goal.returns

@@ -1,5 +1,5 @@
 use Rattle.rld_page.specs.Tables.{port_table}
-use Rattle.rld_page.proofs.Pieces.{written_8}
+use Rattle.rld_values.proofs.Callers.{written_8}
 use Rattle.rld_page.proofs.causes.write_port.Goals as goal
 
 pub returns : goal.returns

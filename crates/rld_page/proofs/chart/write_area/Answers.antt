@@ -1,5 +1,5 @@
 use Rattle.rld_page.specs.Chart.{area_of}
-use Rattle.rld_page.proofs.Pieces.{written_5}
+use Rattle.rld_values.proofs.Callers.{written_5}
 use Rattle.rld_page.proofs.chart.write_area.Goals as goal
 
 pub returns : goal.returns

@@ -1,5 +1,5 @@
 use Rattle.rld_page.specs.Chart.{axis_of}
-use Rattle.rld_page.proofs.Pieces.{written_3}
+use Rattle.rld_values.proofs.Callers.{written_3}
 use Rattle.rld_page.proofs.chart.write_axis.Goals as goal
 
 pub returns : goal.returns

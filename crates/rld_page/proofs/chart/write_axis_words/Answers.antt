@@ -1,5 +1,5 @@
 use Rattle.rld_page.specs.Chart.{axis_words}
-use Rattle.rld_page.proofs.Pieces.{written_6}
+use Rattle.rld_values.proofs.Callers.{written_6}
 use Rattle.rld_page.proofs.chart.write_axis_words.Goals as goal
 
 pub returns : goal.returns

@@ -1,5 +1,5 @@
 use Rattle.rld_page.specs.Chart.{bar_of}
-use Rattle.rld_page.proofs.Pieces.{written_6}
+use Rattle.rld_values.proofs.Callers.{written_6}
 use Rattle.rld_page.proofs.chart.write_bar.Goals as goal
 
 pub returns : goal.returns

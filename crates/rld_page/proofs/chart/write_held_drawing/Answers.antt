@@ -1,5 +1,5 @@
 use Rattle.rld_page.specs.Chart.{held_drawing}
-use Rattle.rld_page.proofs.Pieces.{written_9}
+use Rattle.rld_values.proofs.Callers.{written_9}
 use Rattle.rld_page.proofs.chart.write_held_drawing.Goals as goal
 
 pub returns : goal.returns

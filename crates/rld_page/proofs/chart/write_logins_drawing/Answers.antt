@@ -1,5 +1,5 @@
 use Rattle.rld_page.specs.Chart.{logins_drawing}
-use Rattle.rld_page.proofs.Pieces.{written_8}
+use Rattle.rld_values.proofs.Callers.{written_8}
 use Rattle.rld_page.proofs.chart.write_logins_drawing.Goals as goal
 
 pub returns : goal.returns

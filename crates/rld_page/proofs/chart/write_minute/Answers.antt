@@ -1,5 +1,5 @@
 use Rattle.rld_page.specs.Chart.{minute_words}
-use Rattle.rld_page.proofs.Pieces.{written_8}
+use Rattle.rld_values.proofs.Callers.{written_8}
 use Rattle.rld_page.proofs.chart.write_minute.Goals as goal
 
 pub returns : goal.returns

@@ -1,5 +1,5 @@
 use Rattle.rld_page.specs.Chart.{piece_text}
-use Rattle.rld_page.proofs.Pieces.{written_7}
+use Rattle.rld_values.proofs.Callers.{written_7}
 use Rattle.rld_page.proofs.chart.write_piece.Goals as goal
 
 pub returns : goal.returns

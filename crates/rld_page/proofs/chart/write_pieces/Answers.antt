@@ -1,5 +1,5 @@
 use Rattle.rld_page.specs.Chart.{pieces_text}
-use Rattle.rld_page.proofs.Pieces.{written_3}
+use Rattle.rld_values.proofs.Callers.{written_3}
 use Rattle.rld_page.proofs.chart.write_pieces.Goals as goal
 
 pub returns : goal.returns

@@ -1,5 +1,5 @@
 use Rattle.rld_page.specs.Chart.{point_of}
-use Rattle.rld_page.proofs.Pieces.{written_4}
+use Rattle.rld_values.proofs.Callers.{written_4}
 use Rattle.rld_page.proofs.chart.write_point.Goals as goal
 
 pub returns : goal.returns

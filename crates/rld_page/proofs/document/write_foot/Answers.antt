@@ -1,5 +1,5 @@
 use Rattle.rld_page.specs.Page.{foot_of}
-use Rattle.rld_page.proofs.Pieces.{written_5}
+use Rattle.rld_values.proofs.Callers.{written_5}
 use Rattle.rld_page.proofs.document.write_foot.Goals as goal
 
 pub returns : goal.returns

@@ -1,5 +1,5 @@
 use Rattle.rld_page.specs.Page.{head_of}
-use Rattle.rld_page.proofs.Pieces.{written_7}
+use Rattle.rld_values.proofs.Callers.{written_7}
 use Rattle.rld_page.proofs.document.write_head.Goals as goal
 
 pub returns : goal.returns

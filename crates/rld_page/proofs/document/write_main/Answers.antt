@@ -1,5 +1,5 @@
 use Rattle.rld_page.specs.Page.{main_of}
-use Rattle.rld_page.proofs.Pieces.{written_8}
+use Rattle.rld_values.proofs.Callers.{written_8}
 use Rattle.rld_page.proofs.document.write_main.Goals as goal
 
 pub returns : goal.returns

@@ -1,5 +1,5 @@
 use Rattle.rld_page.specs.Tables.{refusal_end}
-use Rattle.rld_page.proofs.Pieces.{written_7}
+use Rattle.rld_values.proofs.Callers.{written_7}
 use Rattle.rld_page.proofs.refused.write_end.Goals as goal
 
 pub returns : goal.returns

@@ -1,5 +1,5 @@
 use Rattle.rld_page.specs.Tables.{refusal_front}
-use Rattle.rld_page.proofs.Pieces.{written_4}
+use Rattle.rld_values.proofs.Callers.{written_4}
 use Rattle.rld_page.proofs.refused.write_front.Goals as goal
 
 pub returns : goal.returns

@@ -1,4 +1,4 @@
-use Rattle.rld_page.proofs.Pieces.{written_2}
+use Rattle.rld_values.proofs.Callers.{written_2}
 use Rattle.rld_page.proofs.refused.write_refusal.Goals as goal
 
 pub returns : goal.returns

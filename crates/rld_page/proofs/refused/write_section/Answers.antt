@@ -1,5 +1,5 @@
 use Rattle.rld_page.specs.Tables.{refused_of}
-use Rattle.rld_page.proofs.Pieces.{written_2}
+use Rattle.rld_values.proofs.Callers.{written_2}
 use Rattle.rld_page.proofs.refused.write_section.Goals as goal
 
 pub returns : goal.returns

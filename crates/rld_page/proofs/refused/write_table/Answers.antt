@@ -1,5 +1,5 @@
 use Rattle.rld_page.specs.Tables.{refused_table}
-use Rattle.rld_page.proofs.Pieces.{written_5}
+use Rattle.rld_values.proofs.Callers.{written_5}
 use Rattle.rld_page.proofs.refused.write_table.Goals as goal
 
 pub returns : goal.returns

@@ -1,6 +1,6 @@
 use Rattle.std.proofs.Common.{◌≡◌}
 use Rattle.rld_page.specs.Tables.{socket_row}
-use Rattle.rld_page.proofs.Pieces.{written_7}
+use Rattle.rld_values.proofs.Callers.{written_7}
 use Rattle.rld_page.proofs.sockets.write_socket.Goals as goal
 
 pub returns : goal.returns

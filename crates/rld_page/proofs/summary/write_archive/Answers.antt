@@ -1,5 +1,5 @@
 use Rattle.rld_page.specs.Summary.{archive_row}
-use Rattle.rld_page.proofs.Pieces.{written_5}
+use Rattle.rld_values.proofs.Callers.{written_5}
 use Rattle.rld_page.proofs.summary.write_archive.Goals as goal
 
 pub returns : goal.returns

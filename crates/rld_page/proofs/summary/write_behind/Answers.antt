@@ -1,5 +1,5 @@
 use Rattle.rld_page.specs.Summary.{behind_mark}
-use Rattle.rld_page.proofs.Pieces.{written_3}
+use Rattle.rld_values.proofs.Callers.{written_3}
 use Rattle.rld_page.proofs.summary.write_behind.Goals as goal
 
 pub returns : goal.returns

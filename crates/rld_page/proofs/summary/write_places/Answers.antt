@@ -1,5 +1,5 @@
 use Rattle.rld_page.specs.Summary.{places_text}
-use Rattle.rld_page.proofs.Pieces.{written_7}
+use Rattle.rld_values.proofs.Callers.{written_7}
 use Rattle.rld_page.proofs.summary.write_places.Goals as goal
 
 pub returns : goal.returns

@@ -1,5 +1,5 @@
 use Rattle.rld_page.specs.Summary.{written_text}
-use Rattle.rld_page.proofs.Pieces.{written_8}
+use Rattle.rld_values.proofs.Callers.{written_8}
 use Rattle.rld_page.proofs.summary.write_written.Goals as goal
 
 pub returns : goal.returns

@@ -1,5 +1,5 @@
 use Rattle.rld_text.specs.Metrics.{build_sample}
-use Rattle.rld_text.proofs.Pieces.{written_5}
+use Rattle.rld_values.proofs.Callers.{written_5}
 use Rattle.rld_text.proofs.build.push_build_sample.Goals as goal
 
 pub returns : goal.returns

@@ -1,5 +1,5 @@
 use Rattle.rld_text.specs.Metrics.{client_front}
-use Rattle.rld_text.proofs.Pieces.{written_3}
+use Rattle.rld_values.proofs.Callers.{written_3}
 use Rattle.rld_text.proofs.datagrams.push_client_front.Goals as goal
 
 pub returns : goal.returns

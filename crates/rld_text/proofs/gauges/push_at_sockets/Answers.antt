@@ -1,5 +1,5 @@
 use Rattle.rld_text.specs.Metrics.{at_sockets}
-use Rattle.rld_text.proofs.Pieces.{written_2}
+use Rattle.rld_values.proofs.Callers.{written_2}
 use Rattle.rld_text.proofs.gauges.push_at_sockets.Goals as goal
 
 pub returns : goal.returns

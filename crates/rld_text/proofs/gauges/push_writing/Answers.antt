@@ -1,5 +1,5 @@
 use Rattle.rld_text.specs.Metrics.{writing}
-use Rattle.rld_text.proofs.Pieces.{written_4}
+use Rattle.rld_values.proofs.Callers.{written_4}
 use Rattle.rld_text.proofs.gauges.push_writing.Goals as goal
 
 pub returns : goal.returns

@@ -1,5 +1,5 @@
 use Rattle.rld_text.specs.Links.{nas_address_member}
-use Rattle.rld_text.proofs.Pieces.{written_3}
+use Rattle.rld_values.proofs.Callers.{written_3}
 use Rattle.rld_text.proofs.link_objects.push_nas_address.Goals as goal
 
 pub returns : goal.returns

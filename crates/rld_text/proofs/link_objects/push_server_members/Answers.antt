@@ -1,5 +1,5 @@
 use Rattle.rld_text.specs.Links.{server_members}
-use Rattle.rld_text.proofs.Pieces.{written_6}
+use Rattle.rld_values.proofs.Callers.{written_6}
 use Rattle.rld_text.proofs.link_objects.push_server_members.Goals as goal
 
 pub returns : goal.returns

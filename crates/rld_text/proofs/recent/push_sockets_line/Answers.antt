@@ -1,5 +1,5 @@
 use Rattle.rld_text.specs.Recent.{sockets_line}
-use Rattle.rld_text.proofs.Pieces.{written_5}
+use Rattle.rld_values.proofs.Callers.{written_5}
 use Rattle.rld_text.proofs.recent.push_sockets_line.Goals as goal
 
 pub returns : goal.returns

@@ -1,5 +1,5 @@
 use Rattle.rld_text.specs.Status.{behind_line}
-use Rattle.rld_text.proofs.Pieces.{written_3}
+use Rattle.rld_values.proofs.Callers.{written_3}
 use Rattle.rld_text.proofs.status.push_behind.Goals as goal
 
 pub returns : goal.returns

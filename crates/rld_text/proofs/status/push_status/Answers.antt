@@ -1,5 +1,5 @@
 use Rattle.rld_text.specs.Status.{status_of}
-use Rattle.rld_text.proofs.Pieces.{written_7}
+use Rattle.rld_values.proofs.Callers.{written_7}
 use Rattle.rld_text.proofs.status.push_status.Goals as goal
 
 pub returns : goal.returns

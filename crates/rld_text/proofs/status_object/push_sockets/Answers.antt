@@ -1,5 +1,5 @@
 use Rattle.rld_text.specs.Status.{socket_members}
-use Rattle.rld_text.proofs.Pieces.{written_2}
+use Rattle.rld_values.proofs.Callers.{written_2}
 use Rattle.rld_text.proofs.status_object.push_sockets.Goals as goal
 
 pub returns : goal.returns

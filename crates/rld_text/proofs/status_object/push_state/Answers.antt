@@ -1,5 +1,5 @@
 use Rattle.rld_text.specs.Status.{state_members}
-use Rattle.rld_text.proofs.Pieces.{written_3}
+use Rattle.rld_values.proofs.Callers.{written_3}
 use Rattle.rld_text.proofs.status_object.push_state.Goals as goal
 
 pub returns : goal.returns

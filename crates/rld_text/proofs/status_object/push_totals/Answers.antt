@@ -1,5 +1,5 @@
 use Rattle.rld_text.specs.Status.{totals_members}
-use Rattle.rld_text.proofs.Pieces.{written_7}
+use Rattle.rld_values.proofs.Callers.{written_7}
 use Rattle.rld_text.proofs.status_object.push_totals.Goals as goal
 
 pub returns : goal.returns

@@ -1,5 +1,5 @@
 use Rattle.rld_text.specs.Status.{who_members}
-use Rattle.rld_text.proofs.Pieces.{written_9}
+use Rattle.rld_values.proofs.Callers.{written_9}
 use Rattle.rld_text.proofs.status_object.push_who.Goals as goal
 
 pub returns : goal.returns

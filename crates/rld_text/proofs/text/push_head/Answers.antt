@@ -1,5 +1,5 @@
 use Rattle.rld_text.specs.Text.{head_of}
-use Rattle.rld_text.proofs.Pieces.{written_9}
+use Rattle.rld_values.proofs.Callers.{written_9}
 use Rattle.rld_text.proofs.text.push_head.Goals as goal
 
 pub returns : goal.returns

@@ -1,5 +1,5 @@
 use Rattle.rld_text.specs.Metrics.{bucket_line}
-use Rattle.rld_text.proofs.Pieces.{written_7}
+use Rattle.rld_values.proofs.Callers.{written_7}
 use Rattle.rld_text.proofs.times.push_bucket.Goals as goal
 
 pub returns : goal.returns

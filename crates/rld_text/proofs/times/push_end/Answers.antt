@@ -1,5 +1,5 @@
 use Rattle.rld_text.specs.Metrics.{times_end}
-use Rattle.rld_text.proofs.Pieces.{written_9}
+use Rattle.rld_values.proofs.Callers.{written_9}
 use Rattle.rld_text.proofs.times.push_end.Goals as goal
 
 pub returns : goal.returns

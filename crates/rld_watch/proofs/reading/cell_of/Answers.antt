@@ -7,6 +7,6 @@ use Rattle.rld_watch.proofs.reading.cell_of.Goals as goal
 pub returns-clause-counted : goal.returns-clause-counted
 returns-clause-counted c had have =
     let whole : take c.loop-reading.reading-index c.args.readings.now ≡ c.args.readings.now = take_all _ _ (omega arith) in
-    subst (λ (cell : CellSeen). HasCounted (all_of c.args.port c.args.clients had c.args.readings.now) cell) (sym c.into_cell.ensures)
-    (subst (λ (readings : List Reading). HasCounted (all_of c.args.port c.args.clients had readings) c.loop-reading.all.cell) whole
+    subst (λ (cell : CellSeen). HasCounted (all_of c.args.gate c.args.clients had c.args.readings.now) cell) (sym c.into_cell.ensures)
+    (subst (λ (readings : List Reading). HasCounted (all_of c.args.gate c.args.clients had readings) c.loop-reading.all.cell) whole
     (c.loop-reading.invariant.counted had have))

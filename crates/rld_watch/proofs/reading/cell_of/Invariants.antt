@@ -8,6 +8,6 @@ use Rattle.rld_watch.proofs.reading.cell_of.Given as goal
 abbrev pub invariant-loop-reading : goal.invariant-loop-reading
 invariant-loop-reading l = record {
   counted : (had : Reading → List Ended) → HaveCounted had l.readings
-      → HasCounted (all_of l.port l.clients had (take l.reading-index l.readings)) l.all.cell;
+      → HasCounted (all_of l.gate l.clients had (take l.reading-index l.readings)) l.all.cell;
   clients : length l.all.cell.clients ≡ l.clients;
 }

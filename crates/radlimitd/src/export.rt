@@ -1,0 +1,269 @@
+//! `radlimitd export`: the sessions of the logs of a state folder.
+
+use crate::bad_file::Wrong;
+use crate::command::Misuse;
+use crate::fault::Fault;
+use crate::files::{bad_file, server_file};
+use crate::lines::{bad_log, octets_of};
+use crate::topic::Topic;
+use rld_config::Paths;
+use rld_export::{Export, Form, Span, Wanted, read_moment};
+use rld_folder::{FileName, Generation};
+use rld_lines::{LinesFault, LogFile};
+use rsl_wire::NoMemory;
+use std::alloc::Global;
+use std::fs::{self, File, Files};
+use std::io::{ErrorKind, Write};
+
+/// What a word before the last one stands for.
+#[derive(Clone, Copy)]
+enum Place {
+    /// A flag.
+    Flag,
+    /// The moment after `--since`.
+    Since,
+    /// The moment after `--until`.
+    Until,
+}
+
+/// The paths of a log: in the state folder, and in its archive.
+#[derive(Drop)]
+struct LogPaths {
+    present: String,
+    archived: String,
+}
+
+/// Prints the sessions that the logs of the state folder of the server's file have, a line each:
+/// those that ended, in the order in which that is found, and then those that are still held. The
+/// server may run meanwhile: nothing is locked, and nothing is changed.
+///
+/// `Usage` comes if the words are none of the command's, before anything is read. A log that is
+/// removed before it is read is left out, and the torn end of another than the newest is said, both
+/// on standard error. A file that cannot be read is a `BadFile`, and a damaged one a `BadLog`: what
+/// comes before its first wrong place is printed.
+pub(crate) fn export<R, W: Write, S: Write>(
+    rt: &R,
+    alloc: Global,
+    words: &[String],
+    writer: &mut W,
+    stderr: &mut S,
+) -> Result<(), Fault>
+where
+    R: Files<File = File> + Alloc<A = Global> + Clone + Drop,
+{
+    let Some((name, flags)) = words.split_last() else {
+        return Err(Fault::Usage(Misuse::Words(Topic::Export)));
+    };
+    if name.as_str().starts_with("--") {
+        return Err(Fault::Usage(Misuse::Words(Topic::Export)));
+    }
+    let wanted = wanted_of(alloc, flags)?;
+    let name = name.as_str();
+    let server = server_file(rt, alloc, name)?;
+    let Paths { state, .. } = Paths::of(alloc, name, &server)?;
+    let logs = logs_of(rt, alloc, state.as_str())?;
+    let mut found = match Export::new(alloc, wanted, writer) {
+        Ok(found) => found,
+        Err(fault) => return Err(fault_of(alloc, state.as_str(), state.as_str(), fault)?),
+    };
+    for (at, generation) in logs.iter().enumerate() {
+        let torn = read_log(
+            rt,
+            alloc,
+            state.as_str(),
+            *generation,
+            &mut found,
+            writer,
+            stderr,
+        )?;
+        if torn > 0 && at + 1 < logs.len() {
+            let file = FileName::Log(*generation).text(alloc)?;
+            writeln!(stderr, "{file}: a torn end of {torn} octets")?;
+        }
+    }
+    match found.finish(alloc, writer) {
+        Ok(()) => Ok(writer.flush()?),
+        Err(fault) => Err(fault_of(alloc, state.as_str(), state.as_str(), fault)?),
+    }
+}
+
+/// What flags ask for: `--csv`, and `--since` and `--until` with a moment after each.
+fn wanted_of(alloc: Global, flags: &[String]) -> Result<Wanted, Fault> {
+    let mut form = Form::Json;
+    let mut span = Span {
+        since: 0,
+        until: u64::MAX,
+    };
+    let mut place = Place::Flag;
+    for word in flags {
+        let word = word.as_str();
+        place = match place {
+            Place::Since => {
+                span.since = moment_of(alloc, word)?;
+                Place::Flag
+            }
+            Place::Until => {
+                span.until = moment_of(alloc, word)?;
+                Place::Flag
+            }
+            Place::Flag => match word {
+                "--csv" => {
+                    form = Form::Csv;
+                    Place::Flag
+                }
+                "--since" => Place::Since,
+                "--until" => Place::Until,
+                _ => return unreadable(),
+            },
+        };
+    }
+    match place {
+        Place::Flag if span.since < span.until => Ok(Wanted { form, span }),
+        Place::Flag | Place::Since | Place::Until => unreadable(),
+    }
+}
+
+/// The moment that a word names.
+fn moment_of(alloc: Global, word: &str) -> Result<u64, Fault> {
+    match read_moment(alloc, word)? {
+        Some(moment) => Ok(moment),
+        None => unreadable(),
+    }
+}
+
+/// The fault of words that ask for nothing.
+fn unreadable<T>() -> Result<T, Fault> {
+    Err(Fault::Usage(Misuse::Unreadable(Topic::Export)))
+}
+
+/// The generations of the logs of a state folder and of its archive, from the oldest to the newest.
+/// The archive is looked at last, so that a log which is moved there meanwhile is found.
+fn logs_of<R>(rt: &R, alloc: Global, state: &str) -> Result<Vec<Generation>, Fault>
+where
+    R: Files<File = File> + Alloc<A = Global> + Clone + Drop,
+{
+    let mut logs = Vec::new(alloc);
+    push_logs(rt, alloc, &mut logs, state)?;
+    let archive = format!(in alloc; "{state}/archive")?;
+    if is_there(rt, archive.as_str()) {
+        push_logs(rt, alloc, &mut logs, archive.as_str())?;
+    }
+    logs.sort_unstable();
+    let mut generations = Vec::new(alloc);
+    let mut last = None;
+    for log in logs {
+        if last != Some(log) {
+            let (era, number) = log;
+            push(&mut generations, Generation { era, number })?;
+        }
+        last = Some(log);
+    }
+    Ok(generations)
+}
+
+/// Adds a value to a list.
+fn push<T: Drop>(list: &mut Vec<T>, value: T) -> Result<(), NoMemory> {
+    list.push(value)?;
+    Ok(())
+}
+
+/// Adds the eras and numbers of the logs of a folder.
+fn push_logs<R>(
+    rt: &R,
+    alloc: Global,
+    logs: &mut Vec<(u64, u64)>,
+    folder: &str,
+) -> Result<(), Fault>
+where
+    R: Files<File = File> + Alloc<A = Global> + Clone + Drop,
+{
+    let entries = match fs::read_dir(rt, folder) {
+        Ok(entries) => entries,
+        Err(_) => return bad_file(alloc, folder, None, Wrong::Unreadable),
+    };
+    for entry in entries {
+        match entry {
+            Ok(entry) => {
+                if let Some(FileName::Log(found)) = FileName::read(alloc, entry.file_name())? {
+                    push(logs, (found.era, found.number))?;
+                }
+            }
+            // A name that is not UTF-8 is not one of the server's.
+            Err(error) if error.kind() == ErrorKind::InvalidFilename => {}
+            Err(_) => return bad_file(alloc, folder, None, Wrong::Unreadable),
+        }
+    }
+    Ok(())
+}
+
+/// Whether there is a file or a folder of this name.
+fn is_there<F: Files>(files: &F, path: &str) -> bool {
+    match fs::metadata(files, path) {
+        Ok(_) => true,
+        Err(error) => error.kind() != ErrorKind::NotFound,
+    }
+}
+
+/// Reads a log, writes the sessions that ended in it, and gives the octets of its torn end.
+fn read_log<F: Files, W: Write, S: Write>(
+    files: &F,
+    alloc: Global,
+    state: &str,
+    generation: Generation,
+    found: &mut Export,
+    writer: &mut W,
+    stderr: &mut S,
+) -> Result<usize, Fault> {
+    let file = FileName::Log(generation).text(alloc)?;
+    let paths = LogPaths {
+        present: format!(in alloc; "{state}/{file}")?,
+        archived: format!(in alloc; "{state}/archive/{file}")?,
+    };
+    let Some(octets) = octets_of_log(files, alloc, &paths)? else {
+        writeln!(stderr, "{file}: it was removed before it was read")?;
+        return Ok(0);
+    };
+    let era = FileName::Era(generation.era).text(alloc)?;
+    let era = format!(in alloc; "{state}/{era}")?;
+    let table = octets_of(files, alloc, era.as_str())?;
+    let log = LogFile {
+        name: file.as_str(),
+        generation,
+        octets,
+    };
+    match found.read(alloc, table.as_slice(), log, writer) {
+        Ok(torn) => Ok(torn),
+        Err(fault) => Err(fault_of(alloc, era.as_str(), paths.present.as_str(), fault)?),
+    }
+}
+
+/// The octets of a log, in the state folder or in its archive, or `None` if it is in neither.
+fn octets_of_log<F: Files>(
+    files: &F,
+    alloc: Global,
+    paths: &LogPaths,
+) -> Result<Option<Vec<u8>>, Fault> {
+    let present = match octets_of(files, alloc, paths.present.as_str()) {
+        Ok(octets) => return Ok(Some(octets)),
+        Err(fault) => fault,
+    };
+    if is_there(files, paths.present.as_str()) {
+        return Err(present);
+    }
+    match octets_of(files, alloc, paths.archived.as_str()) {
+        Ok(octets) => Ok(Some(octets)),
+        Err(Fault::NoMemory) => Err(Fault::NoMemory),
+        Err(_) if !is_there(files, paths.archived.as_str()) => Ok(None),
+        Err(fault) => Err(fault),
+    }
+}
+
+/// The fault of a log, whose era's table has this path.
+fn fault_of(alloc: Global, era: &str, log: &str, fault: LinesFault) -> Result<Fault, Fault> {
+    match fault {
+        LinesFault::NoMemory => Ok(Fault::NoMemory),
+        LinesFault::Unwritten => Ok(Fault::InputOutput),
+        LinesFault::Table(wrong) => bad_log(alloc, era, wrong),
+        LinesFault::Log(wrong) => bad_log(alloc, log, wrong),
+    }
+}

@@ -1,0 +1,37 @@
+use crate::command::Misuse;
+use crate::fault::Fault;
+use crate::files::{accounts_for, server_file};
+use crate::topic::Topic;
+use rld_attributes::accept_listed;
+use rld_config::Paths;
+use rld_values::read_word;
+use std::alloc::Global;
+use std::fs::Files;
+use std::io::Write;
+
+/// Writes what an accept of an account has, a line an attribute, by the account file that the server's file
+/// names. `word` is the account's name, as `accounts` prints it.
+///
+/// `Usage` comes if it is no name that `accounts` prints, before anything is read; `Refused` if there is no
+/// such account.
+pub(crate) fn reply<F: Files, W: Write>(
+    files: &F,
+    alloc: Global,
+    word: &str,
+    name: &str,
+    writer: &mut W,
+) -> Result<(), Fault> {
+    let Some(account) = read_word(alloc, word.as_bytes())? else {
+        return Err(Fault::Usage(Misuse::Unreadable(Topic::Reply)));
+    };
+    let server = server_file(files, alloc, name)?;
+    let Paths { accounts: path, .. } = Paths::of(alloc, name, &server)?;
+    let accounts = accounts_for(files, alloc, name, &server, path.as_str())?;
+    match accept_listed(alloc, &accounts.config, account.as_slice())? {
+        Some(lines) => {
+            writer.write_all(lines.as_slice())?;
+            Ok(writer.flush()?)
+        }
+        None => Err(Fault::Refused(String::from_str(alloc, "unknown account")?)),
+    }
+}

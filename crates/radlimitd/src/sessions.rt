@@ -1,0 +1,134 @@
+//! The sessions of a running server: of one account, or of all.
+
+use crate::ask::{Asked, ask, control_of, waiting};
+use crate::command::Misuse;
+use crate::fault::Fault;
+use crate::flags::{Flags, NOT_GIVEN};
+use crate::topic::Topic;
+use rld_control::Command;
+use std::alloc::Global;
+use std::fs::Files;
+use std::io::{IsTerminal, Write};
+use std::net::Net;
+use std::str;
+use std::time::Clock;
+
+/// The most pages of a list: each has an account, and there are at most 16,384.
+const MOST_PAGES: usize = 16_385;
+
+/// A page of a list.
+#[derive(Clone, Copy)]
+struct Page<'a> {
+    /// The word of the account with which the next page begins, if there is one.
+    next: Option<&'a str>,
+    /// Its links, a line each.
+    links: &'a [u8],
+}
+
+impl Page<'_> {
+    /// The page of the lines of an answer.
+    fn of(lines: &[u8]) -> Option<Page<'_>> {
+        let at = lines.iter().position(|octet| *octet == b'\n')?;
+        let links = &lines[at + 1..];
+        let first = &lines[..at];
+        if first == b"last".as_slice() {
+            return Some(Page { next: None, links });
+        }
+        let name = str::from_utf8(first.strip_prefix(b"more ")?).ok()?;
+        Some(Page {
+            next: Some(name),
+            links,
+        })
+    }
+}
+
+/// Writes the sessions that the words of `sessions` ask for: of the account that they name, else of
+/// all that their flags leave. A name that begins as a flag does is written with an escape.
+///
+/// The faults are those of `ask`. `--timeout` and its seconds, which may come first, are for each answer
+/// of the server.
+pub(crate) fn sessions<R: Files + Net + Clock, W: Write, S: Write + IsTerminal>(
+    rt: &R,
+    alloc: Global,
+    words: &[String],
+    writer: &mut W,
+    stderr: &mut S,
+) -> Result<(), Fault> {
+    let [_, asked @ .., name] = words else {
+        return Err(Fault::Usage(Misuse::Words(Topic::Sessions)));
+    };
+    if name.as_str().starts_with("--") {
+        return Err(Fault::Usage(Misuse::Words(Topic::Sessions)));
+    }
+    let (patience, wanted) = waiting(Topic::Sessions, asked)?;
+    match Flags::of_words(wanted) {
+        Some(flags) => {
+            check_flags(alloc, &flags)?;
+            let control = control_of(rt, alloc, name.as_str())?;
+            let server = Asked {
+                topic: Topic::Sessions,
+                path: control.as_str(),
+                patience,
+            };
+            list(rt, alloc, &server, &flags, writer, stderr)?;
+            Ok(())
+        }
+        None if ends_in_flag(wanted) => Err(Fault::Usage(Misuse::Unreadable(Topic::Sessions))),
+        None => ask(rt, alloc, Topic::Sessions, words, writer, stderr),
+    }
+}
+
+/// Whether the last of some words begins as a flag does.
+fn ends_in_flag(words: &[String]) -> bool {
+    match words.last() {
+        Some(word) => word.as_str().starts_with("--"),
+        None => false,
+    }
+}
+
+/// Checks that flags have right words. `Usage` comes if they have not.
+fn check_flags(alloc: Global, flags: &Flags<'_>) -> Result<(), Fault> {
+    let line = flags.line(alloc, NOT_GIVEN)?;
+    match Command::read(alloc, line.as_bytes())? {
+        Some(_) => Ok(()),
+        None => Err(Fault::Usage(Misuse::Unreadable(Topic::Sessions))),
+    }
+}
+
+/// Writes the links that flags leave of all accounts, a page after the other, and gives how many
+/// there are. No page is kept once it is written.
+///
+/// The faults are those of `Asked::lines`: pages before may have been written.
+pub(crate) fn list<R: Net + Clock, W: Write, S: Write + IsTerminal>(
+    rt: &R,
+    alloc: Global,
+    server: &Asked<'_>,
+    flags: &Flags<'_>,
+    writer: &mut W,
+    stderr: &mut S,
+) -> Result<u64, Fault> {
+    let mut from = String::from_str(alloc, NOT_GIVEN)?;
+    let mut number = 0u64;
+    for _ in 0..MOST_PAGES {
+        let line = flags.line(alloc, from.as_str())?;
+        let lines = server.lines(rt, alloc, line.as_str(), stderr)?;
+        let Some(page) = Page::of(lines.as_slice()) else {
+            return Err(server.silent(alloc)?);
+        };
+        writer.write_all(page.links)?;
+        number = number.saturating_add(lines_in(page.links));
+        match page.next {
+            Some(name) => from = String::from_str(alloc, name)?,
+            None => {
+                writer.flush()?;
+                return Ok(number);
+            }
+        }
+    }
+    Err(server.silent(alloc)?)
+}
+
+/// The number of lines.
+fn lines_in(text: &[u8]) -> u64 {
+    text.iter().filter(|octet| **octet == b'\n').count() as u64
+}

@@ -1,0 +1,3 @@
+pub mod Bare
+pub mod Named
+pub mod Utf8
