@@ -1,7 +1,6 @@
 //! Reading the accounts of a running server again.
 
-use crate::fault::Fault;
-use crate::files::accounts_for;
+use rld_commands::{Fault, accounts_for};
 use rld_config::ServerFile;
 use rld_serve::{Accounts, AccountsFault};
 use rsl_accounts::Config;

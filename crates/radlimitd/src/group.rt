@@ -1,6 +1,6 @@
 //! The number of a group, from the system's file of groups (group(5)).
 
-use crate::fault::Fault;
+use rld_commands::Fault;
 use rsl_accounts::{TextFault, read_file};
 use std::alloc::Global;
 use std::fs::Files;

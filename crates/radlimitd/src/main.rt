@@ -1,53 +1,20 @@
-//! The program `radlimitd`, the operator's server. `radlimitd run FILE` is the server, `radlimitd
-//! init FOLDER` writes the files for one, `radlimitd check FILE` says what is wrong with its file,
-//! or with the account file that it names, `radlimitd reply NAME FILE` what an accept of an account
-//! has, `radlimitd lines FILE..` prints the moves of logs of a state folder, `radlimitd export FILE`
-//! their sessions, and `radlimitd rebase FILE` cuts its books to the present, if a clock that was
-//! ahead has led them past it.
+//! The program `radlimitd`, the operator's server. `radlimitd run FILE` is the server; the crate
+//! `rld_commands` has its other commands.
 //!
-//! This crate has the edges of the process: its arguments, its files, what it prints and the exit
-//! status, which is that of the fault (`exit_code`).
+//! This crate has the edges of the process: its arguments, its streams, what `run` starts, and the
+//! exit status, which is that of the fault (`exit_code`).
 #![tactic(auto)]
 
 mod accounts;
-mod answer;
-mod ask;
 mod asks;
-mod bad_file;
-mod check;
-mod command;
-mod exit;
-mod export;
-mod fault;
-mod files;
-mod flags;
-mod free;
 mod group;
-mod init;
-mod lines;
 mod pace;
-mod patience;
 mod proof;
-mod rebase;
-mod reply;
 mod run;
-mod sessions;
 mod sink;
-mod topic;
 
-use ask::ask;
-use check::check;
-use command::{Command, Misuse};
-use exit::exit_code;
-use export::export;
-use fault::Fault;
-use free::free;
-use init::init;
-use lines::lines;
-use rebase::rebase;
-use reply::reply;
+use rld_commands::{Command, Fault, Misuse, Topic, exit_code};
 use run::run;
-use sessions::sessions;
 use std::alloc::Global;
 use std::env::{self, Env};
 use std::fs::{File, Files};
@@ -57,7 +24,6 @@ use std::process::ExitCode;
 use std::sync::Wait;
 use std::thread::Threads;
 use std::time::Clock;
-use topic::Topic;
 
 /// The version of the program.
 pub(crate) const VERSION: &str = "0.2.0";
@@ -146,16 +112,8 @@ where
         Err(misuse) => return Err(Fault::Usage(misuse)),
     };
     match (topic, words.as_slice()) {
-        (Topic::Check, [_, file]) => check(rt, alloc, file.as_str(), stdout),
-        (Topic::Init, [_, folder]) => init(rt, alloc, folder.as_str(), stdout),
-        (Topic::Lines, [_, names @ ..]) => lines(rt, alloc, names, stdout, stderr),
-        (Topic::Export, [_, words @ ..]) => export(rt, alloc, words, stdout, stderr),
         (Topic::Run, [_, file]) => run(rt, files, alloc, file.as_str()),
-        (Topic::Reply, [_, name, file]) => reply(rt, alloc, name.as_str(), file.as_str(), stdout),
-        (Topic::Rebase, [_, file]) => rebase(rt, alloc, file.as_str(), stdout),
-        (Topic::Sessions, words) => sessions(rt, alloc, words, stdout, stderr),
-        (Topic::Free, words) => free(rt, alloc, words, stdin, stdout, stderr),
-        (_, words) => ask(rt, alloc, topic, words, stdout, stderr),
+        (topic, words) => topic.carry_out(rt, words, stdin, stdout, stderr),
     }
 }
 

@@ -1,13 +1,11 @@
 use crate::VERSION;
 use crate::accounts::ServerAccounts;
 use crate::asks::asks_of;
-use crate::bad_file::Wrong;
-use crate::fault::Fault;
-use crate::files::{AccountFile, accounts_for, bad_file, server_file};
 use crate::group::group_number;
 use crate::pace::pace_of;
 use crate::proof::proof_in;
 use crate::sink::sink_of;
+use rld_commands::{AccountFile, Fault, Wrong, accounts_for, bad_file, server_file};
 use rld_config::{ControlSocket, Key, NewHistory, Part, Paths, ServerFault, Warning};
 use rld_log::{Pacing, Ticks};
 use rld_look::Build;

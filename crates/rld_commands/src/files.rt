@@ -19,21 +19,17 @@ const MAX_FILE_LEN: u32 = 16_777_216;
 
 /// A right account file.
 #[derive(Drop)]
-pub(crate) struct AccountFile {
+pub struct AccountFile {
     /// Its configuration.
-    pub(crate) config: Config,
+    pub config: Config,
     /// Its mode, as the system reports it.
-    pub(crate) mode: u32,
+    pub mode: u32,
     /// Its text.
-    pub(crate) text: Vec<u8>,
+    pub text: Vec<u8>,
 }
 
 /// The contents of the server's file of this name.
-pub(crate) fn server_file<F: Files>(
-    files: &F,
-    alloc: Global,
-    name: &str,
-) -> Result<ServerFile, Fault> {
+pub fn server_file<F: Files>(files: &F, alloc: Global, name: &str) -> Result<ServerFile, Fault> {
     let text = file_text(files, alloc, name)?;
     match ServerFile::read(alloc, text.as_slice()) {
         Ok(server) => Ok(server),
@@ -49,7 +45,7 @@ pub(crate) fn server_file<F: Files>(
 /// The account file of this path, if it fits the server's file, which has this name: it has the
 /// client of each network, which has to sign under a guard; no network takes the address of another
 /// client; and no other user may write to it, nor read it unless the server's file allows that.
-pub(crate) fn accounts_for<F: Files>(
+pub fn accounts_for<F: Files>(
     files: &F,
     alloc: Global,
     name: &str,
@@ -78,11 +74,7 @@ pub(crate) fn accounts_for<F: Files>(
 }
 
 /// The account file of this name, with its mode and its text.
-pub(crate) fn account_file<F: Files>(
-    files: &F,
-    alloc: Global,
-    name: &str,
-) -> Result<AccountFile, Fault> {
+pub fn account_file<F: Files>(files: &F, alloc: Global, name: &str) -> Result<AccountFile, Fault> {
     let text = file_text(files, alloc, name)?;
     let config = match Config::read(alloc, text.as_slice()) {
         Ok(config) => config,
@@ -104,7 +96,7 @@ pub(crate) fn account_file<F: Files>(
 }
 
 /// The text of the file of this name.
-pub(crate) fn file_text<F: Files>(files: &F, alloc: Global, name: &str) -> Result<Vec<u8>, Fault> {
+pub fn file_text<F: Files>(files: &F, alloc: Global, name: &str) -> Result<Vec<u8>, Fault> {
     match read_file(files, alloc, name, MAX_FILE_LEN) {
         Ok(text) => Ok(text),
         Err(TextFault::Unreadable) => bad_file(alloc, name, None, Wrong::Unreadable),
@@ -114,7 +106,7 @@ pub(crate) fn file_text<F: Files>(files: &F, alloc: Global, name: &str) -> Resul
 }
 
 /// The fault of a wrong file.
-pub(crate) fn bad_file<T>(
+pub fn bad_file<T>(
     alloc: Global,
     name: &str,
     place: Option<Place>,

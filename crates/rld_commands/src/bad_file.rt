@@ -6,7 +6,7 @@ use thiserror::Error;
 
 /// What is wrong with a file. It prints in the words of `radlimit serve`.
 #[derive(Debug, Drop, Error)]
-pub(crate) enum Wrong {
+pub enum Wrong {
     /// The file is not there, or a read of it failed.
     #[error("unreadable")]
     Unreadable,
@@ -39,13 +39,13 @@ pub(crate) enum Wrong {
 /// A file that is wrong. It prints as its name, the position where it stops being TOML if that is
 /// the fault, and what is wrong with it: `radlimitd.toml:3:9: bad file: NotToml`.
 #[derive(Debug, Drop)]
-pub(crate) struct BadFile {
+pub struct BadFile {
     /// The name of the file.
-    pub(crate) name: String,
+    pub name: String,
     /// Where it stops being TOML.
-    pub(crate) place: Option<Place>,
+    pub place: Option<Place>,
     /// What is wrong with it.
-    pub(crate) wrong: Wrong,
+    pub wrong: Wrong,
 }
 
 impl fmt::Display for BadFile {
@@ -61,9 +61,9 @@ impl fmt::Display for BadFile {
 /// A file of a state folder that is damaged. It prints as `bad log: state/log-1-2 at 40: damaged`.
 #[derive(Debug, Drop, Error)]
 #[error("bad log: {name} {wrong}")]
-pub(crate) struct BadLog {
+pub struct BadLog {
     /// The name of the file.
-    pub(crate) name: String,
+    pub name: String,
     /// The cause and the offset of its damage.
-    pub(crate) wrong: start::Wrong,
+    pub wrong: start::Wrong,
 }

@@ -1,11 +1,11 @@
 ghost use Rattle.std.specs.Prelude.{◌≡◌};
-ghost use Rattle.radlimitd.specs.Arguments.{takes, topic_of};
+ghost use Rattle.rld_commands.specs.Arguments.{takes, topic_of};
 
 use std::fmt;
 
 /// A command of the program, except those that print help or the version.
 #[derive(Clone, Copy, Debug)]
-pub(crate) enum Topic {
+pub enum Topic {
     /// Check a server's file.
     Check,
     /// Write a server's file and an account file.
@@ -40,7 +40,7 @@ pub(crate) enum Topic {
 
 impl Topic {
     /// The command of this name.
-    pub(crate) fn of_word(word: &str) -> Option<Topic>
+    pub fn of_word(word: &str) -> Option<Topic>
         ensures { result ≡ topic_of word.now }
     {
         match word {
@@ -66,7 +66,7 @@ impl Topic {
     /// Whether it takes this number of words after its name. The last word is the name of a file,
     /// and of `init` that of a folder; `lines` takes the names of several files. `free` takes what
     /// `sessions` prints as one word or as four. Flags and their values are words of their own.
-    pub(crate) fn takes(self, words: usize) -> bool
+    pub fn takes(self, words: usize) -> bool
         ensures { result ≡ takes self words }
     {
         match self {
@@ -106,7 +106,7 @@ impl Topic {
     }
 
     /// The form of its words that name a session or an account, if it has any.
-    pub(crate) fn form(self) -> &'static str {
+    pub fn form(self) -> &'static str {
         match self {
             Topic::Free =>
                 "; NAS is nas=NAME, nas-address=DIGITS or unnamed, as `sessions` prints it; all of \
@@ -133,7 +133,7 @@ impl Topic {
     }
 
     /// What it does and prints, with an example and its exit statuses.
-    pub(crate) fn help(self) -> &'static str {
+    pub fn help(self) -> &'static str {
         match self {
             Topic::Check => CHECK,
             Topic::Init => INIT,

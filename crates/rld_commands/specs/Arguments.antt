@@ -1,11 +1,11 @@
 -- What the arguments of the program ask for.
 use Rattle.std.specs.Prelude.{ℕ, ◌==◌, ◌&&◌, ◌||◌, nat_le, Bool, false, List, [], ◌∷◌, length, codes, bytes_eq, if◌then◌else◌, Option, None, Some, Result, Ok, Err}
-use Rattle.radlimitd.specs.declared.command.Command.{Command}
-use Rattle.radlimitd.specs.declared.command.Command.TheVariants.{Do, HelpOn, Help, Version}
-use Rattle.radlimitd.specs.declared.command.Misuse.{Misuse}
-use Rattle.radlimitd.specs.declared.command.Misuse.TheVariants.{NoCommand, UnknownCommand, Words}
-use Rattle.radlimitd.specs.declared.topic.Topic.{Topic}
-use Rattle.radlimitd.specs.declared.topic.Topic.TheVariants as topics
+use Rattle.rld_commands.specs.declared.command.Command.{Command}
+use Rattle.rld_commands.specs.declared.command.Command.TheVariants.{Do, HelpOn, Help, Version}
+use Rattle.rld_commands.specs.declared.command.Misuse.{Misuse}
+use Rattle.rld_commands.specs.declared.command.Misuse.TheVariants.{NoCommand, UnknownCommand, Words}
+use Rattle.rld_commands.specs.declared.topic.Topic.{Topic}
+use Rattle.rld_commands.specs.declared.topic.Topic.TheVariants as topics
 
 -- the command of a name
 abbrev pub topic_of : (word : List ℕ) → Option Topic

@@ -1,5 +1,5 @@
 ghost use Rattle.std.specs.Prelude.{◌≡◌, map, string_bytes};
-ghost use Rattle.radlimitd.specs.Arguments.{
+ghost use Rattle.rld_commands.specs.Arguments.{
   about,
   asks_for_help,
   command_of,
@@ -15,7 +15,7 @@ use std::fmt;
 
 /// A request to the program.
 #[derive(Clone, Copy, Debug)]
-pub(crate) enum Command {
+pub enum Command {
     /// Do this, with the words after its name.
     Do(Topic),
     /// Print the usage of this, what it prints, and its exit statuses.
@@ -28,7 +28,7 @@ pub(crate) enum Command {
 
 /// What is wrong with the arguments.
 #[derive(Clone, Copy, Debug)]
-pub(crate) enum Misuse {
+pub enum Misuse {
     /// One is not UTF-8.
     NotUtf8,
     /// There is no argument.
@@ -61,7 +61,7 @@ impl fmt::Display for Misuse {
 
 impl Command {
     /// The request of the words after the name of the program.
-    pub(crate) fn of_words(words: &[String]) -> Result<Command, Misuse>
+    pub fn of_words(words: &[String]) -> Result<Command, Misuse>
         ensures { result ≡ command_of (map string_bytes words.now) }
     {
         let [word, rest @ ..] = words else {

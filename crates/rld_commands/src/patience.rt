@@ -2,7 +2,7 @@
 
 ghost use Rattle.std.specs.Fmt.{decimal};
 ghost use Rattle.std.specs.Prelude.{ℕ, ◌≡◌, ◌<◌, ◌^◌, Some};
-ghost use Rattle.radlimitd.specs.Waits.{patience_in, patience_of, takes_timeout};
+ghost use Rattle.rld_commands.specs.Waits.{patience_in, patience_of, takes_timeout};
 
 use crate::topic::Topic;
 

@@ -1,9 +1,9 @@
 ghost use Rattle.std.specs.Prelude.{◌≡◌};
-ghost use Rattle.radlimitd.specs.declared.fault.Fault.TheVariants.{InputOutput, NoMemory as no_memory, Run, Start};
+ghost use Rattle.rld_commands.specs.declared.fault.Fault.TheVariants.{InputOutput, NoMemory as no_memory, Run, Start};
 
 use crate::bad_file::{BadFile, BadLog};
 use crate::command::Misuse;
-use rld_serve::RunFault;
+use rld_edges::RunFault;
 use rld_start::{EndStatus, StartFault};
 use rsl_wire::NoMemory;
 use std::alloc::AllocError;
@@ -12,7 +12,7 @@ use thiserror::Error;
 
 /// Why the program does not end well. It prints as the line for standard error.
 #[derive(Debug, Drop, Error)]
-pub(crate) enum Fault {
+pub enum Fault {
     /// The arguments are wrong.
     #[error("{0}")]
     Usage(Misuse),
@@ -61,10 +61,10 @@ pub(crate) enum Fault {
 }
 
 impl Fault {
-    ghost use Rattle.radlimitd.specs.Status.{fault_status};
+    ghost use Rattle.rld_commands.specs.Status.{fault_status};
 
     /// The exit status of the process.
-    pub(crate) fn status(&self) -> EndStatus
+    pub fn status(&self) -> EndStatus
         ensures { result ≡ fault_status self.now }
     {
         match self {

@@ -1,6 +1,6 @@
 use Rattle.std.proofs.Common.{◌∙◌}
-use Rattle.radlimitd.proofs.Seconds.{number_parsed}
-use Rattle.radlimitd.proofs.patience.number_of.Goals as goal
+use Rattle.rld_commands.proofs.Seconds.{number_parsed}
+use Rattle.rld_commands.proofs.patience.number_of.Goals as goal
 
 pub returns : goal.returns
 returns c = λ number small e.

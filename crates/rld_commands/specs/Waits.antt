@@ -1,10 +1,10 @@
 -- How long the answer of a running server is waited for.
 use Rattle.std.specs.Prelude.{ℕ, Bool, true, false, Option, None, Some, if◌then◌else◌}
-use Rattle.radlimitd.specs.Arguments.{is_between}
-use Rattle.radlimitd.specs.declared.patience.Patience.{Patience}
-use Rattle.radlimitd.specs.declared.patience.Patience.TheVariants.{Endless, Seconds}
-use Rattle.radlimitd.specs.declared.topic.Topic.{Topic}
-use Rattle.radlimitd.specs.declared.topic.Topic.TheVariants as topics
+use Rattle.rld_commands.specs.Arguments.{is_between}
+use Rattle.rld_commands.specs.declared.patience.Patience.{Patience}
+use Rattle.rld_commands.specs.declared.patience.Patience.TheVariants.{Endless, Seconds}
+use Rattle.rld_commands.specs.declared.topic.Topic.{Topic}
+use Rattle.rld_commands.specs.declared.topic.Topic.TheVariants as topics
 
 -- where the words say nothing: as long as the server works on what takes long, which is to read the
 -- accounts or to show them; a second for a check; and else five

@@ -1,6 +1,6 @@
-use crate::asks::token_in;
 use crate::fault::Fault;
 use crate::files::{accounts_for, server_file};
+use crate::token::token_in;
 use rld_config::{Paths, passed_over, warnings};
 use rsl_accounts::{Config, UnsignedRule};
 use std::alloc::Global;

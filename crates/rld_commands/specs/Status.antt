@@ -4,8 +4,8 @@ use Rattle.rld_edges.specs.Fault as running
 use Rattle.rld_start.specs.Status as starting
 use Rattle.rld_start.specs.declared.status.EndStatus.{EndStatus}
 use Rattle.rld_start.specs.declared.status.EndStatus.TheVariants as statuses
-use Rattle.radlimitd.specs.declared.fault.Fault.{Fault}
-use Rattle.radlimitd.specs.declared.fault.Fault.TheVariants.{Usage, BadFile, BadLog, Start, Run, Control, Silent, NotReady, Late, Taken, Unwritten, Refused, NoTerminal, InputOutput, NoMemory}
+use Rattle.rld_commands.specs.declared.fault.Fault.{Fault}
+use Rattle.rld_commands.specs.declared.fault.Fault.TheVariants.{Usage, BadFile, BadLog, Start, Run, Control, Silent, NotReady, Late, Taken, Unwritten, Refused, NoTerminal, InputOutput, NoMemory}
 
 -- wrong arguments, a wrong file and a damaged one are wrong input; so is what nobody says yes to
 abbrev pub fault_status : Fault → EndStatus
