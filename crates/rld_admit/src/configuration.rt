@@ -78,6 +78,7 @@ fn clients_of(alloc: Global, rows: &[EraClient]) -> Result<Vec<Client>, TableFau
             secret: Secret::from_str(alloc, NO_SECRET)?,
             signed: false,
             trusted: false,
+            disconnect: None,
         };
         clients.push(client)?;
     }

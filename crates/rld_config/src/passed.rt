@@ -132,6 +132,7 @@ fn is_of_version_3(name: &str) -> bool
 {
     [
         Field::Trusted,
+        Field::Disconnect,
         Field::Disabled,
         Field::Reply,
         Field::Profile,

@@ -72,7 +72,7 @@ of_counts clients accounts = never-all (count_checks clients accounts) (count _ 
 
 of_client : (version : ℕ) (client : Client) → Never (client_checks version client)
 unfolding client_checks
-of_client version client = never-all (client_checks version client) (text _ _, (unless _ _, (unless _ _, tt)))
+of_client version client = never-all (client_checks version client) (text _ _, (unless _ _, (unless _ _, (option _ _, tt))))
 
 of_common : (entry : Entry) → Never (common_checks entry)
 unfolding common_checks

@@ -8,7 +8,7 @@ use Rattle.toml.specs.Data.{Data, string, integer, float, boolean, datetime, arr
 use Rattle.toml.specs.View.{view, items_view}
 use Rattle.toml.specs.declared.value.Value.{Value}
 use Rattle.rsl_accounts.specs.declared.field.Field.{Field}
-use Rattle.rsl_accounts.specs.declared.field.Field.TheVariants.{InterimSecs}
+use Rattle.rsl_accounts.specs.declared.field.Field.TheVariants.{InterimSecs, Port}
 use Rattle.rsl_accounts.specs.Field.{is_between, takes_number, takes_count}
 use Rattle.rsl_accounts.specs.File.{list_of, tables_of, tables_of_list}
 use Rattle.rsl_accounts.specs.Walk.{number_fault}
@@ -50,6 +50,12 @@ module _ (f : Field) (values : List Value) where
 pub interval_has_32_bits : (n : ℕ) → number_fault InterimSecs n ≡ None → n < 2 ^ 32
 interval_has_32_bits n none =
     let most : n ≤ 86400 = (between 60 86400 n (right_number InterimSecs n none)).1 in
+    omega arith
+
+-- a port has 16 bits
+pub port_has_16_bits : (n : ℕ) → number_fault Port n ≡ None → n < 2 ^ 16
+port_has_16_bits n none =
+    let most : n ≤ 65535 = (between 1 65535 n (right_number Port n none)).1 in
     omega arith
 
 -- a number that the field may have has 32 bits

@@ -138,12 +138,17 @@ signs true trusted none is = refl
 signs false true none is = cc
 signs false false none is = cc
 
+-- a port is not 0
+port : (number : Option ℕ) → option_fault field.Port number ≡ None → IfSome number (λ n. 1 ≤ n)
+port None none = tt
+port (Some n) none = (between 1 65535 n (right_number field.Port n none)).0
+
 client_fits : (version : ℕ) (client : Client) → first_fault (client_checks version client) ≡ None
-    → IsSecret client.secret × ((least_secret version ≤ length client.secret) × (client.trusted ≡ true → client.signed ≡ true))
+    → IsSecret client.secret × ((least_secret version ≤ length client.secret) × ((client.trusted ≡ true → client.signed ≡ true) × IfSome client.disconnect (λ port. 1 ≤ port)))
 unfolding client_checks
 client_fits version client none =
     let p = passed (client_checks version client) none in
-    (secret client.secret (right_text field.Secret client.secret p.0), (leb-true _ _ (is_right _ field.Secret p.1.0), signs client.signed client.trusted p.1.1.0))
+    (secret client.secret (right_text field.Secret client.secret p.0), (leb-true _ _ (is_right _ field.Secret p.1.0), (signs client.signed client.trusted p.1.1.0, port client.disconnect p.1.1.1.0)))
 
 optional : (f : Field) → ((n : ℕ) → takes_number f n ≡ is_between 1 4294967295 n) → (number : Option ℕ) → option_fault f number ≡ None → IfSome number (λ n. 1 ≤ n)
 optional f takes None none = tt
@@ -266,7 +271,8 @@ made_fits settings clients accounts none differ differ_too short =
       accounts = rw (length-map accounts (with_times settings)) fits.accounts.1;
       secrets = λ k d within. (client_fits settings.version (get_or clients k d) (each_client k d within)).0;
       long_secrets = λ k d within. (client_fits settings.version (get_or clients k d) (each_client k d within)).1.0;
-      trusted_sign = λ k d within. (client_fits settings.version (get_or clients k d) (each_client k d within)).1.1;
+      trusted_sign = λ k d within. (client_fits settings.version (get_or clients k d) (each_client k d within)).1.1.0;
+      disconnect_ports = λ k d within. (client_fits settings.version (get_or clients k d) (each_client k d within)).1.1.1;
       each_account = All-map (IsAccount settings) (with_times settings) accounts (λ k d within. entry_fits settings settings_fit (get_or accounts k d) (each_entry k d within));
       addresses_differ = differ;
       names_differ = rw (names-with_times settings accounts) differ_too;

@@ -2,7 +2,7 @@
 use Rattle.std.specs.Prelude.{ℕ, List, Bool, false, not, ◌==◌, ◌&&◌, nat_le, length, codes}
 use Rattle.std.specs.List.{list_all}
 use Rattle.rsl_accounts.specs.declared.field.Field.{Field}
-use Rattle.rsl_accounts.specs.declared.field.Field.TheVariants.{Version, Shards, ReserveSecs, LiveSecs, GraceSecs, ClosedSecs, KeepSecs, Client, Account, Address, Secret, Name, Password, Signed, Trusted, Places, Ports, ServiceType, FramedProtocol, SessionTimeout, IdleTimeout, OwnLive, OwnGrace, InterimSecs, Disabled, Reply, Profile, PortLimit}
+use Rattle.rsl_accounts.specs.declared.field.Field.TheVariants.{Version, Shards, ReserveSecs, LiveSecs, GraceSecs, ClosedSecs, KeepSecs, Client, Account, Address, Secret, Name, Password, Signed, Trusted, Disconnect, Port, Places, Ports, ServiceType, FramedProtocol, SessionTimeout, IdleTimeout, OwnLive, OwnGrace, InterimSecs, Disabled, Reply, Profile, PortLimit}
 
 -- the key of the field in the file
 abbrev pub field_key : Field → List ℕ
@@ -19,6 +19,8 @@ field_key Address = codes "address"
 field_key Secret = codes "secret"
 field_key Signed = codes "signed"
 field_key Trusted = codes "trusted"
+field_key Disconnect = codes "disconnect"
+field_key Port = codes "port"
 field_key Name = codes "name"
 field_key Password = codes "password"
 field_key Places = codes "places"
@@ -47,6 +49,7 @@ takes_number LiveSecs number = is_between 1 86400 number
 takes_number GraceSecs number = is_between 1 86400 number
 takes_number ClosedSecs number = is_between 1 86400 number
 takes_number KeepSecs number = is_between 1 86400 number
+takes_number Port number = is_between 1 65535 number
 takes_number Places number = is_between 0 64 number
 takes_number Ports number = is_between 1 16 number
 takes_number ServiceType number = is_between 1 4294967295 number

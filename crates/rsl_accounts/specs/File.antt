@@ -149,6 +149,23 @@ trusted_in version signed value =
     fault_or (trust_fault signed trusted) (Ok trusted))
     else Ok false
 
+-- the port of a table `disconnect`: its one key
+unfoldable pub port_in : (version : ℕ) → Data → Result ℕ ConfigFault
+port_in version value =
+    fault_or (misspelled_in version part.Disconnect value) (number_in value field.Port)
+
+abbrev pub disconnect_of : (version : ℕ) → Option Data → Result (Option ℕ) ConfigFault
+disconnect_of version None = Ok None
+disconnect_of version (Some value) =
+    if is_some (as_table value)
+    then result_map_both Some (λ fault. fault) (port_in version value)
+    else Err (BadValue field.Disconnect)
+
+-- the UDP port at which a client takes Disconnect-Requests (RFC 5176), if it does: only version 3 knows it
+unfoldable pub disconnect_in : (version : ℕ) → Data → Result (Option ℕ) ConfigFault
+disconnect_in version value =
+    if is_strict version then disconnect_of version (member_in value field.Disconnect) else Ok None
+
 -- an account's password, which version 3 lets it leave out
 unfoldable pub password_in : (version : ℕ) → Data → Result (Option (List ℕ)) ConfigFault
 password_in version value =
@@ -275,7 +292,14 @@ client_in version value =
     and_then (secret_in version value) (λ secret.
     and_then (signed_in version value) (λ signed.
     and_then (trusted_in version signed value) (λ trusted.
-    Ok (record { address = address; secret = secret; signed = signed; trusted = trusted }))))))
+    and_then (disconnect_in version value) (λ disconnect.
+    Ok (record {
+      address = address;
+      secret = secret;
+      signed = signed;
+      trusted = trusted;
+      disconnect = disconnect;
+    })))))))
 
 -- the times of the rules are filled in later, and so is the file's own `interim_secs`
 unfoldable pub entry_in : (version : ℕ) → Common → Data → Result Entry ConfigFault

@@ -80,6 +80,7 @@ pub record IsConfiguration (config : Configuration) : Type 0 where
   pub long_secrets : All (λ client. least_secret config.settings.version ≤ length_of client.secret)
       config.clients
   pub trusted_sign : All (λ client. client.trusted ≡ true → client.signed ≡ true) config.clients
+  pub disconnect_ports : All (λ client. IfSome client.disconnect (λ port. 1 ≤ port)) config.clients
   pub each_account : All (IsAccount config.settings) config.accounts
   pub addresses_differ : comes_twice (addresses config.clients) ≡ false
   pub names_differ : comes_twice (names config.accounts) ≡ false

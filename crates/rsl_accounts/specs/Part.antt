@@ -4,7 +4,7 @@ use Rattle.std.specs.List.{list_any}
 use Rattle.rsl_accounts.specs.declared.field.Field.{Field}
 use Rattle.rsl_accounts.specs.declared.field.Field.TheVariants as field
 use Rattle.rsl_accounts.specs.declared.part.Part.{Part}
-use Rattle.rsl_accounts.specs.declared.part.Part.TheVariants.{Head, Client, Account, Profile}
+use Rattle.rsl_accounts.specs.declared.part.Part.TheVariants.{Head, Client, Account, Disconnect, Profile}
 use Rattle.rsl_accounts.specs.Field.{field_key}
 
 -- the fields that a table may have
@@ -13,12 +13,14 @@ fields_of Head =
     field.Version ∷ field.Shards ∷ field.ReserveSecs ∷ field.LiveSecs ∷ field.GraceSecs
     ∷ field.ClosedSecs ∷ field.KeepSecs ∷ field.InterimSecs ∷ field.Client ∷ field.Account
     ∷ field.Profile ∷ field.PortLimit ∷ []
-fields_of Client = field.Address ∷ field.Secret ∷ field.Signed ∷ field.Trusted ∷ []
+fields_of Client =
+    field.Address ∷ field.Secret ∷ field.Signed ∷ field.Trusted ∷ field.Disconnect ∷ []
 fields_of Account =
     field.Name ∷ field.Password ∷ field.Places ∷ field.Ports ∷ field.ServiceType
     ∷ field.FramedProtocol ∷ field.SessionTimeout ∷ field.IdleTimeout ∷ field.OwnLive
     ∷ field.OwnGrace ∷ field.InterimSecs ∷ field.Disabled ∷ field.Reply ∷ field.Profile
     ∷ field.PortLimit ∷ []
+fields_of Disconnect = field.Port ∷ []
 fields_of Profile = field.Reply ∷ []
 
 -- whether a table may have this key

@@ -69,12 +69,14 @@ unfoldable pub count_checks : (clients accounts : ℕ) → List (Option ConfigFa
 count_checks clients accounts =
     count_fault field.Client clients ∷ count_fault field.Account accounts ∷ []
 
--- the checks of a client: any four octets are an address, and one that is trusted has to sign
+-- the checks of a client: any four octets are an address, one that is trusted has to sign, and the port at
+-- which it takes Disconnect-Requests is not 0
 unfoldable pub client_checks : (version : ℕ) → Client → List (Option ConfigFault)
 client_checks version client =
     text_fault field.Secret client.secret
     ∷ secret_len_fault version (length client.secret)
     ∷ trust_fault client.signed client.trusted
+    ∷ option_fault field.Port client.disconnect
     ∷ []
 
 -- the checks of an account in every version

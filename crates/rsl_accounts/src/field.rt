@@ -21,6 +21,9 @@ use std::fmt;
 /// The most shards of a server.
 const MAX_SHARDS: u64 = 4;
 
+/// The greatest UDP port.
+const MAX_PORT: u64 = u16::MAX as u64;
+
 /// The greatest number of an attribute of an account's accepts: 32 bits.
 const MAX_OPTION: u64 = u32::MAX as u64;
 
@@ -65,6 +68,10 @@ pub enum Field {
     Signed,
     /// Whether a client's requests may ask without a password.
     Trusted,
+    /// How a client takes Disconnect-Requests (RFC 5176), as a table.
+    Disconnect,
+    /// The UDP port at which a client takes them.
+    Port,
     /// The User-Name of an account.
     Name,
     /// The password of an account.
@@ -116,6 +123,8 @@ impl Field {
             Field::Secret => "secret",
             Field::Signed => "signed",
             Field::Trusted => "trusted",
+            Field::Disconnect => "disconnect",
+            Field::Port => "port",
             Field::Name => "name",
             Field::Password => "password",
             Field::Places => "places",
@@ -149,6 +158,7 @@ impl Field {
             | Field::OwnLive
             | Field::OwnGrace => is_between(MIN_TIME, MAX_TIME, number),
             Field::InterimSecs => is_between(MIN_INTERIM, MAX_TIME, number),
+            Field::Port => is_between(1, MAX_PORT, number),
             Field::Places => is_between(0, MAX_PLACES, number),
             Field::Ports => is_between(MIN_PORTS, MAX_PORTS, number),
             Field::ServiceType

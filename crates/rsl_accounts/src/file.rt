@@ -22,8 +22,8 @@ use crate::rules::Rules;
 use crate::secret::Secret;
 use crate::settings::Settings;
 use crate::table::{
-    address, check_names, disabled, interim, number, own_time, password, secret, short_number,
-    signed, text, trusted,
+    address, check_names, disabled, disconnect, interim, number, own_time, password, secret,
+    short_number, signed, text, trusted,
 };
 use crate::text::Text;
 use std::alloc::Global;
@@ -80,6 +80,7 @@ fn client(alloc: Global, version: u64, table: &Value) -> Result<Client, ConfigFa
         address,
         signed,
         trusted: trusted(version, signed, table)?,
+        disconnect: disconnect(alloc, version, table)?,
         secret: Secret::from_str(alloc, secret)?,
     })
 }

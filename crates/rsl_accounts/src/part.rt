@@ -14,6 +14,8 @@ pub enum Part {
     Client,
     /// A table `account`.
     Account,
+    /// The table `disconnect` of a client.
+    Disconnect,
     /// A table in `profile`.
     Profile,
 }
@@ -38,7 +40,13 @@ impl Part {
                 Field::Profile,
                 Field::PortLimit,
             ],
-            Part::Client => &[Field::Address, Field::Secret, Field::Signed, Field::Trusted],
+            Part::Client => &[
+                Field::Address,
+                Field::Secret,
+                Field::Signed,
+                Field::Trusted,
+                Field::Disconnect,
+            ],
             Part::Account => &[
                 Field::Name,
                 Field::Password,
@@ -56,6 +64,7 @@ impl Part {
                 Field::Profile,
                 Field::PortLimit,
             ],
+            Part::Disconnect => &[Field::Port],
             Part::Profile => &[Field::Reply],
         }
     }
@@ -74,6 +83,7 @@ impl fmt::Display for Part {
             Part::Head => "",
             Part::Client => "client ",
             Part::Account => "account ",
+            Part::Disconnect => "disconnect ",
             Part::Profile => "profile ",
         })
     }

@@ -34,8 +34,11 @@ ghost use Rattle.rsl_accounts.specs.File.{
   text_in,
   address_in,
   disabled_in,
+  disconnect_in,
+  disconnect_of,
   flag_in,
   misspelled_in,
+  port_in,
   secret_in,
   signed_in,
   trusted_in,
@@ -285,6 +288,56 @@ pub(crate) fn trusted(version: u64, signed: bool, table: &Value) -> Result<bool,
     } else {
         Ok(false)
     }
+}
+
+/// The UDP port at which a client takes Disconnect-Requests (RFC 5176), which only version 3 knows.
+#[tactic(auto, unfolding(crate::specs::File::disconnect_in))]
+pub(crate) fn disconnect(
+    alloc: Global,
+    version: u64,
+    table: &Value,
+) -> Result<Option<u16>, ConfigFault>
+    ensures ok { IfOk result (λ port. disconnect_in version (view table.now) ≡ Ok port) }
+    ensures fault { IfErr result (λ fault. fault ≢ ConfigFault.NoMemory →
+        disconnect_in version (view table.now) ≡ Err fault) }
+    ensures right { IfOk result (λ port. option_fault Field.Port port ≡ None) }
+{
+    if is_strict(version) {
+        disconnect_of(alloc, version, member(table, Field::Disconnect))
+    } else {
+        Ok(None)
+    }
+}
+
+/// The port of the table that a value is, if there is one.
+fn disconnect_of(
+    alloc: Global,
+    version: u64,
+    value: Option<&Value>,
+) -> Result<Option<u16>, ConfigFault>
+    ensures ok { IfOk result (λ port.
+        disconnect_of version (option_map (λ v. view v.now) value.entry) ≡ Ok port) }
+    ensures fault { IfErr result (λ fault. fault ≢ ConfigFault.NoMemory →
+        disconnect_of version (option_map (λ v. view v.now) value.entry) ≡ Err fault) }
+    ensures right { IfOk result (λ port. option_fault Field.Port port ≡ None) }
+{
+    match value {
+        Some(value) if value.is_table() => Ok(Some(port(alloc, version, value)?)),
+        Some(_) => Err(ConfigFault::BadValue(Field::Disconnect)),
+        None => Ok(None),
+    }
+}
+
+/// The port of a table `disconnect`: its one key.
+#[tactic(auto, unfolding(crate::specs::File::port_in))]
+fn port(alloc: Global, version: u64, table: &Value) -> Result<u16, ConfigFault>
+    ensures ok { IfOk result (λ port. port_in version (view table.now) ≡ Ok port) }
+    ensures fault { IfErr result (λ fault. fault ≢ ConfigFault.NoMemory →
+        port_in version (view table.now) ≡ Err fault) }
+    ensures right { IfOk result (λ port. number_fault Field.Port port ≡ None) }
+{
+    check_names(alloc, version, Part::Disconnect, table)?;
+    Ok(number(table, Field::Port)? as u16)
 }
 
 /// Whether an account's logins are rejected, which only version 3 knows.

@@ -38,6 +38,7 @@ client_line (address ∷ secret ∷ rest) = do
     secret = secret;
     signed = signed;
     trusted = false;
+    disconnect = None;
   }))
 client_line _ = None
 

@@ -119,6 +119,7 @@ fn client_line(alloc: Global, words: &[&str]) -> Result<ScriptLine, LineFault>
             address: address_of(address.as_bytes()).ok_or(LineFault::Wrong)?,
             signed: read_signed(rest).ok_or(LineFault::Wrong)?,
             trusted: false,
+            disconnect: None,
             secret: Secret::from_str(alloc, secret)?,
         })),
         _ => Err(LineFault::Wrong),

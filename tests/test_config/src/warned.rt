@@ -298,6 +298,8 @@ fn an_operator_is_told_the_first_key_that_is_passed_over(rt: HostRuntime) -> Res
           client \"sigend\"
         of an account | [[client]] | [[account]] | secret = 's' | account \"secret\"
         what version 3 alone follows | [[account]] | name = 'a' | disabled = false | account \"disabled\"
+        a port for Disconnect-Requests | [[client]] | secret = 's' | disconnect = { port = 3799, x = 1 } | \
+          client \"disconnect\"
         disabled stands elsewhere | [[client]] | disabled = true | client \"disabled\"
         clients that are no tables | client = [1, 2] | account = {} | none
         no TOML | = | none

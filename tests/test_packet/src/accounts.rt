@@ -62,6 +62,7 @@ fn client(alloc: Global, address: [u8; 4], secret: &str) -> Result<Client, Fail>
         secret: Secret::from_str(alloc, secret)?,
         signed: false,
         trusted: false,
+        disconnect: None,
     })
 }
 

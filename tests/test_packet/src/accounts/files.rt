@@ -174,6 +174,56 @@ fn version_3_is_strict(rt: HostRuntime) -> Result<(), Fail> {
     check_rows(&rt, &FileRows, strict(rt.alloc(), rows)?.as_str())
 }
 
+#[test]
+fn version_3_knows_the_port_for_disconnect_requests(rt: HostRuntime) -> Result<(), Fail> {
+    let rows = r#"
+        a port | <3> | <16> | <disconnect> { port = 3799 }\n | Ok
+        as a table of its own | <3> | <16> | 5461"\n => 5461"\n[client.disconnect]\nport = 3799\n | Ok
+        the least | <3> | <16> | <disconnect> { port = 1 }\n | Ok
+        the greatest | <3> | <16> | <disconnect> { port = 65535 }\n | Ok
+        0 | <3> | <16> | <disconnect> { port = 0 }\n | BadValue port
+        65536 | <3> | <16> | <disconnect> { port = 65536 }\n | BadValue port
+        below 0 | <3> | <16> | <disconnect> { port = -1 }\n | BadValue port
+        a text | <3> | <16> | <disconnect> { port = "3799" }\n | BadValue port
+        no port | <3> | <16> | <disconnect> {}\n | Missing port
+        another key | <3> | <16> | <disconnect> { port = 3799, address = "::1" }\n | Unknown disconnect "address"
+        before the port | <3> | <16> | <disconnect> { prot = 3799 }\n | Unknown disconnect "prot"
+        a number | <3> | <16> | <disconnect> 3799\n | BadValue disconnect
+        a list | <3> | <16> | <disconnect> [{ port = 3799 }]\n | BadValue disconnect
+        after trusted | <3> | <16> | <disconnect> 3799\ntrusted = 1\n | BadValue trusted
+        before the accounts | <3> | <16> | <disconnect> 3799\n | name = "nemo"\n => | BadValue disconnect
+        a port of the client | <3> | <16> | 5461"\n => 5461"\nport = 3799\n | Unknown client "port"
+        of an account | <3> | <16> | => disconnect = { port = 3799 }\n | Unknown account "disconnect"
+        a port in version 2 | <2> | <disconnect> { port = 3799 }\n | Ok
+        0 in version 2 | <2> | <disconnect> { port = 0, x = 1 }\n | Ok
+        a number in version 1 | <disconnect> 3799\n | Ok
+    "#;
+    check_rows(&rt, &FileRows, strict(rt.alloc(), rows)?.as_str())
+}
+
+/// The port at which the first client takes Disconnect-Requests.
+struct PortRows;
+
+impl Subject for PortRows {
+    fn found(&self, alloc: Global, fields: &[&str]) -> Result<String, Fail> {
+        let text = file_of(alloc, fields)?;
+        let config = Config::read(alloc, text.as_bytes())?;
+        printed(alloc, &config.client_at(0).disconnect)
+    }
+}
+
+#[test]
+fn a_client_has_the_port_of_the_file(rt: HostRuntime) -> Result<(), Fail> {
+    let rows = r#"
+        none | <3> | <16> | None
+        a port | <3> | <16> | <disconnect> { port = 3799 }\n | Some(3799)
+        as a table of its own | <3> | <16> | 5461"\n => 5461"\n[client.disconnect]\nport = 65535\n | Some(65535)
+        in version 2 | <2> | <disconnect> { port = 3799 }\n | None
+        in version 1 | <disconnect> { port = 3799 }\n | None
+    "#;
+    check_rows(&rt, &PortRows, strict(rt.alloc(), rows)?.as_str())
+}
+
 /// Rows with what stands for their words.
 fn strict(alloc: Global, rows: &str) -> Result<String, Fail> {
     let words = r#"<2> = version = 1 => version = 2
@@ -181,6 +231,7 @@ fn strict(alloc: Global, rows: &str) -> Result<String, Fail> {
 <16> = xyzzy5461 => 1234567xyzzy5461
 <sigend> = 5461"\n => 5461"\nsigend = true\n
 <trusted> = 5461"\n => 5461"\ntrusted =
+<disconnect> = 5461"\n => 5461"\ndisconnect =
 <none> = password = "arctangent"\n =>
 <128> = <64><64>
 <64> = 1234567890123456789012345678901234567890123456789012345678901234"#;

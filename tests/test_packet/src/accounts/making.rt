@@ -1,7 +1,7 @@
 //! What `Config::make` takes, look-ups, rules and addresses.
 
 use super::{client, entry, numbers_of, rules_of, said, settings};
-use rsl_accounts::{Config, Entry, Rules, Settings, address_of};
+use rsl_accounts::{Client, Config, Entry, Rules, Settings, address_of};
 use std::alloc::Global;
 use std::test::Fail;
 use test_rows::{Subject, check_rows, printed, replaced};
@@ -34,12 +34,14 @@ fn made_with(alloc: Global, key: &str, number: u64) -> Result<String, Fail> {
     let mut nemo = entry(alloc, "nemo", "arctangent")?;
     set_rule(&mut nemo.rules, key, number);
     set_attribute(&mut nemo, key, number);
-    made_of(alloc, settings, "s", nemo)
+    let mut one = client(alloc, [10, 0, 0, 1], "s")?;
+    set_port(&mut one, key, number);
+    made_of(alloc, settings, one, nemo)
 }
 
-/// What comes of one client with the secret, and one account.
-fn made_of(alloc: Global, settings: Settings, secret: &str, nemo: Entry) -> Result<String, Fail> {
-    let clients = Vec::from_array(alloc, [client(alloc, [10, 0, 0, 1], secret)?])?;
+/// What comes of one client and one account.
+fn made_of(alloc: Global, settings: Settings, one: Client, nemo: Entry) -> Result<String, Fail> {
+    let clients = Vec::from_array(alloc, [one])?;
     let accounts = Vec::from_array(alloc, [nemo])?;
     said(alloc, Config::make(alloc, settings, clients, accounts))
 }
@@ -63,6 +65,12 @@ fn set_rule(rules: &mut Rules, key: &str, number: u64) {
         "places" => rules.places = number,
         "ports" => rules.ports = number,
         _ => {}
+    }
+}
+
+fn set_port(one: &mut Client, key: &str, number: u64) {
+    if key == "port" {
+        one.disconnect = u16::try_from(number).ok();
     }
 }
 
@@ -93,6 +101,7 @@ fn numbers_are_taken_up_to_their_limits(rt: HostRuntime) -> Result<(), Fail> {
         closed time | closed_secs | 0 1 86400 86401 | \
           BadValue closed_secs, Ok, Ok, BadValue closed_secs
         keep time | keep_secs | 0 1 86400 86401 | BadValue keep_secs, Ok, Ok, BadValue keep_secs
+        port for Disconnect-Requests | port | 0 1 65535 | BadValue port, Ok, Ok
         places | places | 0 64 65 | Ok, Ok, BadValue places
         ports | ports | 0 1 16 17 | BadValue ports, Ok, Ok, BadValue ports
         Service-Type | service_type | 0 1 4294967295 | BadValue service_type, Ok, Ok
@@ -125,7 +134,12 @@ impl Subject for TextRows {
             return Err("a row has a secret, a name and a password")?;
         };
         let nemo = entry(alloc, name, password)?;
-        made_of(alloc, settings(1), secret, nemo)
+        made_of(
+            alloc,
+            settings(1),
+            client(alloc, [10, 0, 0, 1], secret)?,
+            nemo,
+        )
     }
 }
 

@@ -38,8 +38,11 @@ fn faults_are_printed_with_the_key_of_their_field(rt: HostRuntime) -> Result<(),
         ConfigFault::BadValue(Field::InterimSecs),
         ConfigFault::BadValue(Field::Disabled),
         ConfigFault::BadValue(Field::Trusted),
+        ConfigFault::BadValue(Field::Disconnect),
+        ConfigFault::Missing(Field::Port),
         ConfigFault::Unknown(Part::Head, Text::from_str(rt.alloc(), "shard")?),
         ConfigFault::Unknown(Part::Client, Text::from_str(rt.alloc(), "sigend")?),
+        ConfigFault::Unknown(Part::Disconnect, Text::from_str(rt.alloc(), "prot")?),
         ConfigFault::Unknown(Part::Account, Text::from_str(rt.alloc(), "a \"b\"")?),
     ];
     let expected = "NotToml, TwiceClient, TwiceAccount, KeepTooLong, NoMemory, Missing version, \
@@ -48,8 +51,8 @@ fn faults_are_printed_with_the_key_of_their_field(rt: HostRuntime) -> Result<(),
         BadValue address, BadValue secret, BadValue signed, BadValue name, BadValue password, \
         BadValue places, BadValue ports, BadValue service_type, BadValue framed_protocol, \
         BadValue session_timeout, BadValue idle_timeout, BadValue live_secs, BadValue grace_secs, \
-        BadValue interim_secs, BadValue disabled, BadValue trusted, Unknown \"shard\", \
-        Unknown client \"sigend\", Unknown account \"a \\\"b\\\"\", ";
+        BadValue interim_secs, BadValue disabled, BadValue trusted, BadValue disconnect, Missing port, \
+        Unknown \"shard\", Unknown client \"sigend\", Unknown disconnect \"prot\", Unknown account \"a \\\"b\\\"\", ";
     let found = all_shown(rt.alloc(), &faults)?;
     assert_eq!(rt; found.as_str(), expected);
     Ok(())
