@@ -1,5 +1,5 @@
 -- The reply attributes of a list, and the profiles of a table, as loops read them.
-use Rattle.std.proofs.Common.{◌≡◌, ℕ, ◌+◌, ◌<◌, ◌≤◌, List, [], ◌∷◌, ◌++◌, map, length, get_or, drop, Option, Some, Result, Ok, Err, String, Global, string_bytes, refl, sym, ap, ◌∙◌}
+use Rattle.std.proofs.Common.{◌≡◌, ℕ, ◌+◌, ◌<◌, ◌≤◌, List, [], ◌∷◌, ◌++◌, map, length, get_or, drop, Some, Result, Ok, Err, String, Global, string_bytes, sym, ap, ◌∙◌}
 use Rattle.std.proofs.lemmas.List.{drop_more, drop_all}
 use Rattle.toml.specs.Data.{Data, array, string, integer, float, boolean, datetime, table, as_array}
 use Rattle.toml.specs.View.{view, items_view, members_view}

@@ -17,7 +17,7 @@ use Rattle.rsl_accounts.specs.Field.{is_between, is_secret, is_name, has_no_nul,
 use Rattle.rsl_accounts.specs.Limits.{IsTime, IsInterval, SettingsFit, IsSecret, IsName, IsAccount, IsConfiguration}
 use Rattle.rsl_accounts.specs.Settings.{own_time, interim_of}
 use Rattle.rsl_accounts.specs.Version.{knows_own_times, least_secret, reply_room}
-use Rattle.rsl_accounts.specs.Walk.{walk_over, settings_checks, count_checks, client_checks, common_checks, own_times_checks, own_checks, account_checks, first_fault, fault_unless, number_fault, text_fault, option_text_fault, trust_fault, count_fault, option_fault, reply_checks, reply_len_fault, interim_fault}
+use Rattle.rsl_accounts.specs.Walk.{walk_over, settings_checks, count_checks, client_checks, common_checks, own_times_checks, own_checks, account_checks, first_fault, fault_unless, number_fault, text_fault, option_text_fault, trust_fault, count_fault, option_fault, reply_checks}
 use Rattle.rsl_accounts.proofs.Made.{made}
 
 -- checks without a fault have all passed
