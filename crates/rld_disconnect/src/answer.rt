@@ -1,0 +1,99 @@
+ghost use Rattle.std.specs.Prelude.{◌≡◌, ◌≤◌, length};
+ghost use Rattle.rsl_auth.specs.Authenticator.{response_authenticator};
+ghost use Rattle.rsl_wire.specs.Attributes.{AreAttributes};
+ghost use Rattle.rsl_wire.specs.Seen.{fields_of};
+ghost use Rattle.rld_disconnect.specs.Answer.{answer_of, answer_said, is_answer, is_response};
+
+use crate::codes::{DISCONNECT_ACK, DISCONNECT_NAK, ERROR_CAUSE};
+use crate::signature::has_right_signature;
+use md5::{Digest, Md5};
+use rsl_auth::same_octets;
+use rsl_wire::{AUTHENTICATOR_START, Attrs, HEADER_LEN, Packet, read};
+
+/// What an access server answers to a Disconnect-Request (RFC 5176 section 2.1).
+#[derive(Clone, Copy, Debug)]
+pub enum Answer {
+    /// Disconnect-ACK: the session has ended.
+    Ack,
+    /// Disconnect-NAK: it was not ended. The first Error-Cause as a number, if there is one and its
+    /// value has four octets (RFC 5176 section 3.5).
+    Nak(Option<u32>),
+}
+
+/// What a datagram answers to a request, of which the octets are given as they were sent.
+///
+/// It is an answer only where all of this holds. Its Length is 20 to 4,096, and so many octets came;
+/// those past it are padding. Its Code is Disconnect-ACK or Disconnect-NAK, its Identifier that of
+/// the request, and its attributes are well formed. Its authenticator is MD5(Code, Identifier,
+/// Length, Request Authenticator, Attributes, Secret) (RFC 5176 section 2.3). And if it has a
+/// Message-Authenticator, it has exactly one, of 16 octets, and it is right (RFC 5176 section 3.4).
+///
+/// It allocates nothing.
+pub fn read_answer(request: &[u8], secret: &[u8], datagram: &[u8]) -> Option<Answer>
+    ensures { result ≡ answer_of request.now secret.now datagram.now }
+{
+    let Ok(request) = read(request) else {
+        return None;
+    };
+    let Ok(packet) = read(datagram) else {
+        return None;
+    };
+    let Ok(attributes) = packet.attributes() else {
+        return None;
+    };
+    if is_answer(&request, &packet, &attributes, secret) {
+        said(packet.code, &attributes)
+    } else {
+        None
+    }
+}
+
+/// Whether a packet with these attributes answers a request, whatever its Code.
+fn is_answer(
+    request: &Packet<'_>,
+    packet: &Packet<'_>,
+    attributes: &Attrs<'_>,
+    secret: &[u8],
+) -> bool
+    requires { AreAttributes packet.now.attrs.now attributes.now }
+    ensures { result ≡ is_answer (fields_of request.now) (fields_of packet.now) attributes.now
+        secret.now }
+{
+    let request_auth = &request.authenticator;
+    packet.id == request.id
+        && is_response(packet, request_auth, secret)
+        && has_right_signature(packet, attributes, request_auth, secret)
+}
+
+/// Whether the authenticator of a packet is its Response Authenticator.
+fn is_response(packet: &Packet<'_>, request_auth: &[u8; 16], secret: &[u8]) -> bool
+    ensures { result ≡ is_response (fields_of packet.now) request_auth.now secret.now }
+{
+    let digest = response_authenticator(packet.octets(), request_auth, secret);
+    same_octets(&packet.authenticator, &digest)
+}
+
+/// MD5(Code, Identifier, Length, Request Authenticator, Attributes, Secret) (RFC 2865 section 3).
+#[tactic(auto, unfolding(rsl_auth::specs::Authenticator::response_authenticator))]
+fn response_authenticator(packet: &[u8], request_auth: &[u8; 16], secret: &[u8]) -> [u8; 16]
+    requires { 20 ≤ length packet.now }
+    ensures { result ≡ response_authenticator packet.now request_auth.now secret.now }
+{
+    let mut hasher = Md5::new();
+    hasher.update(&packet[..AUTHENTICATOR_START]);
+    hasher.update(request_auth);
+    hasher.update(&packet[HEADER_LEN..]);
+    hasher.update(secret);
+    hasher.finalize()
+}
+
+/// What an answer with this Code says.
+fn said(code: u8, attributes: &Attrs<'_>) -> Option<Answer>
+    ensures { result ≡ answer_said code attributes.now }
+{
+    match code {
+        DISCONNECT_ACK => Some(Answer::Ack),
+        DISCONNECT_NAK => Some(Answer::Nak(attributes.number(ERROR_CAUSE))),
+        _ => None,
+    }
+}
