@@ -29,6 +29,7 @@ pub enum Answer {
 /// Message-Authenticator, it has exactly one, of 16 octets, and it is right (RFC 5176 section 3.4).
 ///
 /// It allocates nothing.
+#[tactic(auto, unfolding(crate::specs::Answer::answer_of))]
 pub fn read_answer(request: &[u8], secret: &[u8], datagram: &[u8]) -> Option<Answer>
     ensures { result ≡ answer_of request.now secret.now datagram.now }
 {

@@ -49,6 +49,7 @@ fn is_signed_for(packet: &[u8], at: usize, request_auth: &[u8; 16], secret: &[u8
 
 /// Octets of the attributes before the first Message-Authenticator, or of all attributes if there
 /// is none.
+#[tactic(auto, using(crate::proofs::SignatureLaws::octets_before_step))]
 fn octets_before_signature(attributes: &Attrs<'_>) -> usize
     requires { length (list_octets attributes.now) ≤ 4096 }
     ensures count { result ≡ length (list_octets (before_signature attributes.now)) }

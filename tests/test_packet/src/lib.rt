@@ -1,12 +1,14 @@
-//! Tests of the public calls of `rsl_wire`, `rsl_auth`, `rsl_accounts` and `rsl_event`, a file a
-//! library: rows of text, as `test_rows` has them. Octets come from outside: the RFCs, and Python's
-//! hashlib and hmac.
+//! Tests of the public calls of `rsl_wire`, `rsl_auth`, `rsl_accounts`, `rsl_event` and
+//! `rld_disconnect`, a file a library: rows of text, as `test_rows` has them. Octets come from
+//! outside: the RFCs, and Python's hashlib and hmac.
 #![tactic(auto)]
 
 #[cfg(test)]
 mod accounts;
 #[cfg(test)]
 mod auth;
+#[cfg(test)]
+mod disconnect;
 #[cfg(test)]
 mod event;
 #[cfg(test)]
