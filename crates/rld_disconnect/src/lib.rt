@@ -19,7 +19,7 @@
 
 mod answer;
 mod cause;
-pub mod codes;
+mod codes;
 mod fault;
 mod request;
 mod sealing;

@@ -1,4 +1,5 @@
-/// How often a request is sent at most, with the same octets each time (RFC 5080 section 2.2.1).
+/// How often a request is sent at most. Each time it has the same octets, and goes from the same
+/// port, so an access server knows it again (RFC 5080 section 2.2.2).
 pub const TRIES: u32 = 3;
 
 /// Seconds to wait for an answer after each of them.
