@@ -1,4 +1,4 @@
--- Where the value of a Message-Authenticator stands.
+-- Where the value of a Message-Authenticator stands, and that it stands there once it was written.
 use Rattle.std.proofs.Common.{◌≡◌, ◌≢◌, ℕ, ◌+◌, ◌≤◌, ◌==◌, Bool, true, false, not, List, [], ◌∷◌, ◌++◌, length, take, drop, cond, Some, refl, ap, ◌∙◌, sym, subst, arith, length-append, append_assoc}
 use Rattle.std.proofs.lemmas.Bool.{ne_eqb}
 use Rattle.std.proofs.lemmas.List.Sums.{take_while-cons}
@@ -15,7 +15,7 @@ length-signature : (packet : List ℕ) (at : ℕ) (request_auth secret : List �
 unfolding signature hmac_md5 md5 digest_bytes
 length-signature packet at request_auth secret = refl
 
--- how many octets they have
+-- how many octets the attributes before the first Message-Authenticator have
 abbrev pub octets_before : List Attribute → ℕ
 octets_before attributes = length (list_octets (before_signature attributes))
 

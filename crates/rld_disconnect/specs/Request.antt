@@ -44,8 +44,8 @@ server_attributes Unnamed = []
 -- the attributes, of which the last is a Message-Authenticator before its value is known
 abbrev pub request_attributes : Request → List Attribute
 request_attributes request =
-    (attribute_of USER_NAME request.user_name.now ∷ [])
-    ++ server_attributes request.server
+    attribute_of USER_NAME request.user_name.now
+    ∷ server_attributes request.server
     ++ (attribute_of ACCT_SESSION_ID request.session.now
     ∷ attribute_of EVENT_TIMESTAMP (to_be_bytes w32 request.moment)
     ∷ attribute_of MESSAGE_AUTHENTICATOR (replicate 16 0)
