@@ -208,6 +208,7 @@ PARTS = {
     "upgraded": ("folders of earlier versions", bench, "upgrade"),
     "export": ("the sessions of logs", bench, "export"),
     "steered": ("what an operator asks", bench, "steering"),
+    "disconnect": ("sessions that are disconnected", bench, "disconnect"),
     "page": ("the page", bench, "page"),
     "asks": ("asks over HTTP", bench, "asks"),
     "unrecorded": ("an answer that is not recorded", bench, "unrecorded"),
@@ -235,8 +236,8 @@ PATIENT = (
 # server of 16,384 accounts takes half a minute to start there; or it is about the proofs
 SHORT = (
     "streams", "freeradius", "freeradius-checks", "asks", "full-disk", "failing-daemon", "refusals", "failing-sockets",
-    "export", "killed-log", "page", "radclient", "copied", "radsec", "upgraded", "changed", "split", "replies", "examples",
-    "monitoring",
+    "export", "disconnect", "killed-log", "page", "radclient", "copied", "radsec", "upgraded", "changed", "split", "replies",
+    "examples", "monitoring",
 )
 
 # the UDP ports that they share out, so that a server which is killed and starts again finds its own ports free

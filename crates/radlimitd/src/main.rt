@@ -53,6 +53,8 @@ What a running server is asked:
     radlimitd free NAME CLIENT NAS SESSION FILE
                                to free the place of a session that its access server has forgotten, or with
                                --nas NAS CLIENT those of all its sessions
+    radlimitd disconnect NAME CLIENT NAS SESSION FILE
+                               to have the access server end a session, and to free its place
     radlimitd ask NAME FIELD=VALUE.. FILE
                                for a place of an account that was checked elsewhere
     radlimitd reload [--timeout SECONDS] FILE

@@ -18,6 +18,7 @@ topic_of word =
     else if bytes_eq word (codes "accounts") then Some topics.Accounts
     else if bytes_eq word (codes "sessions") then Some topics.Sessions
     else if bytes_eq word (codes "free") then Some topics.Free
+    else if bytes_eq word (codes "disconnect") then Some topics.Disconnect
     else if bytes_eq word (codes "ask") then Some topics.Ask
     else if bytes_eq word (codes "reload") then Some topics.Reload
     else if bytes_eq word (codes "stop") then Some topics.Stop
@@ -38,6 +39,7 @@ takes topics.Export words = is_between 1 6 words
 takes topics.Sessions words = nat_le 1 words
 takes topics.Reply words = words == 2
 takes topics.Free words = nat_le 2 words
+takes topics.Disconnect words = nat_le 2 words
 takes topics.Ask words = nat_le 2 words
 takes topics.Check words = words == 1
 takes topics.Init words = words == 1

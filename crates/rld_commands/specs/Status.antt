@@ -5,7 +5,7 @@ use Rattle.rld_start.specs.Status as starting
 use Rattle.rld_start.specs.declared.status.EndStatus.{EndStatus}
 use Rattle.rld_start.specs.declared.status.EndStatus.TheVariants as statuses
 use Rattle.rld_commands.specs.declared.fault.Fault.{Fault}
-use Rattle.rld_commands.specs.declared.fault.Fault.TheVariants.{Usage, BadFile, BadLog, Start, Run, Control, Silent, NotReady, Late, Taken, Unwritten, Refused, NoTerminal, InputOutput, NoMemory}
+use Rattle.rld_commands.specs.declared.fault.Fault.TheVariants.{Usage, BadFile, BadLog, Start, Run, Control, Silent, NotReady, Late, Taken, Unwritten, Refused, Unanswered, NoTerminal, InputOutput, NoMemory}
 
 -- wrong arguments, a wrong file and a damaged one are wrong input; so is what nobody says yes to
 abbrev pub fault_status : Fault → EndStatus
@@ -21,6 +21,7 @@ fault_status (Late path secs) = statuses.TimedOut
 fault_status (Taken path) = statuses.InputOutput
 fault_status (Unwritten path) = statuses.InputOutput
 fault_status (Refused text) = statuses.InputOutput
+fault_status Unanswered = statuses.TimedOut
 fault_status NoTerminal = statuses.WrongInput
 fault_status InputOutput = statuses.InputOutput
 fault_status NoMemory = statuses.NoMemory

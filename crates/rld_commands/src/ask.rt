@@ -6,7 +6,7 @@ use crate::patience::Patience;
 use crate::topic::Topic;
 use form_urlencoded::Serializer;
 use rld_config::Paths;
-use rld_control::{Command, Reply};
+use rld_control::{Command, Reply, is_unanswered};
 use std::alloc::Global;
 use std::fs::Files;
 use std::io::{self, ErrorKind, IsTerminal, Write};
@@ -22,9 +22,10 @@ const TIMEOUT: &str = "--timeout";
 /// writes the lines of its answer. `--timeout` and its seconds, which may come first, are not sent.
 ///
 /// `Usage` comes if they are no such command, before anything is read. `Silent` comes if no server
-/// answers in full on the control socket of the file, `Late` if it takes longer than it may, and
-/// `Refused` with the server's reason; `NotReady` comes in place of these for `ready`. On `stderr`
-/// is said that the server works on it, if it is a terminal.
+/// answers in full on the control socket of the file, `Late` if it takes longer than it may,
+/// `Unanswered` if an access server has not answered it, and `Refused` with the server's reason;
+/// `NotReady` comes in place of these for `ready`. On `stderr` is said that the server works on it, if
+/// it is a terminal.
 pub(crate) fn ask<R: Files + Net + Clock, W: Write, S: Write + IsTerminal>(
     rt: &R,
     alloc: Global,
@@ -96,8 +97,8 @@ pub(crate) struct Asked<'a> {
 
 impl Asked<'_> {
     /// The lines that it answers to a line. `Silent` comes if it does not answer in full, `Late` if it
-    /// takes longer than it may, and `Refused` with its reason; `NotReady` comes in place of these for
-    /// `ready`.
+    /// takes longer than it may, `Unanswered` if an access server has not answered it, and `Refused`
+    /// with its reason; `NotReady` comes in place of these for `ready`.
     pub(crate) fn lines<R: Net + Clock, S: Write + IsTerminal>(
         &self,
         rt: &R,
@@ -108,6 +109,7 @@ impl Asked<'_> {
         let mut octets = self.answer(rt, alloc, line, stderr)?;
         let len = match Reply::of(octets.as_slice()) {
             Reply::Done(lines) => lines.len(),
+            Reply::Refused(text) if is_unanswered(text) => return Err(Fault::Unanswered),
             Reply::Refused(text) => {
                 return Err(self.refused(String::from_utf8_lossy(alloc, text)?));
             }

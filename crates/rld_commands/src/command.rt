@@ -37,8 +37,8 @@ pub enum Misuse {
     UnknownCommand,
     /// It has too many or too few words.
     Words(Topic),
-    /// The words of `free` name no session, that of `sessions` no account, or a flag or its number is
-    /// unknown.
+    /// The words of `free` or `disconnect` name no session, that of `sessions` no account, or a flag or
+    /// its number is unknown.
     Unreadable(Topic),
 }
 

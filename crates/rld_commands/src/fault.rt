@@ -49,6 +49,9 @@ pub enum Fault {
     /// The server does not do the request.
     #[error("{0}")]
     Refused(String),
+    /// An access server has not answered the request to disconnect a session.
+    #[error("no answer from the access server")]
+    Unanswered,
     /// Nobody can be asked whether to free all sessions of an access server.
     #[error("standard input is no terminal: say --yes")]
     NoTerminal,
@@ -81,7 +84,7 @@ impl Fault {
             | Fault::InputOutput => EndStatus::InputOutput,
             Fault::NoMemory => EndStatus::NoMemory,
             Fault::NotReady(_) => EndStatus::NotReady,
-            Fault::Late(_, _) => EndStatus::TimedOut,
+            Fault::Late(_, _) | Fault::Unanswered => EndStatus::TimedOut,
         }
     }
 }

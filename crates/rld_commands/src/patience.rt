@@ -30,6 +30,7 @@ impl Patience {
             | Topic::Init
             | Topic::Run
             | Topic::Free
+            | Topic::Disconnect
             | Topic::Ask
             | Topic::Stop
             | Topic::Reply

@@ -22,6 +22,8 @@ pub enum Topic {
     Sessions,
     /// Free the place of a session, or those of an access server's.
     Free,
+    /// Have its access server disconnect a session.
+    Disconnect,
     /// Ask it whether an account that was checked elsewhere has a place.
     Ask,
     /// Make it read its accounts again.
@@ -52,6 +54,7 @@ impl Topic {
             "accounts" => Some(Topic::Accounts),
             "sessions" => Some(Topic::Sessions),
             "free" => Some(Topic::Free),
+            "disconnect" => Some(Topic::Disconnect),
             "ask" => Some(Topic::Ask),
             "reload" => Some(Topic::Reload),
             "stop" => Some(Topic::Stop),
@@ -64,8 +67,8 @@ impl Topic {
     }
 
     /// Whether it takes this number of words after its name. The last word is the name of a file,
-    /// and of `init` that of a folder; `lines` takes the names of several files. `free` takes what
-    /// `sessions` prints as one word or as four. Flags and their values are words of their own.
+    /// and of `init` that of a folder; `lines` takes the names of several files. `free` and `disconnect` take
+    /// what `sessions` prints as one word or as four. Flags and their values are words of their own.
     pub fn takes(self, words: usize) -> bool
         ensures { result ≡ takes self words }
     {
@@ -75,7 +78,7 @@ impl Topic {
             Topic::Accounts => 1 <= words && words <= 5,
             Topic::Reply => words == 2,
             Topic::Reload => words == 1 || words == 3,
-            Topic::Free | Topic::Ask => words >= 2,
+            Topic::Free | Topic::Disconnect | Topic::Ask => words >= 2,
             Topic::Export => 1 <= words && words <= 6,
             Topic::Check | Topic::Init | Topic::Run | Topic::Ready | Topic::Stop | Topic::Rebase =>
                 words == 1,
@@ -95,6 +98,7 @@ impl Topic {
             Topic::Sessions =>
                 "radlimitd sessions [--timeout SECONDS] [--json] [NAME | FLAG WORD ..] FILE",
             Topic::Free => "radlimitd free NAME CLIENT NAS SESSION FILE",
+            Topic::Disconnect => "radlimitd disconnect NAME CLIENT NAS SESSION FILE",
             Topic::Ask => "radlimitd ask NAME FIELD=VALUE.. FILE",
             Topic::Reload => "radlimitd reload [--timeout SECONDS] FILE",
             Topic::Stop => "radlimitd stop FILE",
@@ -111,6 +115,8 @@ impl Topic {
             Topic::Free =>
                 "; NAS is nas=NAME, nas-address=DIGITS or unnamed, as `sessions` prints it; all of \
                  an access server: radlimitd free [--yes] --nas NAS CLIENT FILE",
+            Topic::Disconnect =>
+                "; NAS is nas=NAME, nas-address=DIGITS or unnamed, as `sessions` prints it",
             Topic::Sessions =>
                 "; NAME is written as `accounts` prints it; FLAG WORD is --nas NAS, --client \
                  CLIENT, --state STATE or --older SECONDS",
@@ -143,6 +149,7 @@ impl Topic {
             Topic::Accounts => ACCOUNTS,
             Topic::Sessions => SESSIONS,
             Topic::Free => FREE,
+            Topic::Disconnect => DISCONNECT,
             Topic::Ask => ASK,
             Topic::Reload => RELOAD,
             Topic::Stop => STOP,
@@ -267,6 +274,19 @@ Accounting-Off that it would have sent. It lists them first, and asks at the ter
 
 Exit status: 0; 1 the words name no session, FILE is wrong, or nobody can say yes; 2 no server answers, or it refuses; 3
 no memory.
+";
+
+const DISCONNECT: &str = "\
+radlimitd disconnect NAME CLIENT NAS SESSION FILE
+
+Has the access server end a session at once, and then frees its place: it is sent a Disconnect-Request (RFC 5176), three
+times at most. The account file has to have `disconnect` of the client. The words are those of `free`. It prints
+`disconnected`. Where the access server refuses, or does not answer for three seconds, nothing has changed.
+
+    radlimitd disconnect nemo 192.0.2.7 nas=pop1 0000A1F3 /etc/radlimit/radlimitd.toml
+
+Exit status: 0; 1 the words name no session, or FILE is wrong; 2 the access server refuses, the server does, or no server
+answers; 3 no memory; 5 the access server does not answer.
 ";
 
 const ASK: &str = "\

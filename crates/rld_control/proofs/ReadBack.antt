@@ -29,7 +29,7 @@ use Rattle.rld_control.specs.Listing as listings
 use Rattle.rld_control.specs.Named.{named_by, named_server_of, named_server_words, named_session_of, nas_of_word, nas_word, server_by, session_words, with_account, with_client}
 use Rattle.rld_control.specs.Words.{by_first_word, by_parts, is_space, parted}
 use Rattle.rld_control.specs.declared.command.Command.{Command}
-use Rattle.rld_control.specs.declared.command.Command.TheVariants.{Status, Ready, Accounts, Sessions, Links, Free, FreeServer, Ask, Reload, Stop}
+use Rattle.rld_control.specs.declared.command.Command.TheVariants.{Status, Ready, Accounts, Sessions, Links, Free, FreeServer, Disconnect, Ask, Reload, Stop}
 use Rattle.rld_control.specs.declared.form.Form.{Form}
 use Rattle.rld_control.specs.declared.form.Form.TheVariants.{Lines, Json}
 use Rattle.rld_control.specs.declared.form.Selection.TheVariants.{All, Held, Full}
@@ -364,4 +364,7 @@ line_read words values digits (Links listing) is =
 line_read words values digits (FreeServer server) is =
     at_word command_with _ (codes "free-server") (named_server_words server) refl
     ∙ ap (option_map (λ (server : NamedServer). FreeServer server)) (server_read values digits server is)
+line_read words values digits (Disconnect session) is =
+    at_word command_with _ (codes "disconnect") (session_words session) refl
+    ∙ ap (option_map (λ (session : NamedSession). Disconnect session)) (session_read words values digits session is)
 line_read words values digits (Ask form) is = at_word command_with _ (codes "ask") form refl

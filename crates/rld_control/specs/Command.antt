@@ -8,7 +8,7 @@ use Rattle.rld_control.specs.Listing.{listing_of, listing_words}
 use Rattle.rld_control.specs.Named.{named_server_of, named_server_words, named_session_of, session_words}
 use Rattle.rld_control.specs.Words.{by_first_word}
 use Rattle.rld_control.specs.declared.command.Command.{Command}
-use Rattle.rld_control.specs.declared.command.Command.TheVariants.{Status, Ready, Accounts, Sessions, Links, Free, FreeServer, Ask, Reload, Stop}
+use Rattle.rld_control.specs.declared.command.Command.TheVariants.{Status, Ready, Accounts, Sessions, Links, Free, FreeServer, Disconnect, Ask, Reload, Stop}
 use Rattle.rld_control.specs.declared.form.Form.{Form}
 use Rattle.rld_control.specs.declared.form.Form.TheVariants.{Lines, Json}
 use Rattle.rld_control.specs.declared.form.Selection.{Selection}
@@ -34,6 +34,7 @@ line_of (Sessions Json account) = codes "sessions --json " ++ word account
 line_of (Links listing) = codes "links " ++ listing_words listing
 line_of (Free session) = codes "free " ++ session_words session
 line_of (FreeServer server) = codes "free-server " ++ named_server_words server
+line_of (Disconnect session) = codes "disconnect " ++ session_words session
 line_of (Ask form) = codes "ask " ++ form
 line_of Ready = codes "ready"
 line_of Reload = codes "reload"
@@ -83,6 +84,7 @@ command_with word words =
     else if bytes_eq word (codes "free") then option_map Free (named_session_of words)
     else if bytes_eq word (codes "links") then option_map Links (listing_of words)
     else if bytes_eq word (codes "free-server") then option_map FreeServer (named_server_of words)
+    else if bytes_eq word (codes "disconnect") then option_map Disconnect (named_session_of words)
     else if bytes_eq word (codes "ask") then Some (Ask words)
     else if bytes_eq word (codes "status") then status_with words
     else if bytes_eq word (codes "accounts") then accounts_with words

@@ -5,7 +5,7 @@ use Rattle.rsl_event.specs.declared.nas.NasName.TheVariants.{Identifier, Address
 use Rattle.rld_values.specs.Laws.{AreOctets}
 use Rattle.rld_control.specs.Command.{command_of, line_of}
 use Rattle.rld_control.specs.declared.command.Command.{Command}
-use Rattle.rld_control.specs.declared.command.Command.TheVariants.{Status, Ready, Accounts, Sessions, Links, Free, FreeServer, Ask, Reload, Stop}
+use Rattle.rld_control.specs.declared.command.Command.TheVariants.{Status, Ready, Accounts, Sessions, Links, Free, FreeServer, Disconnect, Ask, Reload, Stop}
 use Rattle.rld_control.specs.declared.listing.Listing.{Listing}
 use Rattle.rld_control.specs.declared.named.NamedServer.{NamedServer}
 use Rattle.rld_control.specs.declared.named.NamedSession.{NamedSession}
@@ -46,6 +46,7 @@ IsCommand (Sessions form account) = AreOctets account
 IsCommand (Links listing) = IsListing listing
 IsCommand (Free session) = IsNamedSession session
 IsCommand (FreeServer server) = IsNamedServer server
+IsCommand (Disconnect session) = IsNamedSession session
 IsCommand (Status form) = Unit {0}
 IsCommand (Accounts form selection) = Unit {0}
 IsCommand (Ask form) = Unit {0}

@@ -1,9 +1,11 @@
 pub mod Command
+pub mod Disconnecting
 pub mod Laws
 pub mod Listing
 pub mod Named
 pub mod Offs
 pub mod Reply
+pub mod Requests
 pub mod Stops
 pub mod Wanted
 pub mod Words

@@ -35,6 +35,8 @@ pub enum Command {
     Free(NamedSession),
     /// Free the places of all sessions of this access server.
     FreeServer(NamedServer),
+    /// Have its access server disconnect this session.
+    Disconnect(NamedSession),
     /// Ask whether an account that was checked elsewhere has a place, by the form of the ask.
     Ask(Octets),
     /// Read its accounts again.
@@ -45,10 +47,10 @@ pub enum Command {
 
 impl Command {
     /// The command of a line, without its line feed: `status`, `accounts`, `sessions` and a name,
-    /// `links` and the words of a listing, `free` and the words of a session, `free-server` and the
-    /// words of an access server, `ask` and a form, `ready`, `reload`, or `stop`. After the first
-    /// three may come `--json`, and after `accounts` also `--held` or `--full`. `None` for any other
-    /// line. It fails only if memory is refused.
+    /// `links` and the words of a listing, `free` or `disconnect` and the words of a session,
+    /// `free-server` and the words of an access server, `ask` and a form, `ready`, `reload`, or
+    /// `stop`. After the first three may come `--json`, and after `accounts` also `--held` or
+    /// `--full`. `None` for any other line. It fails only if memory is refused.
     pub fn read(alloc: Global, line: &[u8]) -> Result<Option<Command>, NoMemory>
         ensures { IfOk result (λ command. command ≡ command_of line.now) }
     {
@@ -90,6 +92,8 @@ fn command_with(alloc: Global, word: &[u8], words: &[u8]) -> Result<Option<Comma
         Ok(Listing::read(alloc, words)?.map(Command::Links))
     } else if word == b"free-server".as_slice() {
         Ok(NamedServer::read(alloc, words)?.map(Command::FreeServer))
+    } else if word == b"disconnect".as_slice() {
+        Ok(NamedSession::read(alloc, words)?.map(Command::Disconnect))
     } else if word == b"ask".as_slice() {
         Ok(Some(Command::Ask(Octets::from_slice(alloc, words)?)))
     } else if word == b"status".as_slice() {

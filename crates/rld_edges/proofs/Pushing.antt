@@ -24,7 +24,7 @@ two_more f before jobs one two job next is first second =
     ∙ (ap (λ all. (all ++ f job ∷ []) ++ f next ∷ []) is
     ∙ append_assoc before (f job ∷ []) (f next ∷ [])))))
 
-pub three_more : {A B : Type 0} (f : A → B) (before : List B) (jobs one two three : List A) (job next last : A)
+three_more : {A B : Type 0} (f : A → B) (before : List B) (jobs one two three : List A) (job next last : A)
     → map f jobs ≡ before → one ≡ jobs ++ job ∷ [] → two ≡ one ++ next ∷ [] → three ≡ two ++ last ∷ []
     → map f three ≡ before ++ f job ∷ f next ∷ f last ∷ []
 three_more f before jobs one two three job next last is first second third =
@@ -32,3 +32,12 @@ three_more f before jobs one two three job next last is first second third =
     ∙ (map-append f two (last ∷ [])
     ∙ (ap (λ all. all ++ f last ∷ []) (two_more f before jobs one two job next is first second)
     ∙ append_assoc before (f job ∷ f next ∷ []) (f last ∷ [])))
+
+pub four_more : {A B : Type 0} (f : A → B) (before : List B) (jobs one two three four : List A) (job next third last : A)
+    → map f jobs ≡ before → one ≡ jobs ++ job ∷ [] → two ≡ one ++ next ∷ [] → three ≡ two ++ third ∷ [] → four ≡ three ++ last ∷ []
+    → map f four ≡ before ++ f job ∷ f next ∷ f third ∷ f last ∷ []
+four_more f before jobs one two three four job next third last is first second again fourth =
+    ap (map f) fourth
+    ∙ (map-append f three (last ∷ [])
+    ∙ (ap (λ all. all ++ f last ∷ []) (three_more f before jobs one two three job next third is first second again)
+    ∙ append_assoc before (f job ∷ f next ∷ f third ∷ []) (f last ∷ [])))

@@ -15,6 +15,7 @@ pub data JobSeen : Type 0 where
   Ticks : JobSeen
   Answers : Control → JobSeen
   Reports : JobSeen
+  Disconnects : JobSeen
   Shows : JobSeen
   Asks : JobSeen
 
@@ -23,6 +24,7 @@ seen (jobs.Receive socket port) = Receives socket.now port
 seen jobs.Tick = Ticks
 seen (jobs.Answer control) = Answers control.now
 seen jobs.Report = Reports
+seen jobs.Disconnect = Disconnects
 seen jobs.Show = Shows
 seen jobs.Ask = Asks
 
@@ -39,9 +41,9 @@ abbrev pub jobs_on : Pair → List JobSeen
 jobs_on pair = receivers_on pair.auth Auth pair.receivers ++ receivers_on pair.acct Acct pair.receivers
 
 -- the receivers of all pairs, one worker that makes ticks, one that answers on the control socket,
--- and one that writes to standard error
+-- one that writes to standard error, and one that has sessions disconnected
 abbrev pub jobs_of : List Pair → Control → List JobSeen
-jobs_of pairs control = flat_map jobs_on pairs ++ Ticks ∷ Answers control ∷ Reports ∷ []
+jobs_of pairs control = flat_map jobs_on pairs ++ Ticks ∷ Answers control ∷ Reports ∷ Disconnects ∷ []
 
 -- the port of a receiver
 abbrev pub port_of : Job → Option Port
@@ -49,5 +51,6 @@ port_of (jobs.Receive socket port) = Some port
 port_of jobs.Tick = None
 port_of (jobs.Answer control) = None
 port_of jobs.Report = None
+port_of jobs.Disconnect = None
 port_of jobs.Show = None
 port_of jobs.Ask = None

@@ -18,6 +18,8 @@ pub enum Job<'a> {
     Answer(&'a Control),
     /// Write to standard error.
     Report,
+    /// Have access servers disconnect sessions.
+    Disconnect,
     /// Show the server to clients.
     Show,
     /// It takes asks over HTTP.
@@ -26,9 +28,9 @@ pub enum Job<'a> {
 
 impl Sockets {
     /// The jobs of a server's workers: the receivers that the server's file gives each socket, and
-    /// one worker each that makes ticks, answers on the control socket, and writes to standard
-    /// error. It fails only if memory is refused.
-    #[tactic(auto, using(crate::proofs::Pushing::three_more))]
+    /// one worker each that makes ticks, answers on the control socket, writes to standard error, and
+    /// has sessions disconnected. It fails only if memory is refused.
+    #[tactic(auto, using(crate::proofs::Pushing::four_more))]
     pub fn jobs<'a>(
         &'a self,
         alloc: Global,
@@ -41,6 +43,7 @@ impl Sockets {
         jobs.push(Job::Tick)?;
         jobs.push(Job::Answer(control))?;
         jobs.push(Job::Report)?;
+        jobs.push(Job::Disconnect)?;
         Ok(jobs)
     }
 

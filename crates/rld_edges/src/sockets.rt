@@ -5,7 +5,17 @@ ghost use Rattle.rld_edges.specs.Jobs.{receivers_in};
 use crate::fault::RunFault;
 use rld_config::Listen;
 use std::alloc::Global;
-use std::net::{IpAddr, Net, SocketAddr, UdpSocket};
+use std::io;
+use std::net::{IpAddr, Ipv4Addr, Net, SocketAddr, UdpSocket};
+use std::time::Duration;
+
+/// How long a read of an asking socket waits, in milliseconds.
+const ASKING_MILLIS: u64 = 100;
+
+/// The port that is asked for to be given any.
+const ANY_PORT: u16 = 0;
+
+const _: () = prove!(ASKING_MILLIS == 100 && ANY_PORT == 0);
 
 /// A UDP socket of a server.
 #[derive(Drop)]
@@ -61,6 +71,38 @@ impl Sockets {
         ensures { result.now ≡ self.now.pairs.items }
     {
         self.pairs.as_slice()
+    }
+
+    /// Binds a socket for requests to access servers, at a port that the system chooses. Its address
+    /// is that of these sockets where they all have one IPv4 address, so that an access server sees
+    /// the address that it knows; else the system chooses one for each datagram. A read waits for a
+    /// tenth of a second at most. The error is the system's.
+    pub fn bind_asking<N: Net>(&self, net: &N) -> io::Result<UdpSocket> {
+        let address = SocketAddr::new(IpAddr::V4(self.own_address()), ANY_PORT);
+        let socket = UdpSocket::bind(net, address)?;
+        socket.set_read_timeout(Some(Duration::from_millis(ASKING_MILLIS)))?;
+        Ok(socket)
+    }
+
+    /// The IPv4 address that all sockets have, or `0.0.0.0`.
+    fn own_address(&self) -> Ipv4Addr {
+        let mut found = None;
+        for pair in self.pairs.as_slice() {
+            let address = v4_of(pair.address);
+            found = match found {
+                Some(other) if other != address => return Ipv4Addr::UNSPECIFIED,
+                _ => Some(address),
+            };
+        }
+        found.unwrap_or(Ipv4Addr::UNSPECIFIED)
+    }
+}
+
+/// An IPv4 address, or `0.0.0.0` for an IPv6 one.
+fn v4_of(address: IpAddr) -> Ipv4Addr {
+    match address {
+        IpAddr::V4(address) => address,
+        IpAddr::V6(_) => Ipv4Addr::UNSPECIFIED,
     }
 }
 

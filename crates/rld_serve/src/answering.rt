@@ -24,6 +24,15 @@ use std::sync::atomic::Ordering;
 use std::sync::{Arc, Wait};
 use std::time;
 
+/// The answer to a command.
+#[derive(Drop)]
+enum Answer {
+    /// Its octets.
+    Now(Vec<u8>),
+    /// It comes once an access server has answered, or has not, whether this session is disconnected.
+    Later(NamedSession),
+}
+
 /// What an account holds.
 #[derive(Drop)]
 struct Held {
@@ -45,32 +54,51 @@ where
     A: Accounts,
     R: time::Clock + Wait,
 {
-    /// Answers an operator who has connected.
-    pub(crate) fn answer(&self, stream: &UnixStream) {
-        let Ok(operator) = Operator::new(self.rt, stream) else {
-            return;
-        };
-        match operator.asked(self.alloc) {
-            Ok(Some(command)) => self.do_command(&operator, command),
-            Ok(None) => operator.answer(AskFault::UnknownCommand.text().as_bytes()),
-            Err(error) if error.kind() == ErrorKind::OutOfMemory => {
-                operator.answer(AskFault::NoMemory.text().as_bytes());
-            }
-            Err(_) => {}
+    /// Answers an operator who has connected. Whoever asks that a session is disconnected is answered later.
+    pub(crate) fn answer(&self, stream: UnixStream) {
+        if let Some(named) = self.answer_now(&stream) {
+            self.order(named, stream);
         }
     }
 
-    /// Does a command, and sends the answer.
-    fn do_command(&self, operator: &Operator<'_, R>, command: Command) {
+    /// Answers an operator who has connected, unless he names a session that is to be disconnected.
+    fn answer_now(&self, stream: &UnixStream) -> Option<NamedSession> {
+        let Ok(operator) = Operator::new(self.rt, stream) else {
+            return None;
+        };
+        match operator.asked(self.alloc) {
+            Ok(Some(command)) => self.do_command(&operator, command),
+            Ok(None) => {
+                operator.answer(AskFault::UnknownCommand.text().as_bytes());
+                None
+            }
+            Err(error) => {
+                if error.kind() == ErrorKind::OutOfMemory {
+                    operator.answer(AskFault::NoMemory.text().as_bytes());
+                }
+                None
+            }
+        }
+    }
+
+    /// Does a command, and sends the answer, unless that comes later: then it gives the session.
+    fn do_command(&self, operator: &Operator<'_, R>, command: Command) -> Option<NamedSession> {
         match self.answer_to(command) {
-            Ok(text) => operator.answer(text.as_slice()),
-            Err(fault) => operator.answer(fault.text().as_bytes()),
+            Ok(Answer::Now(text)) => {
+                operator.answer(text.as_slice());
+                None
+            }
+            Ok(Answer::Later(named)) => Some(named),
+            Err(fault) => {
+                operator.answer(fault.text().as_bytes());
+                None
+            }
         }
     }
 
     /// Does a command, and gives the answer.
-    fn answer_to(&self, command: Command) -> Result<Vec<u8>, AskFault> {
-        match command {
+    fn answer_to(&self, command: Command) -> Result<Answer, AskFault> {
+        let text = match command {
             Command::Status(form) => self.status(form),
             Command::Ready => self.ready(),
             Command::Accounts(form, selection) => self.accounts(form, selection),
@@ -78,13 +106,15 @@ where
             Command::Links(listing) => self.links(&listing),
             Command::Free(named) => self.free(&named),
             Command::FreeServer(named) => self.free_server(&named),
+            Command::Disconnect(named) => return Ok(Answer::Later(named)),
             Command::Ask(form) => self.ask(form.as_slice()),
             Command::Reload => self.reload(),
             Command::Stop => {
                 self.shutdown.end();
                 self.told(Reply::Done(b""))
             }
-        }
+        };
+        Ok(Answer::Now(text?))
     }
 
     /// The octets of an answer.
@@ -118,7 +148,7 @@ where
     }
 
     /// The present moment.
-    fn moment(&self) -> u64 {
+    pub(crate) fn moment(&self) -> u64 {
         SystemClock::new(self.rt, self.plan.start).now()
     }
 
@@ -214,7 +244,7 @@ where
 
     /// What comes of a session that is to be freed. The lock is held from the look at the accounts and the
     /// links until its Stop is recorded.
-    fn freed(&self, named: &NamedSession) -> Result<Freed, AskFault> {
+    pub(crate) fn freed(&self, named: &NamedSession) -> Result<Freed, AskFault> {
         let mut state = self.state.lock(self.rt);
         Ok(state.free(self.alloc, self.plan.boot, named, self.moment())?)
     }

@@ -1,5 +1,5 @@
 use rld_ask::Outcome;
-use rld_control::FreeFault;
+use rld_control::{DisconnectFault, FreeFault};
 use rsl_wire::NoMemory;
 use std::alloc::{AllocError, AllocFailed};
 
@@ -16,6 +16,8 @@ pub(crate) enum AskFault {
     Free(FreeFault),
     /// The Stop or the restart was not recorded, so nothing was freed.
     Unrecorded,
+    /// No access server is asked to disconnect the session.
+    Disconnect(DisconnectFault),
     /// The server's file says nothing of asks.
     NoAsks,
     /// The ask is not accepted.
@@ -36,6 +38,7 @@ impl AskFault {
             AskFault::Free(FreeFault::UnknownClient) => "error unknown client\n",
             AskFault::Free(FreeFault::NoSession) => "error no session can be named so\n",
             AskFault::Unrecorded => "error not recorded, and so not freed\n",
+            AskFault::Disconnect(fault) => fault.answer(),
             AskFault::NoAsks => "error no [ask] in the server's file\n",
             AskFault::NotAccepted(Outcome::LimitReached) => "error session limit reached\n",
             AskFault::NotAccepted(Outcome::UnknownAccount) => "error unknown account\n",

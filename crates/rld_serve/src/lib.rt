@@ -1,6 +1,6 @@
 //! The operator's server while it runs: receivers on its UDP sockets, a worker that makes a tick
-//! each second, and workers that answer on the control socket, write to standard error, show the
-//! server and take asks, each on its own thread, over one state under one lock. `rld_turn` handles a datagram,
+//! each second, and workers that answer on the control socket, write to standard error, have sessions
+//! disconnected, show the server and take asks, each on its own thread, over one state under one lock. `rld_turn` handles a datagram,
 //! `rld_state` changes the state, and `rld_edges` has sockets, waits and faults. The promise: only
 //! the calls of `rld_state` change the state, since its fields are private there; that each worker
 //! does its job is read from the code.
@@ -13,6 +13,7 @@ mod ask_port;
 mod ask_watch;
 mod asking;
 mod current;
+mod disconnecting;
 mod look;
 mod receiving;
 mod reloading;

@@ -1,6 +1,7 @@
 use crate::accounts::Accounts;
 use crate::asking::Seat;
 use crate::current::Current;
+use crate::disconnecting::{MOST_ORDERS, Order};
 use crate::reporting::MOST_TOLD;
 use crate::rolling::Rolls;
 use crate::shared_recorder::SharedRecorder;
@@ -74,6 +75,10 @@ pub(crate) struct Server<'a, G, A, R> {
     pub(crate) is_failing: AtomicBool,
     pub(crate) clock_behind: AtomicU64,
     pub(crate) archive: Mutex<ArchiveLook>,
+    /// The sessions that are to be disconnected, until the worker takes them.
+    pub(crate) orders: Mutex<HeapCircularBuffer<Order>>,
+    /// How many of these are not ended.
+    pub(crate) ordered: AtomicU64,
     pub(crate) shutdown: Shutdown,
     pub(crate) current: RwLock<Current>,
 }
@@ -81,8 +86,8 @@ pub(crate) struct Server<'a, G, A, R> {
 /// Serves until it is asked to end or cannot go on: receives RADIUS datagrams on the sockets,
 /// answers each once its move is recorded, and makes a tick each second. Each receiver has its own
 /// thread, and so have the worker that makes ticks, the one that answers on the control socket, the
-/// one that writes to standard error, if there are `pages` the one that shows the server, and if
-/// there are `asks` the one that takes them.
+/// one that writes to standard error, the one that has sessions disconnected, if there are `pages` the
+/// one that shows the server, and if there are `asks` the one that takes them.
 ///
 /// The next generation begins after 1,000,000 moves or ten minutes, whichever comes first. If it
 /// cannot begin, the present one goes on, and it is tried again a minute later. At the start, and
@@ -167,6 +172,8 @@ where
         is_failing: AtomicBool::new(false),
         clock_behind: AtomicU64::new(0),
         archive: Mutex::new(ArchiveLook { logs: 0, octets: 0 }),
+        orders: Mutex::new(HeapCircularBuffer::with_capacity(alloc, MOST_ORDERS)?),
+        ordered: AtomicU64::new(0),
         shutdown: Shutdown::new(jobs.len()),
         current: RwLock::new(current),
     };
@@ -233,6 +240,7 @@ where
             Some(Job::Tick) => self.tick(),
             Some(Job::Answer(control)) => self.answer_all(control),
             Some(Job::Report) => self.report_all(),
+            Some(Job::Disconnect) => self.disconnect_all(),
             Some(Job::Show) => match pages {
                 Some(pages) => self.show(pages),
                 None => Ok(()),
@@ -276,7 +284,7 @@ where
                 break;
             }
             match control.listener().accept() {
-                Ok((stream, _)) => self.answer(&stream),
+                Ok((stream, _)) => self.answer(stream),
                 Err(_) => readiness.wait()?,
             }
         }

@@ -1,0 +1,33 @@
+ghost use Rattle.std.specs.Prelude.{◌≡◌};
+ghost use Rattle.rld_edges.specs.Step.{step_of};
+
+use rld_disconnect::{PAUSE_SECS, TRIES};
+
+/// What is to be done about a request to an access server that has no answer.
+#[derive(Clone, Copy, Debug)]
+pub enum Step {
+    /// Send it.
+    Send,
+    /// Wait for its answer.
+    Wait,
+    /// Give it up.
+    GiveUp,
+}
+
+impl Step {
+    /// The step for a request that was sent so many times, the last time this number of whole seconds
+    /// ago. It is sent three times at most, a second apart, and given up a second after the last.
+    pub fn of(sent: u32, passed: u64) -> Step
+        ensures { result ≡ step_of sent passed }
+    {
+        if sent == 0 {
+            Step::Send
+        } else if passed < PAUSE_SECS {
+            Step::Wait
+        } else if sent < TRIES {
+            Step::Send
+        } else {
+            Step::GiveUp
+        }
+    }
+}
