@@ -1,2 +1,3 @@
 pub mod Noting
+mod Joining
 mod Showing

@@ -1,3 +1,4 @@
+pub mod AccessServers
 pub mod Accounts
 pub mod Backlog
 pub mod Clients

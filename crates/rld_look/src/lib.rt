@@ -3,7 +3,8 @@
 //!
 //! The promise: totals are those of all accounts (`specs/Totals.antt`), the fullest accounts are
 //! the first ones in the order of `specs/Accounts.antt`, and a minute of the history has what came
-//! since it began (`specs/History.antt`). Which ends are refusals, and what an operator learns of
+//! since it began (`specs/History.antt`). An access server that holds links has one row, with their
+//! numbers and their last touch (`specs/AccessServers.antt`). Which ends are refusals, and what an operator learns of
 //! one, is in `specs/Refusal.antt`.
 #![tactic(auto)]
 
@@ -20,6 +21,7 @@ mod pages;
 mod priority;
 mod refusal;
 mod refusals;
+mod servers;
 mod socket_table;
 mod totals;
 
@@ -37,5 +39,8 @@ pub use pages::{Pages, Shown};
 pub use priority::{Priority, Sink};
 pub use refusal::{Refusal, Refused, is_refusal};
 pub use refusals::Refusals;
+pub use servers::{
+    AccessServerLook, AccessServersLook, MOST_SERVERS, add_links, join_servers, write_nas_word,
+};
 pub use socket_table::socket_in;
 pub use totals::Totals;

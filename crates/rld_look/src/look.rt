@@ -3,6 +3,7 @@ ghost use Rattle.rld_look.specs.History.{last_of, latest_of, span_of};
 
 use crate::build::Build;
 use crate::refusal::Refusal;
+use crate::servers::AccessServersLook;
 use crate::totals::Totals;
 use rld_counts::{Counts, Histogram};
 use rsl_accounts::Text;
@@ -46,6 +47,8 @@ pub struct Look {
     pub totals: Totals,
     /// The accounts that hold most of their places, fullest first: at most `MOST_FULLEST`.
     pub fullest: Vec<AccountLook>,
+    /// The access servers that hold links.
+    pub access_servers: AccessServersLook,
     /// The last whole minutes, at most 60, oldest first.
     pub minutes: Vec<Minute>,
     /// The last refused datagrams, oldest first.

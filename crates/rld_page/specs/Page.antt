@@ -8,7 +8,7 @@ use Rattle.rld_page.specs.Chart.{charts_of}
 use Rattle.rld_page.specs.Figures.{date_text, grouped}
 use Rattle.rld_page.specs.Html.{middle_dot}
 use Rattle.rld_page.specs.Summary.{numbers_of, state_of}
-use Rattle.rld_page.specs.Tables.{accounts_of, causes_of, refused_of, sockets_of}
+use Rattle.rld_page.specs.Tables.{accounts_of, causes_of, refused_of, servers_of, sockets_of}
 use Rattle.rld_page.specs.declared.style.TheConstants.{STYLE}
 
 -- ---- the head: its title says what is looked at first
@@ -46,7 +46,8 @@ main_of dates look =
     ++ (charts_of look.minutes.items
     ++ (accounts_of look.totals.accounts look.fullest.items
     ++ (causes_of look.counts
-    ++ (refused_of dates look.refusals.items ++ (sockets_of look.sockets.items ++ codes "</main>\n"))))))
+    ++ (servers_of dates look
+    ++ (refused_of dates look.refusals.items ++ (sockets_of look.sockets.items ++ codes "</main>\n")))))))
 
 unfoldable pub page_of : (dates : ℕ → List ℕ) → Look → List ℕ
 page_of dates look =

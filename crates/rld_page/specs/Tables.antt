@@ -1,5 +1,6 @@
--- The tables of the page: the fullest accounts, how datagrams ended, what was refused lately, and the sockets.
-use Rattle.std.specs.Prelude.{ℕ, ◌==◌, nat_lt, List, [], ◌∷◌, ◌++◌, codes, drop, length, take, Option, None, Some, if◌then◌else◌}
+-- The tables of the page: the fullest accounts, how datagrams ended, the
+-- access servers, what was refused lately, and the sockets.
+use Rattle.std.specs.Prelude.{ℕ, ◌-◌, ◌==◌, nat_le, nat_lt, List, [], ◌∷◌, ◌++◌, codes, drop, length, take, Option, None, Some, if◌then◌else◌}
 use Rattle.std.specs.Fmt.{decimal}
 use Rattle.std.specs.List.{flat_map}
 use Rattle.std.specs.Net.Text.{ip_text}
@@ -7,9 +8,12 @@ use Rattle.std.specs.declared.net.ip_addr.IpAddr.{IpAddr}
 use Rattle.rld_counts.specs.Counts.{count_in, total_of}
 use Rattle.rld_counts.specs.Ends.{all_ends, is_answer, kind_of}
 use Rattle.rld_counts.specs.declared.end.End.{End}
+use Rattle.rld_look.specs.AccessServers.{nas_word}
 use Rattle.rld_look.specs.declared.look.AccountLook.{AccountLook}
+use Rattle.rld_look.specs.declared.look.Look.{Look}
 use Rattle.rld_look.specs.declared.look.SocketLook.{SocketLook}
 use Rattle.rld_look.specs.declared.refusal.Refusal.{Refusal}
+use Rattle.rld_look.specs.declared.servers.AccessServerLook.{AccessServerLook}
 use Rattle.rld_values.specs.Values.{dotted, word}
 use Rattle.rsl_event.specs.declared.event.Source.{Source}
 use Rattle.rsl_event.specs.declared.nas.NasName.{NasName}
@@ -106,6 +110,53 @@ causes_of counts =
     ++ (port_table (codes "Authentication") counts (take 21 all_ends)
     ++ (port_table (codes "Accounting") counts (take 21 (drop 21 all_ends))
     ++ (asks_if_any counts (drop 42 all_ends) ++ codes "</div></section>\n")))
+
+-- ---- the access servers that hold a session or a reservation
+
+unfoldable pub servers_front : (number : ℕ) → List ℕ
+servers_front number =
+    codes "<section><div class=\"top\"><h2>Access servers</h2><p class=\"soft\">times are UTC, "
+    ++ (grouped number ++ (codes " in all</p></div>\n<div class=\"wide\">"
+    ++ (codes "<table><thead><tr><th scope=\"col\">Client</th><th scope=\"col\">Access server</th>"
+    ++ (codes "<th scope=\"col\" class=\"n\">Sessions</th><th scope=\"col\" class=\"n more\">Reserved</th>"
+    ++ (codes "<th scope=\"col\" class=\"n more\">Last packet</th><th scope=\"col\" class=\"n\">Silent for</th>"
+    ++ codes "</tr></thead><tbody>\n")))))
+
+unfoldable pub server_front : AccessServerLook → List ℕ
+server_front server =
+    codes "<tr><td>" ++ (dotted server.client
+    ++ (codes "</td><td class=\"name\">" ++ (nas_word server.nas ++ codes "</td>")))
+
+-- when one of its links was last touched, and how long before the look
+unfoldable pub touch_cells : (dates : ℕ → List ℕ) → (now last : ℕ) → List ℕ
+touch_cells dates now last =
+    codes "<td class=\"n more\"><time>" ++ (moment_text dates last
+    ++ (codes "</time></td><td class=\"n\">" ++ (grouped (now - last) ++ codes " s</td></tr>\n")))
+
+unfoldable pub server_row : (dates : ℕ → List ℕ) → (now : ℕ) → AccessServerLook → List ℕ
+server_row dates now server =
+    server_front server
+    ++ (number_cell server.bound ++ (more_cell server.reserved ++ touch_cells dates now server.last))
+
+unfoldable pub left_out_words : (number : ℕ) → List ℕ
+left_out_words number = codes " <b>" ++ (grouped number ++ codes " more are not shown.</b>")
+
+-- how many are not shown, if any are not
+abbrev pub more_servers : (number shown : ℕ) → List ℕ
+more_servers number shown = if nat_le number shown then [] else left_out_words (number - shown)
+
+unfoldable pub servers_end : (number shown : ℕ) → List ℕ
+servers_end number shown =
+    codes "</tbody></table></div>\n<p class=\"soft\">An access server stands here only "
+    ++ (codes "while it holds a session or a reservation. Its last packet is the last "
+    ++ (codes "one of these." ++ (more_servers number shown ++ codes "</p></section>\n")))
+
+unfoldable pub servers_table : (dates : ℕ → List ℕ) → (now number : ℕ) → List AccessServerLook → List ℕ
+servers_table dates now number servers =
+    servers_front number ++ (flat_map (server_row dates now) servers ++ servers_end number (length servers))
+
+abbrev pub servers_of : (dates : ℕ → List ℕ) → Look → List ℕ
+servers_of dates look = servers_table dates look.now look.access_servers.number look.access_servers.first.items
 
 -- ---- what was refused lately
 

@@ -127,7 +127,7 @@ fn write_share(html: &mut Html, held: u64, places: u64) -> Result<(), AllocError
 
 /// Writes a number.
 #[tactic(auto, unfolding(crate::specs::Tables::number_cell))]
-fn write_number(html: &mut Html, number: u64) -> Result<(), AllocError>
+pub(crate) fn write_number(html: &mut Html, number: u64) -> Result<(), AllocError>
     ensures { OnOk result (html.new ≡ html.old ++ number_cell number) }
 {
     html.markup("<td class=\"n\">")?;
@@ -138,7 +138,7 @@ fn write_number(html: &mut Html, number: u64) -> Result<(), AllocError>
 
 /// Writes a number that a narrow window has no room for.
 #[tactic(auto, unfolding(crate::specs::Tables::more_cell))]
-fn write_more(html: &mut Html, number: u64) -> Result<(), AllocError>
+pub(crate) fn write_more(html: &mut Html, number: u64) -> Result<(), AllocError>
     ensures { OnOk result (html.new ≡ html.old ++ more_cell number) }
 {
     html.markup("<td class=\"n more\">")?;

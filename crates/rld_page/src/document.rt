@@ -7,6 +7,7 @@ use crate::causes::write_causes;
 use crate::chart::write_charts;
 use crate::html::Html;
 use crate::refused::write_refused;
+use crate::servers::write_servers;
 use crate::sockets::write_sockets;
 use crate::style::STYLE;
 use crate::summary::{write_numbers, write_state};
@@ -18,8 +19,8 @@ use std::alloc::{AllocError, Global};
 ///
 /// It shows whether the server records and whether its clock is behind, the places held of all, the
 /// rates of the last minute, what the archive has, the last hour, the fullest accounts, how datagrams
-/// ended since the start, the last refusals, and the queues of the sockets. It shows at most 50
-/// accounts.
+/// ended since the start, the access servers that hold sessions, the last refusals, and the queues of
+/// the sockets. It shows at most 50 accounts and 256 access servers.
 pub fn page(alloc: Global, look: &Look) -> Result<Vec<u8>, AllocError>
     ensures { IfOk result (λ text. IsPage look.entry.now text.items) }
 {
@@ -102,6 +103,7 @@ fn write_main(html: &mut Html, look: &Look) -> Result<(), AllocError>
     write_charts(html, look)?;
     write_accounts(html, look)?;
     write_causes(html, &look.counts)?;
+    write_servers(html, look)?;
     write_refused(html, look)?;
     write_sockets(html, look)?;
     html.markup("</main>\n")?;

@@ -4,13 +4,16 @@ ghost use Rattle.std.specs.Prelude.{◌≡◌, ◌+◌, ◌++◌, ◌∷◌, [],
 ghost use Rattle.std.specs.Fmt.{decimal};
 ghost use Rattle.std.specs.List.{list_all};
 ghost use Rattle.std.specs.Net.Text.{ip_text};
+ghost use Rattle.rld_look.specs.AccessServers.{nas_word};
 ghost use Rattle.rld_page.specs.Figures.{comma_before, date_text, grouped, moment_text, day_and_time, whole_date, with_commas};
 ghost use Rattle.rld_page.specs.Html.{html_octet, html_text, is_no_markup};
 ghost use Rattle.rld_values.specs.Dates.{AreDates, clock};
 ghost use Rattle.rld_values.specs.Values.{dotted, word};
 
 use itoa::Buffer;
+use rld_look::write_nas_word;
 use rld_values::{http_date, push_clock, push_decimal, push_dotted, push_text, push_word};
+use rsl_event::NasName;
 use std::alloc::{AllocError, Global};
 use std::marker::Model;
 use std::net::IpAddr;
@@ -89,6 +92,13 @@ impl Html {
         ensures { OnOk result (self.new ≡ self.old ++ word octets.now) }
     {
         push_word(&mut self.out, octets)
+    }
+
+    /// Writes the name of an access server as the list of the sessions has it, with the same escapes.
+    pub(crate) fn nas(&mut self, nas: &NasName) -> Result<(), AllocError>
+        ensures { OnOk result (self.new ≡ self.old ++ nas_word nas.now) }
+    {
+        write_nas_word(&mut self.out, nas)
     }
 
     /// Writes an IPv4 address.

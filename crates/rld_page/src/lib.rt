@@ -16,6 +16,7 @@ mod figures;
 mod html;
 mod json;
 mod refused;
+mod servers;
 mod sockets;
 mod style;
 mod summary;

@@ -4,11 +4,11 @@ use crate::server::Server;
 use rld_config::books_octets;
 use rld_counts::{Cell, Counts, Histogram};
 use rld_look::{
-    AccountsLook, Look, Minute, Places, Recording, SocketLook, Totals, client_looks, fullest_looks,
-    held_in, socket_in,
+    AccessServersLook, AccountsLook, Look, Minute, Places, Recording, SocketLook, Totals,
+    add_links, client_looks, fullest_looks, held_in, join_servers, socket_in,
 };
 use rld_spelling::Header;
-use rld_state::places_in;
+use rld_state::{LinksPage, places_in};
 use rld_watch::{Gate, cell_of, counts_of};
 use rsl_accounts::{Config, read_file};
 use rsl_port::{Clock, SystemClock};
@@ -27,6 +27,9 @@ const IPV6_TABLE: &str = "/proc/self/net/udp6";
 
 /// The most octets of a table that are read; a socket has up to 180.
 const MAX_TABLE_LEN: u32 = 1_048_576;
+
+/// The number of links from which on those of one access server are joined while others are looked at.
+const FIRST_ROOM: usize = 16_384;
 
 /// What the receivers have counted.
 #[derive(Drop)]
@@ -63,6 +66,7 @@ impl<'a, G, A, R: time::Clock + Wait> Server<'a, G, A, R> {
     /// refused.
     pub(crate) fn look(&self) -> Result<Look, NoMemory> {
         let (counted, holdings) = self.gather()?;
+        let access_servers = self.access_servers(holdings.config.accounts())?;
         let Counted {
             logins,
             acct,
@@ -96,6 +100,7 @@ impl<'a, G, A, R: time::Clock + Wait> Server<'a, G, A, R> {
             ask_times,
             totals: Totals::of(&*config, rows.as_slice()),
             fullest: fullest_looks(self.alloc, &*config, rows)?,
+            access_servers,
             minutes: self.minutes()?,
             refusals: self.refusals.lately(self.rt, self.alloc)?,
             sockets: self.socket_looks()?,
@@ -157,6 +162,36 @@ impl<'a, G, A, R: time::Clock + Wait> Server<'a, G, A, R> {
             moves: state.moves(),
             rows,
         })
+    }
+
+    /// The access servers that hold links. Each page of the links is of one moment, with the clients of
+    /// that moment, and no page has no account: there are at most as many as accounts.
+    fn access_servers(&self, accounts: u32) -> Result<AccessServersLook, NoMemory> {
+        let mut servers = Vec::new(self.alloc);
+        let mut room = FIRST_ROOM;
+        let mut first = 0u32;
+        for _ in 0..accounts {
+            let (config, page) = self.links_from(first)?;
+            for held in page.held.as_slice() {
+                add_links(self.alloc, &mut servers, &*config, held.links.as_slice())?;
+            }
+            if servers.len() >= room {
+                servers = join_servers(self.alloc, servers)?;
+                room = servers.len().saturating_mul(2).saturating_add(FIRST_ROOM);
+            }
+            first = page.next;
+            if first >= config.accounts() {
+                break;
+            }
+        }
+        AccessServersLook::of(self.alloc, servers)
+    }
+
+    /// A page of the links from this account on, and the accounts that it is of. The store's lock is held
+    /// while the page is copied.
+    fn links_from(&self, first: u32) -> Result<(Arc<Config>, LinksPage), NoMemory> {
+        let state = self.state.lock(self.rt);
+        Ok((state.config()?, state.links_from(self.alloc, first)?))
     }
 
     /// Whether batches are being recorded, as far as the worker that makes ticks has seen.

@@ -1,5 +1,5 @@
 -- The metrics of a running server.
-use Rattle.std.specs.Prelude.{ℕ, ◌+◌, ◌^◌, List, [], ◌∷◌, ◌++◌, codes, sum, take}
+use Rattle.std.specs.Prelude.{ℕ, ◌+◌, ◌-◌, ◌^◌, List, [], ◌∷◌, ◌++◌, codes, sum, take}
 use Rattle.std.specs.Fmt.{decimal}
 use Rattle.std.specs.List.{flat_map, range_with_len}
 use Rattle.rld_counts.specs.Counts.{count_in}
@@ -7,6 +7,7 @@ use Rattle.rld_counts.specs.Ends.{all_ends, name_of, port_of}
 use Rattle.rld_counts.specs.Histogram.{Times}
 use Rattle.rld_counts.specs.Tally.{kept}
 use Rattle.rld_counts.specs.declared.end.End.{End}
+use Rattle.rld_look.specs.AccessServers.{nas_word}
 use Rattle.rld_look.specs.Totals.{plus}
 use Rattle.rld_look.specs.declared.build.Build.{Build}
 use Rattle.rld_look.specs.declared.look.ClientLook.{ClientLook}
@@ -15,10 +16,12 @@ use Rattle.rld_look.specs.declared.look.Look.{Look}
 use Rattle.rld_look.specs.declared.look.Recording.{Recording}
 use Rattle.rld_look.specs.declared.look.Recording.TheVariants.{Recorded, Failing}
 use Rattle.rld_look.specs.declared.look.SocketLook.{SocketLook}
+use Rattle.rld_look.specs.declared.servers.AccessServerLook.{AccessServerLook}
 use Rattle.rld_look.specs.declared.totals.Totals.{Totals}
 use Rattle.rld_values.specs.Values.{dotted}
+use Rattle.rsl_event.specs.declared.nas.NasName.{NasName}
 use Rattle.rld_text.specs.Build.{proof_word}
-use Rattle.rld_text.specs.Text.{head_of, label, seconds}
+use Rattle.rld_text.specs.Text.{escaped_octet, head_of, label, seconds}
 
 -- ---- how the datagrams ended
 
@@ -181,6 +184,49 @@ build_sample build =
 unfoldable pub build_text : Build → List ℕ
 build_text build = build_head ++ build_sample build
 
+-- ---- the access servers that hold a session or a reservation
+
+unfoldable pub sessions_head : List ℕ
+sessions_head =
+    head_of (codes "radlimitd_access_server_sessions") (codes "gauge")
+    (codes "Sessions and reservations that an access server holds.")
+
+unfoldable pub silent_head : List ℕ
+silent_head =
+    head_of (codes "radlimitd_access_server_silent_seconds") (codes "gauge")
+    (codes "Seconds since the last packet about a session that an access server holds.")
+
+-- its name as the list of the sessions has it, as the value of a label
+abbrev pub nas_value : NasName → List ℕ
+nas_value nas = flat_map escaped_octet (nas_word nas)
+
+unfoldable pub server_line : (front : List ℕ) → AccessServerLook → (number : ℕ) → List ℕ
+server_line front server number =
+    front ++ (dotted server.client ++ (codes "\",nas=\"" ++ (nas_value server.nas
+    ++ (codes "\"} " ++ (decimal number ++ codes "\n")))))
+
+abbrev pub sessions_line : AccessServerLook → List ℕ
+sessions_line server =
+    server_line (codes "radlimitd_access_server_sessions{client=\"") server (plus server.reserved server.bound)
+
+abbrev pub silent_line : (now : ℕ) → AccessServerLook → List ℕ
+silent_line now server =
+    server_line (codes "radlimitd_access_server_silent_seconds{client=\"") server (now - server.last)
+
+abbrev pub servers_number : ℕ → List ℕ
+servers_number number =
+    gauge (codes "radlimitd_access_servers")
+    (codes "Access servers that hold a session or a reservation. Of the first 256 there is more.") number
+
+unfoldable pub servers_all : (now number : ℕ) → List AccessServerLook → List ℕ
+servers_all now number servers =
+    servers_number number ++ (sessions_head ++ (flat_map sessions_line servers
+    ++ (silent_head ++ flat_map (silent_line now) servers)))
+
+abbrev pub servers_text : Look → List ℕ
+servers_text look = servers_all look.now look.access_servers.number look.access_servers.first.items
+
 -- all metrics
 unfoldable pub metrics_text : Look → List ℕ
-metrics_text look = build_text look.build ++ (ends_text look ++ (times_text look ++ numbers_text look))
+metrics_text look =
+    build_text look.build ++ (ends_text look ++ (times_text look ++ (numbers_text look ++ servers_text look)))

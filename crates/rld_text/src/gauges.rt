@@ -21,7 +21,12 @@ fn push_sample(out: &mut Vec<u8>, head: &Head<'_>, number: u64) -> Result<(), Al
 }
 
 /// Writes a gauge: a number that may go up and down.
-fn push_gauge(out: &mut Vec<u8>, name: &str, help: &str, number: u64) -> Result<(), AllocError>
+pub(crate) fn push_gauge(
+    out: &mut Vec<u8>,
+    name: &str,
+    help: &str,
+    number: u64,
+) -> Result<(), AllocError>
     ensures { OnOk result (out.new.items ≡ out.old.items ++ gauge name.now help.now number) }
 {
     let kind = "gauge";

@@ -22,6 +22,7 @@ mod listing;
 mod metrics;
 mod ready;
 mod recent;
+mod servers;
 mod status;
 mod status_object;
 mod sums;

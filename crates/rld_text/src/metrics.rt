@@ -4,6 +4,7 @@ ghost use Rattle.rld_text.specs.Metrics.{metrics_text};
 use crate::build::push_build_text;
 use crate::datagrams::push_ends_text;
 use crate::gauges::push_numbers;
+use crate::servers::push_servers_text;
 use crate::times::push_times_text;
 use rld_look::Look;
 use std::alloc::{AllocError, Global};
@@ -17,5 +18,7 @@ pub fn push_metrics(alloc: Global, out: &mut Vec<u8>, look: &Look) -> Result<(),
     push_build_text(out, &look.build)?;
     push_ends_text(alloc, out, look)?;
     push_times_text(out, look)?;
-    push_numbers(out, look)
+    push_numbers(out, look)?;
+    push_servers_text(alloc, out, look)?;
+    Ok(())
 }

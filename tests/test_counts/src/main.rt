@@ -5,9 +5,13 @@
 
 use rld_counts::{AcctEnd, AuthEnd, Cell, ClientCounts, Counts, End, Ended, Histogram};
 use rld_look::{
-    ArchiveLook, Build, ClientLook, Health, Look, Proof, Recording, SocketLook, Totals,
+    AccessServerLook, AccessServersLook, ArchiveLook, Build, ClientLook, Health, Look, Proof,
+    Recording, SocketLook, Totals,
 };
 use rld_text::{push_metrics, ready_text};
+use rsl_event::NasName;
+use rsl_wire::Octets;
+use std::alloc::{AllocError, Global};
 use std::io::{self, Write};
 
 /// How many clients there are.
@@ -175,6 +179,23 @@ fn print_metrics(
             full: 2,
         },
         fullest: Vec::new(alloc),
+        access_servers: AccessServersLook {
+            number: 300,
+            first: vec![in alloc;
+                server(
+                    [10, 0, 0, 1],
+                    identifier(alloc, b"bras 1\"")?,
+                    [3, 40],
+                    1_789_999_000
+                ),
+                server(
+                    [192, 0, 2, 255],
+                    NasName::Unnamed,
+                    [0, u64::MAX],
+                    1_790_000_061
+                ),
+            ]?,
+        },
         minutes: Vec::new(alloc),
         sockets: vec![in alloc; socket(1812, 0, 3), socket(1813, 512, 4)]?,
         refusals: Vec::new(alloc),
@@ -189,6 +210,25 @@ fn client(cell: &Cell, number: u32, address: [u8; 4]) -> ClientLook {
     ClientLook {
         address,
         counts: cell.client(number).unwrap_or(Counts::new()),
+    }
+}
+
+/// What an access server holds, reserved and bound.
+fn server(client: [u8; 4], nas: NasName, held: [u64; 2], last: u64) -> AccessServerLook {
+    AccessServerLook {
+        client,
+        nas,
+        reserved: held[0],
+        bound: held[1],
+        last,
+    }
+}
+
+/// The name of an access server with this NAS-Identifier.
+fn identifier(alloc: Global, name: &[u8]) -> Result<NasName, AllocError> {
+    match Octets::from_slice(alloc, name) {
+        Ok(name) => Ok(NasName::Identifier(name)),
+        Err(_) => Err(AllocError),
     }
 }
 

@@ -2,8 +2,8 @@
 
 use rld_counts::{AcctEnd, AuthEnd, Counts, End, Histogram};
 use rld_look::{
-    AccountLook, AccountsLook, ArchiveLook, Build, ClientLook, Look, Minute, Proof, Recording,
-    Refusal, SocketLook, Totals,
+    AccessServerLook, AccessServersLook, AccountLook, AccountsLook, ArchiveLook, Build, ClientLook,
+    Look, Minute, Proof, Recording, Refusal, SocketLook, Totals,
 };
 use rsl_accounts::Text;
 use rsl_event::{NasName, Source};
@@ -57,6 +57,10 @@ pub(crate) fn idle(alloc: Global) -> Result<Look, NoMemory> {
         ask_times: Histogram::new(),
         totals: Totals::new(),
         fullest: Vec::new(alloc),
+        access_servers: AccessServersLook {
+            number: 0,
+            first: Vec::new(alloc),
+        },
         minutes: Vec::new(alloc),
         sockets: Vec::new(alloc),
         refusals: Vec::new(alloc),
@@ -92,6 +96,8 @@ pub(crate) fn worked(alloc: Global) -> Result<Look, NoMemory> {
     for number in [0, 3, 8, 2, 1, 5, 6, 4, 7, 9] {
         look.fullest.push(account(alloc, number)?)?;
     }
+    look.access_servers.number = 1_260;
+    add_servers(alloc, &mut look.access_servers.first)?;
     add_minutes(&mut look.minutes)?;
     look.sockets.push(socket(1812, 0, 0))?;
     look.sockets.push(socket(1813, 2_304, 17))?;
@@ -187,6 +193,30 @@ fn add_minutes(minutes: &mut Vec<Minute>) -> Result<(), NoMemory> {
         })?;
     }
     Ok(())
+}
+
+/// Adds access servers, one of each kind of names and one with a name that is markup.
+fn add_servers(alloc: Global, servers: &mut Vec<AccessServerLook>) -> Result<(), NoMemory> {
+    let none = Octets::from_slice(alloc, b"")?;
+    servers.push(server(NasName::Identifier(none), 0, 1, 0))?;
+    let markup = Octets::from_slice(alloc, b"bras\" onload=\"x")?;
+    servers.push(server(NasName::Identifier(markup), 0, 1_234, NOW - 3))?;
+    let address = Octets::from_slice(alloc, &[192, 0, 2, 77])?;
+    servers.push(server(NasName::Address(address), 12, 0, NOW - 90_061))?;
+    // one that was heard of after the look
+    servers.push(server(NasName::Unnamed, 1, 1, NOW + 1))?;
+    Ok(())
+}
+
+/// An access server of a client.
+fn server(nas: NasName, reserved: u64, bound: u64, last: u64) -> AccessServerLook {
+    AccessServerLook {
+        client: [192, 0, 2, 7],
+        nas,
+        reserved,
+        bound,
+        last,
+    }
 }
 
 /// Adds refusals, one of them with a name that is markup.

@@ -2,9 +2,11 @@
 //! watcher learns of it and counts, and what a loss of power leaves of their batches on a disk of
 //! memory; and why logins are rejected. They are rows of text (`test_rows`). Expected values come
 //! from the session rule, worked by hand, and the octets from Python's hashlib. Also of `rld_look`:
-//! sockets and minutes.
+//! sockets, minutes and access servers.
 #![tactic(auto)]
 
+#[cfg(test)]
+mod access_servers;
 #[cfg(test)]
 mod clock;
 #[cfg(test)]
