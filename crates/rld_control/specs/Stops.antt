@@ -1,6 +1,6 @@
 -- The Accounting-Request by which an access server says that a session has ended (RFC 2866 section
 -- 4.1).
-use Rattle.std.specs.Prelude.{◌≡◌, ℕ, Bool, false, ◌&&◌, List, [], ◌∷◌, replicate, Ok, Some}
+use Rattle.std.specs.Prelude.{◌≡◌, ◌==◌, ℕ, Bool, false, ◌&&◌, List, [], ◌∷◌, if◌then◌else◌, length, replicate, Ok, Some}
 use Rattle.std.specs.List.{list_any}
 use Rattle.rsl_accounts.specs.Configuration.{Configuration, account_number, client_number, same_octets}
 use Rattle.rsl_auth.specs.Authenticator.{sealed}
@@ -10,7 +10,7 @@ use Rattle.rsl_event.specs.Answer.{number_attribute}
 use Rattle.rsl_event.specs.Meaning.{meaning}
 use Rattle.rsl_event.specs.Request.{secret_of}
 use Rattle.rsl_event.specs.Same.{same_nas}
-use Rattle.rsl_event.specs.declared.codes.TheConstants.{ACCOUNTING_REQUEST, USER_NAME, NAS_IDENTIFIER, NAS_IP_ADDRESS, ACCT_STATUS_TYPE, ACCT_SESSION_ID, STOP}
+use Rattle.rsl_event.specs.declared.codes.TheConstants.{ACCOUNTING_REQUEST, USER_NAME, NAS_IDENTIFIER, NAS_IP_ADDRESS, NAS_IPV6_ADDRESS, ACCT_STATUS_TYPE, ACCT_SESSION_ID, STOP}
 use Rattle.rsl_event.specs.declared.event.Act.TheVariants as acts
 use Rattle.rsl_event.specs.declared.event.Source.{Source}
 use Rattle.rsl_event.specs.declared.meaning.Meaning.TheVariants.{Own}
@@ -28,10 +28,14 @@ use Rattle.rsl_shard.specs.declared.moved.Move.TheVariants as moves
 use Rattle.rld_control.specs.declared.named.NamedSession.{NamedSession}
 use Rattle.rld_control.specs.declared.stop.Stop.{Stop}
 
+-- the Type of an address: of 16 octets it is a NAS-IPv6-Address (RFC 3162 section 2.1)
+abbrev pub address_kind : (address : List ℕ) → ℕ
+address_kind address = if length address == 16 then NAS_IPV6_ADDRESS else NAS_IP_ADDRESS
+
 -- the name of an access server
 abbrev pub nas_attributes : NasName → List Attribute
 nas_attributes (Identifier name) = attribute_of NAS_IDENTIFIER name ∷ []
-nas_attributes (Address address) = attribute_of NAS_IP_ADDRESS address ∷ []
+nas_attributes (Address address) = attribute_of (address_kind address) address ∷ []
 nas_attributes Unnamed = []
 
 abbrev pub stop_attributes : NamedSession → List Attribute

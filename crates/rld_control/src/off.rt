@@ -5,11 +5,9 @@ ghost use Rattle.rld_control.specs.Offs.{IsOffOf, MeansOff, off_octets, sweep_of
 
 use crate::fault::FreeFault;
 use crate::named::NamedServer;
-use crate::stop::{SOURCE_PORT, sealed_with};
+use crate::stop::{SOURCE_PORT, address_kind, sealed_with};
 use rsl_accounts::Config;
-use rsl_event::codes::{
-    ACCOUNTING_OFF, ACCT_SESSION_ID, ACCT_STATUS_TYPE, NAS_IDENTIFIER, NAS_IP_ADDRESS,
-};
+use rsl_event::codes::{ACCOUNTING_OFF, ACCT_SESSION_ID, ACCT_STATUS_TYPE, NAS_IDENTIFIER};
 use rsl_event::{Dropped, Meaning, Nas, NasName, Port, Source, prepare};
 use rsl_shard::Move;
 use rsl_wire::{Attr, NoMemory};
@@ -106,7 +104,7 @@ fn off_octets(alloc: Global, named: &NamedServer, secret: &[u8]) -> Result<Vec<u
         }
         NasName::Address(address) => {
             let nas = Attr {
-                kind: NAS_IP_ADDRESS,
+                kind: address_kind(address.as_slice()),
                 value: address.as_slice(),
             };
             sealed_with(alloc, &[status, session, nas], secret)

@@ -5,15 +5,15 @@ ghost use Rattle.rsl_event.specs.declared.event.Act.TheVariants as acts;
 ghost use Rattle.rsl_event.specs.declared.meaning.Meaning.TheVariants as meanings;
 ghost use Rattle.rsl_session.specs.Saved.{saved_links};
 ghost use Rattle.rsl_wire.specs.NewPacket.{seen};
-ghost use Rattle.rld_control.specs.Stops.{IsStopOf, MeansStop, is_ended, is_held, is_holder, move_of, request_octets, stop_octets};
+ghost use Rattle.rld_control.specs.Stops.{IsStopOf, MeansStop, address_kind, is_ended, is_held, is_holder, move_of, request_octets, stop_octets};
 
 use crate::fault::FreeFault;
 use crate::named::NamedSession;
 use rsl_accounts::Config;
 use rsl_auth::sealed;
 use rsl_event::codes::{
-    ACCOUNTING_REQUEST, ACCT_SESSION_ID, ACCT_STATUS_TYPE, NAS_IDENTIFIER, NAS_IP_ADDRESS, STOP,
-    USER_NAME,
+    ACCOUNTING_REQUEST, ACCT_SESSION_ID, ACCT_STATUS_TYPE, NAS_IDENTIFIER, NAS_IP_ADDRESS,
+    NAS_IPV6_ADDRESS, STOP, USER_NAME,
 };
 use rsl_event::{Act, Dropped, Event, Meaning, Nas, NasName, Port, Source, prepare};
 use rsl_session::{SavedHolder, SavedLink};
@@ -176,12 +176,23 @@ fn stop_octets(alloc: Global, named: &NamedSession, secret: &[u8]) -> Result<Vec
         }
         NasName::Address(address) => {
             let nas = Attr {
-                kind: NAS_IP_ADDRESS,
+                kind: address_kind(address.as_slice()),
                 value: address.as_slice(),
             };
             sealed_with(alloc, &[name, status, session, nas], secret)
         }
         NasName::Unnamed => sealed_with(alloc, &[name, status, session], secret),
+    }
+}
+
+/// The Type of the attribute that has an access server's address.
+pub(crate) fn address_kind(address: &[u8]) -> u8
+    ensures { result ≡ address_kind address.now }
+{
+    if address.len() == 16 {
+        NAS_IPV6_ADDRESS
+    } else {
+        NAS_IP_ADDRESS
     }
 }
 
