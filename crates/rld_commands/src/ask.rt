@@ -46,7 +46,9 @@ pub(crate) fn ask<R: Files + Net + Clock, W: Write, S: Write + IsTerminal>(
     let (patience, words) = waiting(topic, words)?;
     let line = match topic {
         Topic::Ask => ask_line(alloc, command, words)?,
-        _ => line_of(alloc, command, words)?,
+        // `free --disconnect` is the same command
+        Topic::Disconnect => line_of(alloc, "disconnect", words)?,
+        _ => line_of(alloc, command.as_str(), words)?,
     };
     if Command::read(alloc, line.as_bytes())?.is_none() {
         return Err(Fault::Usage(Misuse::Unreadable(topic)));
@@ -188,8 +190,8 @@ impl Asked<'_> {
 }
 
 /// Words as one line, without its line feed.
-fn line_of(alloc: Global, command: &String, words: &[String]) -> Result<String, Fault> {
-    let mut line = String::from_str(alloc, command.as_str())?;
+fn line_of(alloc: Global, command: &str, words: &[String]) -> Result<String, Fault> {
+    let mut line = String::from_str(alloc, command)?;
     for word in words {
         line.push_str(" ")?;
         line.push_str(word.as_str())?;

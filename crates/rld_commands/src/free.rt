@@ -14,6 +14,9 @@ use std::io::{IsTerminal, Read, Write};
 use std::net::Net;
 use std::time::Clock;
 
+/// The flag by which the access server is to end the session first.
+const DISCONNECT: &str = "--disconnect";
+
 /// The flag that says yes.
 const YES: &str = "--yes";
 
@@ -72,8 +75,8 @@ impl<'a> Server<'a> {
     }
 }
 
-/// Frees what the words of `free` name: a session, or with `--nas` all those of an access server,
-/// once these are listed and it was said yes.
+/// Frees what the words of `free` name: a session, with `--disconnect` once its access server has ended
+/// it, or with `--nas` all those of an access server, once these are listed and it was said yes.
 ///
 /// The faults are those of `ask`. `NoTerminal` comes before anything is asked, if nobody can say yes.
 pub(crate) fn free<R, I: Read + IsTerminal, W: Write, S: Write + IsTerminal>(
@@ -87,6 +90,11 @@ pub(crate) fn free<R, I: Read + IsTerminal, W: Write, S: Write + IsTerminal>(
 where
     R: Files + Net + Clock,
 {
+    if let [_, rest @ ..] = words {
+        if has_disconnect(rest) {
+            return ask(rt, alloc, Topic::Disconnect, rest, stdout, stderr);
+        }
+    }
     let Some(server) = Server::of_words(words) else {
         return ask(rt, alloc, Topic::Free, words, stdout, stderr);
     };
@@ -115,6 +123,14 @@ where
     }
     let lines = asked.lines(rt, alloc, line.as_str(), stderr)?;
     say(stdout, lines.as_slice())
+}
+
+/// Whether the first of some words is `--disconnect`.
+fn has_disconnect(words: &[String]) -> bool {
+    match words {
+        [first, ..] => first.as_str() == DISCONNECT,
+        [] => false,
+    }
 }
 
 /// Says what is to be freed, and whether it shall be: the words said yes, or it is typed.

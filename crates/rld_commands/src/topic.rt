@@ -263,11 +263,13 @@ radlimitd free NAME CLIENT NAS SESSION FILE
 
 Frees the place of a session that its access server has forgotten, by the Stop that it would have sent. NAME is the
 account; CLIENT the client's IPv4 address; NAS what the access server calls itself: `nas=` and its NAS-Identifier,
-`nas-address=` and the hexadecimal digits of its NAS-IP-Address, or `unnamed`; SESSION the Acct-Session-Id. They are the
-first four words of a line of `sessions`. It prints `freed`, or `no such session`.
+`nas-address=` and the hexadecimal digits of its NAS-IP-Address or NAS-IPv6-Address, or `unnamed`; SESSION the
+Acct-Session-Id. They are the first four words of a line of `sessions`. It prints `freed`, or `no such session`.
 
 `radlimitd free [--yes] --nas NAS CLIENT FILE` frees those of all sessions and reservations of an access server, by the
 Accounting-Off that it would have sent. It lists them first, and asks at the terminal for `yes`, unless --yes says it.
+
+`radlimitd free --disconnect NAME CLIENT NAS SESSION FILE` is `radlimitd disconnect`.
 
     radlimitd free nemo 192.0.2.7 nas=pop1 0000A1F3 /etc/radlimit/radlimitd.toml
     radlimitd free --nas nas=pop1 192.0.2.7 /etc/radlimit/radlimitd.toml
