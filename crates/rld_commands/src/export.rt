@@ -1,11 +1,11 @@
 //! `radlimitd export`: the sessions of the logs of a state folder.
 
-use crate::bad_file::Wrong;
 use crate::command::Misuse;
 use crate::fault::Fault;
 use crate::files::{bad_file, server_file};
 use crate::lines::{bad_log, octets_of};
 use crate::topic::Topic;
+use crate::wrong::Wrong;
 use rld_config::Paths;
 use rld_export::{Export, Form, Span, Wanted, read_moment};
 use rld_folder::{FileName, Generation};

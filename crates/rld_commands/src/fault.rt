@@ -1,8 +1,8 @@
 ghost use Rattle.std.specs.Prelude.{◌≡◌};
 ghost use Rattle.rld_commands.specs.declared.fault.Fault.TheVariants.{InputOutput, NoMemory as no_memory, Run, Start};
 
-use crate::bad_file::{BadFile, BadLog};
 use crate::command::Misuse;
+use crate::wrong::{BadFile, BadLog};
 use rld_edges::RunFault;
 use rld_start::{EndStatus, StartFault};
 use rsl_wire::NoMemory;

@@ -3,8 +3,8 @@
 //! No clause speaks of what the system's files give; `ServerFile::read` and `Config::read` read
 //! their texts.
 
-use crate::bad_file::{BadFile, Wrong};
 use crate::fault::Fault;
+use crate::wrong::{BadFile, Wrong};
 use rld_config::{
     Exposure, Place, ServerFault, ServerFile, asker_fault, break_of, shadowed_client,
     unknown_client, unsigned_client,

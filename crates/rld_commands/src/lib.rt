@@ -8,7 +8,6 @@
 
 mod answer;
 mod ask;
-mod bad_file;
 mod carrying_out;
 mod check;
 mod command;
@@ -26,11 +25,12 @@ mod reply;
 mod sessions;
 mod token;
 mod topic;
+mod wrong;
 
-pub use bad_file::{BadFile, BadLog, Wrong};
 pub use command::{Command, Misuse};
 pub use exit::exit_code;
 pub use fault::Fault;
 pub use files::{AccountFile, accounts_for, bad_file, server_file};
 pub use token::token_in;
 pub use topic::Topic;
+pub use wrong::{BadFile, BadLog, Wrong};

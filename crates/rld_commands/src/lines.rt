@@ -1,7 +1,7 @@
 //! `radlimitd lines`: the moves of logs, with their decisions.
 
-use crate::bad_file::{BadFile, BadLog, Wrong};
 use crate::fault::Fault;
+use crate::wrong::{BadFile, BadLog, Wrong};
 use rld_folder::{FileName, Generation};
 use rld_lines::{LinesFault, LogFile, write_lines};
 use rld_start as start;

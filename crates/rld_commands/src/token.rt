@@ -1,8 +1,8 @@
 //! The file with the token of asks.
 
-use crate::bad_file::Wrong;
 use crate::fault::Fault;
 use crate::files::{bad_file, file_text};
+use crate::wrong::Wrong;
 use rld_ask::Token;
 use std::alloc::Global;
 use std::fs::{self, Files};
