@@ -20,13 +20,18 @@ pub enum Answer {
     Nak(Option<u32>),
 }
 
-/// What a datagram answers to a request, of which the octets are given as they were sent.
+/// The answer that a datagram gives to a Disconnect-Request, if it is one. `request` has the octets of
+/// the request as they were sent.
 ///
-/// It is an answer only where all of this holds. Its Length is 20 to 4,096, and so many octets came;
-/// those past it are padding. Its Code is Disconnect-ACK or Disconnect-NAK, its Identifier that of
-/// the request, and its attributes are well formed. Its authenticator is MD5(Code, Identifier,
-/// Length, Request Authenticator, Attributes, Secret) (RFC 5176 section 2.3). And if it has a
-/// Message-Authenticator, it has exactly one, of 16 octets, and it is right (RFC 5176 section 3.4).
+/// A datagram is an answer only if it meets each of these conditions:
+/// - Its Length is from 20 to 4,096, and the datagram is at least as long. Octets past the Length are
+///   padding, and are ignored (RFC 2865 section 3).
+/// - Its Code is Disconnect-ACK or Disconnect-NAK, its Identifier is the request's, and its attributes
+///   are well formed.
+/// - Its Response Authenticator is MD5(Code, Identifier, Length, Request Authenticator, Attributes,
+///   Secret) (RFC 5176 section 2.3).
+/// - It has no Message-Authenticator, or exactly one, of 16 octets, which is right (RFC 5176 section
+///   3.4).
 ///
 /// It allocates nothing.
 #[tactic(auto, unfolding(crate::specs::Answer::answer_of))]

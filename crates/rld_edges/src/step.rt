@@ -15,8 +15,9 @@ pub enum Step {
 }
 
 impl Step {
-    /// The step for a request that was sent so many times, the last time this number of whole seconds
-    /// ago. It is sent three times at most, a second apart, and given up a second after the last.
+    /// The next step for a request without an answer. `sent` is the number of times that it was sent,
+    /// and `passed` the whole seconds since the last of these. It is sent three times at most, a second
+    /// apart, and given up a second after the last.
     pub fn of(sent: u32, passed: u64) -> Step
         ensures { result ≡ step_of sent passed }
     {
