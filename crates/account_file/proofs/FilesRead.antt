@@ -2,7 +2,7 @@
 use Rattle.std.proofs.Common.{◌≡◌, ℕ, List, Option, Some, None, IfSome}
 use Rattle.std.specs.Prelude.{Ok}
 use Rattle.rsl_accounts.specs.Configuration.{Configuration}
-use Rattle.rsl_accounts.specs.FileRead.{IsFileRead}
+use Rattle.rsl_account_file.specs.FileRead.{IsFileRead}
 use Rattle.account_file.specs.Trial.{IsTrial, counts_in}
 use Rattle.account_file.specs.declared.trial.Counts.{Counts}
 

@@ -2,9 +2,9 @@
 use Rattle.std.specs.Prelude.{◌≡◌, ℕ, List, ◌++◌, length, codes, Result, Ok, Err}
 use Rattle.std.specs.Fmt.{decimal}
 use Rattle.rsl_accounts.specs.Configuration.{Configuration}
-use Rattle.rsl_accounts.specs.FileRead.{IsFileRead}
-use Rattle.rsl_accounts.specs.declared.file_fault.FileFault.{FileFault}
-use Rattle.rsl_accounts.specs.declared.file_fault.FileFault.TheVariants.{NoMemory}
+use Rattle.rsl_account_file.specs.FileRead.{IsFileRead}
+use Rattle.rsl_account_file.specs.declared.file_fault.FileFault.{FileFault}
+use Rattle.rsl_account_file.specs.declared.file_fault.FileFault.TheVariants.{NoMemory}
 use Rattle.rsl_record.specs.declared.exit_status.ExitStatus.{ExitStatus}
 use Rattle.rsl_record.specs.declared.exit_status.ExitStatus.TheVariants.{WrongInput, NoMemory as no_memory_status}
 use Rattle.account_file.specs.declared.trial.Counts.{Counts}

@@ -3,12 +3,12 @@
 //! Without a FILE it reads standard input alone, and writes what is wrong to standard error.
 //!
 //! It checks a file before a server is started with it; `bench/accounts` measures with it how the
-//! time of reading grows. `Config::read_file` says what is right and what is wrong.
+//! time of reading grows. `read_config_file` says what is right and what is wrong.
 #![tactic(auto)]
 
 mod trial;
 
-use rsl_accounts::FileFault;
+use rsl_account_file::FileFault;
 use rsl_record::ExitStatus;
 use std::alloc::Global;
 use std::env::Args;

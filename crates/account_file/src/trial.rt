@@ -1,7 +1,8 @@
 ghost use Rattle.std.specs.Prelude.{◌≡◌, ◌<◌, IfSome, length};
 ghost use Rattle.account_file.specs.Trial.{IsTrial, counts_in, status_of};
 
-use rsl_accounts::{Config, FileFault};
+use rsl_account_file::{FileFault, read_config_file, read_config_from};
+use rsl_accounts::Config;
 use rsl_record::ExitStatus;
 use std::alloc::Global;
 use std::fmt;
@@ -44,7 +45,7 @@ pub(crate) fn trial_of_file<F: Files>(
     alloc: Global,
     name: &str,
 ) -> Result<Counts, FileFault> {
-    let config = Config::read_file(files, alloc, name)?;
+    let config = read_config_file(files, alloc, name)?;
     Ok(Counts::of(&config))
 }
 
@@ -53,7 +54,7 @@ pub(crate) fn trial_of_file<F: Files>(
 pub(crate) fn trial<R: Read + Drop>(alloc: Global, reader: R) -> Result<Counts, FileFault>
     ensures { IfSome (R.remaining reader) (λ text. IsTrial text result) }
 {
-    let config = Config::read_from(alloc, reader)?;
+    let config = read_config_from(alloc, reader)?;
     Ok(Counts::of(&config))
 }
 

@@ -1,7 +1,7 @@
 //! The number of a group, from the system's file of groups (group(5)).
 
 use rld_commands::Fault;
-use rsl_accounts::{TextFault, read_file};
+use rsl_account_file::{TextFault, read_file};
 use std::alloc::Global;
 use std::fs::Files;
 use std::str;

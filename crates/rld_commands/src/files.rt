@@ -1,6 +1,6 @@
 //! The files that a server is started with: its own, and the account file that it names.
 //!
-//! No clause speaks of what the system's files give; `ServerFile::read` and `Config::read` read
+//! No clause speaks of what the system's files give; `ServerFile::read` and `read_config` read
 //! their texts.
 
 use crate::fault::Fault;
@@ -9,7 +9,8 @@ use rld_config::{
     Exposure, Place, ServerFault, ServerFile, asker_fault, break_of, shadowed_client,
     unknown_client, unsigned_client,
 };
-use rsl_accounts::{Config, ConfigFault, TextFault, read_file};
+use rsl_account_file::{TextFault, read_config, read_file};
+use rsl_accounts::{Config, ConfigFault};
 use std::alloc::Global;
 use std::fs::{self, Files};
 use std::os::unix::fs::PermissionsExt;
@@ -76,7 +77,7 @@ pub fn accounts_for<F: Files>(
 /// The account file of this name, with its mode and its text.
 pub fn account_file<F: Files>(files: &F, alloc: Global, name: &str) -> Result<AccountFile, Fault> {
     let text = file_text(files, alloc, name)?;
-    let config = match Config::read(alloc, text.as_slice()) {
+    let config = match read_config(alloc, text.as_slice()) {
         Ok(config) => config,
         Err(ConfigFault::NoMemory) => return Err(Fault::NoMemory),
         Err(ConfigFault::NotToml) => {

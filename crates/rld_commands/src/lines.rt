@@ -5,7 +5,7 @@ use crate::wrong::{BadFile, BadLog, Wrong};
 use rld_folder::{FileName, Generation};
 use rld_lines::{LinesFault, LogFile, write_lines};
 use rld_start as start;
-use rsl_accounts::{TextFault, read_file};
+use rsl_account_file::{TextFault, read_file};
 use std::alloc::Global;
 use std::fs::{self, Files};
 use std::io::Write;

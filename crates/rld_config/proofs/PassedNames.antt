@@ -7,7 +7,7 @@ use Rattle.toml.specs.Data.{Data, string, integer, float, boolean, datetime, arr
 use Rattle.toml.specs.View.{view, items_view, members_view, table_view}
 use Rattle.toml.specs.declared.value.Value.{Value}
 use Rattle.rsl_accounts.specs.declared.part.Part.{Part}
-use Rattle.rsl_accounts.specs.File.{list_of}
+use Rattle.rsl_account_file.specs.File.{list_of}
 use Rattle.rld_config.specs.Passed.{is_passed_over, items_of, name_of, name_in}
 
 abbrev pub first_name : Part → List (String Global) → Option (List ℕ)

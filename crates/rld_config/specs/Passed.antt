@@ -8,7 +8,7 @@ use Rattle.rsl_accounts.specs.declared.field.Field.TheVariants.{Trusted as trust
 use Rattle.rsl_accounts.specs.declared.part.Part.{Part}
 use Rattle.rsl_accounts.specs.declared.part.Part.TheVariants.{Head, Client, Account}
 use Rattle.rsl_accounts.specs.Field.{field_key}
-use Rattle.rsl_accounts.specs.File.{file_of, list_of, member_in}
+use Rattle.rsl_account_file.specs.File.{file_of, list_of, member_in}
 use Rattle.rsl_accounts.specs.Part.{knows}
 use Rattle.rld_config.specs.declared.passed.PassedOver.{PassedOver}
 

@@ -31,7 +31,7 @@ use Rattle.rld_networks.specs.Networks.{client_of}
 use Rattle.rld_networks.specs.Prefix.{same_prefix}
 use Rattle.rld_networks.specs.declared.network.Network.{Network}
 use Rattle.rld_networks.specs.declared.prefix.Prefix.{Prefix}
-use Rattle.rsl_accounts.specs.File.{file_of}
+use Rattle.rsl_account_file.specs.File.{file_of}
 use Rattle.rsl_accounts.specs.Configuration.{Configuration, client_number, same_octets}
 use Rattle.rsl_accounts.specs.Version.{is_strict}
 use Rattle.rsl_accounts.specs.declared.client.Client.{Client}

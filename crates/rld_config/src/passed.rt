@@ -1,7 +1,7 @@
 //! Keys of an account file that versions 1 and 2 pass over.
 ghost use Rattle.std.specs.Prelude.{◌≡◌, IfOk, Some, map, option_copied};
 ghost use Rattle.toml.specs.View.{view};
-ghost use Rattle.rsl_accounts.specs.File.{member_in};
+ghost use Rattle.rsl_account_file.specs.File.{member_in};
 ghost use Rattle.rsl_accounts.specs.Part.{knows};
 ghost use Rattle.rld_config.specs.Passed.{
   is_of_version_3,

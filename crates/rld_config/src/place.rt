@@ -1,6 +1,6 @@
 ghost use Rattle.std.specs.Prelude.{◌≡◌, ◌<◌, ◌^◌, IfNone, IfOk, IfSome, IsSome, None, length};
 ghost use Rattle.rld_config.specs.Place.{IsPlaceIn, first_place, goes_on, place_after, place_past};
-ghost use Rattle.rsl_accounts.specs.File.{file_of};
+ghost use Rattle.rsl_account_file.specs.File.{file_of};
 
 use rsl_wire::NoMemory;
 use std::alloc::Global;

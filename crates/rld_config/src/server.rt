@@ -2,7 +2,7 @@
 //! tables `control`, `web`, `ask` and `trust`.
 ghost use Rattle.std.specs.Prelude.{◌≡◌, ◌≢◌, ◌≤◌, Some, None, map, length, IfOk, IfErr, option_map};
 ghost use Rattle.toml.specs.View.{view};
-ghost use Rattle.rsl_accounts.specs.File.{file_of};
+ghost use Rattle.rsl_account_file.specs.File.{file_of};
 ghost use Rattle.rld_config.specs.Server.{
   ask_in,
   asks_in,

@@ -10,7 +10,8 @@ use rld_look::{
 use rld_spelling::Header;
 use rld_state::{LinksPage, places_in};
 use rld_watch::{Gate, cell_of, counts_of};
-use rsl_accounts::{Config, read_file};
+use rsl_account_file::read_file;
+use rsl_accounts::Config;
 use rsl_port::{Clock, SystemClock};
 use rsl_shard::Row;
 use rsl_wire::NoMemory;

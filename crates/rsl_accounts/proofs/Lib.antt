@@ -4,12 +4,6 @@ pub mod Times
 pub mod Made
 pub mod Within
 pub mod Addresses
-pub mod Values
-pub mod Files
-pub mod Parts
 pub mod Memory
 pub mod Texts
 pub mod Keys
-pub mod Names
-pub mod Consumed
-pub mod ReplyLists

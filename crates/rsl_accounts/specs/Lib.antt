@@ -1,4 +1,3 @@
-pub mod Common
 pub mod Limits
 pub mod Address
 pub mod Field
@@ -10,6 +9,3 @@ pub mod Configuration
 pub mod Keys
 pub mod TextSeen
 pub mod ConfigSeen
-pub mod File
-pub mod FileRead
-pub mod Read

@@ -41,7 +41,7 @@ impl Client {
 }
 
 /// `BadValue` of a client that is trusted and does not sign.
-pub(crate) fn check_trust(signed: bool, trusted: bool) -> Result<(), ConfigFault>
+pub fn check_trust(signed: bool, trusted: bool) -> Result<(), ConfigFault>
     ensures { result_err result ≡ trust_fault signed trusted }
 {
     if trusted && !signed {

@@ -31,7 +31,6 @@ ghost use Rattle.rsl_accounts.specs.Configuration.{
   first_without_login,
   has_trusted,
 };
-ghost use Rattle.rsl_accounts.specs.File.{configuration_of_text};
 ghost use Rattle.rsl_accounts.specs.Keys.{AreKeysOf};
 ghost use Rattle.rsl_auth.specs.Hmac.{IsKeyOf};
 ghost use Rattle.rsl_accounts.specs.Version.{knows_ipv6, unsigned_rule};
@@ -41,11 +40,7 @@ ghost use Rattle.rsl_accounts.specs.Limits.{IsConfiguration, IsAccount, IsSecret
 use crate::client::Client;
 use crate::entry::Entry;
 use crate::fault::ConfigFault;
-use crate::field::Field;
-use crate::file::{clients, entries, parse, settings};
-use crate::replies::shared;
 use crate::settings::{Settings, knows_ipv6, unsigned_rule};
-use crate::table::tables;
 use crate::unsigned_rule::UnsignedRule;
 use crate::walk::walk;
 use indexmap::IndexSet;
@@ -100,26 +95,6 @@ impl Config {
             PassesBeforeNames settings clients.items accounts.items) }
     {
         walk(&settings, clients.as_slice(), accounts.as_slice())?;
-        Config::assemble(alloc, settings, clients, accounts)
-    }
-
-    /// The configuration of the text of an account file. The faults come in this order: `NotToml`;
-    /// then `Missing` or `BadValue` of the first field of the walk that is absent or has a wrong
-    /// value; then `TwiceClient`, `TwiceAccount` and `KeepTooLong`. `NoMemory` comes if memory is
-    /// refused, before the checks that follow. Unknown keys are ignored; in version 3 the first of
-    /// a table is `Unknown`, before its fields and after the version.
-    pub fn read(alloc: Global, text: &[u8]) -> Result<Config, ConfigFault>
-        ensures ok { IfOk result (λ config. configuration_of_text text.now ≡ Ok config) }
-        ensures fault { IfErr result (λ fault. fault ≢ ConfigFault.NoMemory →
-            configuration_of_text text.now ≡ Err fault) }
-    {
-        let file = parse(alloc, text)?;
-        let settings = settings(alloc, &file)?;
-        let shared = shared(alloc, settings.version, &file)?;
-        let client_tables = tables(&file, Field::Client)?;
-        let account_tables = tables(&file, Field::Account)?;
-        let clients = clients(alloc, settings.version, client_tables)?;
-        let accounts = entries(alloc, settings.version, &shared, account_tables)?;
         Config::assemble(alloc, settings, clients, accounts)
     }
 

@@ -144,7 +144,7 @@ impl Field {
     }
 
     /// Whether the number is within the field's limits.
-    pub(crate) fn takes_number(self, number: u64) -> bool
+    pub fn takes_number(self, number: u64) -> bool
         ensures { result ≡ takes_number self number }
     {
         match self {
@@ -170,7 +170,7 @@ impl Field {
     }
 
     /// Whether this number of tables is within the field's limits.
-    pub(crate) fn takes_count(self, count: usize) -> bool
+    pub fn takes_count(self, count: usize) -> bool
         ensures { result ≡ takes_count self count }
     {
         match self {
@@ -181,7 +181,7 @@ impl Field {
     }
 
     /// Whether the text is within the field's limits.
-    pub(crate) fn takes_text(self, text: &[u8]) -> bool
+    pub fn takes_text(self, text: &[u8]) -> bool
         ensures { result ≡ takes_text self text.now }
     {
         match self {

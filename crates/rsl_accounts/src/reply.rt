@@ -1,6 +1,6 @@
 ghost use Rattle.std.specs.Prelude.{◌≡◌, ◌++◌, [], length, unwrap_or};
 
-use crate::profile::SharedOctets;
+use crate::shared_octets::SharedOctets;
 use rsl_wire::Octets;
 use std::marker::Model;
 
@@ -32,7 +32,7 @@ impl Reply {
     }
 
     /// Those of a profile, and then an account's own.
-    pub(crate) fn of(profile: Option<SharedOctets>, own: Option<Octets>) -> Reply
+    pub fn of(profile: Option<SharedOctets>, own: Option<Octets>) -> Reply
         ensures { result ≡ unwrap_or profile [] ++ unwrap_or own [] }
     {
         Reply { profile, own }

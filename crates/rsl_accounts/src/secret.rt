@@ -37,7 +37,7 @@ impl Secret {
     }
 
     /// A secret with the octets of the text, if there is one. It fails only where memory is refused.
-    pub(crate) fn from_option(alloc: Global, text: Option<&str>) -> Result<Option<Secret>, NoMemory>
+    pub fn from_option(alloc: Global, text: Option<&str>) -> Result<Option<Secret>, NoMemory>
         ensures { IfOk result (λ secret. secret ≡ option_copied text.entry) }
     {
         match text {

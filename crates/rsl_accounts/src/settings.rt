@@ -36,7 +36,7 @@ const OWN_TIMES_VERSION: u64 = 2;
 const STRICT_VERSION: u64 = 3;
 
 /// The most octets of an account's reply attributes in that version.
-pub(crate) const REPLY_ROOM: usize = 1000;
+pub const REPLY_ROOM: usize = 1000;
 
 /// The fewest octets of a client's secret in that version.
 const STRICT_SECRET_LEN: usize = 16;
@@ -123,14 +123,14 @@ fn check_interim(version: u64, interim: Option<u32>) -> Result<(), ConfigFault>
 }
 
 /// Whether an account can have its own times, and `interim_secs` is known.
-pub(crate) fn knows_own_times(version: u64) -> bool
+pub fn knows_own_times(version: u64) -> bool
     ensures { result ≡ knows_own_times version }
 {
     OWN_TIMES_VERSION <= version
 }
 
 /// Whether what is left out or misspelled counts on the safe side.
-pub(crate) fn is_strict(version: u64) -> bool
+pub fn is_strict(version: u64) -> bool
     ensures { result ≡ is_strict version }
 {
     version == STRICT_VERSION
@@ -155,7 +155,7 @@ pub(crate) fn unsigned_rule(version: u64) -> UnsignedRule
 }
 
 /// `BadValue` of a client's secret that is too short for the version.
-pub(crate) fn check_secret_len(version: u64, len: usize) -> Result<(), ConfigFault>
+pub fn check_secret_len(version: u64, len: usize) -> Result<(), ConfigFault>
     ensures { result_err result ≡ secret_len_fault version len }
 {
     if len < least_secret(version) {

@@ -1,9 +1,9 @@
 -- Faults of reading.
 use Rattle.std.proofs.Common.{◌≡◌, ℕ, List, Option, Some, None, IfSome, sym, subst}
 use Rattle.std.specs.Prelude.{Err}
-use Rattle.rsl_accounts.specs.Read.{IsTextRead}
-use Rattle.rsl_accounts.specs.declared.text_fault.TextFault.{TextFault}
-use Rattle.rsl_accounts.specs.declared.text_fault.TextFault.TheVariants.{Unreadable, TooLong, NoMemory}
+use Rattle.rsl_account_file.specs.Read.{IsTextRead}
+use Rattle.rsl_account_file.specs.declared.text_fault.TextFault.{TextFault}
+use Rattle.rsl_account_file.specs.declared.text_fault.TextFault.TheVariants.{Unreadable, TooLong, NoMemory}
 use Rattle.rsl_replay.specs.Fault.{fault_of_text}
 use Rattle.rsl_replay.specs.Replay.{IsFaultOf, most_octets}
 use Rattle.rsl_replay.specs.declared.fault.ReplayFault.{ReplayFault}

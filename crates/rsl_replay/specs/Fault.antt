@@ -5,8 +5,8 @@ use Rattle.rsl_record.specs.declared.exit_status.ExitStatus.{ExitStatus}
 use Rattle.rsl_record.specs.declared.exit_status.ExitStatus.TheVariants.{WrongInput, InputOutput as input_output_status, NoMemory as no_memory_status}
 use Rattle.rsl_script.specs.declared.fault.ScriptFault.{ScriptFault}
 use Rattle.rsl_script.specs.declared.fault.ScriptFault.TheVariants.{Line as script_line, NoMemory as script_no_memory}
-use Rattle.rsl_accounts.specs.declared.text_fault.TextFault.{TextFault}
-use Rattle.rsl_accounts.specs.declared.text_fault.TextFault.TheVariants.{Unreadable as text_unreadable, TooLong as text_too_long, NoMemory as text_no_memory}
+use Rattle.rsl_account_file.specs.declared.text_fault.TextFault.{TextFault}
+use Rattle.rsl_account_file.specs.declared.text_fault.TextFault.TheVariants.{Unreadable as text_unreadable, TooLong as text_too_long, NoMemory as text_no_memory}
 use Rattle.rsl_replay.specs.declared.fault.ReplayFault.{ReplayFault}
 use Rattle.rsl_replay.specs.declared.fault.ReplayFault.TheVariants.{Line, TooLong, Config, InputOutput, NoMemory}
 

@@ -4,7 +4,8 @@ ghost use Rattle.rsl_replay.specs.declared.fault.ReplayFault.TheVariants.{
   NoMemory as no_memory,
 };
 
-use rsl_accounts::{ConfigFault, TextFault};
+use rsl_account_file::TextFault;
+use rsl_accounts::ConfigFault;
 use rsl_record::{ExitStatus, WriteFault};
 use rsl_script::ScriptFault;
 use rsl_wire::NoMemory;

@@ -1,6 +1,6 @@
 -- Why a server has not started, or has not ended well.
-use Rattle.rsl_accounts.specs.declared.file_fault.FileFault.{FileFault}
-use Rattle.rsl_accounts.specs.declared.file_fault.FileFault.TheVariants.{Unreadable as file_unreadable, TooLong as file_too_long, Config as file_config, NoMemory as file_no_memory}
+use Rattle.rsl_account_file.specs.declared.file_fault.FileFault.{FileFault}
+use Rattle.rsl_account_file.specs.declared.file_fault.FileFault.TheVariants.{Unreadable as file_unreadable, TooLong as file_too_long, Config as file_config, NoMemory as file_no_memory}
 use Rattle.rsl_service.specs.declared.receiver.ReceiveFault.{ReceiveFault}
 use Rattle.rsl_service.specs.declared.receiver.ReceiveFault.TheVariants.{NoMemory as receive_no_memory}
 use Rattle.rsl_record.specs.declared.exit_status.ExitStatus.{ExitStatus}

@@ -4,7 +4,8 @@ ghost use Rattle.rsl_serve.specs.declared.fault.ServeFault.TheVariants.{
   NoMemory as no_memory,
 };
 
-use rsl_accounts::{ConfigFault, FileFault};
+use rsl_account_file::FileFault;
+use rsl_accounts::ConfigFault;
 use rsl_record::{ExitStatus, WriteFault};
 use rsl_service::{CloseFault, PassFault, ReceiveFault};
 use rsl_wire::NoMemory;

@@ -10,6 +10,7 @@ ghost use Rattle.rsl_service.specs.Service.{IsLedgerOf};
 use crate::clock::RunTime;
 use crate::shutdown::Shutdown;
 use crate::{Plan, ServeFault, UdpPort, counts_of};
+use rsl_account_file::read_config_file;
 use rsl_accounts::Config;
 use rsl_record::{Output, table_of};
 use rsl_service::{Blanks, Counts, Open, Pass, Service, Tally};
@@ -63,7 +64,7 @@ where
     let alloc = rt.alloc();
     let (file, plan) = parse_arguments(rt)?;
     let run_time = RunTime::new(start?, plan.turns);
-    let config = Config::read_file(rt, alloc, file.as_str())?;
+    let config = read_config_file(rt, alloc, file.as_str())?;
     let sockets = Sockets {
         auth: UdpPort::bind(rt, plan.address, plan.auth)?,
         acct: UdpPort::bind(rt, plan.address, plan.acct)?,

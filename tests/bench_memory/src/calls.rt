@@ -4,7 +4,7 @@ use crate::given::Given;
 use crate::page::Page;
 use crate::printed::Hex;
 use crate::stop::Stop;
-use rsl_accounts::Config;
+use rsl_account_file::read_config;
 use rsl_auth::hide;
 use rsl_book::Book;
 use rsl_event::codes::{ACCESS_REJECT, ACCESS_REQUEST, NAS_IP_ADDRESS, USER_NAME};
@@ -26,7 +26,7 @@ const FILE: &str = "version = 1\nshards = 2\nreserve_secs = 60\nlive_secs = 900\
 /// Makes each call, and tells what it answers.
 pub(crate) fn tell<R: Print>(page: &mut Page<R>, given: &Given) -> Result<(), Stop> {
     let alloc = page.alloc;
-    let accounts = Config::read(alloc, FILE.as_bytes())?.accounts();
+    let accounts = read_config(alloc, FILE.as_bytes())?.accounts();
     let reject = Draft::new(alloc, 15)?.finish(ACCESS_REJECT, &AUTHENTICATOR);
     let hidden = hide(alloc, b"arctangent", b"xyzzy5461", &AUTHENTICATOR)?;
     writeln!(page.text, "script: {} steps", given.steps.len())?;

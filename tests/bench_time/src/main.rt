@@ -27,6 +27,7 @@ mod work;
 
 use events::Size;
 use record::record_of;
+use rsl_account_file::read_config_from;
 use rsl_accounts::Config;
 use rsl_record::audit;
 use rsl_wire::NoMemory;
@@ -116,7 +117,7 @@ fn number_of(words: &mut Args<Global>) -> io::Result<u64> {
 
 /// The configuration that standard input has.
 fn config_of(rt: &HostRuntime) -> io::Result<Config> {
-    match Config::read_from(rt.alloc(), rt.stdin()) {
+    match read_config_from(rt.alloc(), rt.stdin()) {
         Ok(config) => Ok(config),
         Err(_) => Err(io::Error::other("a bad account file")),
     }

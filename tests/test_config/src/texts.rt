@@ -1,6 +1,6 @@
 //! The text of a file, as a reader gives it.
 
-use rsl_accounts::{TextFault, read_text};
+use rsl_account_file::{TextFault, read_text};
 use std::io::{self, ErrorKind, Read};
 use std::test::Fail;
 

@@ -7,7 +7,8 @@ use rld_config::{
     warnings,
 };
 use rld_networks::{Network, prefix_of};
-use rsl_accounts::{Config, Text};
+use rsl_account_file::read_config;
+use rsl_accounts::Text;
 use std::alloc::Global;
 use std::test::Fail;
 use test_rows::{Subject, check_rows, printed, shown};
@@ -31,7 +32,7 @@ impl Subject for Warned {
     fn found(&self, alloc: Global, fields: &[&str]) -> Result<String, Fail> {
         let lines = text_of(alloc, fields)?;
         let text = format!(in alloc; "{HEAD}{lines}")?;
-        let Ok(config) = Config::read(alloc, text.as_bytes()) else {
+        let Ok(config) = read_config(alloc, text.as_bytes()) else {
             return Err("the account file is refused")?;
         };
         printed(alloc, &warnings(alloc, &config, &[], self.mode)?.as_slice())
@@ -98,7 +99,7 @@ impl Subject for Networked {
             return Err("not a prefix and the last numbers of two clients")?;
         };
         let text = format!(in alloc; "{HEAD}{ACCOUNTS}")?;
-        let Ok(config) = Config::read(alloc, text.as_bytes()) else {
+        let Ok(config) = read_config(alloc, text.as_bytes()) else {
             return Err("the account file is refused")?;
         };
         let networks = [network(prefix, a)?, network(prefix, b)?];
@@ -156,7 +157,7 @@ impl Subject for Guarded {
             "[[client]]\naddress = '192.0.2.3'\nsecret = '0123456789abcdef'\nsigned = {signed}\n"
         )?;
         let text = format!(in alloc; "version = {version}\n{times}{second}{ACCOUNTS}")?;
-        let Ok(config) = Config::read(alloc, text.as_bytes()) else {
+        let Ok(config) = read_config(alloc, text.as_bytes()) else {
             return Err("the account file is refused")?;
         };
         let networks = [
@@ -199,7 +200,7 @@ impl Subject for Asking {
         )?;
         let account = "[[account]]\nname = 'a'\nplaces = 1\nports = 1\n";
         let text = format!(in alloc; "version = 3\n{times}{client}{account}")?;
-        let Ok(config) = Config::read(alloc, text.as_bytes()) else {
+        let Ok(config) = read_config(alloc, text.as_bytes()) else {
             return Err("the account file is refused")?;
         };
         let ask = AskSettings {
@@ -248,7 +249,7 @@ impl Subject for Advised {
         };
         let times = HEAD.trim_start_matches("\nversion = 1\n");
         let text = format!(in alloc; "version = {version}\n{times}{UNSIGNED}{ACCOUNTS}")?;
-        let Ok(config) = Config::read(alloc, text.as_bytes()) else {
+        let Ok(config) = read_config(alloc, text.as_bytes()) else {
             return Err("the account file is refused")?;
         };
         let networks = [

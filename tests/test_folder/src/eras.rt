@@ -1,6 +1,7 @@
 //! Eras: the file of one, and the account files with which it goes on.
 
 use rld_admit::{era_file, is_era_file};
+use rsl_account_file::read_config;
 use rsl_accounts::Config;
 use std::io;
 
@@ -38,7 +39,7 @@ pub fn say_eras(rt: &HostRuntime) -> io::Result<()> {
 /// Says whether the era goes on with an account file in which a word is another.
 fn say_era(rt: &HostRuntime, what: &str, word: &str, other: &str) -> io::Result<()> {
     let text = file_with(rt, word, other)?;
-    let Ok(config) = Config::read(rt.alloc(), text.as_bytes()) else {
+    let Ok(config) = read_config(rt.alloc(), text.as_bytes()) else {
         return println!(rt; "{what}: no account file");
     };
     let Ok(file) = hex::decode(rt.alloc(), FILE) else {

@@ -1,5 +1,6 @@
 //! Tests of the reports of `rsl_record`.
 
+use rsl_account_file::read_config;
 use rsl_accounts::Config;
 use rsl_record::{AuditFault, Output, WriteFault, table_of, write_table};
 use rsl_shard::Row;
@@ -142,7 +143,7 @@ fn tables_stand_as_their_format_says(rt: HostRuntime) -> Result<(), Fail> {
 
 #[test]
 fn a_fault_comes_where_the_writer_fails(rt: HostRuntime) -> Result<(), Fail> {
-    let config = Config::read(rt.alloc(), FILE.as_bytes())?;
+    let config = read_config(rt.alloc(), FILE.as_bytes())?;
     fails_at_each_octet(&rt, &config)
 }
 
@@ -163,7 +164,7 @@ fn fails_at_each_octet<R: AllocGlobal + Abort>(rt: &R, config: &Config) -> Resul
 #[test]
 fn an_output_is_its_lines_and_then_its_report(rt: HostRuntime) -> Result<(), Fail> {
     let alloc = rt.alloc();
-    let config = Config::read(alloc, FILE.as_bytes())?;
+    let config = read_config(alloc, FILE.as_bytes())?;
     let rows = [RESERVED, EACH];
     let known = are_below(&rows, config.accounts());
     assert!(rt; known);
@@ -193,7 +194,7 @@ fn write_anew<R: AllocGlobal + Abort>(
     of_one: usize,
     in_all: usize,
 ) -> Result<(Result<(), WriteFault>, Vec<u8>), Fail> {
-    let config = Config::read(rt.alloc(), FILE.as_bytes())?;
+    let config = read_config(rt.alloc(), FILE.as_bytes())?;
     write(rt, &config, rows, of_one, in_all)
 }
 

@@ -1,5 +1,6 @@
 //! One run without a crash, and its moves in batches.
 
+use rsl_account_file::read_config;
 use rsl_accounts::Config;
 use rsl_event::{Nas, NasName, Port, Source};
 use rsl_shard::{Line, Move, Row, Segment, Shard};
@@ -66,7 +67,7 @@ pub struct Run {
 /// The configuration, where a line `SHARDS = NUMBER` says how many shards it has.
 pub fn config_of(alloc: Global, shards: &str) -> Result<Config, Fail> {
     let text = replaced(alloc, FILE, shards)?;
-    Ok(Config::read(alloc, text.as_bytes())?)
+    Ok(read_config(alloc, text.as_bytes())?)
 }
 
 /// The step of a line of what comes.

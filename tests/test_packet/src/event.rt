@@ -12,6 +12,7 @@ mod replies;
 mod signatures;
 mod trusted;
 
+use rsl_account_file::read_config;
 use rsl_accounts::Config;
 use rsl_event::{Decision, Meaning, Port, Prepared, Said, Source, prepare, reply, room, said};
 use std::alloc::Global;
@@ -156,7 +157,7 @@ const PROXY_STATES: &str = "21ff 00*253 21ff 01*253 21ff 02*253 21ff 03*253 21ff
 /// Compares what datagrams from a source mean, or why they are dropped, with what rows expect, of
 /// which the fields are the port and the octets.
 fn check<R: AllocGlobal + Eprint>(rt: &R, source: Source, rows: &str) -> Result<(), Fail> {
-    let config = Config::read(rt.alloc(), FILE.as_bytes())?;
+    let config = read_config(rt.alloc(), FILE.as_bytes())?;
     check_spelled(rt, &MeaningRows { config, source }, rows)
 }
 
@@ -168,7 +169,7 @@ fn check_replies<R: AllocGlobal + Eprint>(
     port: Port,
     rows: &str,
 ) -> Result<(), Fail> {
-    let config = Config::read(rt.alloc(), FILE.as_bytes())?;
+    let config = read_config(rt.alloc(), FILE.as_bytes())?;
     let replies = ReplyRows {
         config,
         source,

@@ -6,6 +6,7 @@
 //! `test_timelines`, with the account's number before it, or `all`, and its decision after ` -> `; a
 //! line `stray` is a stray.
 
+use rsl_account_file::read_config;
 use rsl_accounts::Config;
 use rsl_book::Book;
 use rsl_event::{Act, Decision, Event, Nas, NasName, Note};
@@ -25,7 +26,7 @@ pub(crate) fn config_of<R: AllocGlobal>(rt: &R, shards: &str) -> Result<Config, 
          {{ name = \"b\", password = \"pw\", places = 2, ports = 1 }},\n\
          ]\n"
     )?;
-    Ok(Config::read(rt.alloc(), text.as_bytes())?)
+    Ok(read_config(rt.alloc(), text.as_bytes())?)
 }
 
 /// The move of a line.

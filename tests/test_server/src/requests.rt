@@ -1,5 +1,6 @@
 //! The accounts of a test, and the requests of their access server.
 
+use rsl_account_file::read_config;
 use rsl_accounts::Config;
 use rsl_auth::{hide, seal};
 use rsl_wire::Draft;
@@ -45,7 +46,7 @@ pub(crate) fn config_of(alloc: Global) -> Result<Config, Fail> {
             "[[account]]\nname = \"u{account}\"\npassword = \"pw\"\nplaces = 1\nports = 1\n"
         )?;
     }
-    Ok(Config::read(alloc, text.as_bytes())?)
+    Ok(read_config(alloc, text.as_bytes())?)
 }
 
 /// A request for an account, of its session of a round.

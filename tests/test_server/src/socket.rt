@@ -2,6 +2,7 @@
 
 use crate::client::connected;
 use crate::fresh::Fresh;
+use rsl_account_file::read_config;
 use rsl_accounts::Config;
 use rsl_event::Port;
 use rsl_service::{Blanks, Clock, Counts, Open, Service, Tally, receive};
@@ -141,7 +142,7 @@ where
 
 #[test]
 fn a_request_over_a_socket_is_answered(rt: HostRuntime) -> Result<(), Fail> {
-    let config = Config::read(rt.alloc(), FILE.as_bytes())?;
+    let config = read_config(rt.alloc(), FILE.as_bytes())?;
     let request = octets_of(rt.alloc(), REQUEST)?;
     let (octets, counts) = answered_of(&rt, rt.alloc(), config, &request)?;
     let octets = octets.ok_or("no answer")?;

@@ -1,5 +1,6 @@
 //! The configuration of tests, and the datagrams of its only access server.
 
+use rsl_account_file::read_config;
 use rsl_accounts::Config;
 use rsl_auth::{hide, seal};
 use rsl_event::Source;
@@ -38,7 +39,7 @@ account = [
 pub(crate) fn config_of(alloc: Global, shards: &str, places: &str) -> Result<Config, Fail> {
     let text = FILE.replace(alloc, "SHARDS", shards)?;
     let text = text.replace(alloc, "PLACES", places)?;
-    Ok(Config::read(alloc, text.as_bytes())?)
+    Ok(read_config(alloc, text.as_bytes())?)
 }
 
 /// An Access-Request of this user, with this identifier and Request Authenticator.

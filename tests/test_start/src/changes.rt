@@ -9,6 +9,7 @@ use crate::server::{alive, ask, commit, pacing, stop_of};
 use rld_config::NewHistory;
 use rld_log::Ticks;
 use rld_start::{Started, start};
+use rsl_account_file::read_config_file;
 use rsl_accounts::Config;
 use rsl_session::{SavedHolder, SavedLink};
 use rsl_shard::Move;
@@ -47,7 +48,7 @@ pub fn changes(rt: &HostRuntime) -> io::Result<()> {
 /// The account file of a name.
 pub fn accounts(rt: &HostRuntime, name: &str) -> io::Result<Config> {
     let path = format!(in rt.alloc(); "{name}.toml")?;
-    match Config::read_file(rt, rt.alloc(), path.as_str()) {
+    match read_config_file(rt, rt.alloc(), path.as_str()) {
         Ok(config) => Ok(config),
         Err(_) => Err(io::Error::from(io::ErrorKind::InvalidData)),
     }

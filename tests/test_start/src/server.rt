@@ -3,7 +3,7 @@
 use rld_config::NewHistory;
 use rld_log::{Pace, Pacing, Ticks, frame_of};
 use rld_start::{StartFault, Started, rebase, start};
-use rsl_accounts::Config;
+use rsl_account_file::read_config;
 use rsl_event::{Act, Event, Key, Nas, NasName, Note, Source};
 use rsl_shard::Move;
 use rsl_wire::Octets;
@@ -43,7 +43,7 @@ fn started_with<'a>(
     now: u64,
     ticks: &'a Ticks,
 ) -> Result<Started<'a>, StartFault> {
-    let Ok(config) = Config::read(rt.alloc(), accounts.as_bytes()) else {
+    let Ok(config) = read_config(rt.alloc(), accounts.as_bytes()) else {
         return Err(StartFault::NoMemory);
     };
     let pacing = pacing(ticks);
@@ -113,7 +113,7 @@ fn say_behind(rt: &HostRuntime, behind: Option<u64>) -> io::Result<()> {
 
 /// Cuts the books of a folder to a moment, and says what was done; or the fault.
 pub fn cut_books(rt: &HostRuntime, folder: &str, accounts: &str, now: u64) -> io::Result<()> {
-    let Ok(config) = Config::read(rt.alloc(), accounts.as_bytes()) else {
+    let Ok(config) = read_config(rt.alloc(), accounts.as_bytes()) else {
         return Err(io::Error::from(io::ErrorKind::OutOfMemory));
     };
     match rebase(rt, rt.alloc(), &config, folder, now) {

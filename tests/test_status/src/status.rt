@@ -2,7 +2,7 @@
 //! other packets, and the signed answers, were made with Python's hashlib and hmac.
 
 use rld_turn::status_answer;
-use rsl_accounts::Config;
+use rsl_account_file::read_config;
 use rsl_event::Port;
 use std::alloc::Global;
 use std::test::Fail;
@@ -31,7 +31,7 @@ impl Subject for Answers {
         let [from, octets] = fields else {
             return Err("not a source and octets")?;
         };
-        let Ok(config) = Config::read(alloc, ACCOUNTS.as_bytes()) else {
+        let Ok(config) = read_config(alloc, ACCOUNTS.as_bytes()) else {
             return Err("the account file is refused")?;
         };
         let address = if *from == "client" {

@@ -3,6 +3,7 @@
 use rld_log::{Crash, Ending, Life, MemoryLog};
 use rld_spelling::Header;
 use rld_store::{Opened, Refused, Store, read_frames};
+use rsl_account_file::read_config;
 use rsl_accounts::Config;
 use rsl_event::{Act, Decision, Event, Key, Nas, NasName, Source};
 use rsl_shard::Move;
@@ -29,7 +30,7 @@ pub const HEADER: Header = Header {
 
 /// The configuration.
 pub fn config(alloc: Global) -> Result<Config, Fail> {
-    Ok(Config::read(alloc, FILE.as_bytes())?)
+    Ok(read_config(alloc, FILE.as_bytes())?)
 }
 
 /// A log in memory with these octets, whose lives go so.

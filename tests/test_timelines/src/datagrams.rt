@@ -1,5 +1,6 @@
 //! Datagrams that access servers send, and the answers to them, as words.
 
+use rsl_account_file::read_config;
 use rsl_accounts::Config;
 use std::alloc::Global;
 use std::test::Fail;
@@ -13,7 +14,7 @@ pub fn config_of(alloc: Global, shards: &str) -> Result<Config, Fail> {
          client = [{{ address = \"192.168.1.16\", secret = \"xyzzy5461\" }}]\n\
          account = [{{ name = \"nemo\", password = \"arctangent\", places = 1, ports = 1 }}]\n"
     )?;
-    Ok(Config::read(alloc, text.as_bytes())?)
+    Ok(read_config(alloc, text.as_bytes())?)
 }
 
 /// The octets of a datagram that comes. `ask` is the request of RFC 2865 section 7.1, of which

@@ -8,7 +8,7 @@
 use rld_look::{
     AccessServerLook, AccessServersLook, MOST_SERVERS, add_links, join_servers, write_nas_word,
 };
-use rsl_accounts::Config;
+use rsl_account_file::read_config;
 use rsl_event::{Nas, NasName};
 use rsl_session::{SavedHolder, SavedLink};
 use rsl_wire::Octets;
@@ -35,7 +35,7 @@ struct Joined;
 
 impl Subject for Joined {
     fn found(&self, alloc: Global, fields: &[&str]) -> Result<String, Fail> {
-        let config = Config::read(alloc, ACCOUNTS.as_bytes())?;
+        let config = read_config(alloc, ACCOUNTS.as_bytes())?;
         let mut servers = Vec::new(alloc);
         for field in fields {
             let links = links_of(alloc, field)?;
@@ -52,7 +52,7 @@ struct Twice;
 
 impl Subject for Twice {
     fn found(&self, alloc: Global, fields: &[&str]) -> Result<String, Fail> {
-        let config = Config::read(alloc, ACCOUNTS.as_bytes())?;
+        let config = read_config(alloc, ACCOUNTS.as_bytes())?;
         let mut servers = Vec::new(alloc);
         for field in fields {
             let links = links_of(alloc, field)?;

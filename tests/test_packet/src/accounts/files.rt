@@ -5,6 +5,7 @@
 //! line.
 
 use super::{SAMPLE, said};
+use rsl_account_file::{read_config, read_config_from};
 use rsl_accounts::{Client, Config, Entry};
 use std::alloc::Global;
 use std::io::{self, ErrorKind, Read};
@@ -50,7 +51,7 @@ struct FileRows;
 impl Subject for FileRows {
     fn found(&self, alloc: Global, fields: &[&str]) -> Result<String, Fail> {
         let text = file_of(alloc, fields)?;
-        said(alloc, Config::read(alloc, text.as_bytes()))
+        said(alloc, read_config(alloc, text.as_bytes()))
     }
 }
 
@@ -113,7 +114,7 @@ fn the_first_fault_of_a_file_is_named(rt: HostRuntime) -> Result<(), Fail> {
         keep last | places = 1 => places = 65 | keep_secs = 10 => keep_secs = 61 | BadValue places
     "#;
     check_rows(&rt, &FileRows, rows)?;
-    let found = said(rt.alloc(), Config::read(rt.alloc(), b"\xff"))?;
+    let found = said(rt.alloc(), read_config(rt.alloc(), b"\xff"))?;
     assert_eq!(rt; found.as_str(), "NotToml", "no UTF-8");
     Ok(())
 }
@@ -207,7 +208,7 @@ struct PortRows;
 impl Subject for PortRows {
     fn found(&self, alloc: Global, fields: &[&str]) -> Result<String, Fail> {
         let text = file_of(alloc, fields)?;
-        let config = Config::read(alloc, text.as_bytes())?;
+        let config = read_config(alloc, text.as_bytes())?;
         printed(alloc, &config.client_at(0).disconnect)
     }
 }
@@ -244,7 +245,7 @@ struct SafeRows;
 impl Subject for SafeRows {
     fn found(&self, alloc: Global, fields: &[&str]) -> Result<String, Fail> {
         let text = file_of(alloc, fields)?;
-        let config = Config::read(alloc, text.as_bytes())?;
+        let config = read_config(alloc, text.as_bytes())?;
         printed(
             alloc,
             &(config.client_at(0).signed, config.entry(0).disabled),
@@ -299,7 +300,7 @@ impl Subject for ReadRows {
             text: text.as_bytes(),
             fails: self.fails,
         };
-        match Config::read_from(alloc, reader) {
+        match read_config_from(alloc, reader) {
             Ok(_) => shown(alloc, &"Ok"),
             Err(fault) => shown(alloc, &fault),
         }
@@ -354,7 +355,7 @@ struct TimesRows;
 impl Subject for TimesRows {
     fn found(&self, alloc: Global, fields: &[&str]) -> Result<String, Fail> {
         let text = file_of(alloc, fields)?;
-        match Config::read(alloc, text.as_bytes()) {
+        match read_config(alloc, text.as_bytes()) {
             Ok(config) => times(alloc, config.entry(0)),
             Err(fault) => shown(alloc, &fault),
         }
@@ -395,7 +396,7 @@ struct IntervalRows;
 impl Subject for IntervalRows {
     fn found(&self, alloc: Global, fields: &[&str]) -> Result<String, Fail> {
         let text = file_of(alloc, fields)?;
-        match Config::read(alloc, text.as_bytes()) {
+        match read_config(alloc, text.as_bytes()) {
             Ok(config) => intervals(alloc, &config),
             Err(fault) => shown(alloc, &fault),
         }
@@ -458,7 +459,7 @@ struct TrustRows;
 impl Subject for TrustRows {
     fn found(&self, alloc: Global, fields: &[&str]) -> Result<String, Fail> {
         let text = file_of(alloc, fields)?;
-        let config = Config::read(alloc, text.as_bytes())?;
+        let config = read_config(alloc, text.as_bytes())?;
         let _accounts = config.accounts();
         let has_password = config.entry(0).password.is_some();
         let first = config.first_without_login();
@@ -489,7 +490,7 @@ struct ContentRows;
 impl Subject for ContentRows {
     fn found(&self, alloc: Global, fields: &[&str]) -> Result<String, Fail> {
         let text = file_of(alloc, fields)?;
-        let config = Config::read(alloc, text.as_bytes())?;
+        let config = read_config(alloc, text.as_bytes())?;
         contents(alloc, config.client_at(0), config.entry(0))
     }
 }

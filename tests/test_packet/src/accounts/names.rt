@@ -1,5 +1,6 @@
 //! Look-ups of accounts whose names begin alike.
 
+use rsl_account_file::read_config;
 use rsl_accounts::Config;
 use std::alloc::Global;
 use std::test::Fail;
@@ -44,7 +45,7 @@ impl Subject for Names {
 
 #[test]
 fn names_that_begin_alike_are_told_apart(rt: HostRuntime) -> Result<(), Fail> {
-    let config = Config::read(rt.alloc(), FILE.as_bytes())?;
+    let config = read_config(rt.alloc(), FILE.as_bytes())?;
     check_rows(
         &rt,
         &Names { config },

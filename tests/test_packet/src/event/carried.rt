@@ -2,6 +2,7 @@
 //! with Python's hmac and hashlib.
 
 use super::{AUTH, CLIENT, MeaningRows, ReplyRows, check_spelled};
+use rsl_account_file::read_config;
 use rsl_accounts::Config;
 use std::alloc::Global;
 use std::test::Fail;
@@ -50,7 +51,7 @@ ports = 1
 
 /// The configuration of that file.
 fn carrying(alloc: Global) -> Result<Config, Fail> {
-    Ok(Config::read(alloc, FILE.as_bytes())?)
+    Ok(read_config(alloc, FILE.as_bytes())?)
 }
 
 #[test]

@@ -1,4 +1,5 @@
 use super::{BOOT, CLIENT, FILE, check_spelled, port_of};
+use rsl_account_file::read_config;
 use rsl_accounts::Config;
 use rsl_event::{Act, Meaning, Nas, Note, prepare};
 use std::alloc::Global;
@@ -54,7 +55,7 @@ fn compared(alloc: Global, is_same: bool) -> Result<String, Fail> {
 
 #[test]
 fn copy_is_equal(rt: HostRuntime) -> Result<(), Fail> {
-    let config = Config::read(rt.alloc(), FILE.as_bytes())?;
+    let config = read_config(rt.alloc(), FILE.as_bytes())?;
     let rows = "
         an ask of an identified access server | auth | \
           0100002f0f403f9473978057bd83d5cb98f4227a01066e656d6f02120dbe708d93d413ce3196e43f782a0a\

@@ -5,6 +5,7 @@ use super::{
     ACCT, AUTH, BOOT, CLIENT, MeaningRows, OTHER, ReplyRows, check_spelled, meaning_of,
     reply_octets,
 };
+use rsl_account_file::read_config;
 use rsl_accounts::Config;
 use rsl_event::{Decision, Detail, Port, prepare, prepare_in_detail};
 use std::alloc::Global;
@@ -47,7 +48,7 @@ disabled = true
 
 /// The configuration of that file.
 fn guarded(alloc: Global) -> Result<Config, Fail> {
-    Ok(Config::read(alloc, FILE.as_bytes())?)
+    Ok(read_config(alloc, FILE.as_bytes())?)
 }
 
 // CVE-2024-3596: somebody between access server and server adds a Proxy-State that the server repeats

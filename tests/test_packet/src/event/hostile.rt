@@ -3,6 +3,7 @@
 //! worked out what is expected, over the tables of docs/PROTOCOL.md.
 
 use super::{BOOT, CLIENT, FILE, SIGNED, check_spelled, port_of};
+use rsl_account_file::read_config;
 use rsl_accounts::Config;
 use rsl_event::{Meaning, Port, Source, prepare};
 use std::alloc::Global;
@@ -166,7 +167,7 @@ fn source_of(client: &str) -> Source {
 
 #[test]
 fn every_prefix_of_a_packet_is_dropped(rt: HostRuntime) -> Result<(), Fail> {
-    let config = Config::read(rt.alloc(), FILE.as_bytes())?;
+    let config = read_config(rt.alloc(), FILE.as_bytes())?;
     let rows = "
         the RFC's request | plain | auth | <rfc> | Short 20 BadLength 36 Own 1
         with CHAP | plain | auth | 0100002d0f403f9473978057bd83d5cb98f4227a0313073f25c9ea76486dbb\
@@ -199,7 +200,7 @@ fn every_prefix_of_a_packet_is_dropped(rt: HostRuntime) -> Result<(), Fail> {
 // sign is not: it has the same meaning where the octet says nothing of whose it is.
 #[test]
 fn every_changed_packet_is_dropped_or_has_a_meaning(rt: HostRuntime) -> Result<(), Fail> {
-    let config = Config::read(rt.alloc(), FILE.as_bytes())?;
+    let config = read_config(rt.alloc(), FILE.as_bytes())?;
     let rows = "
         the RFC's request | plain | auth | <rfc> | WrongCode 255 Own 2856 BadLength 474 Reject \
           9701 Bare 1046 BadSignature 4
@@ -217,7 +218,7 @@ fn so_is_every_other_changed_packet(rt: HostRuntime) -> Result<(), Fail> {
     if !OTHER_PACKETS {
         return Ok(());
     }
-    let config = Config::read(rt.alloc(), FILE.as_bytes())?;
+    let config = read_config(rt.alloc(), FILE.as_bytes())?;
     let rows = "
         with CHAP | plain | auth | 0100002d0f403f9473978057bd83d5cb98f4227a0313073f25c9ea76486dbb\
           6e08f6da1baf940b01066e656d6f | WrongCode 255 Own 300 BadLength 485 Reject 9947 Bare 531 \
@@ -247,7 +248,7 @@ fn so_is_every_other_changed_packet(rt: HostRuntime) -> Result<(), Fail> {
 // With right Request Authenticators.
 #[test]
 fn attribute_with_another_length_makes_a_start_malformed(rt: HostRuntime) -> Result<(), Fail> {
-    let config = Config::read(rt.alloc(), FILE.as_bytes())?;
+    let config = read_config(rt.alloc(), FILE.as_bytes())?;
     let rows = "
         status, 0 | acct | 0400002762a208d750f92c9f172bdbbe4bcf2e0628000000000120036e01066e656d6f\
           2c047331 | Malformed
@@ -303,7 +304,7 @@ fn attribute_with_another_length_makes_a_start_malformed(rt: HostRuntime) -> Res
 
 #[test]
 fn attributes_may_be_empty_or_of_253_octets(rt: HostRuntime) -> Result<(), Fail> {
-    let config = Config::read(rt.alloc(), FILE.as_bytes())?;
+    let config = read_config(rt.alloc(), FILE.as_bytes())?;
     let rows = "
         an empty status | acct | 0400002333fefc46821925dc3e70196e7c51e70d280220036e01066e656d6f2c\
           047331 | NoStatus
@@ -345,7 +346,7 @@ fn attributes_may_be_empty_or_of_253_octets(rt: HostRuntime) -> Result<(), Fail>
 
 #[test]
 fn names_that_begin_alike_are_others(rt: HostRuntime) -> Result<(), Fail> {
-    let config = Config::read(rt.alloc(), FILE.as_bytes())?;
+    let config = read_config(rt.alloc(), FILE.as_bytes())?;
     let rows = "
         the account's name without its last octet | auth | 010000370f403f9473978057bd83d5cb98f4227a\
           01056e656d02120dbe708d93d413ce3196e43f782a0aee0406c0a80110050600000003 | Reject
@@ -378,7 +379,7 @@ fn names_that_begin_alike_are_others(rt: HostRuntime) -> Result<(), Fail> {
 // The packets have 4,096 octets, but where a reply takes all their Proxy-States or all but one.
 #[test]
 fn packets_may_be_full_of_the_shortest_attributes(rt: HostRuntime) -> Result<(), Fail> {
-    let config = Config::read(rt.alloc(), FILE.as_bytes())?;
+    let config = read_config(rt.alloc(), FILE.as_bytes())?;
     let rows = "
         nothing but the shortest attributes | auth | 010010000f403f9473978057bd83d5cb98f4227a \
           1a02*2038 | Reject

@@ -2,6 +2,7 @@
 //! IPv6 address: version 3 of the account file. The octets were computed with Python's hmac and hashlib.
 
 use super::{AUTH, BOOT, CLIENT, MeaningRows, OTHER, check, check_spelled};
+use rsl_account_file::read_config;
 use rsl_accounts::Config;
 use rsl_event::{Detail, Meaning, Source, prepare_in_detail};
 use std::alloc::Global;
@@ -47,7 +48,7 @@ disabled = true
 
 /// The configuration of that file.
 fn trusting(alloc: Global) -> Result<Config, Fail> {
-    Ok(Config::read(alloc, FILE.as_bytes())?)
+    Ok(read_config(alloc, FILE.as_bytes())?)
 }
 
 /// What comes of Access-Requests from a source: the account that asks, or the cause why none does.

@@ -1,0 +1,4 @@
+pub mod Common
+pub mod File
+pub mod FileRead
+pub mod Read

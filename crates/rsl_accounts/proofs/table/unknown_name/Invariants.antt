@@ -1,8 +1,0 @@
-use Rattle.std.proofs.Common.{◌≡◌}
-use Rattle.toml.specs.View.{view}
-use Rattle.rsl_accounts.specs.File.{unknown_in}
-use Rattle.rsl_accounts.proofs.Names.{unknown_name}
-use Rattle.rsl_accounts.proofs.table.unknown_name.Given as goal
-
-abbrev pub invariant-loop-name : goal.invariant-loop-name
-invariant-loop-name l = unknown_in l.part (view l.table) ≡ unknown_name l.part l.name-iterator
