@@ -118,7 +118,7 @@ pub(crate) fn optional_number(table: &Value, field: Field) -> Result<Option<u64>
 /// The number of an optional field whose numbers have 32 bits.
 pub(crate) fn short_number(table: &Value, field: Field) -> Result<Option<u32>, ConfigFault>
     requires { (number : ℕ) → number_fault field number ≡ None → number < 2 ^ 32 }
-    ensures value { result ≡ option_in (view table.now) field }
+    ensures { result ≡ option_in (view table.now) field }
 {
     match optional_number(table, field)? {
         Some(number) => Ok(Some(number as u32)),
@@ -133,7 +133,7 @@ pub(crate) fn own_time(
     table: &Value,
     field: Field,
 ) -> Result<Option<u64>, ConfigFault>
-    ensures value { result ≡ own_in version (view table.now) field }
+    ensures { result ≡ own_in version (view table.now) field }
 {
     if knows_own_times(version) {
         optional_number(table, field)
@@ -145,7 +145,7 @@ pub(crate) fn own_time(
 /// The interim interval in seconds, which version 1 does not know.
 #[tactic(auto, unfolding(crate::specs::File::own_in))]
 pub(crate) fn interim(version: u64, table: &Value) -> Result<Option<u32>, ConfigFault>
-    ensures value { result ≡ own_in version (view table.now) Field.InterimSecs }
+    ensures { result ≡ own_in version (view table.now) Field.InterimSecs }
 {
     if knows_own_times(version) {
         short_number(table, Field::InterimSecs)
@@ -156,7 +156,7 @@ pub(crate) fn interim(version: u64, table: &Value) -> Result<Option<u32>, Config
 
 /// The value as a text, if it is within the field's limits.
 fn text_of(value: &Value, field: Field) -> Option<&str>
-    ensures value { option_copied result ≡ text_of field (view value.now) }
+    ensures { option_copied result ≡ text_of field (view value.now) }
 {
     let text = value.as_str()?;
     if field.takes_text(text.as_bytes()) {
@@ -254,7 +254,7 @@ pub(crate) fn signed(version: u64, table: &Value) -> Result<bool, ConfigFault>
 /// that does not sign.
 #[tactic(auto, unfolding(crate::specs::File::trusted_in))]
 pub(crate) fn trusted(version: u64, signed: bool, table: &Value) -> Result<bool, ConfigFault>
-    ensures value { result ≡ trusted_in version signed (view table.now) }
+    ensures { result ≡ trusted_in version signed (view table.now) }
 {
     if is_strict(version) {
         let trusted = flag(table, Field::Trusted, false)?;
@@ -387,7 +387,7 @@ pub(crate) fn tables(table: &Value, field: Field) -> Result<&[Value], ConfigFaul
 
 /// The value as an array of tables, if their number is within the field's limits.
 fn tables_of(value: &Value, field: Field) -> Option<&[Value]>
-    ensures value { option_map (λ tables. map view tables.now) result
+    ensures { option_map (λ tables. map view tables.now) result
         ≡ tables_of field (view value.now) }
 {
     tables_of_list(value.as_array()?.as_slice(), field)
@@ -395,7 +395,7 @@ fn tables_of(value: &Value, field: Field) -> Option<&[Value]>
 
 /// The items of an array, if they are tables and their number is within the field's limits.
 fn tables_of_list(items: &[Value], field: Field) -> Option<&[Value]>
-    ensures value { option_map (λ tables. map view tables.now) result
+    ensures { option_map (λ tables. map view tables.now) result
         ≡ tables_of_list field (map view items.now) }
 {
     if are_tables(items) && field.takes_count(items.len()) {
