@@ -1,10 +1,9 @@
 -- The answer to a Disconnect-Request (RFC 5176 sections 2.1 and 2.3).
 use Rattle.std.specs.Prelude.{ℕ, ◌+◌, ◌==◌, ◌&&◌, Bool, true, List, length, count_by, Option, Some, None, Result, Ok, Err, if◌then◌else◌}
-use Rattle.std.specs.List.{before_first}
 use Rattle.std.specs.Str.{bytes_eq}
 use Rattle.rsl_auth.specs.Authenticator.{response_authenticator}
 use Rattle.rsl_auth.specs.Signature.{signature, value_at}
-use Rattle.rsl_wire.specs.Attributes.{Attribute, attribute_list, first_of, is_kind, list_octets, number_in}
+use Rattle.rsl_wire.specs.Attributes.{Attribute, attribute_list, first_of, is_kind, number_in, octets_before}
 use Rattle.rsl_wire.specs.Packet.{Fields, packet_octets, packet_of}
 use Rattle.rsl_wire.specs.declared.packet.WireFault.{WireFault}
 use Rattle.rld_disconnect.specs.declared.answer.Answer.{Answer}
@@ -18,14 +17,10 @@ is_response answer request_auth secret =
     bytes_eq answer.authenticator
     (response_authenticator (packet_octets answer) request_auth secret)
 
--- the attributes before the first Message-Authenticator
-unfoldable pub before_signature : List Attribute → List Attribute
-before_signature attributes = before_first (is_kind MESSAGE_AUTHENTICATOR) attributes
-
--- the offset of its value in the packet: after the header of 20 octets, those attributes, its Type
--- and its Length
+-- the offset of the value of the first Message-Authenticator in the packet: after the header of 20
+-- octets, the attributes before it, its Type and its Length
 abbrev pub signature_offset : List Attribute → ℕ
-signature_offset attributes = 22 + length (list_octets (before_signature attributes))
+signature_offset attributes = 22 + octets_before MESSAGE_AUTHENTICATOR attributes
 
 -- whether the Message-Authenticator of an answer, whose value is at an offset, is right: it is
 -- computed with the authenticator of the request in place (RFC 5176 section 3.4)

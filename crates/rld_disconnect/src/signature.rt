@@ -1,7 +1,7 @@
 ghost use Rattle.std.specs.Prelude.{◌≡◌, ◌+◌, ◌≤◌, length};
-ghost use Rattle.rsl_wire.specs.Attributes.{AreAttributes, list_octets};
+ghost use Rattle.rsl_wire.specs.Attributes.{AreAttributes};
 ghost use Rattle.rsl_wire.specs.Seen.{fields_of};
-ghost use Rattle.rld_disconnect.specs.Answer.{before_signature, has_right_signature, is_signed_for};
+ghost use Rattle.rld_disconnect.specs.Answer.{has_right_signature, is_signed_for};
 
 use crate::codes::MESSAGE_AUTHENTICATOR;
 use rsl_auth::{SIGNATURE_LEN, same_octets, sign};
@@ -21,7 +21,7 @@ pub(crate) fn has_right_signature(
     match attributes.first(MESSAGE_AUTHENTICATOR) {
         None => true,
         Some(value) if value.len() == SIGNATURE_LEN => {
-            let at = HEADER_LEN + ATTR_HEADER_LEN + octets_before_signature(attributes);
+            let at = HEADER_LEN + ATTR_HEADER_LEN + attributes.octets_before(MESSAGE_AUTHENTICATOR);
             attributes.count(MESSAGE_AUTHENTICATOR) == 1
                 && is_signed_for(packet.octets(), at, request_auth, secret)
         }
@@ -45,22 +45,4 @@ fn is_signed_for(packet: &[u8], at: usize, request_auth: &[u8; 16], secret: &[u8
         &packet[at..at + SIGNATURE_LEN],
         &copy[at..at + SIGNATURE_LEN],
     )
-}
-
-/// Octets of the attributes before the first Message-Authenticator, or of all attributes if there
-/// is none.
-#[tactic(auto, using(crate::proofs::SignatureLaws::octets_before_step))]
-fn octets_before_signature(attributes: &Attrs<'_>) -> usize
-    requires { length (list_octets attributes.now) ≤ 4096 }
-    ensures count { result ≡ length (list_octets (before_signature attributes.now)) }
-    ensures short { result ≤ 4096 }
-{
-    let mut len = 0usize;
-    for (kind, value) in attributes.iter() {
-        if kind == MESSAGE_AUTHENTICATOR {
-            return len;
-        }
-        len += ATTR_HEADER_LEN + value.len();
-    }
-    len
 }

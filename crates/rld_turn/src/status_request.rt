@@ -10,7 +10,6 @@ ghost use Rattle.rld_turn.specs.StatusAnswer.{is_answered};
 use rsl_accounts::Config;
 use rsl_auth::{HmacKey, SIGNATURE_LEN};
 use rsl_event::codes::{MAX_PROXY_STATE_LEN, MESSAGE_AUTHENTICATOR, PROXY_STATE};
-use rsl_event::octets_before_signature;
 use rsl_wire::{ATTR_HEADER_LEN, Attrs, HEADER_LEN, Packet};
 
 /// The Code of a Status-Server packet (RFC 2865 section 4, RFC 5997 section 3).
@@ -48,7 +47,7 @@ fn has_right_signature(packet: &Packet<'_>, attributes: &Attrs<'_>, key: &HmacKe
     if signature(attributes).len() != SIGNATURE_LEN {
         return false;
     }
-    let at = HEADER_LEN + ATTR_HEADER_LEN + octets_before_signature(attributes);
+    let at = HEADER_LEN + ATTR_HEADER_LEN + attributes.octets_before(MESSAGE_AUTHENTICATOR);
     key.is_right(packet.octets(), at)
 }
 

@@ -1,14 +1,13 @@
 -- Message-Authenticators (RFC 3579 section 3.2): what an Access-Request has to have, and which
 -- replies get one.
 use Rattle.std.specs.Prelude.{ℕ, ◌+◌, ◌==◌, ◌&&◌, ◌||◌, nat_lt, Bool, true, false, List, [], ◌∷◌, length, replicate, slice_get, if◌then◌else◌, Option, Some, None}
-use Rattle.std.specs.List.{before_first}
 use Rattle.std.specs.Option.{option_map_or}
 use Rattle.rsl_accounts.specs.Configuration.{Configuration}
 use Rattle.rsl_accounts.specs.Version.{unsigned_rule}
 use Rattle.rsl_accounts.specs.declared.unsigned_rule.UnsignedRule.{UnsignedRule}
 use Rattle.rsl_accounts.specs.declared.unsigned_rule.UnsignedRule.TheVariants.{Trusted, Guarded}
 use Rattle.rsl_auth.specs.Signature.{is_signed, signed}
-use Rattle.rsl_wire.specs.Attributes.{Attribute, attribute_of, is_kind, list_octets}
+use Rattle.rsl_wire.specs.Attributes.{Attribute, attribute_of, octets_before}
 use Rattle.rsl_wire.specs.Packet.{Fields, packet_octets}
 use Rattle.rsl_event.specs.Request.{attribute_count, secret_of, text_of}
 use Rattle.rsl_event.specs.declared.meaning.Dropped.{Dropped}
@@ -28,14 +27,10 @@ must_sign config client =
 abbrev pub has_signature : List Attribute → Bool
 has_signature attributes = nat_lt 0 (attribute_count MESSAGE_AUTHENTICATOR attributes)
 
--- the attributes before the first Message-Authenticator
-unfoldable pub before_signature : List Attribute → List Attribute
-before_signature attributes = before_first (is_kind MESSAGE_AUTHENTICATOR) attributes
-
--- the offset of its value in the packet: after the header of 20 octets, those attributes, its Type
--- and its Length
+-- the offset of the value of the first Message-Authenticator in the packet: after the header of 20
+-- octets, the attributes before it, its Type and its Length
 abbrev pub signature_offset : List Attribute → ℕ
-signature_offset attributes = 22 + length (list_octets (before_signature attributes))
+signature_offset attributes = 22 + octets_before MESSAGE_AUTHENTICATOR attributes
 
 -- there is exactly one Message-Authenticator, of 16 octets, and it is that of the packet
 unfoldable pub has_right_signature : Fields → List Attribute → (secret : List ℕ) → Bool

@@ -36,7 +36,6 @@ pub use nas::{Nas, NasName};
 pub use preparation::{Detailed, prepare, prepare_in_detail};
 pub use reply_attributes::class_octets;
 pub use reply_packet::{reply, reply_to, room, room_in, said};
-pub use signature::octets_before_signature;
 pub use signing::Signing;
 pub use status::Status;
 pub use words::Said;

@@ -1,20 +1,15 @@
-ghost use Rattle.std.specs.Prelude.{◌≡◌, ◌<◌, ◌≤◌, List, ℕ, length};
+ghost use Rattle.std.specs.Prelude.{◌≡◌, ◌<◌, List, ℕ, length};
 ghost use Rattle.rsl_auth.specs.Hmac.{IsKeyOf};
-ghost use Rattle.rsl_wire.specs.Attributes.{AreAttributes, list_octets};
+ghost use Rattle.rsl_wire.specs.Attributes.{AreAttributes};
 ghost use Rattle.rsl_wire.specs.Seen.{fields_of};
-ghost use Rattle.rsl_event.specs.Signature.{
-  before_signature,
-  has_right_signature,
-  signature_drop,
-  unsigned_drop,
-};
+ghost use Rattle.rsl_event.specs.Signature.{has_right_signature, signature_drop, unsigned_drop};
 
 use crate::access_attributes::AccessAttributes;
 use crate::codes::MESSAGE_AUTHENTICATOR;
 use crate::meaning::Dropped;
 use rsl_accounts::{Config, UnsignedRule};
 use rsl_auth::{HmacKey, SIGNATURE_LEN};
-use rsl_wire::{ATTR_HEADER_LEN, Attrs, HEADER_LEN, Packet};
+use rsl_wire::{ATTR_HEADER_LEN, HEADER_LEN, Packet};
 
 /// The offset of the value of a Message-Authenticator that is a packet's first attribute: after the
 /// header, its Type and its Length.
@@ -73,24 +68,6 @@ fn has_right_signature(
     if attributes.signatures.text().len() != SIGNATURE_LEN {
         return false;
     }
-    let at = FIRST_SIGNATURE_OFFSET + octets_before_signature(&attributes.all);
+    let at = FIRST_SIGNATURE_OFFSET + attributes.all.octets_before(MESSAGE_AUTHENTICATOR);
     key.is_right(packet.octets(), at)
-}
-
-/// Octets of the attributes before the first Message-Authenticator, or of all attributes if there
-/// is none.
-#[tactic(auto, using(crate::proofs::SignatureLaws::octets_before_step))]
-pub fn octets_before_signature(attributes: &Attrs<'_>) -> usize
-    requires { length (list_octets attributes.now) ≤ 4096 }
-    ensures count { result ≡ length (list_octets (before_signature attributes.now)) }
-    ensures short { result ≤ 4096 }
-{
-    let mut len = 0usize;
-    for (kind, value) in attributes.iter() {
-        if kind == MESSAGE_AUTHENTICATOR {
-            return len;
-        }
-        len += ATTR_HEADER_LEN + value.len();
-    }
-    len
 }

@@ -1,4 +1,5 @@
 pub mod AttributeLaws
+pub mod BeforeLaws
 pub mod NewPacketLaws
 pub mod PacketLaws
 pub mod ReadLaws

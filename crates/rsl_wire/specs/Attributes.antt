@@ -1,6 +1,6 @@
 -- The attributes of a packet (RFC 2865 section 5).
 use Rattle.std.specs.Prelude.{◌≡◌, ℕ, zero, suc, ◌+◌, ◌-◌, ◌<◌, ◌≤◌, ◌||◌, ◌⊎◌, List, [], ◌∷◌, ◌++◌, length, drop, take, nat_lt, ◌==◌, Bool, Option, Some, None, Result, Ok, Err, if◌then◌else◌}
-use Rattle.std.specs.List.{flat_map, AllByRecursion}
+use Rattle.std.specs.List.{flat_map, before_first, AllByRecursion}
 use Rattle.std.specs.Option.{option_map_or}
 use Rattle.std.specs.Result.{result_unwrap_or}
 use Rattle.std.specs.Int.{w32, from_be_bytes}
@@ -85,6 +85,10 @@ abbrev pub first_of : ℕ → List Attribute → Option (List ℕ)
 first_of kind [] = None
 first_of kind (attribute ∷ attributes) =
     if attribute.kind == kind then Some attribute.value else first_of kind attributes
+
+-- how many octets the attributes before the first of a Type have, or all of them if none has it
+unfoldable pub octets_before : ℕ → List Attribute → ℕ
+octets_before kind attributes = length (list_octets (before_first (is_kind kind) attributes))
 
 -- a value of four octets as a number, the high octet first (RFC 2865 section 5)
 abbrev pub number_in : Option (List ℕ) → Option ℕ

@@ -51,6 +51,9 @@ impl<'a> Attrs<'a> {
       Err,
       count_by,
       option_map,
+      ◌+◌,
+      ◌≤◌,
+      IfSome,
     };
     ghost use Rattle.rsl_wire.specs.Attributes.{
       Attribute,
@@ -60,7 +63,9 @@ impl<'a> Attrs<'a> {
       attributes_in,
       is_kind,
       first_of,
+      list_octets,
       number_in,
+      octets_before,
     };
 
     /// The attributes in the octets, or the offset of the first bad one.
@@ -134,6 +139,25 @@ impl<'a> Attrs<'a> {
             [a, b, c, d] => Some(u32::from_be_bytes([*a, *b, *c, *d])),
             _ => None,
         }
+    }
+
+    /// Octets of the attributes left before the first of this Type, or of all of them if none has
+    /// it. Its value begins two octets later, after its Type and its Length.
+    pub fn octets_before(&self, kind: u8) -> usize
+        requires { length (list_octets self.now) ≤ 4096 }
+        ensures count { result ≡ octets_before kind self.now }
+        ensures short { result ≤ length (list_octets self.now) }
+        ensures within { IfSome (first_of kind self.now) (λ value.
+            result + 2 + length value ≤ length (list_octets self.now)) }
+    {
+        let mut len = 0usize;
+        for (found, value) in self.iter() {
+            if found == kind {
+                return len;
+            }
+            len += ATTR_HEADER_LEN + value.len();
+        }
+        len
     }
 
     /// A separate iterator over the attributes left.
