@@ -1,7 +1,8 @@
 use crate::fault::Fault;
 use crate::files::{accounts_for, server_file};
 use crate::token::token_in;
-use rld_config::{Paths, passed_over, warnings};
+use rld_config::{Paths, passed_over};
+use rld_warnings::warnings;
 use rsl_accounts::{Config, UnsignedRule};
 use std::alloc::Global;
 use std::fs::Files;
