@@ -1,7 +1,8 @@
 use crate::answer::Answer;
 use crate::command::Misuse;
 use crate::fault::Fault;
-use crate::files::server_file;
+use crate::files::paths_of;
+use crate::output::say;
 use crate::patience::Patience;
 use crate::topic::Topic;
 use form_urlencoded::Serializer;
@@ -50,9 +51,7 @@ pub(crate) fn ask<R: Files + Net + Clock, W: Write, S: Write + IsTerminal>(
         Topic::Disconnect => line_of(alloc, "disconnect", words)?,
         _ => line_of(alloc, command.as_str(), words)?,
     };
-    if Command::read(alloc, line.as_bytes())?.is_none() {
-        return Err(Fault::Usage(Misuse::Unreadable(topic)));
-    }
+    check_line(alloc, line.as_str(), topic)?;
     let control = control_of(rt, alloc, name.as_str())?;
     let asked = Asked {
         topic,
@@ -60,14 +59,20 @@ pub(crate) fn ask<R: Files + Net + Clock, W: Write, S: Write + IsTerminal>(
         patience,
     };
     let lines = asked.lines(rt, alloc, line.as_str(), stderr)?;
-    writer.write_all(lines.as_slice())?;
-    Ok(writer.flush()?)
+    say(writer, lines.as_slice())
+}
+
+/// Checks that a line is a command to the server. `Usage` comes if it is not.
+pub(crate) fn check_line(alloc: Global, line: &str, topic: Topic) -> Result<(), Fault> {
+    match Command::read(alloc, line.as_bytes())? {
+        Some(_) => Ok(()),
+        None => Err(Fault::Usage(Misuse::Unreadable(topic))),
+    }
 }
 
 /// The path of the control socket of the server's file of this name.
 pub(crate) fn control_of<F: Files>(files: &F, alloc: Global, name: &str) -> Result<PathBuf, Fault> {
-    let server = server_file(files, alloc, name)?;
-    let Paths { control, .. } = Paths::of(alloc, name, &server)?;
+    let Paths { control, .. } = paths_of(files, alloc, name)?;
     Ok(control)
 }
 
@@ -213,8 +218,6 @@ fn ask_line(alloc: Global, command: &String, words: &[String]) -> Result<String,
         };
         form.append_pair(field, value)?;
     }
-    let mut line = String::from_str(alloc, command.as_str())?;
-    line.push_str(" ")?;
-    line.push_str(form.finish().as_str())?;
-    Ok(line)
+    let form = form.finish();
+    Ok(format!(in alloc; "{command} {form}")?)
 }

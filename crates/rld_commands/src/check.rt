@@ -1,7 +1,9 @@
 use crate::fault::Fault;
-use crate::files::{accounts_for, server_file};
+use crate::files::{AccountFile, accounts_for, server_file};
 use crate::token::token_in;
-use rld_config::{Paths, passed_over, warnings};
+use rld_config::{Paths, passed_over};
+use rld_networks::Network;
+use rld_warnings::warnings;
 use rsl_accounts::{Config, UnsignedRule};
 use std::alloc::Global;
 use std::fs::Files;
@@ -21,15 +23,22 @@ pub(crate) fn check<F: Files, W: Write>(
     if let Some(path) = &paths.token {
         let _token = token_in(files, alloc, path.as_str())?;
     }
-    let told = warnings(
-        alloc,
-        &accounts.config,
-        server.networks.as_slice(),
-        accounts.mode,
-    )?;
-    writeln!(writer, "ok")?;
-    for warning in told.as_slice() {
-        writeln!(writer, "{warning}")?;
+    tell(alloc, &accounts, server.networks.as_slice(), writer)
+}
+
+/// Writes `ok`, and a line for each remark on a right account file and on the networks of the server's file.
+fn tell<W: Write>(
+    alloc: Global,
+    accounts: &AccountFile,
+    networks: &[Network],
+    writer: &mut W,
+) -> Result<(), Fault> {
+    {
+        let told = warnings(alloc, &accounts.config, networks, accounts.mode)?;
+        writeln!(writer, "ok")?;
+        for warning in told.as_slice() {
+            writeln!(writer, "{warning}")?;
+        }
     }
     if let UnsignedRule::Trusted = accounts.config.unsigned_rule() {
         tell_passed_over(alloc, accounts.text.as_slice(), writer)?;

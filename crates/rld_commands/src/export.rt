@@ -2,11 +2,10 @@
 
 use crate::command::Misuse;
 use crate::fault::Fault;
-use crate::files::{bad_file, server_file};
+use crate::files::{bad_file, state_of};
 use crate::lines::{bad_log, octets_of};
 use crate::topic::Topic;
 use crate::wrong::Wrong;
-use rld_config::Paths;
 use rld_export::{Export, Form, Span, Wanted, read_moment};
 use rld_folder::{FileName, Generation};
 use rld_lines::{LinesFault, LogFile};
@@ -58,33 +57,70 @@ where
         return Err(Fault::Usage(Misuse::Words(Topic::Export)));
     }
     let wanted = wanted_of(alloc, flags)?;
-    let name = name.as_str();
-    let server = server_file(rt, alloc, name)?;
-    let Paths { state, .. } = Paths::of(alloc, name, &server)?;
+    let state = state_of(rt, alloc, name.as_str())?;
     let logs = logs_of(rt, alloc, state.as_str())?;
+    export_logs(
+        rt,
+        alloc,
+        state.as_str(),
+        logs.as_slice(),
+        wanted,
+        writer,
+        stderr,
+    )
+}
+
+/// Prints what is wanted of the logs of a state folder, from the oldest to the newest.
+fn export_logs<F: Files, W: Write, S: Write>(
+    files: &F,
+    alloc: Global,
+    state: &str,
+    logs: &[Generation],
+    wanted: Wanted,
+    writer: &mut W,
+    stderr: &mut S,
+) -> Result<(), Fault> {
     let mut found = match Export::new(alloc, wanted, writer) {
         Ok(found) => found,
-        Err(fault) => return Err(fault_of(alloc, state.as_str(), state.as_str(), fault)?),
+        Err(fault) => return Err(fault_of(alloc, state, state, fault)?),
     };
-    for (at, generation) in logs.iter().enumerate() {
-        let torn = read_log(
-            rt,
-            alloc,
-            state.as_str(),
-            *generation,
-            &mut found,
-            writer,
-            stderr,
-        )?;
-        if torn > 0 && at + 1 < logs.len() {
-            let file = FileName::Log(*generation).text(alloc)?;
-            writeln!(stderr, "{file}: a torn end of {torn} octets")?;
-        }
-    }
+    read_logs(files, alloc, state, logs, &mut found, writer, stderr)?;
     match found.finish(alloc, writer) {
         Ok(()) => Ok(writer.flush()?),
-        Err(fault) => Err(fault_of(alloc, state.as_str(), state.as_str(), fault)?),
+        Err(fault) => Err(fault_of(alloc, state, state, fault)?),
     }
+}
+
+/// Reads logs one after the other, writes the sessions that ended in them, and says the torn end of each but the
+/// last.
+fn read_logs<F: Files, W: Write, S: Write>(
+    files: &F,
+    alloc: Global,
+    state: &str,
+    logs: &[Generation],
+    found: &mut Export,
+    writer: &mut W,
+    stderr: &mut S,
+) -> Result<(), Fault> {
+    for (at, generation) in logs.iter().enumerate() {
+        let torn = read_log(files, alloc, state, *generation, found, writer, stderr)?;
+        if torn > 0 && at + 1 < logs.len() {
+            say_torn(alloc, *generation, torn, stderr)?;
+        }
+    }
+    Ok(())
+}
+
+/// Says how many octets the torn end of a log has.
+fn say_torn<S: Write>(
+    alloc: Global,
+    generation: Generation,
+    torn: usize,
+    stderr: &mut S,
+) -> Result<(), Fault> {
+    let file = FileName::Log(generation).text(alloc)?;
+    writeln!(stderr, "{file}: a torn end of {torn} octets")?;
+    Ok(())
 }
 
 /// What flags ask for: `--csv`, and `--since` and `--until` with a moment after each.
@@ -223,17 +259,40 @@ fn read_log<F: Files, W: Write, S: Write>(
         writeln!(stderr, "{file}: it was removed before it was read")?;
         return Ok(0);
     };
-    let era = FileName::Era(generation.era).text(alloc)?;
-    let era = format!(in alloc; "{state}/{era}")?;
-    let table = octets_of(files, alloc, era.as_str())?;
     let log = LogFile {
         name: file.as_str(),
         generation,
         octets,
     };
+    read_octets(
+        files,
+        alloc,
+        state,
+        paths.present.as_str(),
+        log,
+        found,
+        writer,
+    )
+}
+
+/// Reads a log of this path, whose octets are there, and gives those of its torn end.
+fn read_octets<F: Files, W: Write>(
+    files: &F,
+    alloc: Global,
+    state: &str,
+    path: &str,
+    log: LogFile<'_>,
+    found: &mut Export,
+    writer: &mut W,
+) -> Result<usize, Fault> {
+    let era = {
+        let era = FileName::Era(log.generation.era).text(alloc)?;
+        format!(in alloc; "{state}/{era}")?
+    };
+    let table = octets_of(files, alloc, era.as_str())?;
     match found.read(alloc, table.as_slice(), log, writer) {
         Ok(torn) => Ok(torn),
-        Err(fault) => Err(fault_of(alloc, era.as_str(), paths.present.as_str(), fault)?),
+        Err(fault) => Err(fault_of(alloc, era.as_str(), path, fault)?),
     }
 }
 
@@ -243,12 +302,13 @@ fn octets_of_log<F: Files>(
     alloc: Global,
     paths: &LogPaths,
 ) -> Result<Option<Vec<u8>>, Fault> {
-    let present = match octets_of(files, alloc, paths.present.as_str()) {
+    match octets_of(files, alloc, paths.present.as_str()) {
         Ok(octets) => return Ok(Some(octets)),
-        Err(fault) => fault,
-    };
-    if is_there(files, paths.present.as_str()) {
-        return Err(present);
+        Err(fault) => {
+            if is_there(files, paths.present.as_str()) {
+                return Err(fault);
+            }
+        }
     }
     match octets_of(files, alloc, paths.archived.as_str()) {
         Ok(octets) => Ok(Some(octets)),

@@ -6,7 +6,7 @@
 use crate::fault::Fault;
 use crate::wrong::{BadFile, Wrong};
 use rld_config::{
-    Exposure, Place, ServerFault, ServerFile, asker_fault, break_of, shadowed_client,
+    Exposure, Paths, Place, ServerFault, ServerFile, asker_fault, break_of, shadowed_client,
     unknown_client, unsigned_client,
 };
 use rsl_account_file::{TextFault, read_config, read_file};
@@ -14,6 +14,7 @@ use rsl_accounts::{Config, ConfigFault};
 use std::alloc::Global;
 use std::fs::{self, Files};
 use std::os::unix::fs::PermissionsExt;
+use std::path::PathBuf;
 
 /// The most octets of a server's file or an account file.
 const MAX_FILE_LEN: u32 = 16_777_216;
@@ -43,6 +44,18 @@ pub fn server_file<F: Files>(files: &F, alloc: Global, name: &str) -> Result<Ser
     }
 }
 
+/// The paths of the server's file of this name.
+pub(crate) fn paths_of<F: Files>(files: &F, alloc: Global, name: &str) -> Result<Paths, Fault> {
+    let server = server_file(files, alloc, name)?;
+    Ok(Paths::of(alloc, name, &server)?)
+}
+
+/// The path of the state folder of the server's file of this name.
+pub(crate) fn state_of<F: Files>(files: &F, alloc: Global, name: &str) -> Result<PathBuf, Fault> {
+    let Paths { state, .. } = paths_of(files, alloc, name)?;
+    Ok(state)
+}
+
 /// The account file of this path, if it fits the server's file, which has this name: it has the
 /// client of each network, which has to sign under a guard; no network takes the address of another
 /// client; and no other user may write to it, nor read it unless the server's file allows that.
@@ -54,17 +67,7 @@ pub fn accounts_for<F: Files>(
     path: &str,
 ) -> Result<AccountFile, Fault> {
     let accounts = account_file(files, alloc, path)?;
-    let networks = server.networks.as_slice();
-    if let Some(fault) = unknown_client(networks, &accounts.config) {
-        return bad_file(alloc, name, None, Wrong::Server(fault));
-    }
-    if let Some(fault) = unsigned_client(networks, &accounts.config) {
-        return bad_file(alloc, name, None, Wrong::Server(fault));
-    }
-    if let Some(fault) = shadowed_client(networks, &accounts.config) {
-        return bad_file(alloc, name, None, Wrong::Server(fault));
-    }
-    if let Some(fault) = asker_fault(&server.ask, &accounts.config) {
+    if let Some(fault) = misfit(server, &accounts.config) {
         return bad_file(alloc, name, None, Wrong::Server(fault));
     }
     match server.trust.exposure(accounts.mode) {
@@ -72,6 +75,23 @@ pub fn accounts_for<F: Files>(
         Some(Exposure::Readable) => bad_file(alloc, path, None, Wrong::Readable),
         None => Ok(accounts),
     }
+}
+
+/// The first fault of a server's file whose account file has this configuration: a network whose client it does
+/// not have, or whose client need not sign under a guard, or that takes the address of another client; or a wrong
+/// client of asks.
+fn misfit(server: &ServerFile, config: &Config) -> Option<ServerFault> {
+    let networks = server.networks.as_slice();
+    if let Some(fault) = unknown_client(networks, config) {
+        return Some(fault);
+    }
+    if let Some(fault) = unsigned_client(networks, config) {
+        return Some(fault);
+    }
+    if let Some(fault) = shadowed_client(networks, config) {
+        return Some(fault);
+    }
+    asker_fault(&server.ask, config)
 }
 
 /// The account file of this name, with its mode and its text.

@@ -1,13 +1,13 @@
 //! Freeing the place of a session, or those of all sessions of an access server.
 
-use crate::ask::{Asked, ask, control_of};
-use crate::command::Misuse;
+use crate::ask::{Asked, ask, check_line, control_of};
 use crate::fault::Fault;
 use crate::flags::Flags;
+use crate::output::say;
 use crate::patience::Patience;
 use crate::sessions::list;
 use crate::topic::Topic;
-use rld_control::{Command, read_line};
+use rld_control::read_line;
 use std::alloc::Global;
 use std::fs::Files;
 use std::io::{IsTerminal, Read, Write};
@@ -91,18 +91,36 @@ where
     R: Files + Net + Clock,
 {
     if let [_, rest @ ..] = words {
-        if has_disconnect(rest) {
-            return ask(rt, alloc, Topic::Disconnect, rest, stdout, stderr);
+        if let [first, ..] = rest {
+            if first.as_str() == DISCONNECT {
+                return ask(rt, alloc, Topic::Disconnect, rest, stdout, stderr);
+            }
         }
     }
-    let Some(server) = Server::of_words(words) else {
-        return ask(rt, alloc, Topic::Free, words, stdout, stderr);
-    };
+    match Server::of_words(words) {
+        Some(server) => free_server(rt, alloc, server, stdin, stdout, stderr),
+        None => ask(rt, alloc, Topic::Free, words, stdout, stderr),
+    }
+}
+
+/// Frees the places of all sessions of an access server, once these are listed and it was said yes.
+///
+/// `Usage` comes before anything is asked if its words name none, and then `NoTerminal` if nobody can say
+/// yes. The other faults are those of `Asked::lines`: sessions may have been listed before.
+fn free_server<R, I: Read + IsTerminal, W: Write, S: Write + IsTerminal>(
+    rt: &R,
+    alloc: Global,
+    server: Server<'_>,
+    stdin: &mut I,
+    stdout: &mut W,
+    stderr: &mut S,
+) -> Result<(), Fault>
+where
+    R: Files + Net + Clock,
+{
     let Server { nas, client, .. } = server;
     let line = format!(in alloc; "free-server {client} {nas}")?;
-    if Command::read(alloc, line.as_bytes())?.is_none() {
-        return Err(Fault::Usage(Misuse::Unreadable(Topic::Free)));
-    }
+    check_line(alloc, line.as_str(), Topic::Free)?;
     if !server.has_yes && !stdin.is_terminal() {
         return Err(Fault::NoTerminal);
     }
@@ -117,30 +135,25 @@ where
     if number == 0 {
         return say(stdout, b"no such session\n");
     }
-    let text = format!(in alloc; "{number} sessions and reservations of {nas} at {client}")?;
-    if !is_agreed(&server, text.as_str(), stdin, stderr)? {
+    if !is_agreed(alloc, server, number, stdin, stderr)? {
         return say(stdout, b"nothing freed\n");
     }
     let lines = asked.lines(rt, alloc, line.as_str(), stderr)?;
     say(stdout, lines.as_slice())
 }
 
-/// Whether the first of some words is `--disconnect`.
-fn has_disconnect(words: &[String]) -> bool {
-    match words {
-        [first, ..] => first.as_str() == DISCONNECT,
-        [] => false,
-    }
-}
-
-/// Says what is to be freed, and whether it shall be: the words said yes, or it is typed.
+/// Says how many sessions are to be freed, and whether they shall be: the words said yes, or it is typed.
 fn is_agreed<I: Read, S: Write>(
-    server: &Server<'_>,
-    text: &str,
+    alloc: Global,
+    server: Server<'_>,
+    number: u64,
     stdin: &mut I,
     stderr: &mut S,
 ) -> Result<bool, Fault> {
-    stderr.write_all(text.as_bytes())?;
+    let Server { nas, client, .. } = server;
+    stderr.write_all(format!(in alloc;
+        "{number} sessions and reservations of {nas} at {client}"
+    )?.as_bytes())?;
     if server.has_yes {
         stderr.write_all(b"\n")?;
         return Ok(true);
@@ -152,10 +165,4 @@ fn is_agreed<I: Read, S: Write>(
         Some(len) => Ok(&room[..len] == b"yes".as_slice()),
         None => Ok(false),
     }
-}
-
-/// Writes a text.
-fn say<W: Write>(writer: &mut W, text: &[u8]) -> Result<(), Fault> {
-    writer.write_all(text)?;
-    Ok(writer.flush()?)
 }

@@ -29,18 +29,31 @@ pub(crate) fn init<F: Files<File = File>, W: Write>(
     make_folder(files, alloc, folder)?;
     let server = format!(in alloc; "{folder}/radlimitd.toml")?;
     let accounts = format!(in alloc; "{folder}/accounts.toml")?;
+    write_files(files, alloc, server.as_str(), accounts.as_str())?;
+    writeln!(
+        writer,
+        "written: {server} {accounts}\nnext:\n    radlimitd run {server}\n    radlimitd status {server}"
+    )?;
+    Ok(writer.flush()?)
+}
+
+/// Writes a server's file and an account file. After a fault neither is left.
+fn write_files<F: Files<File = File>>(
+    files: &F,
+    alloc: Global,
+    server: &str,
+    accounts: &str,
+) -> Result<(), Fault> {
     let secret = secret(files, alloc)?;
     let text = format!(in alloc; "{ACCOUNTS_HEAD}{secret}{ACCOUNTS_END}")?;
-    write_new(files, alloc, accounts.as_str(), text.as_str())?;
-    if let Err(fault) = write_new(files, alloc, server.as_str(), SERVER_FILE) {
-        let _ = fs::remove_file(files, accounts.as_str());
-        return Err(fault);
+    write_new(files, alloc, accounts, text.as_str())?;
+    match write_new(files, alloc, server, SERVER_FILE) {
+        Ok(()) => Ok(()),
+        Err(fault) => {
+            let _ = fs::remove_file(files, accounts);
+            Err(fault)
+        }
     }
-    writeln!(writer, "written: {server} {accounts}")?;
-    writeln!(writer, "next:")?;
-    writeln!(writer, "    radlimitd run {server}")?;
-    writeln!(writer, "    radlimitd status {server}")?;
-    Ok(writer.flush()?)
 }
 
 /// Makes a folder if it is missing.

@@ -19,6 +19,7 @@ mod flags;
 mod free;
 mod init;
 mod lines;
+mod output;
 mod patience;
 mod rebase;
 mod reply;

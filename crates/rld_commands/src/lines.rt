@@ -1,7 +1,8 @@
 //! `radlimitd lines`: the moves of logs, with their decisions.
 
 use crate::fault::Fault;
-use crate::wrong::{BadFile, BadLog, Wrong};
+use crate::files::bad_file;
+use crate::wrong::{BadLog, Wrong};
 use rld_folder::{FileName, Generation};
 use rld_lines::{LinesFault, LogFile, write_lines};
 use rld_start as start;
@@ -68,7 +69,7 @@ fn generation_of(alloc: Global, name: &str) -> Result<Generation, Fault> {
             return Ok(generation);
         }
     }
-    bad_file(alloc, name, Wrong::NoLog)
+    bad_file(alloc, name, None, Wrong::NoLog)
 }
 
 /// The path of the era's file of a log: beside it, or in the folder above if it is there and not
@@ -92,18 +93,9 @@ pub(crate) fn octets_of<F: Files>(files: &F, alloc: Global, name: &str) -> Resul
     match read_file(files, alloc, name, u32::MAX) {
         Ok(octets) => Ok(octets),
         Err(TextFault::NoMemory) => Err(Fault::NoMemory),
-        Err(TextFault::TooLong) => bad_file(alloc, name, Wrong::TooLong),
-        Err(TextFault::Unreadable) => bad_file(alloc, name, Wrong::Unreadable),
+        Err(TextFault::TooLong) => bad_file(alloc, name, None, Wrong::TooLong),
+        Err(TextFault::Unreadable) => bad_file(alloc, name, None, Wrong::Unreadable),
     }
-}
-
-/// The fault of a wrong file.
-fn bad_file<T>(alloc: Global, name: &str, wrong: Wrong) -> Result<T, Fault> {
-    Err(Fault::BadFile(BadFile {
-        name: String::from_str(alloc, name)?,
-        place: None,
-        wrong,
-    }))
 }
 
 /// The fault of a damaged file of the folder.

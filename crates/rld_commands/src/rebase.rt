@@ -1,6 +1,6 @@
 use crate::fault::Fault;
-use crate::files::{account_file, server_file};
-use rld_config::Paths;
+use crate::files::{account_file, paths_of};
+use crate::output::say;
 use std::alloc::Global;
 use std::fs::{File, Files};
 use std::io::Write;
@@ -21,11 +21,11 @@ where
     R: Files<File = File> + Alloc<A = Global> + Clone + Drop + Clock,
 {
     let now = rt.since_1970()?.as_secs();
-    let server = server_file(rt, alloc, name)?;
-    let paths = Paths::of(alloc, name, &server)?;
-    let accounts = account_file(rt, alloc, paths.accounts.as_str())?;
-    let done = rld_start::rebase(rt, alloc, &accounts.config, paths.state.as_str(), now)?;
+    let paths = paths_of(rt, alloc, name)?;
+    let done = {
+        let accounts = account_file(rt, alloc, paths.accounts.as_str())?;
+        rld_start::rebase(rt, alloc, &accounts.config, paths.state.as_str(), now)?
+    };
     let text = done.line(alloc)?;
-    writer.write_all(text.as_bytes())?;
-    Ok(writer.flush()?)
+    say(writer, text.as_bytes())
 }

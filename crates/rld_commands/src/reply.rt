@@ -1,6 +1,7 @@
 use crate::command::Misuse;
 use crate::fault::Fault;
-use crate::files::{accounts_for, server_file};
+use crate::files::{AccountFile, accounts_for, server_file};
+use crate::output::say;
 use crate::topic::Topic;
 use rld_attributes::accept_listed;
 use rld_config::Paths;
@@ -24,14 +25,16 @@ pub(crate) fn reply<F: Files, W: Write>(
     let Some(account) = read_word(alloc, word.as_bytes())? else {
         return Err(Fault::Usage(Misuse::Unreadable(Topic::Reply)));
     };
-    let server = server_file(files, alloc, name)?;
-    let Paths { accounts: path, .. } = Paths::of(alloc, name, &server)?;
-    let accounts = accounts_for(files, alloc, name, &server, path.as_str())?;
+    let accounts = accounts_of(files, alloc, name)?;
     match accept_listed(alloc, &accounts.config, account.as_slice())? {
-        Some(lines) => {
-            writer.write_all(lines.as_slice())?;
-            Ok(writer.flush()?)
-        }
+        Some(lines) => say(writer, lines.as_slice()),
         None => Err(Fault::Refused(String::from_str(alloc, "unknown account")?)),
     }
+}
+
+/// The account file that the server's file of this name names.
+fn accounts_of<F: Files>(files: &F, alloc: Global, name: &str) -> Result<AccountFile, Fault> {
+    let server = server_file(files, alloc, name)?;
+    let Paths { accounts, .. } = Paths::of(alloc, name, &server)?;
+    accounts_for(files, alloc, name, &server, accounts.as_str())
 }

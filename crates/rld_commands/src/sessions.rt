@@ -1,11 +1,10 @@
 //! The sessions of a running server: of one account, or of all.
 
-use crate::ask::{Asked, ask, control_of, waiting};
+use crate::ask::{Asked, ask, check_line, control_of, waiting};
 use crate::command::Misuse;
 use crate::fault::Fault;
 use crate::flags::{Flags, NOT_GIVEN};
 use crate::topic::Topic;
-use rld_control::Command;
 use std::alloc::Global;
 use std::fs::Files;
 use std::io::{IsTerminal, Write};
@@ -63,7 +62,11 @@ pub(crate) fn sessions<R: Files + Net + Clock, W: Write, S: Write + IsTerminal>(
     let (patience, wanted) = waiting(Topic::Sessions, asked)?;
     match Flags::of_words(wanted) {
         Some(flags) => {
-            check_flags(alloc, &flags)?;
+            check_line(
+                alloc,
+                flags.line(alloc, NOT_GIVEN)?.as_str(),
+                Topic::Sessions,
+            )?;
             let control = control_of(rt, alloc, name.as_str())?;
             let server = Asked {
                 topic: Topic::Sessions,
@@ -86,15 +89,6 @@ fn ends_in_flag(words: &[String]) -> bool {
     }
 }
 
-/// Checks that flags have right words. `Usage` comes if they have not.
-fn check_flags(alloc: Global, flags: &Flags<'_>) -> Result<(), Fault> {
-    let line = flags.line(alloc, NOT_GIVEN)?;
-    match Command::read(alloc, line.as_bytes())? {
-        Some(_) => Ok(()),
-        None => Err(Fault::Usage(Misuse::Unreadable(Topic::Sessions))),
-    }
-}
-
 /// Writes the links that flags leave of all accounts, a page after the other, and gives how many
 /// there are. No page is kept once it is written.
 ///
@@ -110,8 +104,10 @@ pub(crate) fn list<R: Net + Clock, W: Write, S: Write + IsTerminal>(
     let mut from = String::from_str(alloc, NOT_GIVEN)?;
     let mut number = 0u64;
     for _ in 0..MOST_PAGES {
-        let line = flags.line(alloc, from.as_str())?;
-        let lines = server.lines(rt, alloc, line.as_str(), stderr)?;
+        let lines = {
+            let line = flags.line(alloc, from.as_str())?;
+            server.lines(rt, alloc, line.as_str(), stderr)?
+        };
         let Some(page) = Page::of(lines.as_slice()) else {
             return Err(server.silent(alloc)?);
         };

@@ -3,5 +3,4 @@ pub mod PassedNames
 pub mod Tables
 pub mod Taken
 pub mod Parts
-pub mod Told
 pub mod Shadowed

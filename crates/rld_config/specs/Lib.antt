@@ -3,6 +3,5 @@ pub mod Value
 pub mod Server
 pub mod Place
 pub mod Paths
-pub mod Warning
 pub mod Trust
 pub mod Passed

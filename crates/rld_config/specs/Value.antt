@@ -55,7 +55,7 @@ abbrev pub flag_value : Data → Option Bool
 flag_value (boolean flag) = Some flag
 flag_value _ = None
 
--- what comes of a start that finds no history, where one must exist
+-- the outcome of a start that finds no history, where one must exist
 abbrev pub new_history_of : (must_exist : Bool) → NewHistory
 new_history_of must_exist = if must_exist then Refused else Begins
 

@@ -1,13 +1,11 @@
-//! The server's file that an operator writes, and what he should know of the account file that it
-//! names.
+//! The server's file that an operator writes, and how the account file that it names fits it.
 //!
 //! `ServerFile::read` answers exactly what `server_of_text` of `specs/Server.antt` says: what the
 //! text says, or its first fault, or that memory was refused. The keys of each table, and the
 //! values that they may have, are in `specs/Key.antt`, and what a TOML value is under a key in
 //! `specs/Value.antt`. `Paths::of` resolves the file's paths (`specs/Paths.antt`), `break_of` finds
-//! where a text stops being TOML (`specs/Place.antt`), `warnings` gives what is worth knowing of a
-//! configuration (`specs/Warning.antt`), and `passed_over` the first key of its text that counts
-//! for nothing before version 3 (`specs/Passed.antt`).
+//! where a text stops being TOML (`specs/Place.antt`), and `passed_over` the first key of an account
+//! file's text that counts for nothing before version 3 (`specs/Passed.antt`).
 #![tactic(auto)]
 
 mod archive;
@@ -27,7 +25,6 @@ mod server;
 mod sync;
 mod trust;
 mod value;
-mod warning;
 mod web;
 
 pub use archive::Archive;
@@ -44,6 +41,5 @@ pub use paths::Paths;
 pub use place::{Place, break_of};
 pub use server::ServerFile;
 pub use sync::SyncPolicy;
-pub use trust::{Exposure, Trust};
-pub use warning::{Warning, books_octets, warnings};
+pub use trust::{Exposure, Trust, others_read};
 pub use web::Web;

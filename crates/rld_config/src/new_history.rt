@@ -1,7 +1,7 @@
 ghost use Rattle.std.specs.Prelude.{◌≡◌};
 ghost use Rattle.rld_config.specs.Value.{new_history_of};
 
-/// What comes of a start that finds no history in the state folder, or no folder.
+/// The outcome of a start that finds no history in the state folder, or no folder.
 #[derive(Clone, Copy, Debug)]
 pub enum NewHistory {
     /// A new history begins.
@@ -11,7 +11,7 @@ pub enum NewHistory {
 }
 
 impl NewHistory {
-    /// What comes of it where a history must exist, or need not.
+    /// The outcome where a history must exist, or need not.
     pub(crate) fn of_flag(must_exist: bool) -> NewHistory
         ensures { result ≡ new_history_of must_exist }
     {

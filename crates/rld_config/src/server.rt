@@ -66,7 +66,7 @@ pub struct ServerFile {
     pub accounts: Text,
     /// The path of the state folder.
     pub state: Text,
-    /// What comes of a start that finds no history.
+    /// Whether a start that finds no history begins one.
     pub new_history: NewHistory,
     /// When what was recorded is synced to the disk.
     pub sync: SyncPolicy,

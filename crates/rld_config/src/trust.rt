@@ -1,10 +1,11 @@
 ghost use Rattle.std.specs.Prelude.{◌≡◌};
-ghost use Rattle.rld_config.specs.Trust.{exposure_of, others_write};
-
-use crate::warning::others_read;
+ghost use Rattle.rld_config.specs.Trust.{exposure_of, others_read, others_write};
 
 /// The mode bit by which everybody can write to a file.
 const OTHERS_WRITE: u32 = 0o002;
+
+/// The mode bit by which everybody can read a file.
+const OTHERS_READ: u32 = 0o004;
 
 /// What an operator allows others to do.
 #[derive(Clone, Copy, Debug)]
@@ -43,4 +44,11 @@ fn others_write(mode: u32) -> bool
     ensures { result ≡ others_write mode }
 {
     mode & OTHERS_WRITE != 0
+}
+
+/// Whether everybody can read a file of this mode.
+pub fn others_read(mode: u32) -> bool
+    ensures { result ≡ others_read mode }
+{
+    mode & OTHERS_READ != 0
 }

@@ -292,14 +292,14 @@ pub(crate) fn client(part: Part, table: &Value) -> Result<[u8; 4], ServerFault>
     }
 }
 
-/// The value as what comes of a start that finds no history.
+/// The value as the outcome of a start that finds no history.
 fn new_history_value(value: &Value) -> Option<NewHistory>
     ensures { result ≡ new_history_value (view value.now) }
 {
     Some(NewHistory::of_flag(flag_value(value)?))
 }
 
-/// What comes of a start that finds no history: a new one by default.
+/// The outcome of a start that finds no history: by default it begins one.
 #[tactic(auto, unfolding(crate::specs::Server::new_history_in))]
 pub(crate) fn new_history(file: &Value) -> Result<NewHistory, ServerFault>
     ensures { result ≡ new_history_in (view file.now) }

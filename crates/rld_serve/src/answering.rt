@@ -236,13 +236,13 @@ where
         }
     }
 
-    /// What comes of an access server whose sessions are to be freed.
+    /// Frees the places of all sessions of an access server, and gives the outcome.
     fn server_freed(&self, named: &NamedServer) -> Result<Freed, AskFault> {
         let mut state = self.state.lock(self.rt);
         Ok(state.free_server(self.alloc, self.plan.boot, named, self.moment())?)
     }
 
-    /// What comes of a session that is to be freed. The lock is held from the look at the accounts and the
+    /// Frees the place of a session, and gives the outcome. The lock is held from the look at the accounts and the
     /// links until its Stop is recorded.
     pub(crate) fn freed(&self, named: &NamedSession) -> Result<Freed, AskFault> {
         let mut state = self.state.lock(self.rt);

@@ -37,7 +37,7 @@ const SLEEP_MILLIS: u64 = 100;
 /// The most octets of an answer (RFC 2865 section 3).
 const ANSWER_LEN: usize = 4_096;
 
-/// A session that is to be disconnected, and the operator who is told what comes of it.
+/// A session that is to be disconnected, and the operator who is told the outcome.
 #[derive(Drop)]
 pub(crate) struct Order {
     named: NamedSession,
@@ -121,8 +121,8 @@ where
     A: Accounts,
     R: time::Clock + Wait,
 {
-    /// Orders that a session is disconnected. The operator is answered once it is known what comes of it, or
-    /// at once if nothing is sent.
+    /// Orders that a session is disconnected. The operator is answered once the outcome is known, or at
+    /// once if nothing is sent.
     pub(crate) fn order(&self, named: NamedSession, stream: UnixStream) {
         match self.orderable(&named) {
             Ok((config, port)) => self.queue(Order {

@@ -1,7 +1,6 @@
 //! What the running server shows of itself.
 
 use crate::server::Server;
-use rld_config::books_octets;
 use rld_counts::{Cell, Counts, Histogram};
 use rld_look::{
     AccessServersLook, AccountsLook, Look, Minute, Places, Recording, SocketLook, Totals,
@@ -9,6 +8,7 @@ use rld_look::{
 };
 use rld_spelling::Header;
 use rld_state::{LinksPage, places_in};
+use rld_warnings::books_octets;
 use rld_watch::{Gate, cell_of, counts_of};
 use rsl_account_file::read_file;
 use rsl_accounts::Config;

@@ -1,7 +1,7 @@
 use Rattle.std.proofs.Common.{◌++◌, sym, ap, ◌∙◌}
-use Rattle.rld_config.specs.Warning.{short_secret}
-use Rattle.rld_config.proofs.Told.{told_more}
-use Rattle.rld_config.proofs.warning.short_secrets.Goals as goal
+use Rattle.rld_warnings.specs.Warning.{short_secret}
+use Rattle.rld_warnings.proofs.Told.{told_more}
+use Rattle.rld_warnings.proofs.warning.short_secrets.Goals as goal
 
 pub loop-number-preserved : goal.loop-number-preserved
 loop-number-preserved c =

@@ -4,7 +4,7 @@ use Rattle.std.proofs.lemmas.List.{take_more, append-nil, flat_map_more}
 use Rattle.std.proofs.lemmas.Option.{slice_get_within, get_or_from_slice_get}
 use Rattle.std.specs.List.{flat_map, slice_get}
 use Rattle.rsl_accounts.specs.declared.entry.Entry.{Entry}
-use Rattle.rld_config.specs.Warning.{book_octets, books_octets}
+use Rattle.rld_warnings.specs.Warning.{book_octets, books_octets}
 
 -- the elements up to one that is found by its number, and that one
 taken : {X : Type 0} (xs : List X) (i : ℕ) (x : X) → slice_get xs i ≡ Some x → take (i + 1) xs ≡ take i xs ++ x ∷ []

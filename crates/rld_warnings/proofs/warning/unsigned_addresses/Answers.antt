@@ -1,7 +1,7 @@
 use Rattle.std.proofs.Common.{◌++◌, sym, ap, ◌∙◌}
-use Rattle.rld_config.specs.Warning.{unsigned_address}
-use Rattle.rld_config.proofs.Told.{told_more}
-use Rattle.rld_config.proofs.warning.unsigned_addresses.Goals as goal
+use Rattle.rld_warnings.specs.Warning.{unsigned_address}
+use Rattle.rld_warnings.proofs.Told.{told_more}
+use Rattle.rld_warnings.proofs.warning.unsigned_addresses.Goals as goal
 
 pub loop-number-preserved : goal.loop-number-preserved
 loop-number-preserved c =

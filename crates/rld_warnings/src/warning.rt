@@ -5,8 +5,8 @@ ghost use Rattle.rsl_accounts.specs.Configuration.{client_number};
 ghost use Rattle.rsl_accounts.specs.Limits.{RulesFit};
 ghost use Rattle.rsl_accounts.specs.Version.{unsigned_rule};
 ghost use Rattle.rld_config.specs.Server.{is_unsigned_at};
-ghost use Rattle.rld_config.specs.declared.warning.Warning.TheVariants.{NotSigned};
-ghost use Rattle.rld_config.specs.Warning.{
+ghost use Rattle.rld_warnings.specs.declared.warning.Warning.TheVariants.{NotSigned};
+ghost use Rattle.rld_warnings.specs.Warning.{
   book_octets,
   books_octets,
   advice,
@@ -15,13 +15,13 @@ ghost use Rattle.rld_config.specs.Warning.{
   megabytes,
   mode_warning,
   network_warnings,
-  others_read,
   short_secret,
   unsigned_address,
   unsigned_prefix,
   warnings_of,
 };
 
+use rld_config::others_read;
 use rld_networks::{Network, Prefix};
 use rsl_accounts::{Client, Config, Rules, UnsignedRule};
 use rsl_wire::NoMemory;
@@ -30,9 +30,6 @@ use std::fmt;
 
 /// The fewest octets that a secret should have: RFC 2865 section 3 prefers at least 16.
 const SECRET_LEN: usize = 16;
-
-/// The mode bit by which everybody can read a file.
-const OTHERS_READ: u32 = 0o004;
 
 /// The octets of a book without links.
 const BOOK: u64 = 3_268;
@@ -261,13 +258,6 @@ fn warn_of_mode(mode: u32, warnings: &mut Vec<Warning>) -> Result<(), NoMemory>
         warnings.push(Warning::OthersRead)?;
     }
     Ok(())
-}
-
-/// Whether everybody can read a file of this mode.
-pub(crate) fn others_read(mode: u32) -> bool
-    ensures { result ≡ others_read mode }
-{
-    mode & OTHERS_READ != 0
 }
 
 /// The octets of memory of the accounts' books: 3,440 for each with one link, and 172 for each

@@ -1,6 +1,6 @@
-use Rattle.rld_config.specs.Warning.{unsigned_prefix}
-use Rattle.rld_config.proofs.Told.{found_more}
-use Rattle.rld_config.proofs.warning.push_prefixes.Goals as goal
+use Rattle.rld_warnings.specs.Warning.{unsigned_prefix}
+use Rattle.rld_warnings.proofs.Told.{found_more}
+use Rattle.rld_warnings.proofs.warning.push_prefixes.Goals as goal
 
 pub loop-network-preserved : goal.loop-network-preserved
 loop-network-preserved c =

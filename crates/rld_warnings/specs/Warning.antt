@@ -1,5 +1,5 @@
 -- What an operator should know of an account file that is right.
-use Rattle.std.specs.Prelude.{ℕ, ◌+◌, ◌*◌, Bool, not, ◌==◌, nat_lt, bit_and, if◌then◌else◌, List, [], ◌∷◌, ◌++◌, length, map}
+use Rattle.std.specs.Prelude.{ℕ, ◌+◌, ◌*◌, Bool, nat_lt, if◌then◌else◌, List, [], ◌∷◌, ◌++◌, length, map}
 use Rattle.std.specs.List.{flat_map}
 use Rattle.std.specs.Prelude.{◌/◌}
 use Rattle.rsl_accounts.specs.Configuration.{Configuration, client_number}
@@ -9,11 +9,12 @@ use Rattle.rsl_accounts.specs.declared.unsigned_rule.UnsignedRule.TheVariants.{T
 use Rattle.rsl_accounts.specs.declared.client.Client.{Client}
 use Rattle.rsl_accounts.specs.declared.entry.Entry.{Entry}
 use Rattle.rsl_accounts.specs.declared.rules.Rules.{Rules}
-use Rattle.rld_config.specs.declared.warning.Warning.{Warning}
-use Rattle.rld_config.specs.declared.warning.Warning.TheVariants.{NotSigned, Unsigned, ShortSecrets, UnsignedNetworks, Prefixed, OthersRead, Memory}
+use Rattle.rld_warnings.specs.declared.warning.Warning.{Warning}
+use Rattle.rld_warnings.specs.declared.warning.Warning.TheVariants.{NotSigned, Unsigned, ShortSecrets, UnsignedNetworks, Prefixed, OthersRead, Memory}
 use Rattle.rld_networks.specs.declared.network.Network.{Network}
 use Rattle.rld_networks.specs.declared.prefix.Prefix.{Prefix}
 use Rattle.rld_config.specs.Server.{is_unsigned_at}
+use Rattle.rld_config.specs.Trust.{others_read}
 
 -- the address of a client whose requests need no signature, and of one whose secret has under 16
 -- octets (RFC 2865 section 3); the prefix of a network that stands for a client that need not sign
@@ -49,10 +50,7 @@ client_warnings Trusted config networks = advice config networks
 abbrev pub network_warnings : List Network → List Warning
 network_warnings networks = map (λ network. Prefixed network.prefix) networks
 
--- whether everybody can read a file of this mode
-abbrev pub others_read : (mode : ℕ) → Bool
-others_read mode = not (bit_and mode 4 == 0)
-
+-- that everybody can read a file of this mode
 abbrev pub mode_warning : (mode : ℕ) → List Warning
 mode_warning mode = if others_read mode then OthersRead ∷ [] else []
 

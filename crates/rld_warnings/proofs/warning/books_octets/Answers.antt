@@ -1,6 +1,6 @@
 use Rattle.std.proofs.Common.{arith}
-use Rattle.rld_config.proofs.Told.{books_more}
-use Rattle.rld_config.proofs.warning.books_octets.Goals as goal
+use Rattle.rld_warnings.proofs.Told.{books_more}
+use Rattle.rld_warnings.proofs.warning.books_octets.Goals as goal
 
 pub loop-number-preserved : goal.loop-number-preserved
 loop-number-preserved c =

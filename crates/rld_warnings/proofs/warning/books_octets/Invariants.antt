@@ -1,6 +1,6 @@
 use Rattle.std.proofs.Common.{◌≡◌, ◌*◌, ◌≤◌, take}
-use Rattle.rld_config.specs.Warning.{books_octets}
-use Rattle.rld_config.proofs.warning.books_octets.Given as goal
+use Rattle.rld_warnings.specs.Warning.{books_octets}
+use Rattle.rld_warnings.proofs.warning.books_octets.Given as goal
 
 abbrev pub invariant-loop-number : goal.invariant-loop-number
 invariant-loop-number l = record {
