@@ -1,14 +1,13 @@
 use crate::accounts::Accounts;
 use crate::asking::Seat;
 use crate::current::Current;
-use crate::disconnecting::{MOST_ORDERS, Order};
 use crate::reporting::MOST_TOLD;
 use crate::rolling::Rolls;
 use crate::shared_recorder::SharedRecorder;
 use circular_buffer::HeapCircularBuffer;
 use rld_ask::Asks;
 use rld_edges::{
-    Control, Job, Readiness, RunFault, Shutdown, Sockets, Start, outcome_of, ports_of,
+    Control, Job, Orders, Readiness, RunFault, Shutdown, Sockets, Start, outcome_of, ports_of,
 };
 use rld_log::{FileLog, PacedLog, Pacing};
 use rld_look::{ArchiveLook, Build, History, Pages, Refusals, Sink};
@@ -75,10 +74,8 @@ pub(crate) struct Server<'a, G, A, R> {
     pub(crate) is_failing: AtomicBool,
     pub(crate) clock_behind: AtomicU64,
     pub(crate) archive: Mutex<ArchiveLook>,
-    /// The sessions that are to be disconnected, until the worker takes them.
-    pub(crate) orders: Mutex<HeapCircularBuffer<Order>>,
-    /// How many of these are not ended.
-    pub(crate) ordered: AtomicU64,
+    /// The sessions that are to be disconnected.
+    pub(crate) orders: Orders,
     pub(crate) shutdown: Shutdown,
     pub(crate) current: RwLock<Current>,
 }
@@ -139,17 +136,15 @@ where
     if asks.is_some() {
         jobs.push(Job::Ask)?;
     }
-    let ports = ports_of(alloc, jobs.as_slice())?;
-    let mut gates = gates_of(alloc, ports.as_slice())?;
-    let seat = asks.map(|asks| Seat {
-        client: asks.client(),
-        number: gates.len(),
-    });
-    if seat.is_some() {
-        gates.push(Gate::Ask)?;
-    }
-    let board = Board::new(alloc, config.clients(), gates.as_slice())?;
-    let history = History::new(alloc, plan.start)?;
+    let rooms = Rooms::new(alloc, plan.start, config.clients(), jobs.as_slice(), asks)?;
+    let Rooms {
+        board,
+        seat,
+        refusals,
+        told,
+        history,
+        orders,
+    } = rooms;
     let config = Arc::new(alloc, config)?;
     let current = Current {
         config: Arc::try_clone(&config)?,
@@ -166,18 +161,58 @@ where
         state: Mutex::new(ServerState::new(store, config, plan.header)),
         board,
         seat,
-        refusals: Refusals::new(alloc, gates.len())?,
-        told: Mutex::new(HeapCircularBuffer::with_capacity(alloc, MOST_TOLD)?),
+        refusals,
+        told: Mutex::new(told),
         history: Mutex::new(history),
         is_failing: AtomicBool::new(false),
         clock_behind: AtomicU64::new(0),
         archive: Mutex::new(ArchiveLook { logs: 0, octets: 0 }),
-        orders: Mutex::new(HeapCircularBuffer::with_capacity(alloc, MOST_ORDERS)?),
-        ordered: AtomicU64::new(0),
+        orders,
         shutdown: Shutdown::new(jobs.len()),
         current: RwLock::new(current),
     };
     run_jobs(&server, jobs.as_slice(), pages, asks)
+}
+
+/// The room for what a server counts, and for what its workers leave each other.
+#[derive(Drop)]
+struct Rooms {
+    board: Board,
+    seat: Option<Seat>,
+    refusals: Refusals,
+    told: HeapCircularBuffer<Told>,
+    history: History,
+    orders: Orders,
+}
+
+impl Rooms {
+    /// The room of a server that starts at this second, with this number of clients and these jobs. It
+    /// fails only if memory is refused.
+    fn new(
+        alloc: Global,
+        start: u64,
+        clients: u32,
+        jobs: &[Job<'_>],
+        asks: Option<&Asks>,
+    ) -> Result<Rooms, AllocError> {
+        let ports = ports_of(alloc, jobs)?;
+        let mut gates = gates_of(alloc, ports.as_slice())?;
+        let seat = asks.map(|asks| Seat {
+            client: asks.client(),
+            number: gates.len(),
+        });
+        if seat.is_some() {
+            gates.push(Gate::Ask)?;
+        }
+        Ok(Rooms {
+            board: Board::new(alloc, clients, gates.as_slice())?,
+            seat,
+            refusals: Refusals::new(alloc, gates.len())?,
+            told: HeapCircularBuffer::with_capacity(alloc, MOST_TOLD)?,
+            history: History::new(alloc, start)?,
+            orders: Orders::new(alloc)?,
+        })
+    }
 }
 
 /// Where the receivers of these ports take what they count.
