@@ -151,9 +151,10 @@ fn is_agreed<I: Read, S: Write>(
     stderr: &mut S,
 ) -> Result<bool, Fault> {
     let Server { nas, client, .. } = server;
-    stderr.write_all(format!(in alloc;
-        "{number} sessions and reservations of {nas} at {client}"
-    )?.as_bytes())?;
+    {
+        let text = format!(in alloc; "{number} sessions and reservations of {nas} at {client}")?;
+        stderr.write_all(text.as_bytes())?;
+    }
     if server.has_yes {
         stderr.write_all(b"\n")?;
         return Ok(true);

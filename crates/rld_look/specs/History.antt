@@ -102,10 +102,10 @@ abbrev pub latest_by : Option Minute → Look → Minute
 latest_by (Some minute) look = minute
 latest_by None look = minute_at (came_in look.counts) look.start (look.now - look.start) look.totals.held
 
--- the last whole minute; before one is over, a minute at the rate since the start
+-- the last whole minute; before one is over, a minute at the rate so far
 abbrev pub latest_of : Look → Minute
 latest_of look = latest_by (last_of look.minutes.items) look
 
 -- in which time the latest numbers came
 abbrev pub span_of : Look → List ℕ
-span_of look = if length look.minutes.items == 0 then codes "since the start" else codes "last minute"
+span_of look = if length look.minutes.items == 0 then codes "so far" else codes "last minute"

@@ -80,7 +80,7 @@ impl Look {
         ensures { result.now ≡ span_of self.entry.now }
     {
         if self.minutes.is_empty() {
-            "since the start"
+            "so far"
         } else {
             "last minute"
         }

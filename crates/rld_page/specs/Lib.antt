@@ -1,6 +1,3 @@
-pub mod Chart
-pub mod Figures
-pub mod Html
 pub mod Json
 pub mod Page
 pub mod Summary

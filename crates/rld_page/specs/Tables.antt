@@ -19,8 +19,8 @@ use Rattle.rsl_event.specs.declared.event.Source.{Source}
 use Rattle.rsl_event.specs.declared.nas.NasName.{NasName}
 use Rattle.rsl_event.specs.declared.nas.NasName.TheVariants.{Identifier, Address, Unnamed}
 use Rattle.rsl_shard.specs.declared.row.Row.{Row}
-use Rattle.rld_page.specs.Figures.{grouped, moment_text, share_of, width_text}
-use Rattle.rld_page.specs.Html.{html_text, soft_dash}
+use Rattle.rld_chart.specs.Figures.{grouped, moment_text, share_of, width_text}
+use Rattle.rld_chart.specs.Html.{html_text, soft_dash}
 use Rattle.rld_page.specs.Words.{words_of}
 
 -- how each table ends that fills its section

@@ -6,7 +6,7 @@ ghost use Rattle.rld_counts.specs.Ends.{all_ends};
 ghost use Rattle.rld_page.specs.Tables.{answer_row, asks_if_any, causes_of, count_row, other_row, port_table, row_if_any};
 
 use crate::ends::words;
-use crate::html::Html;
+use rld_chart::Html;
 use rld_counts::{Counts, End};
 use std::alloc::AllocError;
 

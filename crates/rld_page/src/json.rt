@@ -1,4 +1,5 @@
-//! The accounts as JSON (RFC 8259).
+//! The accounts as JSON (RFC 8259). Its strings are not those of `rld_text`: a name is a text in UTF-8 and stands as it
+//! is, while an id in an answer on the control may have any octets, and there each octet is one character.
 
 ghost use Rattle.std.specs.Prelude.{◌≡◌, ◌/◌, ◌%◌, ◌<◌, ◌++◌, ◌∷◌, [], IfOk, OnOk, codes};
 ghost use Rattle.std.specs.List.{flat_map};

@@ -1,12 +1,12 @@
 //! The last refusals.
 
 ghost use Rattle.std.specs.Prelude.{◌≡◌, ◌++◌, List, OnOk, ℕ};
-ghost use Rattle.rld_page.specs.Html.{soft_dash};
+ghost use Rattle.rld_chart.specs.Html.{soft_dash};
 ghost use Rattle.rld_page.specs.Tables.{address_text, client_text, name_or_dash, nas_text, refusal_end, refusal_front, refusal_row, refusal_rows, refused_if_any, refused_of, refused_table, table_end};
 ghost use Rattle.rld_values.specs.Dates.{AreDates};
 
 use crate::ends::words;
-use crate::html::Html;
+use rld_chart::Html;
 use rld_look::{Look, Refusal};
 use rsl_event::NasName;
 use rsl_wire::Octets;
@@ -158,7 +158,7 @@ fn write_address(html: &mut Html, octets: &[u8]) -> Result<(), AllocError>
 }
 
 /// Writes that there is nothing to say.
-#[tactic(auto, unfolding(crate::specs::Html::soft_dash))]
+#[tactic(auto, unfolding(rld_chart::specs::Html::soft_dash))]
 fn write_dash(html: &mut Html) -> Result<(), AllocError>
     ensures { OnOk result (html.new ≡ html.old ++ soft_dash) }
 {

@@ -8,12 +8,11 @@ use crate::ask_fault::AskFault;
 use crate::server::Server;
 use rld_control::{Command, Form, Listing, NamedServer, NamedSession, Reply, Selection};
 use rld_edges::Operator;
+use rld_lists::{Holder, Shown, accounts_text, links_text, page_text};
 use rld_look::Health;
 use rld_start::Generations;
 use rld_state::{Freed, LinksPage};
-use rld_text::{
-    Holder, Shown, accounts_text, links_text, page_text, ready_text, status_json, status_text,
-};
+use rld_text::{ready_text, status_json, status_text};
 use rsl_accounts::Config;
 use rsl_port::{Clock, SystemClock};
 use rsl_session::SavedLink;

@@ -1,8 +1,5 @@
-pub mod Accounts
 pub mod Build
 pub mod Json
-pub mod Links
-pub mod Listing
 pub mod Metrics
 pub mod Ready
 pub mod Recent

@@ -1,5 +1,5 @@
 -- The part of a status that is for people alone: the start of the server, and what has happened
--- recently, in lines of at most 80 columns, except for long names.
+-- recently, in lines of at most 80 columns, except for long names and for rates of 10 a second and more.
 use Rattle.std.specs.Prelude.{ℕ, ◌-◌, ◌/◌, ◌%◌, ◌==◌, nat_lt, Bool, ◌&&◌, List, [], ◌∷◌, ◌++◌, codes, drop, length, take, if◌then◌else◌}
 use Rattle.std.specs.Fmt.{decimal}
 use Rattle.rld_counts.specs.Counts.{count_in, total_of}

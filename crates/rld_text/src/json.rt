@@ -35,9 +35,10 @@ fn push_octets(out: &mut Vec<u8>, octets: &[u8]) -> Result<(), AllocError>
     Ok(())
 }
 
-/// Writes a string.
+/// Writes a string, in its quotes. Each octet is one character, whatever it is. It fails only if
+/// memory is refused.
 #[tactic(auto, unfolding(crate::specs::Json::json_string))]
-pub(crate) fn push_string(out: &mut Vec<u8>, octets: &[u8]) -> Result<(), AllocError>
+pub fn push_string(out: &mut Vec<u8>, octets: &[u8]) -> Result<(), AllocError>
     ensures { OnOk result (out.new.items ≡ out.old.items ++ json_string octets.now) }
 {
     push_text(out, "\"")?;
@@ -63,13 +64,9 @@ pub fn push_member_front(out: &mut Vec<u8>, name: &str) -> Result<(), AllocError
     push_text(out, "\":")
 }
 
-/// Writes a member that is a number.
+/// Writes a member that is a number, after another one. It fails only if memory is refused.
 #[tactic(auto, unfolding(crate::specs::Json::number_member))]
-pub(crate) fn push_number_member(
-    out: &mut Vec<u8>,
-    name: &str,
-    number: u64,
-) -> Result<(), AllocError>
+pub fn push_number_member(out: &mut Vec<u8>, name: &str, number: u64) -> Result<(), AllocError>
     ensures { OnOk result (out.new.items ≡ out.old.items ++ number_member name.now number) }
 {
     push_member_front(out, name)?;

@@ -1,24 +1,18 @@
-//! What a running server shows of itself as text: its answers on the control socket, and its
-//! metrics in Prometheus' text format, version 0.0.4.
+//! What a running server shows of itself as text: its status and whether it is ready, for the control
+//! socket, and its metrics in Prometheus' text format, version 0.0.4; and the strings and members of
+//! the objects of JSON that programs get.
 //!
-//! The promise: what each account holds, the links of one, and those that are wanted of all, are the
-//! lines of `specs/Accounts.antt`, `specs/Links.antt` and `specs/Listing.antt`, in which no name or
-//! id can forge a word or a line;
-//! the words that name a link's session are those that free it. A status has the octets of
-//! `specs/Status.antt` and `specs/Recent.antt`, and whether it is ready those of
-//! `specs/Ready.antt`. The metrics have the octets of `specs/Metrics.antt`, and nothing else: a
-//! value of a label may have any text, and the buckets of a histogram are cumulative. As JSON each
-//! has the octets of the same definitions, over the strings and members of `specs/Json.antt`.
+//! The promise: a status has the octets of `specs/Status.antt` and `specs/Recent.antt`, and whether
+//! it is ready those of `specs/Ready.antt`. The metrics have the octets of `specs/Metrics.antt`, and
+//! nothing else: a value of a label may have any text, and the buckets of a histogram are cumulative. As
+//! JSON a status has the octets of the same definitions, over the strings and members of
+//! `specs/Json.antt`.
 #![tactic(auto)]
 
-mod accounts;
 mod build;
 mod datagrams;
 mod gauges;
 mod json;
-mod link_objects;
-mod links;
-mod listing;
 mod metrics;
 mod ready;
 mod recent;
@@ -30,11 +24,7 @@ mod text;
 mod times;
 mod words;
 
-pub use accounts::accounts_text;
-pub use json::{push_member_front, push_string_member};
-pub use link_objects::push_server_members;
-pub use links::{Holder, links_text};
-pub use listing::{Shown, page_text};
+pub use json::{push_member_front, push_number_member, push_string, push_string_member};
 pub use metrics::push_metrics;
 pub use ready::ready_text;
 pub use status::status_text;

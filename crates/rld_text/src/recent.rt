@@ -1,5 +1,5 @@
 //! The part of a status that is for people alone: the start of the server, and what has happened
-//! recently, in lines of at most 80 columns, except for long names.
+//! recently, in lines of at most 80 columns, except for long names and for rates of 10 a second and more.
 
 ghost use Rattle.std.specs.Prelude.{◌≡◌, ◌++◌, List, IfOk, OnOk, codes, drop, take, ℕ};
 ghost use Rattle.rld_counts.specs.Ends.{all_ends};

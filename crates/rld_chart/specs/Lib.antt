@@ -1,0 +1,3 @@
+pub mod Chart
+pub mod Figures
+pub mod Html

@@ -1,0 +1,4 @@
+pub mod Accounts
+pub mod Links
+pub mod Listing
+pub mod Words
