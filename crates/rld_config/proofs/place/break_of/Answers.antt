@@ -1,7 +1,7 @@
 use Rattle.std.proofs.Common.{sym, refl, arith}
 use Rattle.std.proofs.lemmas.Bool.{false≢true}
 use Rattle.toml.specs.View.{table_view}
-use Rattle.rsl_accounts.proofs.Files.{file_of-table, file_of-none}
+use Rattle.rsl_account_file.proofs.Files.{file_of-table, file_of-none}
 use Rattle.rld_config.proofs.place.break_of.Goals as goal
 
 pub returns-in-Ok-clause-whole : goal.returns-in-Ok-clause-whole

@@ -2,7 +2,7 @@ use Rattle.std.proofs.Common.{refl, sym, ap, Some, ◌∙◌}
 use Rattle.std.proofs.lemmas.Bool.{false≢true}
 use Rattle.toml.proofs.Views.{view-Table}
 use Rattle.toml.specs.View.{table_view}
-use Rattle.rsl_accounts.proofs.Files.{file_of-table, file_of-none}
+use Rattle.rsl_account_file.proofs.Files.{file_of-table, file_of-none}
 use Rattle.rld_config.proofs.server.parse.Goals as goal
 
 pub returns-in-Ok-clause-ok : goal.returns-in-Ok-clause-ok
