@@ -1,5 +1,3 @@
-pub mod Numbers
-pub mod RestAfter
 pub mod Printed
 pub mod Mapped
 pub mod Joined
