@@ -22,8 +22,6 @@ mod rolling;
 mod server;
 mod shared_recorder;
 mod showing;
-mod socket_port;
-mod status_service;
 
 pub use accounts::{Accounts, AccountsFault};
 pub use rld_edges::{Access, Control, RunFault, Sockets};

@@ -2,9 +2,7 @@
 
 use crate::accounts::Accounts;
 use crate::server::Server;
-use crate::socket_port::SocketPort;
-use crate::status_service::StatusService;
-use rld_edges::{Bound, Readiness, RunFault};
+use rld_edges::{Bound, Readiness, RunFault, SocketPort, StatusService};
 use rld_start::Generations;
 use rld_turn::{Ending, Receiver, Turn};
 use rld_watch::{WatchContext, Watcher};

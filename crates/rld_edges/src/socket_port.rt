@@ -11,7 +11,7 @@ use std::net::{SocketAddr, UdpSocket};
 ///
 /// It answers Status-Server packets itself if it is to; the receiver does not see them.
 #[derive(Drop)]
-pub(crate) struct SocketPort<'a> {
+pub struct SocketPort<'a> {
     socket: &'a UdpSocket,
     alloc: Global,
     status: Option<StatusService<'a>>,
@@ -20,7 +20,7 @@ pub(crate) struct SocketPort<'a> {
 
 impl<'a> SocketPort<'a> {
     /// A port over a socket that does not block.
-    pub(crate) fn new(
+    pub fn new(
         socket: &'a UdpSocket,
         alloc: Global,
         status: Option<StatusService<'a>>,
@@ -34,7 +34,7 @@ impl<'a> SocketPort<'a> {
     }
 
     /// Whether the last read found the socket empty, so that it can be waited for.
-    pub(crate) fn is_drained(&self) -> bool {
+    pub fn is_drained(&self) -> bool {
         self.is_drained
     }
 

@@ -4,11 +4,13 @@ use rsl_event::Port;
 use std::alloc::Global;
 use std::net::SocketAddr;
 
-/// Answers the Status-Server packets of a port.
+/// Answers the Status-Server packets of a port (RFC 5997).
 #[derive(Clone, Copy)]
-pub(crate) struct StatusService<'a> {
-    pub(crate) present: Present<'a>,
-    pub(crate) port: Port,
+pub struct StatusService<'a> {
+    /// The accounts, clients and networks that are present.
+    pub present: Present<'a>,
+    /// The port.
+    pub port: Port,
 }
 
 impl StatusService<'_> {
