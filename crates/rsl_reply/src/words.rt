@@ -28,7 +28,7 @@ pub(crate) fn rest_after<'a>(beginning: &str, word: &'a str) -> Option<&'a str>
 
 /// The number that a word of decimal digits writes, where it is under 2^32. Leading zeros are
 /// allowed.
-#[tactic(auto, using(crate::proofs::Numbers::number_of_parsed), unfolding(crate::specs::Words::read_number))]
+#[tactic(auto, using(crate::proofs::Numbers::number_of_parsed))]
 pub(crate) fn read_number(word: &str) -> Option<u32>
     ensures { result ≡ read_number word.now }
 {

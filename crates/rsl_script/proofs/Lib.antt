@@ -1,3 +1,5 @@
+pub mod Numbers
+pub mod RestAfter
 pub mod Printed
 pub mod Mapped
 pub mod Joined

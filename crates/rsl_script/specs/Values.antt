@@ -1,10 +1,14 @@
 -- The values of words. (`address_of`, the octets of an IPv4 address, is a definition of
--- `rsl_accounts`; `is_numeral` and `rest_after` are definitions of `rsl_reply`.)
-use Rattle.std.specs.Prelude.{ℕ, ◌≤◌, ◌^◌, ◌&&◌, nat_lt, nat_le, Bool, if◌then◌else◌, List, [], ◌∷◌, length, codes, bytes_eq, Option, None, Some, option_map, option_and_then}
+-- `rsl_accounts`.)
+use Rattle.std.specs.Prelude.{ℕ, ◌≤◌, ◌^◌, ◌&&◌, nat_lt, nat_le, Bool, if◌then◌else◌, List, [], ◌∷◌, length, take, drop, codes, bytes_eq, Option, None, Some, option_map, option_and_then}
 use Rattle.std.specs.Result.{result_ok}
+use Rattle.std.specs.Str.{all_ascii_digits}
 use Rattle.std.specs.Str.Parse.{digits_value}
 use Rattle.hex.specs.Hex.{decode_of}
-use Rattle.rsl_reply.specs.Words.{is_numeral, rest_after}
+
+-- one or more decimal digits
+abbrev pub is_numeral : List ℕ → Bool
+is_numeral word = nat_lt 0 (length word) && all_ascii_digits word
 
 -- a number under 2^64 in decimal digits, leading zeros allowed
 unfoldable pub read_number : List ℕ → Option ℕ
@@ -45,6 +49,13 @@ read_nas word = if bytes_eq word (codes "-") then Some None else option_map Some
 unfoldable pub read_octets : List ℕ → Option (List ℕ)
 read_octets [] = None
 read_octets word = result_ok (decode_of word)
+
+-- the rest of a word after this beginning
+unfoldable pub rest_after : (beginning : List ℕ) → List ℕ → Option (List ℕ)
+rest_after beginning word =
+    if bytes_eq (take (length beginning) word) beginning
+    then Some (drop (length beginning) word)
+    else None
 
 -- the bundle of a word `multi=M`, M a text that fits an attribute
 unfoldable pub read_bundle : List ℕ → Option (List ℕ)

@@ -1,11 +1,11 @@
 ghost use Rattle.std.specs.Prelude.{◌≡◌, map, option_copied};
-ghost use Rattle.rsl_reply.specs.Words.{rest_after};
 ghost use Rattle.rsl_script.specs.Reads.{Reads};
 ghost use Rattle.rsl_script.specs.Values.{
   read_number,
   read_id,
   read_nas,
   read_octets,
+  rest_after,
   read_bundle,
   read_class,
   number_after,
@@ -20,7 +20,7 @@ use std::alloc::Global;
 
 /// The number of a word of decimal digits, if it is under 2^64. Leading zeros are allowed; `None`
 /// for any other word.
-#[tactic(auto, using(rsl_reply::proofs::Numbers::number_of_parsed), unfolding(crate::specs::Values::read_number))]
+#[tactic(auto, using(crate::proofs::Numbers::number_of_parsed))]
 pub fn read_number(word: &str) -> Option<u64>
     ensures { result ≡ read_number word.now }
 {
@@ -65,7 +65,7 @@ pub(crate) fn read_octets(alloc: Global, word: &str) -> Result<Octets, LineFault
 }
 
 /// The rest of a word after this beginning.
-#[tactic(auto, using(rsl_reply::proofs::RestAfter::rest_after_stripped))]
+#[tactic(auto, using(crate::proofs::RestAfter::rest_after_stripped))]
 fn rest_after<'a>(beginning: &str, word: &'a str) -> Option<&'a str>
     ensures { option_copied result ≡ rest_after beginning.now word.now }
 {
