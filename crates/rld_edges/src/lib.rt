@@ -1,9 +1,10 @@
 //! The edges of the operator's server: its UDP sockets, its control socket, standard error, and
-//! waiting for them; the jobs of its workers, how these note their starts and ends, and the faults
-//! with which they end; and the requests to access servers that are under way. The promise: each socket has as many receivers as the server's file says
-//! (`specs/Jobs.antt`), it is defined which fault of the workers is the server's, and its exit
-//! status (`specs/Fault.antt`), and when a request to an access server is sent (`specs/Step.antt`).
-//! No clause speaks of what a socket gives, or says that a worker sees what another noted.
+//! waiting for them; the requests to access servers that are under way; the jobs of its workers, how
+//! these note their starts and ends, and the faults with which they end. The promise: each socket has
+//! as many receivers as the server's file says (`specs/Jobs.antt`), it is defined which fault of the
+//! workers is the server's, and its exit status (`specs/Fault.antt`), and when a request to an access
+//! server is sent (`specs/Step.antt`). No clause speaks of what a socket gives, or says that a worker
+//! sees what another noted.
 #![tactic(auto)]
 
 mod control;
